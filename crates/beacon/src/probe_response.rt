@@ -1,0 +1,84 @@
+//! Probe responses (IEEE Std 802.11-2016, 9.3.3.11).
+
+ghost use Rattle.std.specs.Prelude.{◌≡◌, ◌++◌, ◌<◌, ◌≤◌, length, take, OnOk, OnErr};
+ghost use Rattle.beacon.specs.ProbeResponse.{announced, timestamp, fixed_fields, network_elements, probe_response, probe_response_body};
+
+use crate::advert::Advert;
+use elements::{write_element, write_extended_rates, write_supported_rates};
+use mac_frame::{MacAddr, NoMemory, Octets, write_mgmt};
+
+/// The subtype of a probe response (9.2.4.1.3).
+const PROBE_RESPONSE: u8 = 5;
+
+/// Capability Information: ESS alone (9.4.1.4).
+const CAPABILITY: u16 = 1;
+
+/// The element ID of the SSID (9.4.2.2).
+const SSID: u8 = 0;
+
+/// The element ID of the DSSS Parameter Set (9.4.2.4).
+const DSSS_PARAMETER_SET: u8 = 3;
+
+/// The microseconds of a time unit (3.1).
+const TIME_UNIT: u64 = 1024;
+
+/// Appends a whole probe response to the station `to`. After `NoMemory` `out` is as it was.
+pub fn write_probe_response(out: &mut Octets, advert: &Advert<'_>, to: MacAddr) -> Result<(), NoMemory>
+    requires ssid { length advert.now.ssid.now ≤ 32 }
+    requires some_rates { 1 ≤ length advert.now.rates.now }
+    requires few_rates { length advert.now.rates.now ≤ 16 }
+    requires seq { advert.now.seq < 4096 }
+    ensures ok { OnOk result (out.new ≡ out.old ++ probe_response (announced advert.now) to advert.now.seq) }
+    ensures err { OnErr result (out.new ≡ out.old) }
+{
+    let len = out.as_slice().len();
+    write_mgmt(out, PROBE_RESPONSE, to, advert.bss, advert.seq)?;
+    let written = append_body(out, advert);
+    if written.is_err() {
+        out.truncate(len);
+    }
+    written
+}
+
+/// Appends the body, field by field. After `NoMemory` some fields may stand behind what was there.
+fn append_body(out: &mut Octets, advert: &Advert<'_>) -> Result<(), NoMemory>
+    requires ssid { length advert.now.ssid.now ≤ 32 }
+    requires few_rates { length advert.now.rates.now ≤ 16 }
+    ensures ok { OnOk result (out.new ≡ out.old ++ probe_response_body (announced advert.now)) }
+    ensures err { OnErr result (take (length out.old) out.new ≡ out.old) }
+{
+    append_fixed_fields(out, advert)?;
+    append_network_elements(out, advert)?;
+    write_extended_rates(out, advert.rates)
+}
+
+/// Appends the fields before the elements: Timestamp, Beacon Interval and Capability Information.
+#[tactic(auto, unfolding(crate::specs::ProbeResponse::fixed_fields))]
+fn append_fixed_fields(out: &mut Octets, advert: &Advert<'_>) -> Result<(), NoMemory>
+    ensures ok { OnOk result (out.new ≡ out.old ++ fixed_fields (announced advert.now)) }
+    ensures err { OnErr result (take (length out.old) out.new ≡ out.old) }
+{
+    out.append(&timestamp(advert.clock, advert.interval))?;
+    out.append(&advert.interval.to_le_bytes())?;
+    out.append(&CAPABILITY.to_le_bytes())
+}
+
+/// Timestamp (9.4.1.10): the beginning of the beacon interval, in microseconds (*profile*).
+#[tactic(auto, unfolding(crate::specs::ProbeResponse::timestamp))]
+fn timestamp(clock: u32, interval: u16) -> [u8; 8]
+    ensures { result ≡ timestamp clock interval }
+{
+    (u64::from(clock) * u64::from(interval) * TIME_UNIT).to_le_bytes()
+}
+
+/// Appends the elements that stand first: SSID, Supported Rates and DSSS Parameter Set.
+#[tactic(auto, unfolding(crate::specs::ProbeResponse::network_elements))]
+fn append_network_elements(out: &mut Octets, advert: &Advert<'_>) -> Result<(), NoMemory>
+    requires { length advert.now.ssid.now ≤ 32 }
+    ensures ok { OnOk result (out.new ≡ out.old ++ network_elements (announced advert.now)) }
+    ensures err { OnErr result (take (length out.old) out.new ≡ out.old) }
+{
+    write_element(out, SSID, advert.ssid)?;
+    write_supported_rates(out, advert.rates)?;
+    write_element(out, DSSS_PARAMETER_SET, &[advert.channel])
+}

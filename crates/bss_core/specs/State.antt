@@ -1,0 +1,32 @@
+-- What contracts see of a network that runs.
+use Rattle.std.specs.Prelude.{ℕ, ◌≤◌, ◌≡◌, ◌++◌, Bool, List, [], ◌∷◌, length, drop, None}
+use Rattle.bss_core.specs.Configuration.{network_fault}
+use Rattle.bss_core.specs.Network.{Setting, Network, alone}
+use Rattle.bss_core.specs.declared.event.Event.{Event}
+
+-- its setting, the events that it took, the frames that wait to leave, and whether there is a slot for one to be
+-- given back; all else is what `alone` gives of the setting and the history
+pub record State : Type 0 where
+  pub setting : Setting
+  pub history : List Event
+  pub waiting : List (List ℕ)
+  pub has_slot : Bool
+
+-- the network of a state
+abbrev pub network_of : State → Network
+network_of s = alone s.setting s.history
+
+-- the frames that an event adds to those that a network sent
+abbrev pub sent_by : Setting → List Event → Event → List (List ℕ)
+sent_by s es e = drop (length (alone s es).air) (alone s (es ++ e ∷ [])).air
+
+-- what a network keeps of itself: a bounded history, and what its history makes of it
+pub record Keeps (s : Setting) (history : List Event) (clock sequence lost unread : ℕ) (wired : List (List ℕ)) : Type 0 where
+  pub bounded : length history ≤ s.network.max_events
+  pub sound : network_fault s.network ≡ None
+  pub knows_none : (alone s history).known ≡ []
+  pub clock_is : (alone s history).clock ≡ clock
+  pub sequence_is : (alone s history).sequence ≡ sequence
+  pub lost_is : (alone s history).lost ≡ lost
+  pub unread_is : (alone s history).unread ≡ unread
+  pub wired_is : (alone s history).wire ≡ wired

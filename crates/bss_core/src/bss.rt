@@ -1,0 +1,292 @@
+//! A network alone, as it runs.
+
+ghost use Rattle.std.specs.Prelude.{◌≡◌, Err, ◌+◌, ◌++◌, ◌∷◌, [], ◌↔◌, ◌<◌, Bool, true, false, None, Some, IsTrue, IsOk, IfOk, OnOk, OnErr, IfSome, IfNone, length, is_some, option_to_list, option_map, if◌then◌else◌};
+ghost use Rattle.bss_core.specs.Configuration.{setting_fault, network_fault};
+ghost use Rattle.bss_core.specs.Network.{Setting, alone, answer_probe, step, table_of, counts_of};
+ghost use Rattle.bss_core.specs.Replies.{after_reply, frames_of};
+ghost use Rattle.bss_core.specs.State.{State, network_of, sent_by};
+
+use crate::config::NetConfig;
+use crate::event::Event;
+use crate::reply::{Reply, asks_for};
+use crate::request::{Request, read};
+use crate::section::{Counts, Section};
+use beacon::{Advert, write_probe_response};
+use mac_frame::{List, MacAddr, NoMemory, Octets};
+use std::alloc::{AllocError, Global};
+use std::collections::VecDeque;
+use std::marker::Model;
+
+/// Why a network refused an event. Nothing of it has changed then, and the event is dropped.
+#[derive(Clone, Copy, Debug, PartialEq, Eq)]
+pub enum Refusal {
+    /// N1: a growth was refused.
+    NoMemory,
+    /// N2: it has taken as many events as it may.
+    HistoryFull,
+}
+
+impl From<NoMemory> for Refusal {
+    ghost use Rattle.std.specs.Prelude.{◌≡◌};
+    ghost use Rattle.bss_core.specs.declared.bss.Refusal.TheVariants.{NoMemory as N1};
+
+    ghost from_gives = { λ _ refusal. refusal ≡ N1 };
+
+    fn from(_e: NoMemory) -> Refusal {
+        Refusal::NoMemory
+    }
+}
+
+impl From<AllocError> for Refusal {
+    ghost use Rattle.std.specs.Prelude.{◌≡◌};
+    ghost use Rattle.bss_core.specs.declared.bss.Refusal.TheVariants.{NoMemory as N1};
+
+    ghost from_gives = { λ _ refusal. refusal ≡ N1 };
+
+    fn from(_e: AllocError) -> Refusal {
+        Refusal::NoMemory
+    }
+}
+
+/// A network that takes events, and answers them by frames that wait until they are taken out.
+///
+/// Contracts see its configuration with the radio's channel and interval, its history, the frames that wait, and
+/// whether there is a slot for one of them to be given back. All else that it shows is what the definition
+/// `alone` gives of its configuration and its history.
+#[derive(Drop)]
+pub struct Bss {
+    alloc: Global,
+    channel: u8,
+    interval: u16,
+    config: NetConfig,
+    history: Vec<Event>,
+    waiting: VecDeque<Octets>,
+    wired: Vec<Octets>,
+    clock: u32,
+    sequence: u16,
+    lost: u32,
+    unread: u32,
+    has_slot: bool,
+}
+
+impl Model for Bss {
+    ghost use Rattle.std.specs.Prelude.{◌<◌, IsTrue};
+    ghost use Rattle.std.specs.VecDeque.{deque_len, deque_capacity};
+    ghost use Rattle.bss_core.specs.State.{State, Keeps};
+
+    ghost Value = { State };
+
+    ghost view = { λ b. record {
+      setting = record { channel = b.channel; interval = b.interval; network = b.config };
+      history = b.history.items;
+      waiting = b.waiting.items;
+      has_slot = b.has_slot;
+    } };
+
+    ghost invariant = { λ b.
+        Keeps (record { channel = b.channel; interval = b.interval; network = b.config }) b.history.items b.clock b.sequence b.lost b.unread b.wired.items
+        × (IsTrue b.has_slot → deque_len b.waiting < deque_capacity b.waiting) };
+}
+
+impl Bss {
+    /// A network that has taken no event. The channel, the interval and the configuration are those of a
+    /// [`crate::RadioConfig`] in which `check` finds no fault.
+    pub fn new(
+        alloc: Global,
+        channel: u8,
+        interval: u16,
+        config: NetConfig,
+    ) -> Result<Bss, NoMemory>
+        requires setting { setting_fault channel interval ≡ None }
+        requires network { network_fault config ≡ None }
+        ensures { IfOk result (λ bss. bss ≡ record {
+          setting = record { channel = channel; interval = interval; network = config };
+          history = [];
+          waiting = [];
+          has_slot = false;
+        }) }
+    {
+        Ok(Bss {
+            alloc,
+            channel,
+            interval,
+            config,
+            history: Vec::new(alloc),
+            waiting: VecDeque::new(alloc),
+            wired: Vec::new(alloc),
+            clock: 0,
+            sequence: 0,
+            lost: 0,
+            unread: 0,
+            has_slot: false,
+        })
+    }
+
+    /// Its configuration.
+    pub fn config(&self) -> &NetConfig
+        ensures { result.now ≡ self.now.setting.network }
+    {
+        &self.config
+    }
+
+    /// The events that it took, the first of them first.
+    pub fn history(&self) -> &[Event]
+        ensures { result.now ≡ self.now.history }
+    {
+        self.history.as_slice()
+    }
+
+    /// How many stations it knows.
+    pub fn table_len(&self) -> usize
+        ensures { result ≡ length (table_of (network_of self.now)) }
+    {
+        let _history = &self.history;
+        0
+    }
+
+    /// Its counts.
+    pub fn counts(&self) -> Counts
+        ensures { result ≡ counts_of (length self.now.history) (network_of self.now) }
+    {
+        Counts {
+            events: self.history.len() as u32,
+            clock: self.clock,
+            unread: self.unread,
+            lost: self.lost,
+            kept: 0,
+        }
+    }
+
+    /// How many frames wait.
+    pub fn waiting_len(&self) -> usize
+        ensures { result ≡ length self.now.waiting }
+    {
+        self.waiting.len()
+    }
+
+    /// The frames that it sent on the wire, the first of them first.
+    pub fn wired(&self) -> &[Octets]
+        ensures { result.now ≡ (network_of self.now).wire }
+    {
+        self.wired.as_slice()
+    }
+
+    /// Whether a frame may be given back.
+    pub fn has_slot(&self) -> bool
+        ensures { result ≡ self.now.has_slot }
+    {
+        self.has_slot
+    }
+
+    /// Takes out the first frame that waits, and leaves a slot to give it back. `None`, and no change, where none
+    /// waits.
+    pub fn take_front(&mut self) -> Option<Octets>
+        ensures front { self.old.waiting ≡ option_to_list result ++ self.new.waiting }
+        ensures slot { self.new.has_slot ≡ (if is_some result then true else self.old.has_slot) }
+        ensures none { IfNone result (self.old.waiting ≡ []) }
+        ensures setting { self.new.setting ≡ self.old.setting }
+        ensures history { self.new.history ≡ self.old.history }
+    {
+        let front = self.waiting.pop_front();
+        if front.is_some() {
+            self.has_slot = true;
+        }
+        front
+    }
+
+    /// Puts a frame before those that wait, in the slot that [`Bss::take_front`] left. Takes no memory.
+    pub fn give_back(&mut self, octets: Octets)
+        requires { IsTrue self.old.has_slot }
+        ensures { self.new ≡ record self.old { waiting = octets ∷ self.old.waiting; has_slot = false } }
+    {
+        self.waiting.push_front_reserved(octets);
+        self.has_slot = false;
+    }
+
+    /// Takes an event, and answers its number in the history, from 0. Frames that it sends wait behind the others.
+    /// `HistoryFull` exactly where the history is full, which is tested first; `NoMemory` where a growth was
+    /// refused. After either nothing has changed. An air event that the network doesn't hear counts as unread.
+    pub fn take(&mut self, event: Event) -> Result<u32, Refusal>
+        ensures number { IfOk result (λ number. number ≡ length self.old.history) }
+        ensures history { OnOk result (self.new.history ≡ self.old.history ++ event ∷ []) }
+        ensures waiting { OnOk result (self.new.waiting ≡ self.old.waiting ++ sent_by self.old.setting self.old.history event) }
+        ensures setting { self.new.setting ≡ self.old.setting }
+        ensures full { (result ≡ Err Refusal.HistoryFull) ↔ (length self.old.history ≡ self.old.setting.network.max_events) }
+        ensures err { OnErr result (self.new ≡ self.old) }
+    {
+        if self.history.len() >= self.config.max_events as usize {
+            return Err(Refusal::HistoryFull);
+        }
+        let reply = self.reply(&event)?;
+        self.history.reserve(1)?;
+        self.waiting.reserve(1)?;
+        let unread = reply.unread_after(self.unread);
+        let sequence = reply.sequence_after(self.sequence);
+        reply.send_to(&mut self.waiting);
+        self.unread = unread;
+        self.sequence = sequence;
+        let number = self.history.len() as u32;
+        self.history.push_reserved(event);
+        self.has_slot = false;
+        Ok(number)
+    }
+
+    /// What it does about an event. It changes nothing.
+    fn reply(&self, event: &Event) -> Result<Reply, NoMemory>
+        ensures { IfOk result (λ reply.
+            step self.now.setting (network_of self.now) event.now ≡ after_reply reply (network_of self.now)) }
+    {
+        let Event::Air(frame) = event;
+        let Ok(request) = read(self.config.bssid, frame.as_slice()) else {
+            return Ok(Reply::Unread);
+        };
+        match request {
+            Request::Probe { from, ssid } => self.answer_probe(from, ssid),
+        }
+    }
+
+    /// The reply to a probe.
+    fn answer_probe(&self, from: MacAddr, ssid: Option<&[u8]>) -> Result<Reply, NoMemory>
+        ensures { IfOk result (λ reply.
+            answer_probe self.now.setting from (option_map (λ s. s.now) ssid.entry) (network_of self.now) ≡ after_reply reply (network_of self.now)) }
+    {
+        if !asks_for(self.config.ssid.as_slice(), ssid) {
+            return Ok(Reply::Nothing);
+        }
+        let mut frame = Octets::new(self.alloc);
+        let advert = Advert {
+            bss: self.config.bssid,
+            ssid: self.config.ssid.as_slice(),
+            rates: self.config.rates.as_slice(),
+            channel: self.channel,
+            interval: self.interval,
+            clock: self.clock,
+            seq: self.sequence,
+        };
+        write_probe_response(&mut frame, &advert, from)?;
+        Ok(Reply::Frame(frame))
+    }
+
+    /// Takes all out: the section of what it took, with the frames that left it, `air`.
+    pub fn into_section(self, air: List<Octets>) -> Result<Section, NoMemory>
+        ensures { IfOk result (λ section. section ≡ record {
+          config = self.setting.network;
+          events = self.history;
+          table = table_of (network_of self);
+          counts = counts_of (length self.history) (network_of self);
+          air = air;
+          wire = (network_of self).wire;
+        }) }
+    {
+        let counts = self.counts();
+        let table = List::from_vec(Vec::new(self.alloc));
+        Ok(Section {
+            config: self.config,
+            events: List::from_vec(self.history),
+            table,
+            counts,
+            air,
+            wire: List::from_vec(self.wired),
+        })
+    }
+}

@@ -1,0 +1,157 @@
+//! The first fault of a configuration (*profile*).
+
+ghost use Rattle.std.specs.Prelude.{◌≡◌, []};
+ghost use Rattle.std.specs.List.{list_all};
+ghost use Rattle.bss_core.specs.Configuration.{rate_value, is_rate, has_rate, are_different, rates_fit, numbers_fit, network_fault, is_taken, fault_behind, networks_fault, fault_of};
+
+use crate::config::{ConfigFault, MOST_NETWORKS, NetConfig, RadioConfig};
+use mac_frame::MacAddr;
+
+impl ConfigFault {
+    /// A fault of the radio's own settings.
+    fn of_radio(code: u8) -> ConfigFault
+        ensures code { result.code ≡ code }
+        ensures place { result.place ≡ None }
+    {
+        ConfigFault { code, place: None }
+    }
+}
+
+impl RadioConfig {
+    /// The first fault, in the order `C4` to `C12`; the faults from `C8` on are tried network by network. It looks at
+    /// values alone: that a text has every key, and no other, is for the reader of the text. `None` where the
+    /// configuration is sound.
+    pub fn check(&self) -> Option<ConfigFault>
+        ensures { result ≡ fault_of self.now }
+    {
+        if !(1..=14).contains(&self.channel) {
+            return Some(ConfigFault::of_radio(4));
+        }
+        if self.interval == 0 {
+            return Some(ConfigFault::of_radio(5));
+        }
+        if !(1..=4096).contains(&self.queue) {
+            return Some(ConfigFault::of_radio(6));
+        }
+        let networks = self.networks.as_slice();
+        if !(1..=MOST_NETWORKS).contains(&networks.len()) {
+            return Some(ConfigFault::of_radio(7));
+        }
+        networks_fault(networks)
+    }
+}
+
+/// The first fault of the networks, each behind those before it.
+fn networks_fault(networks: &[NetConfig]) -> Option<ConfigFault>
+    ensures { result ≡ networks_fault [] networks.now }
+{
+    for (place, network) in networks.iter().enumerate() {
+        if let Some(code) = fault_behind(&networks[..place], network) {
+            return Some(ConfigFault {
+                code,
+                place: Some(place),
+            });
+        }
+    }
+    None
+}
+
+/// The first fault of a network behind others.
+fn fault_behind(earlier: &[NetConfig], network: &NetConfig) -> Option<u8>
+    ensures { result ≡ fault_behind earlier.now network.now }
+{
+    if is_taken(earlier, network.bssid) {
+        return Some(8);
+    }
+    network_fault(network)
+}
+
+/// Whether a network among others has this BSSID.
+fn is_taken(others: &[NetConfig], bssid: MacAddr) -> bool
+    ensures { result ≡ is_taken others.now bssid }
+{
+    others.iter().any(|other| other.bssid == bssid)
+}
+
+/// The first fault of a network by itself.
+fn network_fault(network: &NetConfig) -> Option<u8>
+    ensures { result ≡ network_fault network.now }
+{
+    if network.bssid.is_group() {
+        return Some(8);
+    }
+    if !(1..=32).contains(&network.ssid.as_slice().len()) {
+        return Some(9);
+    }
+    if !rates_fit(network.rates.as_slice()) {
+        return Some(10);
+    }
+    if !numbers_fit(network) {
+        return Some(11);
+    }
+    if network.max_known < network.max_stations {
+        return Some(12);
+    }
+    None
+}
+
+/// Whether the rates are 1 to 16, each from 1 to 108 but for the mark of a basic rate, and all different.
+fn rates_fit(rates: &[u8]) -> bool
+    ensures { result ≡ rates_fit rates.now }
+{
+    (1..=16).contains(&rates.len()) && are_rates(rates) && are_different(rates)
+}
+
+/// Whether each octet is a rate from 1 to 108, but for the mark of a basic rate.
+fn are_rates(rates: &[u8]) -> bool
+    ensures { result ≡ list_all is_rate rates.now }
+{
+    rates.iter().all(|rate| is_rate(*rate))
+}
+
+fn is_rate(octet: u8) -> bool
+    ensures { result ≡ is_rate octet }
+{
+    (1..=108).contains(&rate_value(octet))
+}
+
+/// The rate of an octet, without the mark of a basic rate.
+fn rate_value(octet: u8) -> u8
+    ensures { result ≡ rate_value octet }
+{
+    octet % 128
+}
+
+/// Whether no rate stands twice.
+fn are_different(rates: &[u8]) -> bool
+    ensures { result ≡ are_different rates.now }
+{
+    let mut rest = rates;
+    while let Some((first, others)) = rest.split_first() {
+        if has_rate(others, *first) {
+            return false;
+        }
+        rest = others;
+    }
+    true
+}
+
+/// Whether some octet stands for the same rate.
+fn has_rate(rates: &[u8], octet: u8) -> bool
+    ensures { result ≡ has_rate rates.now octet }
+{
+    rates
+        .iter()
+        .any(|other| rate_value(*other) == rate_value(octet))
+}
+
+/// Whether each number is in its limits.
+fn numbers_fit(network: &NetConfig) -> bool
+    ensures { result ≡ numbers_fit network.now }
+{
+    network.dtim != 0
+        && (1..=2007).contains(&network.max_stations)
+        && (1..=10_000).contains(&network.max_known)
+        && network.quota <= 100_000
+        && (1..=1_000_000).contains(&network.max_events)
+}

@@ -1,0 +1,21 @@
+//! What happens to a network.
+
+ghost use Rattle.std.specs.Prelude.{◌≡◌};
+ghost use Rattle.bss_core.specs.Hearing.{is_heard};
+
+use mac_frame::{MacAddr, Octets, addressed};
+
+/// One thing that happened to a network.
+#[derive(Debug, Drop)]
+pub enum Event {
+    /// A string of octets was heard on the air.
+    Air(Octets),
+}
+
+/// Whether the network `bss` hears a string of octets on the air: it has at least 10 octets, and Address 1,
+/// octets 4 to 9, is the network's or the broadcast address (IEEE Std 802.11-2016, 10.2.8).
+pub fn hears(bss: MacAddr, frame: &[u8]) -> bool
+    ensures { result ≡ is_heard bss frame.now }
+{
+    addressed(frame).is_some_and(|to| to == bss || to.is_broadcast())
+}

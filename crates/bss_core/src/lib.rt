@@ -1,0 +1,22 @@
+//! A network of an access point, alone (IEEE Std 802.11-2016, 11.1.4 and 11.3).
+//!
+//! A [`Bss`] is a deterministic state machine: it takes events and keeps what it sends in a list; it has no
+//! socket, no clock and no thread. It promises that whatever it shows (its table, its counts, the frames it
+//! sends) is what its configuration and its history give, by the definition `alone`, in which no other network,
+//! no queue and no thread stands. [`RadioConfig::check`] says which configurations are sound.
+//!
+//! When frames leave, and where events come from, is left to the crates above.
+#![tactic(auto)]
+
+mod bss;
+mod checking;
+mod config;
+mod event;
+mod reply;
+mod request;
+mod section;
+
+pub use bss::{Bss, Refusal};
+pub use config::{ConfigFault, MOST_NETWORKS, NetConfig, RadioConfig};
+pub use event::{Event, hears};
+pub use section::{Counts, Section, StationRow};

@@ -1,0 +1,13 @@
+//! Elements (IEEE Std 802.11-2016, 9.4.2): a body is a list of them.
+//!
+//! It promises that [`Elements`] reads a body exactly where the body is a concatenation of elements, and gives
+//! those and no others; and that what it writes is exactly the octets of the element.
+//!
+//! Which elements a frame needs, and what they mean, is left to the crates above.
+#![tactic(auto)]
+
+mod reading;
+mod writing;
+
+pub use reading::{Element, Elements, Overrun, one_list};
+pub use writing::{write_element, write_extended_rates, write_rates, write_supported_rates};

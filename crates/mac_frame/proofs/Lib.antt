@@ -1,0 +1,6 @@
+pub mod Cells
+pub mod Frames
+pub mod Samples
+pub mod FrameRows
+pub mod AddressRows
+pub mod HeaderRows

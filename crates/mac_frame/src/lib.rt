@@ -1,0 +1,25 @@
+//! The frames of a wireless access point, as octets (IEEE Std 802.11-2016, clause 9).
+//!
+//! It promises which strings of octets are which frame: [`decode`] reads a frame exactly where a string is
+//! one, and names the first fault elsewhere, and [`write_mgmt`] appends exact headers. [`MacAddr`],
+//! [`Octets`] and [`List`] are the values that every crate above passes on.
+//!
+//! It knows no network and no station: what a body holds, and what an answer is, is left to the crates above.
+#![tactic(auto)]
+
+mod address;
+mod header;
+mod item_list;
+mod memory;
+mod octet_string;
+mod reading;
+
+pub use address::MacAddr;
+pub use header::write_mgmt;
+pub use item_list::List;
+pub use memory::NoMemory;
+pub use octet_string::Octets;
+pub use reading::{Rx, Unread, addressed, decode, frame_is_addressed, one_frame};
+
+#[cfg(test)]
+mod tests;

@@ -1,0 +1,69 @@
+//! A string of octets that can grow.
+
+ghost use Rattle.std.specs.Prelude.{◌≡◌, ℕ, List, [], ◌++◌, length, take, OnOk, OnErr, IfOk};
+
+use crate::memory::NoMemory;
+use std::alloc::Global;
+use std::marker::Model;
+
+/// A string of octets. Contracts see it as a list.
+#[derive(Debug, Drop)]
+pub struct Octets {
+    octets: Vec<u8>,
+}
+
+impl Model for Octets {
+    ghost Value = { List ℕ };
+
+    ghost view = { λ o. o.octets.items };
+}
+
+impl Octets {
+    /// The empty string, which takes no memory.
+    pub fn new(alloc: Global) -> Octets
+        ensures { result ≡ [] }
+    {
+        Octets {
+            octets: Vec::new(alloc),
+        }
+    }
+
+    /// A copy of the octets.
+    pub fn from_slice(alloc: Global, octets: &[u8]) -> Result<Octets, NoMemory>
+        ensures { IfOk result (λ string. string ≡ octets.now) }
+    {
+        Ok(Octets {
+            octets: Vec::from_slice(alloc, octets)?,
+        })
+    }
+
+    /// Appends the octets. After `NoMemory` the string is as it was.
+    pub fn append(&mut self, octets: &[u8]) -> Result<(), NoMemory>
+        ensures ok { OnOk result (self.new ≡ self.old ++ octets.now) }
+        ensures err { OnErr result (self.new ≡ self.old) }
+    {
+        self.octets.extend_from_slice(octets)?;
+        Ok(())
+    }
+
+    /// Keeps the first `len` octets: a writer that meets want of memory takes back what it appended.
+    pub fn truncate(&mut self, len: usize)
+        ensures { self.new ≡ take len self.old }
+    {
+        self.octets.truncate(len);
+    }
+
+    /// A second string of the same octets.
+    pub fn copy(&self, alloc: Global) -> Result<Octets, NoMemory>
+        ensures { IfOk result (λ string. string ≡ self.now) }
+    {
+        Octets::from_slice(alloc, self.as_slice())
+    }
+
+    /// The octets.
+    pub fn as_slice(&self) -> &[u8]
+        ensures { result.now ≡ self.now }
+    {
+        self.octets.as_slice()
+    }
+}

@@ -1,0 +1,80 @@
+use super::*;
+use std::test::Fail;
+
+const NETWORK: [u8; 6] = [0x02, 0, 0, 0, 0, 0x01];
+const STATION: [u8; 6] = [0x02, 0xaa, 0, 0, 0, 0x01];
+
+#[test]
+fn octets_are_copied_appended_and_cut(rt: HostRuntime) -> Result<(), Fail> {
+    let mut octets = Octets::from_slice(rt.alloc(), &[1, 2])?;
+    octets.append(&[3])?;
+    let copy = octets.copy(rt.alloc())?;
+    octets.truncate(1);
+    assert_eq!(rt; octets.as_slice(), [1].as_slice());
+    assert_eq!(rt; copy.as_slice(), [1, 2, 3].as_slice());
+    Ok(())
+}
+
+#[test]
+fn a_probe_response_has_this_header(rt: HostRuntime) -> Result<(), Fail> {
+    let mut out = Octets::new(rt.alloc());
+    write_mgmt(&mut out, 5, MacAddr::new(STATION), MacAddr::new(NETWORK), 1)?;
+    let header = [
+        0x50, 0x00, 0x00, 0x00, // Frame Control and Duration
+        0x02, 0xaa, 0x00, 0x00, 0x00, 0x01, // the station
+        0x02, 0x00, 0x00, 0x00, 0x00, 0x01, // the network
+        0x02, 0x00, 0x00, 0x00, 0x00, 0x01, // the network
+        0x10, 0x00, // sequence number 1
+    ];
+    assert_eq!(rt; out.as_slice(), header.as_slice());
+    Ok(())
+}
+
+#[test]
+fn a_probe_request_is_read(rt: HostRuntime) -> Result<(), Fail> {
+    let frame = [
+        0x40, 0x00, 0x00, 0x00, // Frame Control and Duration
+        0xff, 0xff, 0xff, 0xff, 0xff, 0xff, // all
+        0x02, 0xaa, 0x00, 0x00, 0x00, 0x01, // the station
+        0xff, 0xff, 0xff, 0xff, 0xff, 0xff, // any network
+        0x00, 0x00, // sequence number 0
+        0x00, 0x00, // an empty SSID
+    ];
+    let all = addressed(&frame).ok_or("no address")?;
+    assert!(rt; all.is_broadcast());
+    match decode(MacAddr::new(NETWORK), &frame) {
+        Ok(Rx::Mgmt {
+            subtype,
+            from,
+            to_all,
+            body,
+        }) => {
+            assert_eq!(rt; subtype, 4);
+            assert_eq!(rt; from, MacAddr::new(STATION));
+            assert!(rt; to_all);
+            assert_eq!(rt; body, [0, 0].as_slice());
+        }
+        Err(fault) => panic!(rt; "{fault:?}"),
+    }
+    Ok(())
+}
+
+#[test]
+fn an_address_is_shown_and_parsed(rt: HostRuntime) -> Result<(), Fail> {
+    let address = MacAddr::new(STATION);
+    let text = format!(in rt.alloc(); "{address}")?;
+    assert_eq!(rt; text.as_str(), "02:aa:00:00:00:01");
+    let parsed = MacAddr::parse_text("02:AA:00:00:00:01").ok_or("not an address")?;
+    assert_eq!(rt; parsed, address);
+    assert!(rt; MacAddr::parse_text("02:aa:00:00:00").is_none());
+    Ok(())
+}
+
+#[test]
+fn a_list_is_its_vector(rt: HostRuntime) -> Result<(), Fail> {
+    let list = List::from_vec([1u8, 2].to_vec(rt.alloc())?);
+    assert_eq!(rt; list.as_slice(), [1, 2].as_slice());
+    let items = list.into_vec();
+    assert_eq!(rt; items.as_slice(), [1, 2].as_slice());
+    Ok(())
+}
