@@ -7,6 +7,8 @@
 
 mod advert;
 mod probe_response;
+#[cfg(test)]
+mod tests;
 
 pub use advert::Advert;
 pub use probe_response::write_probe_response;

@@ -23,7 +23,11 @@ const DSSS_PARAMETER_SET: u8 = 3;
 const TIME_UNIT: u64 = 1024;
 
 /// Appends a whole probe response to the station `to`. After `NoMemory` `out` is as it was.
-pub fn write_probe_response(out: &mut Octets, advert: &Advert<'_>, to: MacAddr) -> Result<(), NoMemory>
+pub fn write_probe_response(
+    out: &mut Octets,
+    advert: &Advert<'_>,
+    to: MacAddr,
+) -> Result<(), NoMemory>
     requires ssid { length advert.now.ssid.now ≤ 32 }
     requires some_rates { 1 ≤ length advert.now.rates.now }
     requires few_rates { length advert.now.rates.now ≤ 16 }

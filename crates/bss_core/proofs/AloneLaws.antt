@@ -141,3 +141,9 @@ pub sent_by-reply : (s : Setting) (es : List Event) (e : Event) (r : Reply) → 
 sent_by-reply s es e r h =
     ap (drop (length (alone s es).air)) (ap (λ (m : Network). m.air) (reply_is s es e r h) ∙ air_after r (alone s es))
     ∙ drop-append_seam (alone s es).air (frames_of r)
+
+-- the frames that an event adds stand behind those that were sent
+pub air-push : (s : Setting) (es : List Event) (e : Event) (r : Reply) → step s (alone s es) e ≡ after_reply r (alone s es) → (alone s (es ++ e ∷ [])).air ≡ (alone s es).air ++ sent_by s es e
+air-push s es e r h =
+    ap (λ (m : Network). m.air) (reply_is s es e r h) ∙ air_after r (alone s es)
+    ∙ ap (λ (fs : List (List ℕ)). (alone s es).air ++ fs) (sym (sent_by-reply s es e r h))

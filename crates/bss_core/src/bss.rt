@@ -1,6 +1,6 @@
 //! A network alone, as it runs.
 
-ghost use Rattle.std.specs.Prelude.{◌≡◌, Err, ◌+◌, ◌++◌, ◌∷◌, [], ◌↔◌, ◌<◌, Bool, true, false, None, Some, IsTrue, IsOk, IfOk, OnOk, OnErr, IfSome, IfNone, length, is_some, option_to_list, option_map, if◌then◌else◌};
+ghost use Rattle.std.specs.Prelude.{◌≡◌, Err, ◌+◌, ◌++◌, ◌∷◌, [], ◌↔◌, ◌<◌, ◌≤◌, Bool, true, false, None, Some, IsTrue, IsOk, IfOk, OnOk, OnErr, IfSome, IfNone, length, is_some, option_to_list, option_map, if◌then◌else◌};
 ghost use Rattle.bss_core.specs.Configuration.{setting_fault, network_fault};
 ghost use Rattle.bss_core.specs.Network.{Setting, alone, answer_probe, step, table_of, counts_of};
 ghost use Rattle.bss_core.specs.Replies.{after_reply, frames_of};
@@ -129,9 +129,10 @@ impl Bss {
         &self.config
     }
 
-    /// The events that it took, the first of them first.
+    /// The events that it took, the first of them first: at most as many as its configuration allows.
     pub fn history(&self) -> &[Event]
-        ensures { result.now ≡ self.now.history }
+        ensures events { result.now ≡ self.now.history }
+        ensures bounded { length self.now.history ≤ self.now.setting.network.max_events }
     {
         self.history.as_slice()
     }
@@ -210,6 +211,8 @@ impl Bss {
         ensures number { IfOk result (λ number. number ≡ length self.old.history) }
         ensures history { OnOk result (self.new.history ≡ self.old.history ++ event ∷ []) }
         ensures waiting { OnOk result (self.new.waiting ≡ self.old.waiting ++ sent_by self.old.setting self.old.history event) }
+        ensures air { OnOk result ((network_of self.new).air ≡ (network_of self.old).air ++ sent_by self.old.setting self.old.history event) }
+        ensures bounded { length self.new.history ≤ self.new.setting.network.max_events }
         ensures setting { self.new.setting ≡ self.old.setting }
         ensures full { (result ≡ Err Refusal.HistoryFull) ↔ (length self.old.history ≡ self.old.setting.network.max_events) }
         ensures err { OnErr result (self.new ≡ self.old) }

@@ -1,1 +1,2 @@
+pub mod ElementRows
 pub mod Walk

@@ -1,5 +1,5 @@
 -- The walk over a body gives its elements, and no others.
-use Rattle.std.proofs.Common.{◌≡◌, ◌≢◌, ◌-◌, ℕ, zero, suc, ◌+◌, ◌<◌, ◌≤◌, Bool, true, false, get_or, List, [], ◌∷◌, ◌++◌, length, take, drop, Option, Some, None, cond, leb, eqb, refl, sym, ap, ◌∙◌, subst, arith, tests, length-drop, length-append}
+use Rattle.std.proofs.Common.{◌≡◌, ◌-◌, ℕ, zero, suc, ◌+◌, ◌<◌, ◌≤◌, Bool, true, false, get_or, List, [], ◌∷◌, ◌++◌, length, take, drop, Option, Some, None, cond, leb, eqb, refl, sym, ap, ◌∙◌, subst, arith, tests, length-drop, length-append}
 use Rattle.std.specs.Option.{is_some, unwrap_or}
 use Rattle.std.specs.List.{flat_map}
 use Rattle.std.proofs.lemmas.Bool.{le-leb, lt-leb, leb-true}
@@ -87,57 +87,41 @@ unfolding elements_of
 IsElements-from_read body es octets h = IsElements-from_within (length body) body es octets h
 
 -- what is the body is read
-pub elements_of-from_elements : (body : List ℕ) (es : List Pair) → IsElements body es → elements_of body ≡ Some es
-elements_of-from_elements body es h = ap elements_of h.whole ∙ elements_of-spelled es
+pub elements_of_elements : (body : List ℕ) (es : List Pair) → IsElements body es → elements_of body ≡ Some es
+elements_of_elements body es h = ap elements_of h.whole ∙ elements_of-spelled es
 
 -- a body is one list of elements at most
 pub same_elements : (body : List ℕ) (es fs : List Pair) → IsElements body es → IsElements body fs → es ≡ fs
 same_elements body es fs h k =
-    same_Some es fs (sym (elements_of-from_elements body es h) ∙ elements_of-from_elements body fs k)
+    same_Some es fs (sym (elements_of_elements body es h) ∙ elements_of_elements body fs k)
 
 -- ---- a body by its places
 
--- a last octet alone is no element
-pub elements_of-short : (body : List ℕ) → length body < 2 → body ≢ [] → elements_of body ≡ None
+-- fewer than two octets are no element
+pub elements_of_short : (body : List ℕ) → length body < 2 → elements_of body ≡ cond (eqb (length body) 0) (Some []) None
 unfolding elements_of elements_within
-elements_of-short [] short some = absurd (some refl)
-elements_of-short (id ∷ []) short some = refl
-elements_of-short (id ∷ len ∷ rest) short some = absurd (omega arith)
+elements_of_short [] short = refl
+elements_of_short (id ∷ []) short = refl
+elements_of_short (id ∷ len ∷ rest) short = absurd (omega arith)
 
--- nor is one whose length passes the end
-pub elements_of-passing : (body : List ℕ) → 2 ≤ length body → length body < get_or body 1 0 + 2 → elements_of body ≡ None
-elements_of-passing [] two passes = absurd (omega arith)
-elements_of-passing (id ∷ []) two passes = absurd (omega arith)
-elements_of-passing (id ∷ len ∷ rest) two passes = elements_of-overrun id len rest (omega arith)
+-- nor are octets whose length passes the end
+pub elements_of_overrun : (body : List ℕ) → 2 ≤ length body → length body < get_or body 1 0 + 2 → elements_of body ≡ cond (eqb (length body) 0) (Some []) None
+elements_of_overrun [] two passes = absurd (omega arith)
+elements_of_overrun (id ∷ []) two passes = absurd (omega arith)
+elements_of_overrun (id ∷ len ∷ rest) two passes =
+    let some : eqb (length (id ∷ len ∷ rest)) 0 ≡ false = search (arith, tests) in
+    elements_of-overrun id len rest (omega arith) ∙ rw some refl
 
--- the octets behind the first two
-abbrev pub behind : List ℕ → List ℕ
-behind body = take (length body - 2) (drop 2 body)
-
--- any other is read, and the walk goes on behind it
-pub elements_of-split : (body front back : List ℕ) (len : ℕ) → 2 ≤ length body → len ≡ get_or body 1 0 → len + 2 ≤ length body → front ≡ take len (behind body) → back ≡ drop len (behind body) → elements_of body ≡ before (get_or body 0 0, front) (elements_of back)
-elements_of-split [] front back len two same fits f b = absurd (omega arith)
-elements_of-split (id ∷ []) front back len two same fits f b = absurd (omega arith)
-elements_of-split (id ∷ l ∷ rest) front back len two same fits f b =
-    let all = take_rest (id ∷ l ∷ rest) 2 in
-    let here : l ≤ length rest = omega arith in
-    elements_of-fits id l rest here ∙ rw (f, b, all, same) refl
+-- any others are, and the walk goes on behind it
+pub elements_of_split : (body : List ℕ) → get_or body 1 0 + 2 ≤ length body → elements_of body ≡ before (get_or body 0 0, take (get_or body 1 0) (take (length body - 2) (drop 2 body))) (elements_of (drop (get_or body 1 0) (take (length body - 2) (drop 2 body))))
+elements_of_split [] fits = absurd (omega arith)
+elements_of_split (id ∷ []) fits = absurd (omega arith)
+elements_of_split (id ∷ len ∷ rest) fits =
+    let all = take_rest (id ∷ len ∷ rest) 2 in
+    let here : len ≤ length rest = omega arith in
+    elements_of-fits id len rest here ∙ rw all refl
 
 -- ---- whether there are elements
-
--- what can't be read is no body of elements, unless it is empty
-pub is_some-none : (body : List ℕ) → (body ≢ [] → elements_of body ≡ None) → eqb (length body) 0 ≡ is_some (elements_of body)
-unfolding elements_of elements_within
-is_some-none [] h = refl
-is_some-none (octet ∷ body) h =
-    let some : eqb (length (octet ∷ body)) 0 ≡ false = search (arith, tests) in
-    some ∙ sym (ap is_some (h (λ e. cc)))
-
--- where nothing can be read, nothing is left
-pub nothing_left : (body : List ℕ) → (body ≢ [] → elements_of body ≡ None) → elements_of body ≡ Some (listed body) → listed body ≡ []
-unfolding elements_of elements_within
-nothing_left [] h e = refl
-nothing_left (octet ∷ body) h e = absurd (none-some _ (sym (h (λ same. cc)) ∙ e))
 
 -- an option that has a value
 pub some_is : (o : Option (List Pair)) → is_some o ≡ true → o ≡ Some (unwrap_or o [])
@@ -150,7 +134,7 @@ listed_is body h = some_is (elements_of body) h
 
 -- a body of elements, and what is then read
 pub is_some-elements : (body : List ℕ) (es : List Pair) → IsElements body es → is_some (elements_of body) ≡ true
-is_some-elements body es h = ap is_some (elements_of-from_elements body es h)
+is_some-elements body es h = ap is_some (elements_of_elements body es h)
 
 pub same_listed : (body : List ℕ) (es : List Pair) → IsElements body es → listed body ≡ es
-same_listed body es h = ap (λ o. unwrap_or o []) (elements_of-from_elements body es h)
+same_listed body es h = ap (λ o. unwrap_or o []) (elements_of_elements body es h)

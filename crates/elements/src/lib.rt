@@ -7,6 +7,8 @@
 #![tactic(auto)]
 
 mod reading;
+#[cfg(test)]
+mod tests;
 mod writing;
 
 pub use reading::{Element, Elements, Overrun, one_list};

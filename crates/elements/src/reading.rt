@@ -1,6 +1,6 @@
 //! The elements of a body (IEEE Std 802.11-2016, 9.4.2.1).
 
-ghost use Rattle.std.specs.Prelude.{◌≡◌, ◌≢◌, ℕ, ◌<◌, List, [], length, slice_index, Some, None, is_some, option_map, IfSome, IfNone, IfOk, IsOkAnd, MatchResult};
+ghost use Rattle.std.specs.Prelude.{◌≡◌, ◌==◌, ℕ, ◌<◌, List, [], length, slice_index, Some, None, is_some, option_map, IfSome, IfNone, IfOk, IsOkAnd, MatchResult, if◌then◌else◌};
 ghost use Rattle.std.specs.Iterator.{YieldsFirstBy, item_count};
 ghost use Rattle.elements.specs.Elements.{Pair, IsElements, elements_of, before, first_of, shown};
 
@@ -38,6 +38,7 @@ impl<'a> Model for Elements<'a> {
 
 impl<'a> Elements<'a> {
     /// The elements of a body: an error exactly where the body is no concatenation of elements. It takes no memory.
+    #[tactic(auto, using(crate::proofs::Walk::elements_of_elements))]
     pub fn new(body: &'a [u8]) -> Result<Elements<'a>, Overrun>
         ensures ok { IfOk result (λ es. IsElements body.now es) }
         ensures only { (es : List Pair) → IsElements body.now es → IsOkAnd result (λ r. r ≡ es) }
@@ -89,10 +90,11 @@ fn are_elements(body: &[u8]) -> bool
 
 /// The first element of a body and what follows it: nothing where the body is empty, where a last octet stands
 /// alone, and where the element passes the end.
+#[tactic(auto, using(crate::proofs::Walk::elements_of_short, crate::proofs::Walk::elements_of_overrun, crate::proofs::Walk::elements_of_split))]
 fn split_element(body: &[u8]) -> Option<(Element<'_>, &[u8])>
     ensures found { IfSome result (λ split. elements_of body.now ≡ before (shown split.0) (elements_of split.1.now)) }
     ensures shorter { IfSome result (λ split. length split.1.now < length body.now) }
-    ensures none { IfNone result (body.now ≢ [] → elements_of body.now ≡ None) }
+    ensures none { IfNone result (elements_of body.now ≡ (if length body.now == 0 then Some [] else None)) }
 {
     let [id, len, rest @ ..] = body else {
         return None;

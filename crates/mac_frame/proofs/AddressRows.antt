@@ -1,5 +1,5 @@
 -- Texts of addresses on which the definitions are computed.
-use Rattle.std.proofs.Common.{◌≡◌, ℕ, true, false, List, [], ◌∷◌, Some, None, refl}
+use Rattle.std.proofs.Common.{◌≡◌, true, false, [], ◌∷◌, Some, None, refl}
 use Rattle.std.specs.Prelude.{codes}
 use Rattle.mac_frame.specs.Address.{broadcast, is_group, address_of, address_text}
 use Rattle.mac_frame.proofs.Samples.{station}

@@ -1,6 +1,5 @@
 -- A string is a frame, by the concatenation of its fields, exactly where the tests in their order find no fault.
-use Rattle.std.proofs.Common.{◌≡◌, ◌≢◌, ◌↔◌, IsTrue, ℕ, ◌+◌, ◌-◌, ◌<◌, ◌≤◌, ◌⊎◌, Bool, true, false, not, cond, ◌&&◌, ◌||◌, ◌==◌, eqb, ltb, List, [], ◌∷◌, ◌++◌, length, take, drop, slice_index, Result, Ok, Err, if◌then◌else◌, refl, sym, ◌∙◌, ap, subst, inl, inr, ⊎_elim, arith, length-drop, take_all}
-use Rattle.std.specs.Bool.{Decides}
+use Rattle.std.proofs.Common.{◌≡◌, ◌≢◌, ◌↔◌, IsTrue, ℕ, ◌+◌, ◌-◌, ◌≤◌, ◌⊎◌, Bool, true, false, not, ◌&&◌, ◌==◌, ltb, List, ◌++◌, length, take, drop, slice_index, Result, Ok, Err, if◌then◌else◌, refl, sym, ◌∙◌, ap, subst, inl, inr, ⊎_elim, arith, length-drop, take_all}
 use Rattle.std.specs.Cmp.Lexicographic.{bytes_decides}
 use Rattle.std.proofs.lemmas.Bool.{eq-eqb, eqb-true, le-ltb, ltb-false, not_from_true, not-false, and_from, and_parts, or_from, or_parts, or_cases, or_left, or_right, and_left, and_cases, false≢true, false_from_ne_true}
 use Rattle.std.proofs.lemmas.Bool.Decides.{same_from_decides}
@@ -42,7 +41,7 @@ by_cells f = record {
   network = cells f.network 6;
   fragment = f.fragment;
   sequence = f.sequence;
-  body = f.body
+  body = f.body;
 }
 
 by_cells_is : (f : Fields) → IsSized f → f ≡ by_cells f
@@ -55,7 +54,7 @@ by_cells_is f s = λ i. record {
   network = is_its_cells f.network 6 s.network i;
   fragment = f.fragment;
   sequence = f.sequence;
-  body = f.body
+  body = f.body;
 }
 
 placed_by_cells : (f : Fields) → IsPlaced (spelled (by_cells f)) (by_cells f)
@@ -67,7 +66,7 @@ placed_by_cells f = record {
   transmitter = refl;
   network = refl;
   fragment = refl;
-  body = refl
+  body = refl;
 }
 
 pub placed : (x : List ℕ) (f : Fields) → x ≡ spelled f → IsSized f → IsPlaced x f
@@ -117,7 +116,7 @@ tests_of bss x = record {
   flags = has_refused_flags x;
   direction = has_direction x;
   address = has_wrong_address bss x;
-  long = ltb 2304 (length (drop 24 x))
+  long = ltb 2304 (length (drop 24 x));
 }
 
 -- the frame of the octets at their places
@@ -188,7 +187,7 @@ passes bss x f r p =
       flags = or_from _ _ (or_from _ _ (or_from _ _ (ap (λ o. has_bit o 2) p.flags ∙ r.more_fragments) (ap (λ o. has_bit o 6) p.flags ∙ r.protected)) (ap (λ o. has_bit o 7) p.flags ∙ r.order)) (not_from_true _ (eq-eqb (bits (slice_index x 22) 0 4) 0 fragment));
       direction = or_from _ _ (ap (λ o. has_bit o 0) p.flags ∙ r.to_ds) (ap (λ o. has_bit o 1) p.flags ∙ r.from_ds);
       address = or_from _ _ (or_from _ _ (or_from _ _ (not_from_true _ receiver) group) other) (not_from_true _ network);
-      long = le-ltb 2304 (length (drop 24 x)) body_size
+      long = le-ltb 2304 (length (drop 24 x)) body_size;
     }
 
 sized : (bss x : List ℕ) (f : Fields) → IsProbeRequest bss x f → IsSized f
@@ -221,7 +220,7 @@ fields_at x = record {
   network = address_at x 16;
   fragment = slice_index x 22;
   sequence = slice_index x 23;
-  body = drop 24 x
+  body = drop 24 x;
 }
 
 spelled_at_places : (x : List ℕ) → 24 ≤ length x → x ≡ spelled (fields_at x)
@@ -271,7 +270,7 @@ passed bss x n =
       to_network = shared_back bss (address_at x 4) (not-false _ station.0);
       from_station = station.1;
       from_another = λ e. false≢true (sym another.1 ∙ (bytes_decides (address_at x 10) bss).1 e);
-      of_network = shared_back bss (address_at x 16) (not-false _ network.1)
+      of_network = shared_back bss (address_at x 16) (not-false _ network.1);
     }
 
 -- what the function gives is a frame

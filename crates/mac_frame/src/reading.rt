@@ -250,12 +250,10 @@ pub fn decode(bss: MacAddr, frame: &[u8]) -> Result<Rx<'_>, Unread>
 pub fn one_frame()
     ensures reading { (bss x : List ℕ) (f : Frame) → (frame_of bss x ≡ Ok f) ↔ IsFrame bss x f }
     ensures unique { (bss x : List ℕ) (f g : Frame) → IsFrame bss x f → IsFrame bss x g → f ≡ g }
-{
-}
+{}
 
 /// A frame for a network has an Address 1, which is the network's or the broadcast one.
 pub fn frame_is_addressed()
     ensures long { (bss x : List ℕ) (f : Frame) → IsFrame bss x f → 10 ≤ length x }
     ensures receiver { (bss x : List ℕ) (f : Frame) → IsFrame bss x f → (addressed_to x ≡ bss) ⊎ (addressed_to x ≡ broadcast) }
-{
-}
+{}

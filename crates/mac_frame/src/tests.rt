@@ -2,6 +2,7 @@ use super::*;
 use std::test::Fail;
 
 const NETWORK: [u8; 6] = [0x02, 0, 0, 0, 0, 0x01];
+
 const STATION: [u8; 6] = [0x02, 0xaa, 0, 0, 0, 0x01];
 
 #[test]
@@ -42,20 +43,20 @@ fn a_probe_request_is_read(rt: HostRuntime) -> Result<(), Fail> {
     ];
     let all = addressed(&frame).ok_or("no address")?;
     assert!(rt; all.is_broadcast());
-    match decode(MacAddr::new(NETWORK), &frame) {
-        Ok(Rx::Mgmt {
-            subtype,
-            from,
-            to_all,
-            body,
-        }) => {
-            assert_eq!(rt; subtype, 4);
-            assert_eq!(rt; from, MacAddr::new(STATION));
-            assert!(rt; to_all);
-            assert_eq!(rt; body, [0, 0].as_slice());
-        }
+    let rx = match decode(MacAddr::new(NETWORK), &frame) {
+        Ok(rx) => rx,
         Err(fault) => panic!(rt; "{fault:?}"),
-    }
+    };
+    let Rx::Mgmt {
+        subtype,
+        from,
+        to_all,
+        body,
+    } = rx;
+    assert_eq!(rt; subtype, 4);
+    assert_eq!(rt; from, MacAddr::new(STATION));
+    assert!(rt; to_all);
+    assert_eq!(rt; body, [0, 0].as_slice());
     Ok(())
 }
 

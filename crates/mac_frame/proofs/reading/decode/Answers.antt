@@ -1,8 +1,8 @@
-use Rattle.std.proofs.Common.{rules, ◌≡◌, ◌≤◌, length, drop, sym, ap, subst, ◌∙◌, Ok}
+use Rattle.std.proofs.Common.{rules, ◌≤◌, length, drop, sym, ap, subst, ◌∙◌, Ok}
 use Rattle.std.proofs.lemmas.Bool.{le-ltb}
-use Rattle.mac_frame.specs.Frame.{Mgmt, bits, frame_of, subtype_of, address_at}
+use Rattle.mac_frame.specs.Frame.{Mgmt}
 use Rattle.mac_frame.specs.Address.{same_octets, broadcast}
-use Rattle.mac_frame.proofs.Frames.{FindsNone, tests_of, reads, frame_at, is_a_frame, none_at_fault, only_frame, to_all_is, body_is}
+use Rattle.mac_frame.proofs.Frames.{FindsNone, tests_of, reads, is_a_frame, none_at_fault, only_frame, to_all_is, body_is}
 use Rattle.mac_frame.proofs.reading.decode.Goals as goal
 
 pub returns-clause-fault : goal.returns-clause-fault
@@ -15,7 +15,7 @@ returns-clause-fault c =
       flags = search rules;
       direction = search rules;
       address = search rules;
-      long = le-ltb 2304 (length (drop 24 x)) (subst (λ body. length body ≤ 2304) (body_is x) c.if-body-gt-MAX_BODY_LEN.false)
+      long = le-ltb 2304 (length (drop 24 x)) (subst (λ body. length body ≤ 2304) (body_is x) c.if-body-gt-MAX_BODY_LEN.false);
     } in
     let found = reads c.args.bss x none in
     let subtype = sym c.new-control.ensures.subtype in

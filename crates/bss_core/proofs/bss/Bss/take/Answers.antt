@@ -1,9 +1,9 @@
 use Rattle.std.proofs.Common.{◌≡◌, ℕ, ◌<◌, ◌≤◌, ◌++◌, ◌∷◌, [], List, length, subst, sym, ap, ◌∙◌, arith, rules}
 use Rattle.bss_core.specs.Network.{Setting, step, alone}
 use Rattle.bss_core.specs.Replies.{after_reply, frames_of}
-use Rattle.bss_core.specs.State.{State, network_of}
+use Rattle.bss_core.specs.State.{State, network_of, sent_by}
 use Rattle.bss_core.specs.declared.event.Event.{Event}
-use Rattle.bss_core.proofs.AloneLaws.{unread-le, sequence-lt, keeps-push, sent_by-reply}
+use Rattle.bss_core.proofs.AloneLaws.{unread-le, sequence-lt, keeps-push, sent_by-reply, air-push}
 use Rattle.bss_core.proofs.bss.Bss.take.Goals as goal
 
 pub unread_after-unread-requires : goal.unread_after-unread-requires
@@ -37,3 +37,13 @@ returns-clause-waiting c =
     let sent = sent_by-reply s.setting s.history c.args.event c.in_ok-reply.reply c.in_ok-reply.ensures in
     let before : c.self.inside.waiting.items ≡ s.waiting = ap (λ (st : State). st.waiting) c.self.view_is in
     c.send_to.ensures ∙ ap (λ (w : List (List ℕ)). w ++ frames_of c.in_ok-reply.reply) (c.reserve-2.ensures.items ∙ before) ∙ ap (λ (f : List (List ℕ)). s.waiting ++ f) (sym sent)
+
+pub returns-clause-air : goal.returns-clause-air
+returns-clause-air c =
+    let s : Setting = record { channel = c.self.inside.channel; interval = c.self.inside.interval; network = c.self.inside.config } in
+    let es : List Event = c.self.inside.history.items in
+    let items : c.push_reserved.new.self.items ≡ es ++ c.args.event ∷ [] = c.push_reserved.ensures.items ∙ ap (λ (h : List Event). h ++ c.args.event ∷ []) c.reserve.ensures.items in
+    let P : State → Type 0 = λ st. step st.setting (network_of st) c.args.event ≡ after_reply c.in_ok-reply.reply (network_of st) in
+    let replied : step s (alone s es) c.args.event ≡ after_reply c.in_ok-reply.reply (alone s es) = subst P (sym c.self.view_is) c.in_ok-reply.ensures in
+    ap (λ (h : List Event). (alone s h).air) items ∙ air-push s es c.args.event c.in_ok-reply.reply replied
+    ∙ ap (λ (st : State). (network_of st).air ++ sent_by st.setting st.history c.args.event) c.self.view_is

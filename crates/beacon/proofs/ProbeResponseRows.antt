@@ -1,0 +1,69 @@
+-- What the definitions say of some probe responses.
+use Rattle.std.proofs.Common.{◌≡◌, ℕ, List, [], ◌∷◌, ◌++◌, refl}
+use Rattle.std.specs.Int.{w64, to_le_bytes}
+use Rattle.beacon.specs.ProbeResponse.{Announced, timestamp, fixed_fields, network_elements, probe_response_body, probe_response}
+
+-- a network 02:00:00:00:00:01 named lab on channel 6, with a beacon interval of 100 time units
+abbrev lab : List ℕ → Announced
+lab rates = record { bss = 2 ∷ 0 ∷ 0 ∷ 0 ∷ 0 ∷ 1 ∷ []; ssid = 108 ∷ 97 ∷ 98 ∷ []; rates = rates; channel = 6; interval = 100; clock = 0 }
+
+-- a station 02:aa:00:00:00:01
+abbrev station : List ℕ
+station = 2 ∷ 170 ∷ 0 ∷ 0 ∷ 0 ∷ 1 ∷ []
+
+-- 1 and 2 Mb/s as basic rates, 5.5 and 11 Mb/s
+abbrev four_rates : List ℕ
+four_rates = 0x82 ∷ 0x84 ∷ 0x0b ∷ 0x16 ∷ []
+
+abbrev nine_rates : List ℕ
+nine_rates = 0x82 ∷ 0x84 ∷ 0x8b ∷ 0x96 ∷ 0x0c ∷ 0x12 ∷ 0x18 ∷ 0x24 ∷ 0x30 ∷ []
+
+body_with_four_rates :
+    probe_response_body (lab four_rates)
+    ≡ 0 ∷ 0 ∷ 0 ∷ 0 ∷ 0 ∷ 0 ∷ 0 ∷ 0 ∷ 0x64 ∷ 0x00 ∷ 0x01 ∷ 0x00
+    ∷ 0x00 ∷ 0x03 ∷ 0x6c ∷ 0x61 ∷ 0x62
+    ∷ 0x01 ∷ 0x04 ∷ 0x82 ∷ 0x84 ∷ 0x0b ∷ 0x16
+    ∷ 0x03 ∷ 0x01 ∷ 0x06 ∷ []
+unfolding timestamp fixed_fields network_elements
+body_with_four_rates = refl
+
+frame_with_four_rates :
+    probe_response (lab four_rates) station 0
+    ≡ 0x50 ∷ 0x00 ∷ 0x00 ∷ 0x00
+    ∷ 0x02 ∷ 0xaa ∷ 0x00 ∷ 0x00 ∷ 0x00 ∷ 0x01
+    ∷ 0x02 ∷ 0x00 ∷ 0x00 ∷ 0x00 ∷ 0x00 ∷ 0x01
+    ∷ 0x02 ∷ 0x00 ∷ 0x00 ∷ 0x00 ∷ 0x00 ∷ 0x01
+    ∷ 0x00 ∷ 0x00
+    ∷ 0 ∷ 0 ∷ 0 ∷ 0 ∷ 0 ∷ 0 ∷ 0 ∷ 0 ∷ 0x64 ∷ 0x00 ∷ 0x01 ∷ 0x00
+    ∷ 0x00 ∷ 0x03 ∷ 0x6c ∷ 0x61 ∷ 0x62
+    ∷ 0x01 ∷ 0x04 ∷ 0x82 ∷ 0x84 ∷ 0x0b ∷ 0x16
+    ∷ 0x03 ∷ 0x01 ∷ 0x06 ∷ []
+unfolding timestamp fixed_fields network_elements
+frame_with_four_rates = refl
+
+channel_stands_between_the_rates :
+    probe_response_body (lab nine_rates)
+    ≡ 0 ∷ 0 ∷ 0 ∷ 0 ∷ 0 ∷ 0 ∷ 0 ∷ 0 ∷ 0x64 ∷ 0x00 ∷ 0x01 ∷ 0x00
+    ∷ 0x00 ∷ 0x03 ∷ 0x6c ∷ 0x61 ∷ 0x62
+    ∷ 0x01 ∷ 0x08 ∷ 0x82 ∷ 0x84 ∷ 0x8b ∷ 0x96 ∷ 0x0c ∷ 0x12 ∷ 0x18 ∷ 0x24
+    ∷ 0x03 ∷ 0x01 ∷ 0x06
+    ∷ 0x32 ∷ 0x01 ∷ 0x30 ∷ []
+unfolding timestamp fixed_fields network_elements
+channel_stands_between_the_rates = refl
+
+-- after three intervals of 258 time units: 792,576 microseconds
+interval_and_timestamp_go_low_octet_first :
+    fixed_fields (record (lab four_rates) { interval = 258; clock = 3 })
+    ≡ 0x00 ∷ 0x18 ∷ 0x0c ∷ 0 ∷ 0 ∷ 0 ∷ 0 ∷ 0 ∷ 0x02 ∷ 0x01 ∷ 0x01 ∷ 0x00 ∷ []
+unfolding timestamp fixed_fields
+interval_and_timestamp_go_low_octet_first = refl
+
+timestamp_counts_microseconds : timestamp 3 258 ≡ to_le_bytes w64 792576
+unfolding timestamp
+timestamp_counts_microseconds = refl
+
+sequence_number_stands_above_the_fragment_number :
+    probe_response (lab four_rates) station 4095
+    ≡ 0x50 ∷ 0x00 ∷ 0x00 ∷ 0x00 ∷ station ++ (lab four_rates).bss ++ (lab four_rates).bss ++ 0xf0 ∷ 0xff ∷ probe_response_body (lab four_rates)
+unfolding timestamp fixed_fields network_elements
+sequence_number_stands_above_the_fragment_number = refl

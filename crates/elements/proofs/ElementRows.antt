@@ -1,0 +1,59 @@
+-- What the definitions say of some bodies.
+use Rattle.std.proofs.Common.{◌≡◌, [], ◌∷◌, Some, None, refl}
+use Rattle.elements.specs.Elements.{elements_within, elements_of, first_of}
+use Rattle.elements.specs.Rates.{element, supported_rates, extended_rates, rates_of}
+
+four_rates_are_one_element : elements_of (1 ∷ 4 ∷ 2 ∷ 4 ∷ 11 ∷ 22 ∷ []) ≡ Some ((1, 2 ∷ 4 ∷ 11 ∷ 22 ∷ []) ∷ [])
+unfolding elements_of elements_within
+four_rates_are_one_element = refl
+
+an_empty_body_has_no_element : elements_of [] ≡ Some []
+unfolding elements_of elements_within
+an_empty_body_has_no_element = refl
+
+an_element_may_be_empty : elements_of (0 ∷ 0 ∷ []) ≡ Some ((0, []) ∷ [])
+unfolding elements_of elements_within
+an_element_may_be_empty = refl
+
+elements_stand_one_after_another : elements_of (0 ∷ 0 ∷ 3 ∷ 1 ∷ 6 ∷ []) ≡ Some ((0, []) ∷ (3, 6 ∷ []) ∷ [])
+unfolding elements_of elements_within
+elements_stand_one_after_another = refl
+
+one_octet_past_the_end_is_no_body : elements_of (1 ∷ 4 ∷ 2 ∷ 4 ∷ 11 ∷ []) ≡ None
+unfolding elements_of elements_within
+one_octet_past_the_end_is_no_body = refl
+
+a_last_octet_alone_is_no_body : elements_of (3 ∷ 1 ∷ 6 ∷ 0 ∷ []) ≡ None
+unfolding elements_of elements_within
+a_last_octet_alone_is_no_body = refl
+
+an_element_id_alone_is_no_body : elements_of (0 ∷ []) ≡ None
+unfolding elements_of elements_within
+an_element_id_alone_is_no_body = refl
+
+the_first_of_two_counts : first_of 0 ((3, 6 ∷ []) ∷ (0, 97 ∷ []) ∷ (0, 98 ∷ []) ∷ []) ≡ Some (97 ∷ [])
+the_first_of_two_counts = refl
+
+another_element_id_is_not_found : first_of 50 ((0, 97 ∷ []) ∷ (3, 6 ∷ []) ∷ []) ≡ None
+another_element_id_is_not_found = refl
+
+-- eight rates: 1, 2, 5.5 and 11 Mb/s as basic rates, and 6, 9, 12 and 18 Mb/s
+eight_rates_fill_one_element :
+    rates_of (0x82 ∷ 0x84 ∷ 0x8b ∷ 0x96 ∷ 0x0c ∷ 0x12 ∷ 0x18 ∷ 0x24 ∷ [])
+    ≡ 0x01 ∷ 0x08 ∷ 0x82 ∷ 0x84 ∷ 0x8b ∷ 0x96 ∷ 0x0c ∷ 0x12 ∷ 0x18 ∷ 0x24 ∷ []
+eight_rates_fill_one_element = refl
+
+-- and 24 Mb/s as a ninth
+a_ninth_rate_stands_in_element_50 :
+    rates_of (0x82 ∷ 0x84 ∷ 0x8b ∷ 0x96 ∷ 0x0c ∷ 0x12 ∷ 0x18 ∷ 0x24 ∷ 0x30 ∷ [])
+    ≡ 0x01 ∷ 0x08 ∷ 0x82 ∷ 0x84 ∷ 0x8b ∷ 0x96 ∷ 0x0c ∷ 0x12 ∷ 0x18 ∷ 0x24 ∷ 0x32 ∷ 0x01 ∷ 0x30 ∷ []
+a_ninth_rate_stands_in_element_50 = refl
+
+eight_rates_have_no_element_50 :
+    extended_rates (0x82 ∷ 0x84 ∷ 0x8b ∷ 0x96 ∷ 0x0c ∷ 0x12 ∷ 0x18 ∷ 0x24 ∷ []) ≡ []
+eight_rates_have_no_element_50 = refl
+
+the_first_eight_rates_stand_in_element_1 :
+    supported_rates (0x82 ∷ 0x84 ∷ 0x8b ∷ 0x96 ∷ 0x0c ∷ 0x12 ∷ 0x18 ∷ 0x24 ∷ 0x30 ∷ [])
+    ≡ element 1 (0x82 ∷ 0x84 ∷ 0x8b ∷ 0x96 ∷ 0x0c ∷ 0x12 ∷ 0x18 ∷ 0x24 ∷ [])
+the_first_eight_rates_stand_in_element_1 = refl

@@ -1,0 +1,53 @@
+//! Calls with ample memory, and one run of the reader.
+
+use crate::{
+    Elements, Overrun, write_element, write_extended_rates, write_rates, write_supported_rates,
+};
+use mac_frame::Octets;
+use std::test::Fail;
+
+const NINE_RATES: [u8; 9] = [0x82, 0x84, 0x8b, 0x96, 0x0c, 0x12, 0x18, 0x24, 0x30];
+
+#[test]
+fn an_element_is_appended(rt: HostRuntime) -> Result<(), Fail> {
+    let mut out = Octets::from_slice(rt.alloc(), &[0xff])?;
+    write_element(&mut out, 3, &[6])?;
+    assert_eq!(rt; out.as_slice(), [0xff, 3, 1, 6].as_slice());
+    Ok(())
+}
+
+#[test]
+fn nine_rates_take_two_elements(rt: HostRuntime) -> Result<(), Fail> {
+    let mut out = Octets::new(rt.alloc());
+    write_rates(&mut out, &NINE_RATES)?;
+    let supported = [1, 8, 0x82, 0x84, 0x8b, 0x96, 0x0c, 0x12, 0x18, 0x24];
+    let extended = [50, 1, 0x30];
+    assert_eq!(rt; out.as_slice().len(), 13);
+    assert_eq!(rt; &out.as_slice()[..10], supported.as_slice());
+    assert_eq!(rt; &out.as_slice()[10..], extended.as_slice());
+    Ok(())
+}
+
+#[test]
+fn each_part_of_the_rates_is_appended_alone(rt: HostRuntime) -> Result<(), Fail> {
+    let mut out = Octets::new(rt.alloc());
+    write_extended_rates(&mut out, &NINE_RATES)?;
+    write_supported_rates(&mut out, &NINE_RATES[..2])?;
+    assert_eq!(rt; out.as_slice(), [50, 1, 0x30, 1, 2, 0x82, 0x84].as_slice());
+    Ok(())
+}
+
+#[test]
+fn two_elements_are_read_in_order(rt: HostRuntime) -> Result<(), Fail> {
+    let mut elements = Elements::new(&[0, 2, 97, 98, 3, 1, 6])?;
+    assert_eq!(rt; elements.first(3), Some([6].as_slice()));
+    let ssid = elements.next().ok_or("no first element")?;
+    assert_eq!(rt; ssid.id, 0);
+    assert_eq!(rt; ssid.body, [97, 98].as_slice());
+    let channel = elements.next().ok_or("no second element")?;
+    assert_eq!(rt; channel.id, 3);
+    assert_eq!(rt; channel.body, [6].as_slice());
+    assert!(rt; elements.next().is_none());
+    assert_eq!(rt; Elements::new(&[0, 2, 97]).err(), Some(Overrun));
+    Ok(())
+}
