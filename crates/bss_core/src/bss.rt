@@ -129,7 +129,7 @@ impl Bss {
         &self.config
     }
 
-    /// The events that it took, the first of them first: at most as many as its configuration allows.
+    /// The events that it took, the first of them first; at most `max_events`.
     pub fn history(&self) -> &[Event]
         ensures events { result.now ≡ self.now.history }
         ensures bounded { length self.now.history ≤ self.now.setting.network.max_events }

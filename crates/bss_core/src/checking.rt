@@ -67,7 +67,7 @@ fn fault_behind(earlier: &[NetConfig], network: &NetConfig) -> Option<u8>
 }
 
 /// Whether a network among others has this BSSID.
-fn is_taken(others: &[NetConfig], bssid: MacAddr) -> bool
+pub fn is_taken(others: &[NetConfig], bssid: MacAddr) -> bool
     ensures { result ≡ is_taken others.now bssid }
 {
     others.iter().any(|other| other.bssid == bssid)
@@ -95,8 +95,9 @@ fn network_fault(network: &NetConfig) -> Option<u8>
     None
 }
 
-/// Whether the rates are 1 to 16, each from 1 to 108 but for the mark of a basic rate, and all different.
-fn rates_fit(rates: &[u8]) -> bool
+/// Whether the rates are 1 to 16, each from 1 to 108 but for the mark of a basic rate (bit 7), and all different
+/// (IEEE Std 802.11-2016, 9.4.2.3; that they differ is *profile*).
+pub fn rates_fit(rates: &[u8]) -> bool
     ensures { result ≡ rates_fit rates.now }
 {
     (1..=16).contains(&rates.len()) && are_rates(rates) && are_different(rates)

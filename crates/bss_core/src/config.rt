@@ -1,6 +1,7 @@
 //! Configurations, and which of them are sound (*profile*).
 
 use mac_frame::{List, MacAddr, Octets};
+use std::fmt;
 
 /// The most networks of a radio.
 pub const MOST_NETWORKS: usize = 1;
@@ -47,4 +48,15 @@ pub struct ConfigFault {
     pub code: u8,
     /// The network's place, for a fault of one network: 8 and above.
     pub place: Option<usize>,
+}
+
+/// The fault as a user meets it, as in `C4`, or `C8 network 1`.
+impl fmt::Display for ConfigFault {
+    fn fmt<W: fmt::Write>(&self, f: &mut fmt::Formatter<W>) -> fmt::Result {
+        let code = self.code;
+        match self.place {
+            None => write!(f, "C{code}"),
+            Some(place) => write!(f, "C{code} network {place}"),
+        }
+    }
 }

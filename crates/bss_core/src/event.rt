@@ -1,7 +1,7 @@
 //! What happens to a network.
 
-ghost use Rattle.std.specs.Prelude.{◌≡◌};
-ghost use Rattle.bss_core.specs.Hearing.{is_heard};
+ghost use Rattle.std.specs.Prelude.{◌≡◌, ◌↔◌, IsTrue};
+ghost use Rattle.bss_core.specs.Hearing.{Hears, is_heard};
 
 use mac_frame::{MacAddr, Octets, addressed};
 
@@ -15,7 +15,8 @@ pub enum Event {
 /// Whether the network `bss` hears a string of octets on the air: it has at least 10 octets, and Address 1,
 /// octets 4 to 9, is the network's or the broadcast address (IEEE Std 802.11-2016, 10.2.8).
 pub fn hears(bss: MacAddr, frame: &[u8]) -> bool
-    ensures { result ≡ is_heard bss frame.now }
+    ensures heard { IsTrue result ↔ Hears bss frame.now }
+    ensures test { result ≡ is_heard bss frame.now }
 {
     addressed(frame).is_some_and(|to| to == bss || to.is_broadcast())
 }

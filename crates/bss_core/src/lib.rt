@@ -12,11 +12,17 @@ mod bss;
 mod checking;
 mod config;
 mod event;
+mod laws;
 mod reply;
 mod request;
 mod section;
 
 pub use bss::{Bss, Refusal};
+pub use checking::{is_taken, rates_fit};
 pub use config::{ConfigFault, MOST_NETWORKS, NetConfig, RadioConfig};
 pub use event::{Event, hears};
+pub use laws::{checked_networks, one_request, one_step};
 pub use section::{Counts, Section, StationRow};
+
+#[cfg(test)]
+mod tests;

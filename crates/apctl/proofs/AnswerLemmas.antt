@@ -1,0 +1,46 @@
+-- What each part of a run leaves, as the end of the whole.
+use Rattle.std.proofs.Common.{◌≡◌, ℕ, List, Option, Result, Ok, Err, refl, sym, ap, ◌∙◌, inl, inr}
+use Rattle.std.specs.Io.KnownBytes.{Appends, Keeps}
+use Rattle.std.proofs.KnownBytes.{Keeps-refl}
+use Rattle.bss_core.specs.declared.config.RadioConfig.{RadioConfig}
+use Rattle.bss_core.specs.declared.section.Section.{Section}
+use Rattle.apctl.specs.declared.configuration.fault.ConfigTextFault.{ConfigTextFault}
+use Rattle.apctl.specs.declared.configuration.fault.ConfigTextFault.TheVariants as config
+use Rattle.apctl.specs.declared.trace.Line.{Line}
+use Rattle.apctl.specs.declared.trace.TraceTextFault.{TraceTextFault}
+use Rattle.apctl.specs.declared.trace.TraceTextFault.TheVariants as trace
+use Rattle.apctl.specs.declared.report.ReportFault.{ReportFault}
+use Rattle.apctl.specs.declared.report.ReportFault.TheVariants as report
+use Rattle.apctl.specs.ConfigurationText.{configuration_of, Faults}
+use Rattle.apctl.specs.TraceText.{lines_of, IsTextFault}
+use Rattle.apctl.specs.Replay.{sections_of}
+use Rattle.apctl.specs.Report.{report_text}
+use Rattle.apctl.specs.Sinks.{AppendsPrefix}
+use Rattle.apctl.specs.Answer.{answered, replayed, answer_of, Ends, of_config, of_trace, of_report}
+
+-- a fault of the configuration
+pub config_ends : (e : ConfigTextFault) (ct tt : List ℕ) (old : Option (List ℕ)) → Faults e (configuration_of ct) → Ends (Err (of_config e)) (answer_of ct tt) old old
+unfolding answer_of
+config_ends (config.At fault) ct tt old h = (ap (λ (r : Result RadioConfig _). answered r tt) h, Keeps-refl old)
+config_ends config.NoMemory ct tt old h = inl (Keeps-refl old)
+
+-- a fault of the trace
+pub trace_ends : (e : TraceTextFault) (c : RadioConfig) (ct tt : List ℕ) (old : Option (List ℕ)) → configuration_of ct ≡ Ok c → IsTextFault (lines_of c tt) e → Ends (Err (of_trace e)) (answer_of ct tt) old old
+unfolding answer_of
+trace_ends (trace.At fault) c ct tt old read h =
+    (ap (λ (r : Result RadioConfig _). answered r tt) read ∙ ap (replayed c) h, Keeps-refl old)
+trace_ends trace.NoMemory c ct tt old read h = inl (Keeps-refl old)
+
+-- the report, where neither is at fault
+pub answer_of-read : (c : RadioConfig) (ls : List Line) (ct tt : List ℕ) → configuration_of ct ≡ Ok c → lines_of c tt ≡ Ok ls → answer_of ct tt ≡ Ok (report_text (sections_of c ls))
+unfolding answer_of
+answer_of-read c ls ct tt read lines = ap (λ (r : Result RadioConfig _). answered r tt) read ∙ ap (replayed c) lines
+
+-- a report that was cut short
+pub report_ends : (e : ReportFault) (text ct tt : List ℕ) (old new : Option (List ℕ)) → answer_of ct tt ≡ Ok text → AppendsPrefix old new text → Ends (Err (of_report e)) (answer_of ct tt) old new
+report_ends report.Write text ct tt old new read part = (text, read, part)
+report_ends report.NoMemory text ct tt old new read part = inr (text, read, part)
+
+-- the same by the sections and the lines that were passed on
+pub answer_of-sections : (c : RadioConfig) (ls : List Line) (sections : List Section) (ct tt : List ℕ) → configuration_of ct ≡ Ok c → lines_of c tt ≡ Ok ls → sections ≡ sections_of c ls → answer_of ct tt ≡ Ok (report_text sections)
+answer_of-sections c ls sections ct tt read lines same = rw same (answer_of-read c ls ct tt read lines)

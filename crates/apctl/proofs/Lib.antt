@@ -1,0 +1,16 @@
+pub mod ConfigurationNetworks
+pub mod ConfigurationReading
+pub mod ConfigurationRows
+pub mod ConfigurationSound
+pub mod TraceRows
+pub mod TraceSteps
+pub mod ReportItems
+pub mod ReportRows
+pub mod ReportDigits
+pub mod SinkSteps
+pub mod JoinedLines
+pub mod JoinedParts
+pub mod JoinedRows
+pub mod JoinedSteps
+pub mod ReplayLemmas
+pub mod AnswerLemmas

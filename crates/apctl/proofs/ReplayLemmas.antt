@@ -1,0 +1,64 @@
+-- The events of a network, line by line.
+use Rattle.std.proofs.Common.{◌≡◌, ℕ, ◌+◌, ◌-◌, ◌<◌, ◌≤◌, Bool, true, false, not, cond, ltb, Option, Some, None, List, [], ◌∷◌, ◌++◌, length, take, refl, sym, ap, ◌∙◌, append_assoc, append-nil, arith, inl, inr}
+use Rattle.std.proofs.lemmas.Bool.{cases_lt, lt-ltb, le-ltb}
+use Rattle.std.proofs.lemmas.List.{length-append, length-take-le, take_all, take-append-le}
+use Rattle.bss_core.specs.Hearing.{is_heard}
+use Rattle.bss_core.specs.declared.config.NetConfig.{NetConfig}
+use Rattle.std.specs.List.{AllByRecursion}
+use Rattle.bss_core.specs.Configuration.{channel_fits, interval_fits, queue_fits, count_fits, setting_fault, network_fault, is_taken, fault_behind, fault_at, networks_fault, fault_of, of_radio}
+use Rattle.bss_core.specs.declared.config.RadioConfig.{RadioConfig}
+use Rattle.bss_core.specs.declared.config.ConfigFault.{ConfigFault}
+use Rattle.bss_core.specs.declared.event.Event.{Event}
+use Rattle.bss_core.specs.declared.event.Event.TheVariants as event
+use Rattle.apctl.specs.Replay.{heard_of, heard, own_events, taken_of}
+use Rattle.apctl.specs.declared.trace.Line.{Line}
+use Rattle.apctl.specs.declared.trace.Line.TheVariants.{Air}
+
+heard-push : (bss : List ℕ) (ls : List Line) (l : Line) → heard bss (ls ++ l ∷ []) ≡ heard bss ls ++ heard_of bss l
+heard-push bss [] l = append-nil (heard_of bss l)
+heard-push bss (x ∷ ls) l = ap (λ (es : List Event). heard_of bss x ++ es) (heard-push bss ls l) ∙ sym (append_assoc (heard_of bss x) (heard bss ls) (heard_of bss l))
+
+-- a line has one event at most
+cond_length : (b : Bool) (e : Event) → length (cond b (e ∷ []) []) ≤ 1
+cond_length true e = omega arith
+cond_length false e = omega arith
+
+one_at_most : (bss : List ℕ) (l : Line) → length (heard_of bss l) ≤ 1
+one_at_most bss (Air x) = cond_length (is_heard bss x) (event.Air x)
+
+-- the front of a list with at most one item more
+take-push : (m : ℕ) (xs ys : List Event) → length ys ≤ 1 → take m (xs ++ ys) ≡ take m xs ++ cond (ltb (length (take m xs)) m) ys []
+take-push m xs ys one =
+    elim (cases_lt (length xs) m) [
+      | inl lt ↦
+          let whole : take m xs ≡ xs = take_all m xs (omega arith) in
+          let more : take m (xs ++ ys) ≡ xs ++ ys = take_all m (xs ++ ys) (omega (arith, length-append xs ys)) in
+          rw (whole, lt-ltb (length xs) m lt, more) refl
+      | inr ge ↦
+          let same : take m (xs ++ ys) ≡ take m xs = take-append-le m xs ys ge in
+          let full : length (take m xs) ≡ m = length-take-le m xs ge in
+          rw (same, full, le-ltb m m (omega arith)) (sym (append-nil (take m xs)))
+    ]
+
+pub own_events-none : (n : NetConfig) → own_events n [] ≡ []
+own_events-none n = take_all n.max_events [] (omega arith)
+
+-- the events of one more line
+pub own_events-push : (n : NetConfig) (ls : List Line) (l : Line) → own_events n (ls ++ l ∷ []) ≡ own_events n ls ++ taken_of n (length (own_events n ls)) l
+own_events-push n ls l =
+    ap (take n.max_events) (heard-push n.bssid ls l)
+    ∙ take-push n.max_events (heard n.bssid ls) (heard_of n.bssid l) (one_at_most n.bssid l)
+
+-- a line that is not heard has no event, and one that is has its own
+pub taken_of-unheard : (n : NetConfig) (count : ℕ) (x : List ℕ) → is_heard n.bssid x ≡ false → taken_of n count (Air x) ≡ []
+taken_of-unheard n count x e = cases (ltb count n.max_events)
+  where
+    cases : (b : Bool) → cond b (cond (is_heard n.bssid x) (event.Air x ∷ []) []) [] ≡ []
+    cases true = rw e refl
+    cases false = refl
+
+pub taken_of-full : (n : NetConfig) (count : ℕ) (l : Line) → n.max_events ≤ count → taken_of n count l ≡ []
+taken_of-full n count l h = rw (le-ltb count n.max_events h) refl
+
+pub taken_of-heard : (n : NetConfig) (count : ℕ) (x : List ℕ) → is_heard n.bssid x ≡ true → count < n.max_events → taken_of n count (Air x) ≡ event.Air x ∷ []
+taken_of-heard n count x e h = rw (lt-ltb count n.max_events h, e) refl

@@ -1,0 +1,14 @@
+-- The digits of what went from the octets were put, and no write failed.
+use Rattle.std.proofs.Common.{◌≡◌, ℕ, List, ◌++◌, length}
+use Rattle.hex.specs.Hex.{encode_lower}
+use Rattle.apctl.specs.Sinks.{Delivers}
+use Rattle.apctl.proofs.report.put_digits.Given as goal
+
+abbrev pub invariant-loop-rest : goal.invariant-loop-rest
+invariant-loop-rest g l =
+    (done : List ℕ) × (l.octets ≡ done ++ l.rest)
+    × Delivers (g.W.Sink.taken l.initial.out) l.initial.piece.items (g.W.Sink.taken l.out) l.piece.items (encode_lower done)
+    × (g.W.Sink.failed l.out ≡ g.W.Sink.failed l.initial.out)
+
+abbrev pub decreases-loop-rest : goal.decreases-loop-rest
+decreases-loop-rest g l = length l.rest

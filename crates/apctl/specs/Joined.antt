@@ -1,0 +1,42 @@
+-- The parts of a text round its first line that is exactly `---` (*profile*).
+use Rattle.std.specs.Prelude.{◌≡◌, ◌≢◌, ℕ, ◌==◌, Bool, if◌then◌else◌, codes, List, [], ◌∷◌, ◌++◌, All, ◌⊎◌}
+use Rattle.std.specs.List.{slice_split, list_any, before_first, after_first, flat_map, join_with_byte}
+use Rattle.std.specs.Str.{bytes_eq}
+
+-- what stands alone on the line between the parts
+abbrev pub separator : List ℕ
+separator = codes "---"
+
+abbrev pub is_separator : List ℕ → Bool
+is_separator line = bytes_eq line separator
+
+-- the lines of a text, cut at each LF: what follows the last LF is the last line, also where it is empty
+abbrev pub cut : List ℕ → List (List ℕ)
+cut text = slice_split (λ octet. octet == 10) text
+
+-- a line and the LF that ends it
+abbrev pub ended : List ℕ → List ℕ
+ended line = line ++ 10 ∷ []
+
+-- the lines before the first that is `---`, each ended by LF again, and those behind it, joined with LF again
+abbrev pub parts_of : List (List ℕ) → List ℕ × List ℕ
+parts_of lines = (flat_map ended (before_first is_separator lines), join_with_byte 10 (after_first is_separator lines))
+
+-- a text's two parts: without a line `---` the first is the whole text, and the second empty
+unfoldable pub joined_parts : List ℕ → List ℕ × List ℕ
+joined_parts text = if list_any is_separator (cut text) then parts_of (cut text) else (text, [])
+
+-- whole lines, each ended by LF, of which none is `---`
+abbrev pub AreOtherLines : List ℕ → Type 0
+AreOtherLines octets =
+    (lines : List (List ℕ)) × (octets ≡ flat_map ended lines) × All (λ line. All (λ octet. octet ≢ 10) line × (line ≢ separator)) lines
+
+-- no line of the text is `---`
+abbrev pub LacksSeparator : List ℕ → Type 0
+LacksSeparator text = All (λ line. line ≢ separator) (cut text)
+
+-- before and after stand round a line `---` of the text that no earlier one equals, which LF or the end of the text ends; or there is none, and before is the whole text
+unfoldable pub IsJoined : List ℕ → List ℕ → List ℕ → Type 0
+IsJoined text before after =
+    (AreOtherLines before × ((text ≡ before ++ separator ++ 10 ∷ after) ⊎ ((text ≡ before ++ separator) × (after ≡ []))))
+    ⊎ (LacksSeparator text × (before ≡ text) × (after ≡ []))

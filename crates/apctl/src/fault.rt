@@ -1,0 +1,86 @@
+//! What can go wrong, as a user meets it (*profile*): one line on standard error and an exit status.
+
+ghost use Rattle.std.specs.Prelude.{◌≡◌, ◌+◌, ◌^◌, ◌<◌, IfOk};
+ghost use Rattle.apctl.specs.Faults.{status_of, failures_shown};
+
+use crate::replay::TextFault;
+use crate::report::ReportFault;
+use crate::sink::{Sink, write_all};
+use crate::trace::TraceFault;
+use bss_core::ConfigFault;
+use std::alloc::{AllocError, Global};
+use std::fmt;
+
+/// A fault of the program. It is shown as its line, without the LF.
+#[derive(Debug, Drop)]
+pub enum Fault {
+    /// The first fault of the configuration.
+    Config(ConfigFault),
+    /// The first fault of the trace.
+    Trace(TraceFault),
+    /// The program was given words that it has no use for.
+    Words,
+    /// A growth was refused.
+    Memory,
+    /// A file of this name, or standard input where it is `-`, can't be read.
+    File(String),
+    /// Standard output can't be written.
+    Output,
+}
+
+impl fmt::Display for Fault {
+    fn fmt<W: fmt::Write>(&self, f: &mut fmt::Formatter<W>) -> fmt::Result {
+        match self {
+            Fault::Config(fault) => write!(f, "fault {fault}"),
+            Fault::Trace(fault) => write!(f, "fault {fault}"),
+            Fault::Words => f.write_str("fault words"),
+            Fault::Memory => f.write_str("fault memory"),
+            Fault::File(name) => write!(f, "fault file {name}"),
+            Fault::Output => f.write_str("fault output"),
+        }
+    }
+}
+
+impl Fault {
+    /// The exit status of the program that ends with it: 1 for a fault of what it read, 2 for its words, 3 for want
+    /// of memory, 4 for a file or a stream.
+    pub fn status(&self) -> u8
+        ensures { result ≡ status_of self.now }
+    {
+        match self {
+            Fault::Config(_) | Fault::Trace(_) => 1,
+            Fault::Words => 2,
+            Fault::Memory => 3,
+            Fault::File(_) | Fault::Output => 4,
+        }
+    }
+}
+
+impl From<TextFault> for Fault {
+    fn from(fault: TextFault) -> Fault {
+        match fault {
+            TextFault::Config(fault) => Fault::Config(fault),
+            TextFault::Trace(fault) => Fault::Trace(fault),
+            TextFault::NoMemory => Fault::Memory,
+            TextFault::Write => Fault::Output,
+        }
+    }
+}
+
+impl From<AllocError> for Fault {
+    fn from(_e: AllocError) -> Fault {
+        Fault::Memory
+    }
+}
+
+/// Writes the line of a fault, and answers the exit status that goes with it. `Write` where a write of `out`
+/// failed, after which a part of the line may stand; `NoMemory` where a growth was refused, and nothing stands.
+pub fn show_fault<W: Sink>(alloc: Global, fault: &Fault, out: &mut W) -> Result<u8, ReportFault>
+    requires { W.failed out.old < 2 ^ 63 }
+    ensures status { IfOk result (λ status. status ≡ status_of fault.now) }
+    ensures failures { W.failed out.new ≡ W.failed out.old + failures_shown result }
+{
+    let line = format!(in alloc; "{fault}\n")?;
+    write_all(out, line.as_bytes())?;
+    Ok(fault.status())
+}

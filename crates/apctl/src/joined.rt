@@ -1,0 +1,42 @@
+//! A configuration and a trace in one text (*profile*).
+
+ghost use Rattle.apctl.specs.Joined.{IsJoined, is_separator, joined_parts};
+ghost use Rattle.std.specs.Prelude.{◌==◌, ◌≡◌, position};
+
+/// What stands alone on the line between a configuration and a trace.
+const SEPARATOR: &[u8] = b"---";
+
+/// The octets before the first line that is exactly `---`, and those after it. A line ends with LF, or with the
+/// text; without such a line the second part is empty. It takes no memory.
+pub fn split_joined(joined: &[u8]) -> (&[u8], &[u8])
+    ensures before { result.0.now ≡ (joined_parts joined.now).0 }
+    ensures after { result.1.now ≡ (joined_parts joined.now).1 }
+    ensures joined { IsJoined joined.now result.0.now result.1.now }
+{
+    let mut start = 0;
+    while let Some(len) = first_line_feed(&joined[start..]) {
+        let end = start + len;
+        if is_separator(&joined[start..end]) {
+            return (&joined[..start], &joined[end + 1..]);
+        }
+        start = end + 1;
+    }
+    if is_separator(&joined[start..]) {
+        return (&joined[..start], &[]);
+    }
+    (joined, &[])
+}
+
+/// Where the text's first line ends, if LF ends it.
+fn first_line_feed(text: &[u8]) -> Option<usize>
+    ensures { result ≡ position (λ octet. octet == 10) text.now }
+{
+    text.iter().position(|octet| *octet == b'\n')
+}
+
+/// Whether the line, taken without the LF that may end it, is the one between the parts.
+fn is_separator(line: &[u8]) -> bool
+    ensures { result ≡ is_separator line.now }
+{
+    line == SEPARATOR
+}

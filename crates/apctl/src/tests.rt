@@ -1,0 +1,169 @@
+use crate::fault::{Fault, show_fault};
+use crate::joined::split_joined;
+use crate::replay::{TextFault, run_text};
+use crate::sink::Counted;
+use crate::sink::testing::Failing;
+use crate::trace::TraceFault;
+use bss_core::ConfigFault;
+use std::alloc::{AllocError, Global};
+use std::test::Fail;
+
+const PROBE: &str = "A 40000000 ffffffffffff 02aa00000001 ffffffffffff 0000 010402040b16\n";
+
+const OTHER_NAME: &str =
+    "A 40000000 ffffffffffff 02aa00000001 ffffffffffff 0000 00056f74686572 010402040b16\n";
+
+const ANSWERED: &str = "network 02:00:00:00:00:01 ssid 6c6162\n\
+    events 1 clock 0 unread 0 lost 0 kept 0\n\
+    air 5000000002aa00000001020000000001020000000001000000000000000000006400010000036c6162010482840b16030106\n\
+    end\n";
+
+const NOT_ANSWERED: &str = "network 02:00:00:00:00:01 ssid 6c6162\n\
+    events 1 clock 0 unread 0 lost 0 kept 0\n\
+    end\n";
+
+const NOTHING_HAPPENED: &str = "network 02:00:00:00:00:01 ssid 6c6162\n\
+    events 0 clock 0 unread 0 lost 0 kept 0\n\
+    end\n";
+
+const NINE_RATES: &str = "network 02:00:00:00:00:01 ssid 6c6162\n\
+    events 1 clock 0 unread 0 lost 0 kept 0\n\
+    air 5000000002aa00000001020000000001020000000001000000000000000000006400010000036c6162010882848b960c121824030106320130\n\
+    end\n";
+
+/// A configuration with one network.
+fn config(
+    alloc: Global,
+    channel: u8,
+    rates: &str,
+    max_known: u16,
+    max_events: u32,
+) -> Result<String, AllocError> {
+    format!(in alloc; "version = 1\nchannel = {channel}\ninterval = 100\nqueue = 64\n[[network]]\nbssid = \"02:00:00:00:00:01\"\nssid = \"lab\"\nrates = \"{rates}\"\ndtim = 1\nmax_stations = 8\nmax_known = {max_known}\nquota = 8\nmax_events = {max_events}\n")
+}
+
+/// What the program answers, and what it wrote.
+fn run(
+    alloc: Global,
+    config: &str,
+    trace: &str,
+) -> Result<(Result<(), TextFault>, Vec<u8>), AllocError> {
+    let mut out = Counted::new(Vec::new(alloc));
+    let answer = run_text(alloc, config.as_bytes(), trace.as_bytes(), &mut out);
+    Ok((answer, out.into_inner()))
+}
+
+#[test]
+fn probes_are_answered(rt: HostRuntime) -> Result<(), Fail> {
+    let alloc = rt.alloc();
+    let twice = format!(in alloc; "{PROBE}{PROBE}")?;
+    let base = config(alloc, 6, "82840b16", 16, 100)?;
+    let full = config(alloc, 6, "82840b16", 16, 1)?;
+    let nine = config(alloc, 6, "82848b960c12182430", 16, 100)?;
+    for (config, trace, report) in [
+        (base.as_str(), PROBE, ANSWERED),
+        (base.as_str(), OTHER_NAME, NOT_ANSWERED),
+        (full.as_str(), twice.as_str(), ANSWERED),
+        (base.as_str(), "", NOTHING_HAPPENED),
+        (nine.as_str(), PROBE, NINE_RATES),
+    ] {
+        let (answer, written) = run(alloc, config, trace)?;
+        assert_eq!(rt; answer, Ok(()));
+        assert_eq!(rt; written.as_slice(), report.as_bytes());
+    }
+    Ok(())
+}
+
+#[test]
+fn faults_are_answered_and_nothing_is_written(rt: HostRuntime) -> Result<(), Fail> {
+    let alloc = rt.alloc();
+    let base = config(alloc, 6, "82840b16", 16, 100)?;
+    let channel = config(alloc, 15, "82840b16", 16, 100)?;
+    let rates = config(alloc, 6, "8202", 16, 100)?;
+    let known = config(alloc, 6, "82840b16", 4, 100)?;
+    let unlisted = format!(in alloc; "colour = 1\n{base}")?;
+    let of_radio = |code: u8| TextFault::Config(ConfigFault { code, place: None });
+    let of_network = |code: u8| {
+        TextFault::Config(ConfigFault {
+            code,
+            place: Some(0),
+        })
+    };
+    let of_line = |code: u8| TextFault::Trace(TraceFault { code, line: 1 });
+    for (config, trace, fault) in [
+        ("version = ", PROBE, of_radio(1)),
+        (unlisted.as_str(), PROBE, of_radio(3)),
+        (channel.as_str(), PROBE, of_radio(4)),
+        (rates.as_str(), PROBE, of_network(10)),
+        (known.as_str(), PROBE, of_network(12)),
+        (base.as_str(), "X\n", of_line(1)),
+        (base.as_str(), "A 4\n", of_line(2)),
+        (channel.as_str(), "X\n", of_radio(4)),
+    ] {
+        let (answer, written) = run(alloc, config, trace)?;
+        assert_eq!(rt; answer, Err(fault));
+        assert_eq!(rt; written.len(), 0);
+    }
+    Ok(())
+}
+
+#[test]
+fn a_failing_output_keeps_what_it_took(rt: HostRuntime) -> Result<(), Fail> {
+    let alloc = rt.alloc();
+    let base = config(alloc, 6, "82840b16", 16, 100)?;
+    for room in [0, 1, 38, 100, ANSWERED.len() - 1] {
+        let mut out = Failing::new(alloc, room);
+        let answer = run_text(alloc, base.as_bytes(), PROBE.as_bytes(), &mut out);
+        assert_eq!(rt; answer, Err(TextFault::Write));
+        assert_eq!(rt; out.failures, 1);
+        assert!(rt; room <= ANSWERED.len());
+        assert_eq!(rt; out.taken.as_slice(), &ANSWERED.as_bytes()[..room]);
+    }
+    Ok(())
+}
+
+#[test]
+fn each_fault_has_its_line_and_status(rt: HostRuntime) -> Result<(), Fail> {
+    let alloc = rt.alloc();
+    let input = String::from_str(alloc, "-")?;
+    for (fault, line, status) in [
+        (
+            Fault::Config(ConfigFault {
+                code: 4,
+                place: None,
+            }),
+            "fault C4\n",
+            1,
+        ),
+        (
+            Fault::Config(ConfigFault {
+                code: 8,
+                place: Some(1),
+            }),
+            "fault C8 network 1\n",
+            1,
+        ),
+        (
+            Fault::Trace(TraceFault { code: 2, line: 7 }),
+            "fault L2 line 7\n",
+            1,
+        ),
+        (Fault::Words, "fault words\n", 2),
+        (Fault::Memory, "fault memory\n", 3),
+        (Fault::File(input), "fault file -\n", 4),
+        (Fault::Output, "fault output\n", 4),
+    ] {
+        let mut out = Counted::new(Vec::new(alloc));
+        assert_eq!(rt; show_fault(alloc, &fault, &mut out), Ok(status));
+        let written = out.into_inner();
+        assert_eq!(rt; written.as_slice(), line.as_bytes());
+    }
+    Ok(())
+}
+
+#[test]
+fn a_joined_text_is_cut_in_two(rt: HostRuntime) {
+    let (config, trace) = split_joined(b"version = 1\n---\nA 00\n---\n");
+    assert_eq!(rt; config, b"version = 1\n".as_slice());
+    assert_eq!(rt; trace, b"A 00\n---\n".as_slice());
+}

@@ -1,0 +1,39 @@
+//! What follows from the definitions, for whoever stands on them.
+
+ghost use Rattle.std.specs.Prelude.{◌≡◌, ◌<◌, ◌++◌, ℕ, List, [], ◌∷◌, slice_index, Ok, None};
+ghost use Rattle.std.specs.List.{AllByRecursion};
+ghost use Rattle.bss_core.specs.Configuration.{fault_of, setting_fault, network_fault};
+ghost use Rattle.bss_core.specs.Hearing.{Hears};
+ghost use Rattle.bss_core.specs.Network.{Setting, alone, empty_network, step};
+ghost use Rattle.bss_core.specs.Request.{Request, IsRequest, request_of};
+ghost use Rattle.bss_core.specs.declared.config.RadioConfig.{RadioConfig};
+ghost use Rattle.bss_core.specs.declared.event.Event.{Event};
+
+use elements::one_list;
+use mac_frame::{frame_is_addressed, one_frame};
+
+/// A string of octets is at most one request for a network, which is the one that reading gives; and the network
+/// hears it.
+pub fn one_request()
+    ensures unique { (bss x : List ℕ) (r s : Request) → IsRequest bss x r → IsRequest bss x s → r ≡ s }
+    ensures read { (bss x : List ℕ) (r : Request) → IsRequest bss x r → request_of bss x ≡ Ok r }
+    ensures found { (bss x : List ℕ) (r : Request) → ((place : ℕ) → slice_index x place < 256) → request_of bss x ≡ Ok r → IsRequest bss x r }
+    ensures heard { (bss x : List ℕ) (r : Request) → IsRequest bss x r → Hears bss x }
+{
+    one_frame();
+    frame_is_addressed();
+    one_list();
+}
+
+/// A network alone begins empty, and each further event is one further step.
+pub fn one_step()
+    ensures first { (s : Setting) → alone s [] ≡ empty_network }
+    ensures next { (s : Setting) (es : List Event) (e : Event) → alone s (es ++ e ∷ []) ≡ step s (alone s es) e }
+{}
+
+/// Where a configuration has no fault, neither the radio's settings nor any of the networks has one by itself:
+/// each network can be made.
+pub fn checked_networks()
+    ensures setting { (c : RadioConfig) → fault_of c ≡ None → setting_fault c.channel c.interval ≡ None }
+    ensures networks { (c : RadioConfig) → fault_of c ≡ None → AllByRecursion (λ n. network_fault n ≡ None) c.networks }
+{}
