@@ -1,5 +1,5 @@
 -- The lines of a text, and its parts where its first line is known.
-use Rattle.std.proofs.Common.{◌≡◌, ◌≢◌, ℕ, ◌<◌, ◌+◌, Bool, true, false, cond, eqb, List, [], ◌∷◌, ◌++◌, length, get_or, take, drop, not, ◌||◌, suc, refl, ap, sym, ◌∙◌, append_assoc, arith, ltb}
+use Rattle.std.proofs.Common.{◌≡◌, ℕ, ◌+◌, Bool, true, false, cond, eqb, List, [], ◌∷◌, ◌++◌, take, drop, not, ◌||◌, suc, refl, ap, ◌∙◌, append_assoc, arith}
 use Rattle.std.proofs.Math.Numerals.{one-add}
 use Rattle.std.proofs.lemmas.List.Splits.{slice_split_none, slice_split_at, join_with_byte-slice_split}
 use Rattle.std.specs.List.{All, list_any, position_or_len, before_first, after_first, flat_map, join_with_byte}
@@ -7,17 +7,17 @@ use Rattle.apctl.specs.Joined.{cut, ended, is_separator, joined_parts, parts_of}
 
 -- ---- what stands round the first element that passes a test
 
-pub before_first-cons_yes : {X : Type 0} (p : X → Bool) (x : X) (xs : List X) → p x ≡ true → before_first p (x ∷ xs) ≡ []
+before_first-cons_yes : {X : Type 0} (p : X → Bool) (x : X) (xs : List X) → p x ≡ true → before_first p (x ∷ xs) ≡ []
 before_first-cons_yes p x xs e = ap (λ b. take (cond (not b) (1 + position_or_len p xs) 0) (x ∷ xs)) e
 
-pub after_first-cons_yes : {X : Type 0} (p : X → Bool) (x : X) (xs : List X) → p x ≡ true → after_first p (x ∷ xs) ≡ xs
+after_first-cons_yes : {X : Type 0} (p : X → Bool) (x : X) (xs : List X) → p x ≡ true → after_first p (x ∷ xs) ≡ xs
 after_first-cons_yes p x xs e = ap (λ b. drop (cond (not b) (1 + position_or_len p xs) 0 + 1) (x ∷ xs)) e
 
-pub before_first-cons_no : {X : Type 0} (p : X → Bool) (x : X) (xs : List X) → p x ≡ false → before_first p (x ∷ xs) ≡ x ∷ before_first p xs
+before_first-cons_no : {X : Type 0} (p : X → Bool) (x : X) (xs : List X) → p x ≡ false → before_first p (x ∷ xs) ≡ x ∷ before_first p xs
 before_first-cons_no p x xs e =
     ap (λ b. take (cond (not b) (1 + position_or_len p xs) 0) (x ∷ xs)) e ∙ ap (λ n. take n (x ∷ xs)) (one-add (position_or_len p xs))
 
-pub after_first-cons_no : {X : Type 0} (p : X → Bool) (x : X) (xs : List X) → p x ≡ false → after_first p (x ∷ xs) ≡ after_first p xs
+after_first-cons_no : {X : Type 0} (p : X → Bool) (x : X) (xs : List X) → p x ≡ false → after_first p (x ∷ xs) ≡ after_first p xs
 after_first-cons_no p x xs e =
     let next : 1 + position_or_len p xs + 1 ≡ suc (position_or_len p xs + 1) = omega arith in
     ap (λ b. drop (cond (not b) (1 + position_or_len p xs) 0 + 1) (x ∷ xs)) e ∙ ap (λ n. drop n (x ∷ xs)) next
@@ -40,14 +40,16 @@ parts_at_other : (line rest : List ℕ) (lines : List (List ℕ)) → is_separat
     → parts_at (ended line ++ rest) (line ∷ lines) ≡ (ended line ++ (parts_at rest lines).0, (parts_at rest lines).1)
 parts_at_other line rest lines e =
     ap (λ b. cond (b || list_any is_separator lines) (parts_of (line ∷ lines)) (ended line ++ rest, [])) e
-    ∙ ap (λ before. cond (list_any is_separator lines) (flat_map ended before, join_with_byte 10 (after_first is_separator (line ∷ lines))) (ended line ++ rest, [])) (before_first-cons_no is_separator line lines e)
-    ∙ ap (λ after. cond (list_any is_separator lines) (ended line ++ flat_map ended (before_first is_separator lines), join_with_byte 10 after) (ended line ++ rest, [])) (after_first-cons_no is_separator line lines e)
+    ∙ ap (λ before. cond (list_any is_separator lines) (flat_map ended before, join_with_byte 10 (after_first is_separator (line ∷ lines))) (ended line ++ rest, []))
+    (before_first-cons_no is_separator line lines e)
+    ∙ ap (λ after. cond (list_any is_separator lines) (ended line ++ flat_map ended (before_first is_separator lines), join_with_byte 10 after) (ended line ++ rest, []))
+    (after_first-cons_no is_separator line lines e)
     ∙ either (list_any is_separator lines)
   where
     either : (b : Bool)
         → ◌≡◌ {A = List ℕ × List ℕ}
-            (cond b (ended line ++ flat_map ended (before_first is_separator lines), join_with_byte 10 (after_first is_separator lines)) (ended line ++ rest, []))
-            (ended line ++ (cond b (parts_of lines) (rest, [])).0, (cond b (parts_of lines) (rest, [])).1)
+        (cond b (ended line ++ flat_map ended (before_first is_separator lines), join_with_byte 10 (after_first is_separator lines)) (ended line ++ rest, []))
+        (ended line ++ (cond b (parts_of lines) (rest, [])).0, (cond b (parts_of lines) (rest, [])).1)
     either true = refl
     either false = refl
 
@@ -57,6 +59,7 @@ parts_at_other line rest lines e =
 abbrev pub LacksLineFeed : List ℕ → Type 0
 LacksLineFeed line = All (λ octet. eqb octet 10 ≡ false) line
 
+-- a first line `---` with its LF ends the first part at once
 pub joined_parts-separator : (line rest : List ℕ) → LacksLineFeed line → is_separator line ≡ true → joined_parts (ended line ++ rest) ≡ ([], rest)
 unfolding joined_parts
 joined_parts-separator line rest lacks e =
@@ -64,6 +67,7 @@ joined_parts-separator line rest lacks e =
     ∙ parts_at_separator (ended line ++ rest) line (cut rest) e
     ∙ ap (λ after. ([], after)) (join_with_byte-slice_split 10 rest)
 
+-- another first line with its LF goes in front of the first part
 pub joined_parts-other : (line rest : List ℕ) → LacksLineFeed line → is_separator line ≡ false
     → joined_parts (ended line ++ rest) ≡ (ended line ++ (joined_parts rest).0, (joined_parts rest).1)
 unfolding joined_parts
@@ -71,11 +75,13 @@ joined_parts-other line rest lacks e =
     ap (λ lines. parts_at (ended line ++ rest) lines) (ap cut (append_assoc line (10 ∷ []) rest) ∙ slice_split_at (λ octet. eqb octet 10) line 10 rest lacks refl)
     ∙ parts_at_other line rest (cut rest) e
 
+-- a text that is `---`
 pub joined_parts-last_separator : (line : List ℕ) → LacksLineFeed line → is_separator line ≡ true → joined_parts line ≡ ([], [])
 unfolding joined_parts
 joined_parts-last_separator line lacks e =
     ap (λ lines. parts_at line lines) (slice_split_none (λ octet. eqb octet 10) line lacks) ∙ parts_at_separator line line [] e
 
+-- a text that is another line
 pub joined_parts-last_other : (line : List ℕ) → LacksLineFeed line → is_separator line ≡ false → joined_parts line ≡ (line, [])
 unfolding joined_parts
 joined_parts-last_other line lacks e =

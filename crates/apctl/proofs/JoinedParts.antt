@@ -1,19 +1,21 @@
--- That `joined_parts` are the parts round a line `---`.
-use Rattle.std.proofs.Common.{◌≡◌, ◌≢◌, ℕ, ◌<◌, ◌≤◌, ◌+◌, Bool, true, false, cond, eqb, codes, List, [], ◌∷◌, ◌++◌, length, get_or, take, refl, ap, sym, ◌∙◌, append_assoc, append-nil, get_or-take, arith, inl, inr, ◌⊎◌, subst}
+-- That `joined_parts` stand round a line `---`, or that there is none.
+use Rattle.std.proofs.Common.{◌≡◌, ◌≢◌, ℕ, ◌<◌, Bool, true, false, cond, eqb, List, [], ◌∷◌, ◌++◌, length, get_or, refl, ap, sym, ◌∙◌, append_assoc, get_or-take, arith, inl, inr, ◌⊎◌}
 use Rattle.std.proofs.lemmas.Grind.{common_steps}
 use Rattle.std.proofs.lemmas.List.Elements.{All-cons, All-head, All-tail, All-nil, All-take}
 use Rattle.std.proofs.lemmas.List.Folds.{list_any_at, Any-from_list_any}
 use Rattle.std.proofs.lemmas.List.Sums.{split_at_first, passes_at_first, fails_before_first}
 use Rattle.std.proofs.lemmas.List.Splits.{join_with_byte-slice_split}
 use Rattle.std.proofs.lemmas.Slice.Eq.{bytes_eq-Decides}
-use Rattle.std.specs.List.{All, list_any, position_or_len, before_first, after_first, flat_map, join_with_byte, slice_split, onto_first}
-use Rattle.apctl.specs.Joined.{AreOtherLines, IsJoined, LacksSeparator, cut, ended, is_separator, joined_parts, parts_of, separator}
+use Rattle.std.specs.List.{All, list_any, position_or_len, before_first, after_first, flat_map, join_with_byte, onto_first}
+use Rattle.apctl.specs.Joined.{IsJoined, cut, ended, is_separator, joined_parts, parts_of, separator}
 
 -- ---- the lines of a text
 
+-- line has no LF
 abbrev NoLineFeed : List ℕ → Type 0
 NoLineFeed line = All (λ octet. octet ≢ 10) line
 
+-- an octet other than LF, put at the front of the first line
 onto_first_lacks : (octet : ℕ) (lines : List (List ℕ)) → octet ≢ 10 → All NoLineFeed lines → All NoLineFeed (onto_first octet lines)
 onto_first_lacks octet [] other lacks = All-cons NoLineFeed (octet ∷ []) [] (All-cons (λ x. x ≢ 10) octet [] other (All-nil (λ x. x ≢ 10))) (All-nil NoLineFeed)
 onto_first_lacks octet (line ∷ lines) other lacks =
@@ -53,18 +55,26 @@ lacks_separator lines none k d within same =
 -- ---- with one
 
 -- the lines before the first `---` are other ones
-others_before : (lines : List (List ℕ)) → All NoLineFeed lines
-    → All (λ line. NoLineFeed line × (line ≢ separator)) (before_first is_separator lines)
+others_before : (lines : List (List ℕ)) → All NoLineFeed lines → All (λ line. NoLineFeed line × (line ≢ separator)) (before_first is_separator lines)
 others_before lines lacks k d within =
-    let n : ℕ = position_or_len is_separator lines in
     let before : k < position_or_len is_separator lines = grind (arith, common_steps) in
     let other : is_separator (get_or lines k d) ≡ false = fails_before_first is_separator lines k d before in
-    let same_line : get_or (take (position_or_len is_separator lines) lines) k d ≡ get_or lines k d = get_or-take (position_or_len is_separator lines) lines k d before in
-    (All-take NoLineFeed (position_or_len is_separator lines) lines lacks k d within, (λ same. let is : is_separator (get_or lines k d) ≡ true = is_separator_is (get_or lines k d) (sym same_line ∙ same) in cc))
+    let line_is : get_or (before_first is_separator lines) k d ≡ get_or lines k d = get_or-take (position_or_len is_separator lines) lines k d before in (
+      All-take NoLineFeed (position_or_len is_separator lines) lines lacks k d within,
+      λ same. let is : is_separator (get_or lines k d) ≡ true = is_separator_is (get_or lines k d) (sym line_is ∙ same) in cc,
+    )
 
 -- the first `---` stands within the lines, where there is one
 first_within : (lines : List (List ℕ)) → list_any is_separator lines ≡ true → position_or_len is_separator lines < length lines
 first_within lines some = grind (arith, common_steps, Any-from_list_any, fails_before_first)
+
+-- lines are those before the first `---`, that one, and those behind it
+split_at_separator : (lines : List (List ℕ)) → list_any is_separator lines ≡ true → lines ≡ before_first is_separator lines ++ separator ∷ after_first is_separator lines
+split_at_separator lines some =
+    let within = first_within lines some in
+    let line : List ℕ = get_or lines (position_or_len is_separator lines) [] in
+    let line_is : line ≡ separator = (bytes_eq-Decides line separator).0 (passes_at_first is_separator lines [] within) in
+    split_at_first is_separator lines [] within ∙ ap (λ x. before_first is_separator lines ++ x ∷ after_first is_separator lines) line_is
 
 -- what stands behind a first part, where a line `---` and these lines do
 behind : (text before : List ℕ) (after : List (List ℕ)) → text ≡ before ++ join_with_byte 10 (separator ∷ after)
@@ -72,22 +82,23 @@ behind : (text before : List ℕ) (after : List (List ℕ)) → text ≡ before 
 behind text before [] is = inr (is, refl)
 behind text before (line ∷ after) is = inl (is ∙ sym (append_assoc before separator (10 ∷ join_with_byte 10 (line ∷ after))))
 
-found : (text : List ℕ) → list_any is_separator (cut text) ≡ true → IsJoined text (parts_of (cut text)).0 (parts_of (cut text)).1
+joined_at_separator : (text : List ℕ) (lines : List (List ℕ)) → text ≡ join_with_byte 10 lines → All NoLineFeed lines → list_any is_separator lines ≡ true
+    → IsJoined text (parts_of lines).0 (parts_of lines).1
 unfolding IsJoined
-found text some =
-    let within : position_or_len is_separator (cut text) < length (cut text) = first_within (cut text) some in
-    let line_is : get_or (cut text) (position_or_len is_separator (cut text)) [] ≡ separator = (bytes_eq-Decides (get_or (cut text) (position_or_len is_separator (cut text)) []) separator).0 (passes_at_first is_separator (cut text) [] within) in
-    let lines_are : cut text ≡ before_first is_separator (cut text) ++ separator ∷ after_first is_separator (cut text) =
-      split_at_first is_separator (cut text) [] within ∙ ap (λ line. before_first is_separator (cut text) ++ line ∷ after_first is_separator (cut text)) line_is in
-    inl
-      ((before_first is_separator (cut text), refl, others_before (cut text) (lines_lack_line_feed text)),
-        behind text (flat_map ended (before_first is_separator (cut text))) (after_first is_separator (cut text))
-          (sym (join_with_byte-slice_split 10 text) ∙ ap (join_with_byte 10) lines_are ∙ join_with_byte-append (before_first is_separator (cut text)) separator (after_first is_separator (cut text))))
+joined_at_separator text lines text_is lacks some =
+    let before = before_first is_separator lines in
+    let after = after_first is_separator lines in
+    inl (
+      (before, refl, others_before lines lacks),
+      behind text (flat_map ended before) after (text_is ∙ ap (join_with_byte 10) (split_at_separator lines some) ∙ join_with_byte-append before separator after),
+    )
+
+-- ---- either way
 
 pub IsJoined-joined_parts : (text : List ℕ) → IsJoined text (joined_parts text).0 (joined_parts text).1
 unfolding IsJoined joined_parts
 IsJoined-joined_parts text = either (list_any is_separator (cut text)) refl
   where
     either : (b : Bool) → list_any is_separator (cut text) ≡ b → IsJoined text (cond b (parts_of (cut text)) (text, [])).0 (cond b (parts_of (cut text)) (text, [])).1
-    either true e = found text e
-    either false e = inr (lacks_separator (cut text) e, refl, refl)
+    either true some = joined_at_separator text (cut text) (sym (join_with_byte-slice_split 10 text)) (lines_lack_line_feed text) some
+    either false none = inr (lacks_separator (cut text) none, refl, refl)

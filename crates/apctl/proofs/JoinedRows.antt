@@ -1,5 +1,5 @@
 -- Texts, and the parts of each.
-use Rattle.std.proofs.Common.{◌≡◌, ℕ, codes, List, [], refl}
+use Rattle.std.proofs.Common.{◌≡◌, codes, [], refl}
 use Rattle.apctl.specs.Joined.{joined_parts}
 
 empty_is_one_part : joined_parts [] ≡ ([], [])

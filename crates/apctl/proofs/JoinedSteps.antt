@@ -1,24 +1,21 @@
 -- The parts of a text, where the lines before a place are known to be other ones than `---`.
-use Rattle.std.proofs.Common.{◌≡◌, subst, ℕ, ◌<◌, ◌≤◌, ◌+◌, ◌-◌, Bool, true, false, cond, eqb, ltb, Option, Some, None, List, [], ◌∷◌, ◌++◌, length, get_or, take, drop, refl, ap, sym, ◌∙◌, append_assoc, append-nil, take_at, get_or-take, take-append-drop, length-take, length-drop, length-append, arith}
+use Rattle.std.proofs.Common.{◌≡◌, subst, ℕ, ◌<◌, ◌≤◌, ◌+◌, ◌-◌, Bool, true, false, eqb, Some, None, List, [], ◌∷◌, ◌++◌, length, get_or, take, drop, ap, sym, ◌∙◌, append_assoc, append-nil, take_at, get_or-take, take-append-drop, length-take, length-drop, length-append, arith}
 use borrow.Author.Tests.{eqb-true}
 use Rattle.std.proofs.lemmas.Grind.{common_steps}
 use Rattle.std.proofs.lemmas.List.{drop_more, drop-drop, take_rest}
 use Rattle.std.proofs.lemmas.List.Elements.{All-from_get_or}
 use Rattle.std.proofs.lemmas.List.Quantifiers.{position-Some}
 use Rattle.std.proofs.lemmas.List.Sums.{fails_before_first}
-use Rattle.std.specs.List.{All, position}
+use Rattle.std.specs.List.{position}
 use Rattle.apctl.specs.Joined.{IsJoined, ended, is_separator, joined_parts}
 use Rattle.apctl.proofs.JoinedParts.{IsJoined-joined_parts}
 use Rattle.apctl.proofs.JoinedLines.{LacksLineFeed, joined_parts-separator, joined_parts-other, joined_parts-last_separator, joined_parts-last_other}
 
--- the octets before start go in front of the first part of the rest
+-- The octets before start are other lines than `---`: they go in front of the first part of the rest.
 pub record AreOthersTo (text : List ℕ) (start : ℕ) : Type 0 where
   pub within : start ≤ length text
   pub before : (joined_parts text).0 ≡ take start text ++ (joined_parts (drop start text)).0
   pub after : (joined_parts text).1 ≡ (joined_parts (drop start text)).1
-
-pub AreOthersTo-none : (text : List ℕ) → AreOthersTo text 0
-AreOthersTo-none text = record { within = omega arith; before = refl; after = refl }
 
 -- ---- the line at a place
 
@@ -48,8 +45,8 @@ behind_place : (text : List ℕ) (start len : ℕ) → drop (len + 1) (drop star
 behind_place text start len = let same : start + (len + 1) ≡ start + len + 1 = omega arith in drop-drop (len + 1) start text ∙ ap (λ n. drop n text) same
 
 -- no LF stands before the first one
-front_lacks : (text : List ℕ) (n : ℕ) → n < length text → ((k : ℕ) → k < n → is_line_feed (get_or text k 0) ≡ false) → LacksLineFeed (take n text)
-front_lacks text n within before = All-from_get_or (λ octet. is_line_feed octet ≡ false) (take n text) 0
+front_lacks : (text : List ℕ) (n : ℕ) → ((k : ℕ) → k < n → is_line_feed (get_or text k 0) ≡ false) → LacksLineFeed (take n text)
+front_lacks text n before = All-from_get_or (λ octet. is_line_feed octet ≡ false) (take n text) 0
     (λ k small. let below : k < n = omega (arith, length-take n text) in ap is_line_feed (get_or-take n text k 0 below) ∙ before k below)
 
 -- the octets to behind a line are those before it, and the line with its LF
@@ -57,10 +54,16 @@ front_is : (text : List ℕ) (start len : ℕ) → start + len < length text →
     → take (start + len + 1) text ≡ take start text ++ ended (line_at text start len)
 front_is text start len within rest =
     let whole : text ≡ (take start text ++ ended (line_at text start len)) ++ drop (start + len + 1) text =
-      sym (take-append-drop start text) ∙ ap (λ y. take start text ++ y) rest ∙ sym (append_assoc (take start text) (ended (line_at text start len)) (drop (start + len + 1) text)) in
+    sym (take-append-drop start text) ∙ ap (λ y. take start text ++ y) rest ∙ sym (append_assoc (take start text) (ended (line_at text start len)) (drop (start + len + 1) text)) in
     let long : length (take start text ++ ended (line_at text start len)) ≡ start + len + 1 =
-      omega (arith, length-append (take start text) (ended (line_at text start len)), length-append (line_at text start len) (10 ∷ []), length-take start text,
-        length-take (start + len - start) (drop start text), length-drop start text) in
+    omega (
+      arith,
+      length-append (take start text) (ended (line_at text start len)),
+      length-append (line_at text start len) (10 ∷ []),
+      length-take start text,
+      length-take (start + len - start) (drop start text),
+      length-drop start text,
+    ) in
     ap (take (start + len + 1)) whole ∙ take_at (take start text ++ ended (line_at text start len)) (drop (start + len + 1) text) (start + len + 1) long
 
 -- what the first LF from start on says
@@ -76,11 +79,11 @@ line_is text start len below found =
     let inside : len < length (drop start text) = at.0 in
     let within : start + len < length text = omega (arith, length-drop start text) in
     let line_same : line_at text start len ≡ take len (drop start text) = line_at-take text start len in
-    let lacks : LacksLineFeed (line_at text start len) = subst LacksLineFeed (sym line_same) (front_lacks (drop start text) len inside at.2) in
+    let lacks : LacksLineFeed (line_at text start len) = subst LacksLineFeed (sym line_same) (front_lacks (drop start text) len at.2) in
     let rest : drop start text ≡ ended (line_at text start len) ++ drop (start + len + 1) text =
-      around_line_feed (drop start text) len inside at.1
-      ∙ ap (λ line. ended line ++ drop (len + 1) (drop start text)) (sym line_same)
-      ∙ ap (λ y. ended (line_at text start len) ++ y) (behind_place text start len) in
+    around_line_feed (drop start text) len inside at.1
+    ∙ ap (λ line. ended line ++ drop (len + 1) (drop start text)) (sym line_same)
+    ∙ ap (λ y. ended (line_at text start len) ++ y) (behind_place text start len) in
     record { within = within; lacks = lacks; rest = rest; front = front_is text start len within rest }
 
 -- where a text has no LF, it is one line
@@ -101,7 +104,7 @@ AreOthersTo-more text start len others found is =
       within = let inside : start + len < length text = at.within in omega arith;
       before = others.before ∙ ap (λ p. take start text ++ p.0) parts ∙ sym (append_assoc (take start text) (ended line) (joined_parts rest).0)
           ∙ ap (λ y. y ++ (joined_parts rest).0) (sym at.front);
-      after = others.after ∙ ap (λ p. p.1) parts
+      after = others.after ∙ ap (λ p. p.1) parts;
     }
 
 -- what `split_joined` says of the parts
@@ -114,7 +117,7 @@ parts_from : (text before after : List ℕ) → before ≡ (joined_parts text).0
 parts_from text before after before_is after_is = record {
   before_is = before_is;
   after_is = after_is;
-  joined = subst (λ x. IsJoined text x after) (sym before_is) (subst (λ y. IsJoined text (joined_parts text).0 y) (sym after_is) (IsJoined-joined_parts text))
+  joined = subst (λ x. IsJoined text x after) (sym before_is) (subst (λ y. IsJoined text (joined_parts text).0 y) (sym after_is) (IsJoined-joined_parts text));
 }
 
 -- the first part ends at start
@@ -130,7 +133,7 @@ ArePartsOf-separator text start len others found is =
     let at = line_is text start len others.within (ap (position is_line_feed) (sym (take_rest text start)) ∙ found) in
     let parts = joined_parts-separator (line_at text start len) (drop (start + len + 1) text) at.lacks is in
     parts_at_start text start (rest_at text (start + len + 1)) others
-      (ap joined_parts at.rest ∙ parts ∙ ap (λ after. ([], after)) (sym (take_rest text (start + len + 1))))
+    (ap joined_parts at.rest ∙ parts ∙ ap (λ after. ([], after)) (sym (take_rest text (start + len + 1))))
 
 -- `---` from start to the end
 pub ArePartsOf-last_separator : (text : List ℕ) (start : ℕ) → AreOthersTo text start → position is_line_feed (rest_at text start) ≡ None
@@ -143,7 +146,7 @@ pub ArePartsOf-last_other : (text : List ℕ) (start : ℕ) → AreOthersTo text
     → is_separator (rest_at text start) ≡ false → ArePartsOf text text []
 ArePartsOf-last_other text start others none is =
     let parts : joined_parts (drop start text) ≡ (rest_at text start, []) =
-      ap joined_parts (sym (take_rest text start)) ∙ joined_parts-last_other (rest_at text start) (lacks_from_none (rest_at text start) none) is in
+    ap joined_parts (sym (take_rest text start)) ∙ joined_parts-last_other (rest_at text start) (lacks_from_none (rest_at text start) none) is in
     parts_from text text []
-      (sym (others.before ∙ ap (λ p. take start text ++ p.0) parts ∙ ap (λ rest. take start text ++ rest) (take_rest text start) ∙ take-append-drop start text))
-      (sym (others.after ∙ ap (λ p. p.1) parts))
+    (sym (others.before ∙ ap (λ p. take start text ++ p.0) parts ∙ ap (λ rest. take start text ++ rest) (take_rest text start) ∙ take-append-drop start text))
+    (sym (others.after ∙ ap (λ p. p.1) parts))

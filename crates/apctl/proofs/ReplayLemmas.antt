@@ -1,13 +1,9 @@
 -- The events of a network, line by line.
-use Rattle.std.proofs.Common.{◌≡◌, ℕ, ◌+◌, ◌-◌, ◌<◌, ◌≤◌, Bool, true, false, not, cond, ltb, Option, Some, None, List, [], ◌∷◌, ◌++◌, length, take, refl, sym, ap, ◌∙◌, append_assoc, append-nil, arith, inl, inr}
+use Rattle.std.proofs.Common.{◌≡◌, ℕ, ◌<◌, ◌≤◌, Bool, true, false, cond, ltb, List, [], ◌∷◌, ◌++◌, length, take, refl, sym, ap, ◌∙◌, append_assoc, append-nil, arith, inl, inr}
 use Rattle.std.proofs.lemmas.Bool.{cases_lt, lt-ltb, le-ltb}
 use Rattle.std.proofs.lemmas.List.{length-append, length-take-le, take_all, take-append-le}
 use Rattle.bss_core.specs.Hearing.{is_heard}
 use Rattle.bss_core.specs.declared.config.NetConfig.{NetConfig}
-use Rattle.std.specs.List.{AllByRecursion}
-use Rattle.bss_core.specs.Configuration.{channel_fits, interval_fits, queue_fits, count_fits, setting_fault, network_fault, is_taken, fault_behind, fault_at, networks_fault, fault_of, of_radio}
-use Rattle.bss_core.specs.declared.config.RadioConfig.{RadioConfig}
-use Rattle.bss_core.specs.declared.config.ConfigFault.{ConfigFault}
 use Rattle.bss_core.specs.declared.event.Event.{Event}
 use Rattle.bss_core.specs.declared.event.Event.TheVariants as event
 use Rattle.apctl.specs.Replay.{heard_of, heard, own_events, taken_of}

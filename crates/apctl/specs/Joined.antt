@@ -1,9 +1,9 @@
--- The parts of a text round its first line that is exactly `---` (*profile*).
+-- The two parts of a text, before and after its first line that is exactly `---` (*profile*).
 use Rattle.std.specs.Prelude.{◌≡◌, ◌≢◌, ℕ, ◌==◌, Bool, if◌then◌else◌, codes, List, [], ◌∷◌, ◌++◌, All, ◌⊎◌}
 use Rattle.std.specs.List.{slice_split, list_any, before_first, after_first, flat_map, join_with_byte}
 use Rattle.std.specs.Str.{bytes_eq}
 
--- what stands alone on the line between the parts
+-- the line between the parts
 abbrev pub separator : List ℕ
 separator = codes "---"
 
@@ -22,7 +22,7 @@ ended line = line ++ 10 ∷ []
 abbrev pub parts_of : List (List ℕ) → List ℕ × List ℕ
 parts_of lines = (flat_map ended (before_first is_separator lines), join_with_byte 10 (after_first is_separator lines))
 
--- a text's two parts: without a line `---` the first is the whole text, and the second empty
+-- a text's two parts: without a line `---` the first is the whole text, and the second is empty
 unfoldable pub joined_parts : List ℕ → List ℕ × List ℕ
 joined_parts text = if list_any is_separator (cut text) then parts_of (cut text) else (text, [])
 
@@ -35,7 +35,7 @@ AreOtherLines octets =
 abbrev pub LacksSeparator : List ℕ → Type 0
 LacksSeparator text = All (λ line. line ≢ separator) (cut text)
 
--- before and after stand round a line `---` of the text that no earlier one equals, which LF or the end of the text ends; or there is none, and before is the whole text
+-- The text is other whole lines, `---`, and then LF and the second part, or nothing more. Or no line of it is `---`, and it is all the first part.
 unfoldable pub IsJoined : List ℕ → List ℕ → List ℕ → Type 0
 IsJoined text before after =
     (AreOtherLines before × ((text ≡ before ++ separator ++ 10 ∷ after) ⊎ ((text ≡ before ++ separator) × (after ≡ []))))

@@ -7,7 +7,8 @@ ghost use Rattle.std.specs.Prelude.{◌==◌, ◌≡◌, position};
 const SEPARATOR: &[u8] = b"---";
 
 /// The octets before the first line that is exactly `---`, and those after it. A line ends with LF, or with the
-/// text; without such a line the second part is empty. It takes no memory.
+/// text. So `---` before a CR is not that line, and one inside a string of the configuration is. Without such a line
+/// the first part is the whole text, and the second is empty (*profile*).
 pub fn split_joined(joined: &[u8]) -> (&[u8], &[u8])
     ensures before { result.0.now ≡ (joined_parts joined.now).0 }
     ensures after { result.1.now ≡ (joined_parts joined.now).1 }

@@ -13,7 +13,9 @@ use crate::configuration::{ConfigTextFault, read_config};
 use crate::report::{ReportFault, write_report};
 use crate::sink::Sink;
 use crate::trace::{Line, TraceFault, TraceTextFault, read_trace};
-use bss_core::{Bss, ConfigFault, Event, NetConfig, RadioConfig, Refusal, Section, checked_networks, hears};
+use bss_core::{
+    Bss, ConfigFault, Event, NetConfig, RadioConfig, Refusal, Section, checked_networks, hears,
+};
 use mac_frame::{List, NoMemory, Octets};
 use std::alloc::Global;
 
@@ -184,11 +186,7 @@ fn section(
 }
 
 /// The section of each network, in order of place: each takes what it hears of the lines.
-fn replay(
-    alloc: Global,
-    config: RadioConfig,
-    lines: &[Line],
-) -> Result<Vec<Section>, NoMemory>
+fn replay(alloc: Global, config: RadioConfig, lines: &[Line]) -> Result<Vec<Section>, NoMemory>
     requires { fault_of config ≡ None }
     ensures { IfOk result (λ sections. sections.items ≡ sections_of config lines.now) }
 {

@@ -8,7 +8,7 @@ use bss_core::ConfigFault;
 use std::alloc::{AllocError, Global};
 use std::test::Fail;
 
-const PROBE: &str = "A 40000000 ffffffffffff 02aa00000001 ffffffffffff 0000 010402040b16\n";
+const PROBE: &str = "A 40000000 ffffffffffff 02aa00000001 ffffffffffff 0000 0000 010402040b16\n";
 
 const OTHER_NAME: &str =
     "A 40000000 ffffffffffff 02aa00000001 ffffffffffff 0000 00056f74686572 010402040b16\n";
@@ -39,7 +39,9 @@ fn config(
     max_known: u16,
     max_events: u32,
 ) -> Result<String, AllocError> {
-    format!(in alloc; "version = 1\nchannel = {channel}\ninterval = 100\nqueue = 64\n[[network]]\nbssid = \"02:00:00:00:00:01\"\nssid = \"lab\"\nrates = \"{rates}\"\ndtim = 1\nmax_stations = 8\nmax_known = {max_known}\nquota = 8\nmax_events = {max_events}\n")
+    format!(in alloc;
+        "version = 1\nchannel = {channel}\ninterval = 100\nqueue = 64\n[[network]]\nbssid = \"02:00:00:00:00:01\"\nssid = \"lab\"\nrates = \"{rates}\"\ndtim = 1\nmax_stations = 8\nmax_known = {max_known}\nquota = 8\nmax_events = {max_events}\n"
+    )
 }
 
 /// What the program answers, and what it wrote.

@@ -1,7 +1,7 @@
 -- Configurations on which the first fault is computed.
 use Rattle.std.proofs.Common.{◌≡◌, ℕ, List, [], ◌∷◌, Option, Some, None, refl}
 use Rattle.std.specs.Prelude.{replicate}
-use Rattle.bss_core.specs.Configuration.{of_radio, of_network, network_fault, setting_fault, networks_fault, fault_of}
+use Rattle.bss_core.specs.Configuration.{of_radio, of_network, network_fault, networks_fault, fault_of}
 use Rattle.bss_core.specs.declared.config.NetConfig.{NetConfig}
 use Rattle.bss_core.specs.declared.config.ConfigFault.{ConfigFault}
 use Rattle.bss_core.proofs.Samples.{network, radio}

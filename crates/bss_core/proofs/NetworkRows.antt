@@ -1,9 +1,9 @@
 -- Events on which the network alone is computed.
-use Rattle.std.proofs.Common.{◌≡◌, ℕ, true, false, List, [], ◌∷◌, ◌++◌, take, Some, None, refl}
+use Rattle.std.proofs.Common.{◌≡◌, true, false, [], ◌∷◌, take, Some, None, refl}
 use Rattle.std.specs.Prelude.{replicate}
 use Rattle.beacon.specs.ProbeResponse.{timestamp, fixed_fields, network_elements}
 use Rattle.elements.specs.Elements.{elements_of, elements_within}
-use Rattle.bss_core.specs.Network.{Network, empty_network, asks_for, step, alone, table_of, counts_of}
+use Rattle.bss_core.specs.Network.{empty_network, asks_for, step, alone}
 use Rattle.bss_core.specs.Section.{section_of}
 use Rattle.bss_core.specs.declared.event.Event.TheVariants.{Air}
 use Rattle.bss_core.proofs.Samples.{network, setting, lab, probe, probe_with, probe_for_another, probe_for_lab, station_rates, response_with}

@@ -1,6 +1,6 @@
 -- What is read of a string, by what is read of its frame and of its body.
-use Rattle.std.proofs.Common.{◌≡◌, ℕ, Bool, List, Result, Ok, Err, IfOk, IsOkAnd, sym, subst}
-use Rattle.mac_frame.specs.Frame.{Frame, Mgmt, IsFrame, shown as shown_frame}
+use Rattle.std.proofs.Common.{◌≡◌, ℕ, List, Result, Ok, Err, IfOk, IsOkAnd, subst}
+use Rattle.mac_frame.specs.Frame.{Frame, IsFrame, shown as shown_frame}
 use Rattle.mac_frame.specs.declared.reading.Rx.{Rx}
 use Rattle.mac_frame.specs.declared.reading.Rx.TheVariants as rx
 use Rattle.mac_frame.specs.declared.reading.Unread.{Unread}
@@ -8,7 +8,7 @@ use Rattle.elements.specs.Elements.{Pair, IsElements, first_of}
 use Rattle.bss_core.specs.Asked.{shown}
 use Rattle.bss_core.specs.Request.{Request, Probe, IsRequest, ssid_id}
 use Rattle.bss_core.specs.declared.request.Request.{Request as Asked}
-use Rattle.bss_core.proofs.Requests.{Asks, asks, is_request, frame_in}
+use Rattle.bss_core.proofs.Requests.{asks, is_request, frame_in}
 
 -- the station and the body of a frame
 abbrev pub from_at : Rx → List ℕ

@@ -1,5 +1,5 @@
 -- Strings of octets on which the functions that read requests and test addresses are computed.
-use Rattle.std.proofs.Common.{◌≡◌, ℕ, true, false, List, [], ◌∷◌, ◌++◌, take, Some, None, Ok, Err, refl}
+use Rattle.std.proofs.Common.{◌≡◌, true, false, [], ◌∷◌, ◌++◌, take, Some, None, Ok, Err, refl}
 use Rattle.std.specs.Prelude.{replicate}
 use Rattle.mac_frame.specs.declared.reading.Unread.TheVariants.{Short, Kind, Body, TooLong}
 use Rattle.elements.specs.Elements.{elements_of, elements_within}

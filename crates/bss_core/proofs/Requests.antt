@@ -1,5 +1,5 @@
 -- A request, and the frame and the elements that it stands on.
-use Rattle.std.proofs.Common.{◌≡◌, ℕ, ◌+◌, ◌<◌, ◌≤◌, ◌⊎◌, Bool, List, [], ◌∷◌, ◌++◌, length, slice_index, Option, Some, None, Result, Ok, Err, refl, sym, ap, subst, ◌∙◌}
+use Rattle.std.proofs.Common.{◌≡◌, ℕ, ◌+◌, ◌<◌, Bool, List, [], ◌∷◌, ◌++◌, length, slice_index, Option, Some, None, Result, Ok, Err, refl, sym, ap, subst, ◌∙◌}
 use Rattle.std.proofs.lemmas.List.{get_or-append-add}
 use Rattle.mac_frame.specs.Frame.{Frame, Mgmt, Fields, IsFrame, frame_of}
 use Rattle.mac_frame.specs.declared.reading.Unread.{Unread}

@@ -11,5 +11,5 @@ invariant-loop-network l = record {
   setting : setting_fault l.channel l.interval ≡ None;
   sound : AllByRecursion (λ n. network_fault n ≡ None) (into_iter_items l.network-iterator);
   made : l.sections.items ++ map (λ n. section_of (setting_of l.channel l.interval n) (own_events n l.lines)) (into_iter_items l.network-iterator)
-    ≡ map (λ n. section_of (setting_of l.channel l.interval n) (own_events n l.lines)) l.fn.config.networks;
+      ≡ map (λ n. section_of (setting_of l.channel l.interval n) (own_events n l.lines)) l.fn.config.networks;
 }

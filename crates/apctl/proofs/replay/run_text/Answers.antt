@@ -1,7 +1,5 @@
-use Rattle.std.proofs.Common.{◌≡◌, ℕ, List, Ok, Err, refl, sym, ap, ◌∙◌, rules}
+use Rattle.std.proofs.Common.{◌≡◌, ap, ◌∙◌}
 use Rattle.std.proofs.lemmas.Result.{err_from_is_err_and}
-use Rattle.bss_core.specs.declared.section.Section.{Section}
-use Rattle.apctl.specs.declared.trace.Line.{Line}
 use Rattle.apctl.specs.Replay.{sections_of}
 use Rattle.apctl.proofs.AnswerLemmas.{config_ends, trace_ends, answer_of-sections, report_ends}
 use Rattle.apctl.proofs.replay.run_text.Goals as goal

@@ -1,4 +1,4 @@
-use Rattle.std.proofs.Common.{rules, ◌≡◌, ◌++◌, ◌∷◌, [], List, ℕ, take, length, ◌+◌, refl, sym, ap, ◌∙◌, arith}
+use Rattle.std.proofs.Common.{◌≡◌, ◌++◌, ◌∷◌, [], List, ℕ, take, length, ◌+◌, refl, sym, ap, ◌∙◌}
 use Rattle.std.proofs.lemmas.List.{take_more}
 use Rattle.bss_core.specs.Network.{Setting, alone}
 use Rattle.bss_core.specs.declared.event.Event.{Event}
@@ -26,7 +26,7 @@ loop-line-preserved c =
     record {
       setting = t.setting ∙ v.setting;
       history = t.history ∙ ap (λ (m : NetConfig). c.loop-line.bss.history ++ taken_of m (length c.loop-line.bss.history) l) same
-        ∙ ap (λ (h : List Event). h ++ taken_of n (length h) l) v.history ∙ sym (own_events-push n (take i ls) l) ∙ ap (own_events n) (sym more);
+          ∙ ap (λ (h : List Event). h ++ taken_of n (length h) l) v.history ∙ sym (own_events-push n (take i ls) l) ∙ ap (own_events n) (sym more);
       waiting = t.waiting;
       air = t.air;
     }

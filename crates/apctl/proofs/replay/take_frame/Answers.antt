@@ -1,4 +1,4 @@
-use Rattle.std.proofs.Common.{rules, ◌≡◌, ◌++◌, ◌∷◌, [], List, ℕ, ◌<◌, ◌≤◌, ◌+◌, Bool, true, false, length, sym, ap, ◌∙◌, arith}
+use Rattle.std.proofs.Common.{◌≡◌, ◌++◌, ◌∷◌, [], List, ℕ, ◌<◌, ◌+◌, true, length, sym, ap, ◌∙◌, arith}
 use Rattle.std.proofs.lemmas.Result.{on_ok_weaker}
 use Rattle.std.proofs.lemmas.List.{length-append}
 use Rattle.bss_core.specs.Network.{Setting, alone}
@@ -7,8 +7,7 @@ use Rattle.bss_core.specs.Hearing.{is_heard}
 use Rattle.bss_core.specs.declared.event.Event.{Event}
 use Rattle.bss_core.specs.declared.event.Event.TheVariants as event
 use Rattle.bss_core.specs.declared.config.NetConfig.{NetConfig}
-use Rattle.apctl.specs.Replay.{taken_of}
-use Rattle.apctl.proofs.ReplayLemmas.{taken_of-unheard, taken_of-full, taken_of-heard}
+use Rattle.apctl.proofs.ReplayLemmas.{taken_of-heard}
 use Rattle.apctl.proofs.replay.take_frame.Goals as goal
 
 pub returns-in-Ok-clause-history : goal.returns-in-Ok-clause-history

@@ -1,6 +1,5 @@
-use Rattle.std.proofs.Common.{◌≡◌, Ok, Some, sym}
 use Rattle.mac_frame.specs.Frame.{Mgmt, frame_of}
-use Rattle.bss_core.proofs.Requests.{Asks, asks, is_request, frame_in, asks-read, read-from_in, body_octets}
+use Rattle.bss_core.proofs.Requests.{asks, is_request, frame_in, asks-read, read-from_in, body_octets}
 use Rattle.bss_core.proofs.laws.one_request.Goals as goal
 
 pub returns-clause-read : goal.returns-clause-read
