@@ -18,5 +18,5 @@ bench:
 # The built program, from proved crates.
 apctl:
 	@mkdir -p build
-	@cd crates/apctl && rt run < /dev/null > ../../build/log 2>&1 || { cat ../../build/log >&2; exit 1; }
+	@cd crates/apctl && rt run < stdin > ../../build/log 2>&1 || { cat ../../build/log >&2; exit 1; }
 	@cp crates/apctl/out/apctl build/apctl
