@@ -12,8 +12,8 @@ test: apctl
 	@.ci/gate
 
 # Measures the program on long traces.
-bench:
-	@echo 'The benchmark is to come: bench/README.md says what it will measure.'
+bench: apctl
+	@bench/measure
 
 # The built program, from proved crates.
 apctl:
