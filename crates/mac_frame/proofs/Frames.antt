@@ -1,11 +1,11 @@
 -- A string is a frame, by the concatenation of its fields, exactly where the tests in their order find no fault.
-use Rattle.std.proofs.Common.{◌≡◌, ◌≢◌, ◌↔◌, IsTrue, ℕ, ◌+◌, ◌-◌, ◌≤◌, ◌⊎◌, Bool, true, false, not, ◌&&◌, ◌==◌, ltb, List, ◌++◌, length, take, drop, slice_index, Result, Ok, Err, if◌then◌else◌, refl, sym, ◌∙◌, ap, subst, inl, inr, ⊎_elim, arith, length-drop, take_all}
+use Rattle.std.proofs.Common.{◌≡◌, ◌≢◌, ℕ, ◌+◌, ◌≤◌, ◌⊎◌, Bool, true, false, not, ◌&&◌, ◌==◌, ltb, List, ◌++◌, length, take, drop, slice_index, Result, Ok, Err, MatchResult, IfOk, IsOkAnd, if◌then◌else◌, refl, sym, ◌∙◌, ap, subst, inl, inr, ⊎_elim, arith, length-drop}
 use Rattle.std.specs.Cmp.Lexicographic.{bytes_decides}
 use Rattle.std.proofs.lemmas.Bool.{eq-eqb, eqb-true, le-ltb, ltb-false, not_from_true, not-false, and_from, and_parts, or_from, or_parts, or_cases, or_left, or_right, and_left, and_cases, false≢true, false_from_ne_true}
-use Rattle.std.proofs.lemmas.Bool.Decides.{same_from_decides}
 use Rattle.std.proofs.lemmas.List.{length-take-le, take-append-drop}
 use Rattle.mac_frame.specs.Address.{broadcast, is_group, same_octets}
-use Rattle.mac_frame.specs.Frame.{Frame, Mgmt, bits, has_bit, probe_request, Fields, spelled, IsProbeRequest, IsFrame, version_of, type_of, subtype_of, address_at, is_short, has_refused_flags, has_direction, is_shared, has_wrong_address, frame_of, addressed_to}
+use Rattle.mac_frame.specs.Frame.{Frame, Mgmt, shown, bits, has_bit, probe_request, Fields, spelled, IsProbeRequest, IsFrame, version_of, type_of, subtype_of, address_at, is_short, has_refused_flags, has_direction, is_bss_or_broadcast, has_wrong_address, frame_of, addressed_to}
+use Rattle.mac_frame.specs.declared.reading.Rx.{Rx}
 use Rattle.mac_frame.specs.declared.reading.Unread.{Unread}
 use Rattle.mac_frame.specs.declared.reading.Unread.TheVariants.{Short, Version, Kind, Flags, Direction, Address, TooLong}
 use Rattle.mac_frame.proofs.Cells.{cells, is_its_cells}
@@ -152,13 +152,13 @@ ladder_back t f g e =
 
 -- ---- a frame passes the tests
 
-shared_from : (bss address : List ℕ) → (address ≡ bss) ⊎ (address ≡ broadcast) → is_shared bss address ≡ true
+shared_from : (bss address : List ℕ) → (address ≡ bss) ⊎ (address ≡ broadcast) → is_bss_or_broadcast bss address ≡ true
 shared_from bss address h = ⊎_elim
     (λ e. or_left (same_octets address bss) (same_octets address broadcast) ((bytes_decides address bss).1 e))
     (λ e. or_right (same_octets address bss) (same_octets address broadcast) ((bytes_decides address broadcast).1 e))
     h
 
-shared_back : (bss address : List ℕ) → is_shared bss address ≡ true → (address ≡ bss) ⊎ (address ≡ broadcast)
+shared_back : (bss address : List ℕ) → is_bss_or_broadcast bss address ≡ true → (address ≡ bss) ⊎ (address ≡ broadcast)
 shared_back bss address h = ⊎_elim
     (λ e. inl ((bytes_decides address bss).0 e))
     (λ e. inr ((bytes_decides address broadcast).0 e))
@@ -176,10 +176,10 @@ passes bss x f r p =
     let type = ap (λ o. bits o 2 2) p.control ∙ r.type in
     let subtype = ap (λ o. bits o 4 4) p.control ∙ r.subtype in
     let fragment = ap (λ o. bits o 0 4) p.fragment ∙ r.first_fragment in
-    let receiver = ap (is_shared bss) p.receiver ∙ shared_from bss f.receiver r.to_network in
+    let receiver = ap (is_bss_or_broadcast bss) p.receiver ∙ shared_from bss f.receiver r.to_network in
     let group = ap is_group p.transmitter ∙ r.from_station in
     let other = ap (λ a. same_octets a bss) p.transmitter ∙ other_from f.transmitter bss r.from_another in
-    let network = ap (is_shared bss) p.network ∙ shared_from bss f.network r.of_network in
+    let network = ap (is_bss_or_broadcast bss) p.network ∙ shared_from bss f.network r.of_network in
     record {
       short = or_from _ _ (le-ltb (length x) 16 (omega arith)) (and_left _ _ (le-ltb (length x) 24 (omega arith)));
       version = not_from_true _ (eq-eqb (version_of x) 0 version);
@@ -300,15 +300,18 @@ none_at_fault bss x f u e w =
     let read = is_read bss x f w in
     cc
 
--- the only frame where the function gives one
-pub only_frame : (bss x : List ℕ) (f g : Frame) → frame_of bss x ≡ Ok f → IsFrame bss x g → f ≡ g
-only_frame bss x f g e w =
-    let read = is_read bss x g w in
+-- what is read, or the fault, is the function's
+abbrev IsReading : List ℕ → List ℕ → Result Rx Unread → Type 0
+IsReading bss x r = MatchResult r (λ rx. frame_of bss x ≡ Ok (shown rx)) (λ fault. frame_of bss x ≡ Err fault)
+
+-- what is read is a frame
+pub reads_a_frame : (bss x : List ℕ) (r : Result Rx Unread) → IsReading bss x r → IfOk r (λ rx. IsFrame bss x (shown rx))
+reads_a_frame bss x (Ok rx) e = is_a_frame bss x (shown rx) e
+reads_a_frame bss x (Err fault) e = tt
+
+-- what is a frame is read
+pub reads_each_frame : (bss x : List ℕ) (r : Result Rx Unread) → IsReading bss x r → (f : Frame) → IsFrame bss x f → IsOkAnd r (λ rx. shown rx ≡ f)
+reads_each_frame bss x (Ok rx) e f w =
+    let read = is_read bss x f w in
     cc
-
-pub to_all_is : (to_all : Bool) (address : List ℕ) → IsTrue to_all ↔ (address ≡ broadcast) → same_octets address broadcast ≡ to_all
-to_all_is to_all address h = same_from_decides (same_octets address broadcast) to_all (bytes_decides address broadcast) h
-
--- the slice behind the header
-pub body_is : (x : List ℕ) → take (length x - 24) (drop 24 x) ≡ drop 24 x
-body_is x = take_all (length x - 24) (drop 24 x) (omega (arith, length-drop 24 x))
+reads_each_frame bss x (Err fault) e f w = absurd (none_at_fault bss x f fault e w)

@@ -2,6 +2,7 @@
 -- frame for a network, and the first fault of a string that is none.
 use Rattle.std.specs.Prelude.{ℕ, ◌/◌, ◌%◌, ◌^◌, ◌≤◌, ◌≡◌, ◌≢◌, ◌⊎◌, Bool, false, not, nat_lt, ◌==◌, ◌&&◌, ◌||◌, List, [], ◌∷◌, ◌++◌, length, take, drop, slice_index, Result, Ok, Err, if◌then◌else◌}
 use Rattle.mac_frame.specs.Address.{broadcast, is_group, same_octets}
+use Rattle.mac_frame.specs.declared.reading.FrameControl.{FrameControl}
 use Rattle.mac_frame.specs.declared.reading.Rx.{Rx}
 use Rattle.mac_frame.specs.declared.reading.Rx.TheVariants as rx
 use Rattle.mac_frame.specs.declared.reading.Unread.{Unread}
@@ -21,6 +22,19 @@ bits octet low count = octet / 2 ^ low % 2 ^ count
 -- a bit of an octet is 1
 abbrev pub has_bit : ℕ → ℕ → Bool
 has_bit octet n = bits octet n 1 == 1
+
+-- a Frame Control field, of its two octets (9.2.4.1)
+abbrev pub control_of : ℕ → ℕ → FrameControl
+control_of first second = record {
+  version = bits first 0 2;
+  kind = bits first 2 2;
+  subtype = bits first 4 4;
+  to_ds = has_bit second 0;
+  from_ds = has_bit second 1;
+  more_fragments = has_bit second 2;
+  protected = has_bit second 6;
+  order = has_bit second 7;
+}
 
 -- the subtype of a probe request (9.2.4.1.3)
 abbrev pub probe_request : ℕ
@@ -71,7 +85,7 @@ pub record IsProbeRequest (bss x : List ℕ) (f : Fields) : Type 0 where
   pub from_another : f.transmitter ≢ bss
   pub of_network : (f.network ≡ bss) ⊎ (f.network ≡ broadcast)
 
--- The string is this frame for the network. What no field names is ignored.
+-- The string is this frame for the network. What nothing above tests is ignored.
 abbrev pub IsFrame : List ℕ → List ℕ → Frame → Type 0
 IsFrame bss x (Mgmt subtype from to_all body) =
     (f : Fields) × IsProbeRequest bss x f × (subtype ≡ probe_request) × (from ≡ f.transmitter)
@@ -106,14 +120,23 @@ abbrev pub has_direction : List ℕ → Bool
 has_direction x = has_bit (slice_index x 1) 0 || has_bit (slice_index x 1) 1
 
 -- the address is the network's or the broadcast one
-abbrev pub is_shared : List ℕ → List ℕ → Bool
-is_shared bss address = same_octets address bss || same_octets address broadcast
+abbrev pub is_bss_or_broadcast : List ℕ → List ℕ → Bool
+is_bss_or_broadcast bss address = same_octets address bss || same_octets address broadcast
 
 -- not from a station to this network
 abbrev pub has_wrong_address : List ℕ → List ℕ → Bool
 has_wrong_address bss x =
-    not (is_shared bss (address_at x 4)) || is_group (address_at x 10) || same_octets (address_at x 10) bss
-    || not (is_shared bss (address_at x 16))
+    not (is_bss_or_broadcast bss (address_at x 4)) || is_group (address_at x 10) || same_octets (address_at x 10) bss
+    || not (is_bss_or_broadcast bss (address_at x 16))
+
+-- the management frame that a string is for the network, or its first fault behind that of its kind
+abbrev pub management_of : List ℕ → List ℕ → Result Frame Unread
+management_of bss x =
+    if has_refused_flags x then Err Flags
+    else if has_direction x then Err Direction
+    else if has_wrong_address bss x then Err Address
+    else if nat_lt 2304 (length (drop 24 x)) then Err TooLong
+    else Ok (Mgmt (subtype_of x) (address_at x 10) (same_octets (address_at x 4) broadcast) (drop 24 x))
 
 -- the frame that a string is for the network, or its first fault
 abbrev pub frame_of : List ℕ → List ℕ → Result Frame Unread
@@ -121,11 +144,7 @@ frame_of bss x =
     if is_short x then Err Short
     else if not (version_of x == 0) then Err Version
     else if not (type_of x == 0 && subtype_of x == probe_request) then Err Kind
-    else if has_refused_flags x then Err Flags
-    else if has_direction x then Err Direction
-    else if has_wrong_address bss x then Err Address
-    else if nat_lt 2304 (length (drop 24 x)) then Err TooLong
-    else Ok (Mgmt (subtype_of x) (address_at x 10) (same_octets (address_at x 4) broadcast) (drop 24 x))
+    else management_of bss x
 
 -- the address that a frame is sent to: Address 1
 abbrev pub addressed_to : List ℕ → List ℕ

@@ -6,7 +6,7 @@ ghost use Rattle.std.specs.Prelude.{◌≡◌, ◌+◌, ◌<◌, ◌≤◌, ◌|
 ghost use Rattle.std.specs.Option.{SomeIff};
 ghost use Rattle.std.specs.Result.{OkIff};
 ghost use Rattle.mac_frame.specs.Address.{broadcast, is_group, same_octets};
-ghost use Rattle.mac_frame.specs.Frame.{Frame, IsFrame, shown, bits, has_bit, address_at, is_short, has_refused_flags, has_direction, has_wrong_address, is_shared, addressed_to, frame_of};
+ghost use Rattle.mac_frame.specs.Frame.{Frame, IsFrame, shown, bits, has_bit, address_at, is_short, has_refused_flags, has_direction, has_wrong_address, is_bss_or_broadcast, addressed_to, control_of, management_of, frame_of};
 
 use crate::address::MacAddr;
 
@@ -97,14 +97,7 @@ struct FrameControl {
 impl FrameControl {
     /// The field of these two octets, the first of them sent first.
     fn new(first: u8, second: u8) -> FrameControl
-        ensures version { result.version ≡ bits first 0 2 }
-        ensures kind { result.kind ≡ bits first 2 2 }
-        ensures subtype { result.subtype ≡ bits first 4 4 }
-        ensures to_ds { result.to_ds ≡ has_bit second 0 }
-        ensures from_ds { result.from_ds ≡ has_bit second 1 }
-        ensures more_fragments { result.more_fragments ≡ has_bit second 2 }
-        ensures protected { result.protected ≡ has_bit second 6 }
-        ensures order { result.order ≡ has_bit second 7 }
+        ensures { result ≡ control_of first second }
     {
         FrameControl {
             version: bits(first, 0, 2),
@@ -162,16 +155,23 @@ impl Header {
         }
     }
 
+    /// Whether it is sent to the broadcast address.
+    fn is_to_all(&self) -> bool
+        ensures { result ≡ same_octets self.now.receiver broadcast }
+    {
+        self.receiver.is_broadcast()
+    }
+
     /// Whether it is not from a station to this network: its receiver and its network are `bss` or the
     /// broadcast address, and its transmitter is neither a group address nor `bss`.
     fn has_wrong_address(&self, bss: MacAddr) -> bool
-        ensures { result ≡ (not (is_shared bss self.now.receiver) || is_group self.now.transmitter || same_octets self.now.transmitter bss || not (is_shared bss self.now.network)) }
+        ensures { result ≡ (not (is_bss_or_broadcast bss self.now.receiver) || is_group self.now.transmitter || same_octets self.now.transmitter bss || not (is_bss_or_broadcast bss self.now.network)) }
     {
-        let is_shared = |address: MacAddr| address == bss || address.is_broadcast();
-        !is_shared(self.receiver)
+        let is_bss_or_broadcast = |address: MacAddr| address == bss || address.is_broadcast();
+        !is_bss_or_broadcast(self.receiver)
             || self.transmitter.is_group()
             || self.transmitter == bss
-            || !is_shared(self.network)
+            || !is_bss_or_broadcast(self.network)
     }
 }
 
@@ -188,6 +188,14 @@ fn address_at(frame: &[u8], place: usize) -> MacAddr
         frame[place + 4],
         frame[place + 5],
     ])
+}
+
+/// What follows the header of a frame.
+fn body_of(frame: &[u8]) -> &[u8]
+    requires { HEADER_LEN ≤ length frame.now }
+    ensures { result.now ≡ drop 24 frame.now }
+{
+    &frame[HEADER_LEN..]
 }
 
 /// Address 1 of a string of octets, octets 4 to 9: to whom it was sent. `None` below 10 octets.
@@ -224,6 +232,19 @@ pub fn decode(bss: MacAddr, frame: &[u8]) -> Result<Rx<'_>, Unread>
     if control.kind != MANAGEMENT || control.subtype != PROBE_REQUEST {
         return Err(Unread::Kind);
     }
+    management(bss, control, frame)
+}
+
+/// The management frame that a string of octets is for the network `bss`, or its first fault behind that of its
+/// kind (9.3.3.2).
+#[tactic(auto, unfolding(crate::specs::Frame::management_of))]
+fn management(bss: MacAddr, control: FrameControl, frame: &[u8]) -> Result<Rx<'_>, Unread>
+    requires long { HEADER_LEN ≤ length frame.now }
+    requires control { control ≡ control_of (slice_index frame.now 0) (slice_index frame.now 1) }
+    ensures { MatchResult result
+        (λ rx. management_of bss frame.now ≡ Ok (shown rx))
+        (λ fault. management_of bss frame.now ≡ Err fault) }
+{
     let header = Header::new(frame);
     if control.more_fragments || control.protected || control.order || header.fragment != 0 {
         return Err(Unread::Flags);
@@ -234,14 +255,14 @@ pub fn decode(bss: MacAddr, frame: &[u8]) -> Result<Rx<'_>, Unread>
     if header.has_wrong_address(bss) {
         return Err(Unread::Address);
     }
-    let body = &frame[HEADER_LEN..];
+    let body = body_of(frame);
     if body.len() > MAX_BODY_LEN {
         return Err(Unread::TooLong);
     }
     Ok(Rx::Mgmt {
         subtype: control.subtype,
         from: header.transmitter,
-        to_all: header.receiver.is_broadcast(),
+        to_all: header.is_to_all(),
         body,
     })
 }
