@@ -10,7 +10,7 @@ ghost use Rattle.hex.specs.Hex.{decode_of};
 
 use bss_core::RadioConfig;
 use hex::FromHexError;
-use mac_frame::{NoMemory, Octets};
+use mac_frame::Octets;
 use std::alloc::{AllocError, AllocFailed, Global};
 use std::fmt;
 
@@ -26,7 +26,7 @@ const MOST_OCTETS: usize = 4096;
 /// `L1`: the first word of a line is no kind of line.
 const UNKNOWN_KIND: u8 = 1;
 
-/// `L2`: a string is no octets in hexadecimal digits.
+/// `L2`: a string is not pairs of hexadecimal digits.
 const NOT_HEXADECIMAL: u8 = 2;
 
 /// `L5`: a string has too many octets, or a text too many lines.
@@ -65,26 +65,6 @@ pub enum TraceTextFault {
     NoMemory,
 }
 
-impl From<NoMemory> for TraceTextFault {
-    ghost use Rattle.apctl.specs.declared.trace.TraceTextFault.TheVariants.{NoMemory};
-
-    ghost from_gives = { λ _ e. e ≡ NoMemory };
-
-    fn from(_e: NoMemory) -> TraceTextFault {
-        TraceTextFault::NoMemory
-    }
-}
-
-impl From<AllocError> for TraceTextFault {
-    ghost use Rattle.apctl.specs.declared.trace.TraceTextFault.TheVariants.{NoMemory};
-
-    ghost from_gives = { λ _ e. e ≡ NoMemory };
-
-    fn from(_e: AllocError) -> TraceTextFault {
-        TraceTextFault::NoMemory
-    }
-}
-
 impl<T: Drop> From<AllocFailed<T>> for TraceTextFault {
     ghost use Rattle.apctl.specs.declared.trace.TraceTextFault.TheVariants.{NoMemory};
 
@@ -113,16 +93,6 @@ impl LineFault {
             LineFault::Code(code) => TraceTextFault::At(TraceFault { code, line }),
             LineFault::NoMemory => TraceTextFault::NoMemory,
         }
-    }
-}
-
-impl From<NoMemory> for LineFault {
-    ghost use Rattle.apctl.specs.declared.trace.LineFault.TheVariants.{NoMemory};
-
-    ghost from_gives = { λ _ e. e ≡ NoMemory };
-
-    fn from(_e: NoMemory) -> LineFault {
-        LineFault::NoMemory
     }
 }
 
@@ -291,7 +261,7 @@ fn read_digits(alloc: Global, digits: &[u8]) -> Result<Octets, LineFault>
     if octets.len() > MOST_OCTETS {
         return Err(LineFault::Code(TOO_MANY));
     }
-    Ok(Octets::from_slice(alloc, octets.as_slice())?)
+    Ok(Octets::from_vec(octets))
 }
 
 /// The place of the first such character of a text.

@@ -22,6 +22,10 @@ const DSSS_PARAMETER_SET: u8 = 3;
 /// The microseconds of a time unit (3.1).
 const TIME_UNIT: u64 = 1024;
 
+/// The octets of a probe response beside the SSID and the rates: a header of 24, fixed fields of 12, the DSSS
+/// Parameter Set of 3, and the first two octets of three elements (9.3.3.11).
+const FIXED_LEN: usize = 24 + 12 + 3 + 3 * 2;
+
 /// Appends a whole probe response to the station `to`. After `NoMemory` `out` is as it was.
 pub fn write_probe_response(
     out: &mut Octets,
@@ -36,6 +40,7 @@ pub fn write_probe_response(
     ensures err { OnErr result (out.new ≡ out.old) }
 {
     let len = out.as_slice().len();
+    out.reserve(FIXED_LEN + advert.ssid.len() + advert.rates.len())?;
     write_mgmt(out, PROBE_RESPONSE, to, advert.bss, advert.seq)?;
     let written = append_body(out, advert);
     if written.is_err() {

@@ -28,6 +28,13 @@ impl Octets {
         }
     }
 
+    /// The octets of a vector, which it takes over.
+    pub fn from_vec(octets: Vec<u8>) -> Octets
+        ensures { result ≡ octets.items }
+    {
+        Octets { octets }
+    }
+
     /// A copy of the octets.
     pub fn from_slice(alloc: Global, octets: &[u8]) -> Result<Octets, NoMemory>
         ensures { IfOk result (λ string. string ≡ octets.now) }
@@ -35,6 +42,14 @@ impl Octets {
         Ok(Octets {
             octets: Vec::from_slice(alloc, octets)?,
         })
+    }
+
+    /// Makes room for so many octets more, so that a writer grows the string once. The string stays as it is.
+    pub fn reserve(&mut self, count: usize) -> Result<(), NoMemory>
+        ensures { self.new ≡ self.old }
+    {
+        self.octets.reserve(count)?;
+        Ok(())
     }
 
     /// Appends the octets. After `NoMemory` the string is as it was.

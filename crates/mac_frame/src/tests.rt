@@ -8,11 +8,19 @@ const STATION: [u8; 6] = [0x02, 0xaa, 0, 0, 0, 0x01];
 #[test]
 fn octets_are_copied_appended_and_cut(rt: HostRuntime) -> Result<(), Fail> {
     let mut octets = Octets::from_slice(rt.alloc(), &[1, 2])?;
+    octets.reserve(1)?;
     octets.append(&[3])?;
     let copy = octets.copy(rt.alloc())?;
     octets.truncate(1);
     assert_eq!(rt; octets.as_slice(), [1].as_slice());
     assert_eq!(rt; copy.as_slice(), [1, 2, 3].as_slice());
+    Ok(())
+}
+
+#[test]
+fn octets_are_their_vector(rt: HostRuntime) -> Result<(), Fail> {
+    let octets = Octets::from_vec([1u8, 2].to_vec(rt.alloc())?);
+    assert_eq!(rt; octets.as_slice(), [1, 2].as_slice());
     Ok(())
 }
 
