@@ -14,3 +14,5 @@ pub mod JoinedRows
 pub mod JoinedSteps
 pub mod ReplayLemmas
 pub mod AnswerLemmas
+pub mod ReplayRows
+pub mod AnswerRows

@@ -96,3 +96,32 @@ pub air_before_wire : report_text (record idle { air = (1 ∷ []) ∷ (2 ∷ [])
     ++ codes "end" ++ 10 ∷ []
 unfolding section_text network_line counts_line frame_line digits encode_with
 air_before_wire = refl
+
+-- each count behind its word; how many events is the length of the history, whatever the counts say
+pub each_count_has_its_word : report_text (record idle { events = Air [] ∷ Air [] ∷ []; counts = record { events = 9; clock = 10; unread = 200; lost = 3; kept = 4294967295 } } ∷ [])
+    ≡ codes "network 02:00:00:00:00:01 ssid 6c6162" ++ 10 ∷ []
+    ++ codes "events 2 clock 10 unread 200 lost 3 kept 4294967295" ++ 10 ∷ []
+    ++ codes "end" ++ 10 ∷ []
+unfolding section_text network_line counts_line digits encode_with
+each_count_has_its_word = refl
+
+pub stations_stand_in_the_order_of_the_table :
+    report_text (record idle { table = station Authenticated ∷ station Unknown ∷ record (station Associated) { addr = 0x02 ∷ 0xaa ∷ 0 ∷ 0 ∷ 0 ∷ 2 ∷ [] } ∷ []; air = (1 ∷ []) ∷ [] } ∷ [])
+    ≡ codes "network 02:00:00:00:00:01 ssid 6c6162" ++ 10 ∷ []
+    ++ codes "events 0 clock 0 unread 0 lost 0 kept 0" ++ 10 ∷ []
+    ++ codes "station 02:aa:00:00:00:01 authenticated" ++ 10 ∷ []
+    ++ codes "station 02:aa:00:00:00:02 associated aid 1 listen 10 active kept 0" ++ 10 ∷ []
+    ++ codes "air 01" ++ 10 ∷ []
+    ++ codes "end" ++ 10 ∷ []
+unfolding section_text network_line counts_line station_line frame_line digits encode_with
+stations_stand_in_the_order_of_the_table = refl
+
+pub sections_stand_in_order : report_text (idle ∷ record idle { config = record lab { ssid = codes "guest" } } ∷ [])
+    ≡ codes "network 02:00:00:00:00:01 ssid 6c6162" ++ 10 ∷ []
+    ++ codes "events 0 clock 0 unread 0 lost 0 kept 0" ++ 10 ∷ []
+    ++ codes "end" ++ 10 ∷ []
+    ++ codes "network 02:00:00:00:00:01 ssid 6775657374" ++ 10 ∷ []
+    ++ codes "events 0 clock 0 unread 0 lost 0 kept 0" ++ 10 ∷ []
+    ++ codes "end" ++ 10 ∷ []
+unfolding section_text network_line counts_line digits encode_with
+sections_stand_in_order = refl

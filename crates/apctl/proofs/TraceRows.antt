@@ -159,3 +159,25 @@ skipped_line_too_many = refl
 
 pub fault_before_the_limit : lines_from 1000000 (codes "X" ∷ codes "X" ∷ []) ≡ Err (fault 1 1000000)
 fault_before_the_limit = refl
+
+pub spaces_alone_behind_the_word : (config : RadioConfig) → lines_of config (codes "A   " ++ lf) ≡ Ok (Air [] ∷ [])
+unfolding hex_on_literals
+spaces_alone_behind_the_word config = refl
+
+-- the word comes before the digits
+pub unknown_word_with_odd_digits : (config : RadioConfig) → lines_of config (codes "X 4") ≡ Err (fault 1 1)
+unknown_word_with_odd_digits config = refl
+
+-- no digit comes before the number of octets
+pub no_digit_among_too_many : (config : RadioConfig) → lines_of config (codes "A g" ++ replicate 8193 48) ≡ Err (fault 2 1)
+unfolding hex_on_literals
+no_digit_among_too_many config = refl
+
+-- a character of no text
+pub comment_of_any_octets : (config : RadioConfig) → lines_of config (codes "# " ++ 255 ∷ 0 ∷ 9 ∷ [] ++ lf ++ codes "A 01") ≡ Ok (Air (1 ∷ []) ∷ [])
+unfolding hex_on_literals
+comment_of_any_octets config = refl
+
+pub lines_stay_in_order : (config : RadioConfig) → lines_of config (codes "A 01" ++ lf ++ codes "#" ++ lf ++ codes "A 02" ++ lf ++ codes "A 01" ++ lf) ≡ Ok (Air (1 ∷ []) ∷ Air (2 ∷ []) ∷ Air (1 ∷ []) ∷ [])
+unfolding hex_on_literals
+lines_stay_in_order config = refl

@@ -1,10 +1,11 @@
 -- Strings of octets on which the functions that read requests and test addresses are computed.
-use Rattle.std.proofs.Common.{◌≡◌, true, false, [], ◌∷◌, ◌++◌, take, Some, None, Ok, Err, refl}
-use Rattle.std.specs.Prelude.{replicate}
+use Rattle.std.proofs.Common.{◌≡◌, ℕ, true, false, List, [], ◌∷◌, ◌++◌, take, Result, Some, None, Ok, Err, refl}
+use Rattle.std.specs.Prelude.{map, replicate}
+use Rattle.mac_frame.specs.declared.reading.Unread.{Unread}
 use Rattle.mac_frame.specs.declared.reading.Unread.TheVariants.{Short, Kind, Body, TooLong}
 use Rattle.elements.specs.Elements.{elements_of, elements_within}
 use Rattle.bss_core.specs.Hearing.{is_heard}
-use Rattle.bss_core.specs.Request.{Probe, request_of}
+use Rattle.bss_core.specs.Request.{Request, Probe, request_of}
 use Rattle.bss_core.proofs.Samples.{bssid, station, all, lab, probe, probe_with, probe_for_lab, station_rates}
 
 -- ---- what is heard
@@ -81,3 +82,34 @@ a_beacon_is_no_request = refl
 
 pub a_long_body_is_refused_before_its_elements : request_of bssid (probe_with (replicate 2305 0)) ≡ Err TooLong
 a_long_body_is_refused_before_its_elements = refl
+
+pub a_group_address_is_not_heard : is_heard bssid ((0 ∷ 0 ∷ 0 ∷ 0 ∷ []) ++ (0x01 ∷ 0 ∷ 0x5e ∷ 0 ∷ 0 ∷ 0x01 ∷ []) ++ station ++ bssid) ≡ false
+a_group_address_is_not_heard = refl
+
+pub an_unknown_element_is_skipped : request_of bssid (probe_with (0xdd ∷ 0x02 ∷ 0x00 ∷ 0x00 ∷ 0x00 ∷ 0x01 ∷ 0x61 ∷ [])) ≡ Ok (Probe station (Some (0x61 ∷ [])))
+unfolding elements_of elements_within
+an_unknown_element_is_skipped = refl
+
+pub an_element_of_255_octets_is_skipped : request_of bssid (probe_with ((0xdd ∷ 0xff ∷ replicate 255 0) ++ (0x00 ∷ 0x00 ∷ []))) ≡ Ok (Probe station (Some []))
+unfolding elements_of elements_within
+an_element_of_255_octets_is_skipped = refl
+
+-- ---- the probe cut short, at each length
+
+abbrev cut_at : List ℕ → List (Result Request Unread)
+cut_at lengths = map (λ n. request_of bssid (take n probe)) lengths
+
+pub a_cut_header_is_short : cut_at (0 ∷ 1 ∷ 2 ∷ 3 ∷ 4 ∷ 5 ∷ 6 ∷ 7 ∷ 8 ∷ 9 ∷ 10 ∷ 11 ∷ 12 ∷ 13 ∷ 14 ∷ 15 ∷ 16 ∷ 17 ∷ 18 ∷ 19 ∷ 20 ∷ 21 ∷ 22 ∷ 23 ∷ []) ≡ replicate 24 (Err Short)
+a_cut_header_is_short = refl
+
+pub a_header_alone_names_no_ssid : request_of bssid (take 24 probe) ≡ Ok (Probe station None)
+unfolding elements_of elements_within
+a_header_alone_names_no_ssid = refl
+
+pub two_octets_of_the_body_name_the_wildcard_ssid : request_of bssid (take 26 probe) ≡ Ok (Probe station (Some []))
+unfolding elements_of elements_within
+two_octets_of_the_body_name_the_wildcard_ssid = refl
+
+pub a_cut_element_is_refused : cut_at (25 ∷ 27 ∷ 28 ∷ 29 ∷ 30 ∷ 31 ∷ []) ≡ replicate 6 (Err Body)
+unfolding elements_of elements_within
+a_cut_element_is_refused = refl

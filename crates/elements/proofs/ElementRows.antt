@@ -1,6 +1,8 @@
 -- What the definitions say of some bodies.
 use Rattle.std.proofs.Common.{◌≡◌, [], ◌∷◌, Some, None, refl}
-use Rattle.elements.specs.Elements.{elements_within, elements_of, first_of}
+use Rattle.std.proofs.Common.{◌++◌, arith}
+use Rattle.std.specs.Prelude.{replicate}
+use Rattle.elements.specs.Elements.{IsElements, elements_within, elements_of, first_of}
 use Rattle.elements.specs.Rates.{element, supported_rates, extended_rates, rates_of}
 
 four_rates_are_one_element : elements_of (1 ∷ 4 ∷ 2 ∷ 4 ∷ 11 ∷ 22 ∷ []) ≡ Some ((1, 2 ∷ 4 ∷ 11 ∷ 22 ∷ []) ∷ [])
@@ -57,3 +59,29 @@ the_first_eight_rates_stand_in_element_1 :
     supported_rates (0x82 ∷ 0x84 ∷ 0x8b ∷ 0x96 ∷ 0x0c ∷ 0x12 ∷ 0x18 ∷ 0x24 ∷ 0x30 ∷ [])
     ≡ element 1 (0x82 ∷ 0x84 ∷ 0x8b ∷ 0x96 ∷ 0x0c ∷ 0x12 ∷ 0x18 ∷ 0x24 ∷ [])
 the_first_eight_rates_stand_in_element_1 = refl
+
+an_element_of_255_octets_is_read : elements_of (0xdd ∷ 0xff ∷ replicate 255 7) ≡ Some ((0xdd, replicate 255 7) ∷ [])
+unfolding elements_of elements_within
+an_element_of_255_octets_is_read = refl
+
+-- the one after it passes the end
+an_element_of_254_octets_says_255 : elements_of (0xdd ∷ 0xff ∷ replicate 254 7) ≡ None
+unfolding elements_of elements_within
+an_element_of_254_octets_says_255 = refl
+
+one_element_id_may_stand_twice : elements_of (0 ∷ 1 ∷ 97 ∷ 0 ∷ 1 ∷ 98 ∷ []) ≡ Some ((0, 97 ∷ []) ∷ (0, 98 ∷ []) ∷ [])
+unfolding elements_of elements_within
+one_element_id_may_stand_twice = refl
+
+one_rate_is_one_element : rates_of (0x82 ∷ []) ≡ 0x01 ∷ 0x01 ∷ 0x82 ∷ []
+one_rate_is_one_element = refl
+
+sixteen_rates_are_eight_and_eight :
+    rates_of (1 ∷ 2 ∷ 3 ∷ 4 ∷ 5 ∷ 6 ∷ 7 ∷ 8 ∷ 9 ∷ 10 ∷ 11 ∷ 12 ∷ 13 ∷ 14 ∷ 15 ∷ 16 ∷ [])
+    ≡ (0x01 ∷ 0x08 ∷ 1 ∷ 2 ∷ 3 ∷ 4 ∷ 5 ∷ 6 ∷ 7 ∷ 8 ∷ []) ++ (0x32 ∷ 0x08 ∷ 9 ∷ 10 ∷ 11 ∷ 12 ∷ 13 ∷ 14 ∷ 15 ∷ 16 ∷ [])
+sixteen_rates_are_eight_and_eight = refl
+
+-- ---- the relation
+
+an_ssid_and_a_channel_are_a_body : IsElements (0 ∷ 0 ∷ 3 ∷ 1 ∷ 6 ∷ []) ((0, []) ∷ (3, 6 ∷ []) ∷ [])
+an_ssid_and_a_channel_are_a_body = record { whole = refl; short = (omega arith, (omega arith, tt)) }

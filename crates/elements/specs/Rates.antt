@@ -10,11 +10,12 @@ element id body = spelled (id, body)
 abbrev pub supported_rates : List ℕ → List ℕ
 supported_rates rates = element 1 (take 8 rates)
 
--- element 50, Extended Supported Rates: the rest, if there is any
+-- element 50, where there is a rate for it
 abbrev pub element_if_any : List ℕ → List ℕ
 element_if_any [] = []
 element_if_any (rate ∷ rates) = element 50 (rate ∷ rates)
 
+-- element 50, Extended Supported Rates: the rest, if there is any
 abbrev pub extended_rates : List ℕ → List ℕ
 extended_rates rates = element_if_any (drop 8 rates)
 

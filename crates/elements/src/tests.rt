@@ -29,6 +29,18 @@ fn nine_rates_take_two_elements(rt: HostRuntime) -> Result<(), Fail> {
 }
 
 #[test]
+fn sixteen_rates_and_the_longest_element_are_appended(rt: HostRuntime) -> Result<(), Fail> {
+    let mut out = Octets::new(rt.alloc());
+    write_rates(&mut out, &[2; 16])?;
+    let rates = [1, 8, 2, 2, 2, 2, 2, 2, 2, 2, 50, 8, 2, 2, 2, 2, 2, 2, 2, 2];
+    assert_eq!(rt; out.as_slice(), rates.as_slice());
+    write_element(&mut out, 221, &[7; 255])?;
+    assert_eq!(rt; out.as_slice().len(), 20 + 257);
+    assert_eq!(rt; &out.as_slice()[20..23], [221, 255, 7].as_slice());
+    Ok(())
+}
+
+#[test]
 fn each_part_of_the_rates_is_appended_alone(rt: HostRuntime) -> Result<(), Fail> {
     let mut out = Octets::new(rt.alloc());
     write_extended_rates(&mut out, &NINE_RATES)?;

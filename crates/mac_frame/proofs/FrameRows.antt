@@ -1,8 +1,8 @@
 -- Strings of octets on which the function that reads frames is computed.
-use Rattle.std.proofs.Common.{◌≡◌, ℕ, true, false, List, [], ◌∷◌, ◌++◌, take, Ok, Err, refl}
+use Rattle.std.proofs.Common.{◌≡◌, ℕ, true, false, List, [], ◌∷◌, ◌++◌, take, slice_index, Ok, Err, refl, ap, inr, arith}
 use Rattle.std.specs.Prelude.{replicate}
 use Rattle.mac_frame.specs.Address.{broadcast}
-use Rattle.mac_frame.specs.Frame.{Mgmt, frame_of, addressed_to}
+use Rattle.mac_frame.specs.Frame.{Mgmt, IsFrame, frame_of, addressed_to}
 use Rattle.mac_frame.proofs.Samples.{network, other_network, station, group}
 use Rattle.mac_frame.specs.declared.reading.Unread.TheVariants.{Short, Version, Kind, Flags, Direction, Address, TooLong}
 
@@ -126,3 +126,84 @@ direction_comes_before_address = refl
 
 pub address_comes_before_too_long : frame_of network (frame 0x40 0 other_network station broadcast 0 (replicate 2305 0)) ≡ Err Address
 address_comes_before_too_long = refl
+
+-- ---- addresses, each by itself
+
+pub the_network_may_be_named_in_a_frame_to_all : frame_of network (frame 0x40 0 broadcast station network 0 elements) ≡ Ok (Mgmt 4 station true elements)
+the_network_may_be_named_in_a_frame_to_all = refl
+
+pub any_network_may_be_named_in_a_frame_to_the_network : frame_of network (frame 0x40 0 network station broadcast 0 elements) ≡ Ok (Mgmt 4 station false elements)
+any_network_may_be_named_in_a_frame_to_the_network = refl
+
+pub a_group_that_receives_is_refused : frame_of network (frame 0x40 0 group station broadcast 0 elements) ≡ Err Address
+a_group_that_receives_is_refused = refl
+
+pub a_group_as_the_network_is_refused : frame_of network (frame 0x40 0 broadcast station group 0 elements) ≡ Err Address
+a_group_as_the_network_is_refused = refl
+
+-- ---- what is ignored
+
+pub duration_and_the_sequence_number_are_ignored :
+    frame_of network ((0x40 ∷ 0 ∷ 0xff ∷ 0xff ∷ []) ++ broadcast ++ station ++ broadcast ++ (0xf0 ∷ 0xff ∷ []) ++ elements)
+    ≡ Ok (Mgmt 4 station true elements)
+duration_and_the_sequence_number_are_ignored = refl
+
+-- ---- headers of other types and kinds
+
+pub twenty_three_octets_of_a_data_frame_are_short : frame_of network (take 23 (frame 0x08 0x01 network station network 0 [])) ≡ Err Short
+twenty_three_octets_of_a_data_frame_are_short = refl
+
+pub twenty_three_octets_of_a_control_frame_are_enough : frame_of network (take 23 (frame 0xa4 0 network station network 0 [])) ≡ Err Kind
+twenty_three_octets_of_a_control_frame_are_enough = refl
+
+pub version_3_is_refused : frame_of network (frame 0x43 0 broadcast station broadcast 0 elements) ≡ Err Version
+version_3_is_refused = refl
+
+-- type 3, with the subtype of a probe request
+pub the_reserved_type_is_refused : frame_of network (frame 0x4c 0 broadcast station broadcast 0 elements) ≡ Err Kind
+the_reserved_type_is_refused = refl
+
+pub an_authentication_frame_is_not_read_yet : frame_of network (frame 0xb0 0 network station network 0 (0 ∷ 0 ∷ 1 ∷ 0 ∷ 0 ∷ 0 ∷ [])) ≡ Err Kind
+an_authentication_frame_is_not_read_yet = refl
+
+-- ---- the relation, field by field
+
+pub the_probe_request_is_a_frame : IsFrame network probe (Mgmt 4 station true elements)
+the_probe_request_is_a_frame = (
+  record {
+    control = 0x40;
+    flags = 0;
+    duration = 0 ∷ 0 ∷ [];
+    receiver = broadcast;
+    transmitter = station;
+    network = broadcast;
+    fragment = 0;
+    sequence = 0;
+    body = elements;
+  },
+  record {
+    string = refl;
+    duration = refl;
+    receiver = refl;
+    transmitter = refl;
+    network = refl;
+    body = omega arith;
+    version = refl;
+    type = refl;
+    subtype = refl;
+    to_ds = refl;
+    from_ds = refl;
+    more_fragments = refl;
+    protected = refl;
+    order = refl;
+    first_fragment = refl;
+    to_network = inr refl;
+    from_station = refl;
+    from_another = λ same. omega (arith, ap (λ address. slice_index address 1) same);
+    of_network = inr refl;
+  },
+  refl,
+  refl,
+  refl,
+  refl,
+)
