@@ -1,4 +1,4 @@
--- What a network announces of itself (IEEE Std 802.11-2016, 9.3.3.3 and 9.3.3.11), octet by octet.
+-- What a network announces of itself in a probe response (IEEE Std 802.11-2016, 9.3.3.11), octet by octet.
 use Rattle.std.specs.Prelude.{ℕ, ◌*◌, List, [], ◌∷◌, ◌++◌}
 use Rattle.std.specs.Int.{w16, w64, to_le_bytes}
 use Rattle.mac_frame.specs.Header.{management_header}

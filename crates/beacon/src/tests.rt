@@ -14,6 +14,26 @@ const BODY: [u8; 26] = [
 ];
 
 #[test]
+fn the_longest_announcement_has_93_octets(rt: HostRuntime) -> Result<(), Fail> {
+    let advert = Advert {
+        bss: MacAddr::new([0x02, 0, 0, 0, 0, 1]),
+        ssid: &[b'x'; 32],
+        rates: &[0x82; 16],
+        channel: 14,
+        interval: u16::MAX,
+        clock: u32::MAX,
+        seq: 4095,
+    };
+    let mut out = Octets::new(rt.alloc());
+    write_probe_response(&mut out, &advert, MacAddr::new([0x02, 0xaa, 0, 0, 0, 1]))?;
+    assert_eq!(rt; out.as_slice().len(), 93);
+    assert_eq!(rt; &out.as_slice()[22..24], [0xf0, 0xff].as_slice());
+    assert_eq!(rt; &out.as_slice()[80..83], [3, 1, 14].as_slice());
+    assert_eq!(rt; &out.as_slice()[83..85], [50, 8].as_slice());
+    Ok(())
+}
+
+#[test]
 fn a_network_announces_itself(rt: HostRuntime) -> Result<(), Fail> {
     let advert = Advert {
         bss: MacAddr::new([0x02, 0, 0, 0, 0, 1]),

@@ -1,4 +1,5 @@
 pub mod AloneLaws
+pub mod HearingSteps
 pub mod Requests
 pub mod Checked
 pub mod ReadRequests

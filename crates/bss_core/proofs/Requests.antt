@@ -1,7 +1,7 @@
 -- A request, and the frame and the elements that it stands on.
 use Rattle.std.proofs.Common.{◌≡◌, ℕ, ◌+◌, ◌<◌, Bool, List, [], ◌∷◌, ◌++◌, length, slice_index, Option, Some, None, Result, Ok, Err, refl, sym, ap, subst, ◌∙◌}
 use Rattle.std.proofs.lemmas.List.{get_or-append-add}
-use Rattle.mac_frame.specs.Frame.{Frame, Mgmt, Fields, IsFrame, frame_of}
+use Rattle.mac_frame.specs.Frame.{Frame, Mgmt, Fields, IsFrame, frame_of, probe_request}
 use Rattle.mac_frame.specs.declared.reading.Unread.{Unread}
 use Rattle.elements.specs.Elements.{Pair, IsElements, first_of, elements_of}
 use Rattle.bss_core.specs.Request.{Request, Probe, IsRequest, ssid_id, probe_of, request_in, request_of}
@@ -19,19 +19,21 @@ pub record Asks (bss x : List ℕ) (r : Request) : Type 0 where
 
 pub asks : (bss x : List ℕ) (r : Request) → IsRequest bss x r → Asks bss x r
 asks bss x (Probe from ssid) w = record {
-  subtype = w.0;
+  subtype = probe_request;
   from = from;
-  to_all = w.1;
-  body = w.2;
-  elements = w.3;
-  is_frame = w.4;
-  are_elements = w.5;
-  is_probe = ap (Probe from) w.6;
+  to_all = w.0;
+  body = w.1;
+  elements = w.2;
+  is_frame = w.3;
+  are_elements = w.4;
+  is_probe = ap (Probe from) w.5;
 }
 
 pub is_request : (bss x : List ℕ) (r : Request) → Asks bss x r → IsRequest bss x r
 is_request bss x r a =
-    subst (IsRequest bss x) (sym a.is_probe) (a.subtype, a.to_all, a.body, a.elements, a.is_frame, a.are_elements, refl)
+    let probe : a.subtype ≡ probe_request = a.is_frame.2 in
+    let frame = subst (λ s. IsFrame bss x (Mgmt s a.from a.to_all a.body)) probe a.is_frame in
+    subst (IsRequest bss x) (sym a.is_probe) (a.to_all, a.body, a.elements, frame, a.are_elements, refl)
 
 -- the frame that it stands on
 abbrev pub frame_in : (bss x : List ℕ) (r : Request) → Asks bss x r → Frame

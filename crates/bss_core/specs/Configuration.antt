@@ -35,12 +35,12 @@ abbrev pub is_rate : ℕ → Bool
 is_rate octet = is_between 1 108 (rate_value octet)
 
 -- some octet stands for the same rate
-abbrev pub has_rate : List ℕ → ℕ → Bool
-has_rate rates octet = list_any (λ other. rate_value other == rate_value octet) rates
+abbrev pub has_same_rate : List ℕ → ℕ → Bool
+has_same_rate rates octet = list_any (λ other. rate_value other == rate_value octet) rates
 
 abbrev pub are_different : List ℕ → Bool
 are_different [] = true
-are_different (rate ∷ rates) = not (has_rate rates rate) && are_different rates
+are_different (rate ∷ rates) = not (has_same_rate rates rate) && are_different rates
 
 abbrev pub rates_fit : List ℕ → Bool
 rates_fit rates = is_between 1 16 (length rates) && list_all is_rate rates && are_different rates
@@ -98,11 +98,12 @@ is_taken others bssid = list_any (λ other. same_octets other.bssid bssid) other
 abbrev pub fault_behind : List NetConfig → NetConfig → Option ℕ
 fault_behind earlier n = if is_taken earlier n.bssid then Some 8 else network_fault n
 
--- the first fault of the networks from a place on, behind others
+-- the fault of the network at a place, and else that of later ones
 abbrev pub fault_at : ℕ → Option ℕ → Option ConfigFault → Option ConfigFault
 fault_at place (Some code) later = Some (of_network code place)
 fault_at place None later = later
 
+-- the first fault of the networks, each behind those before it
 abbrev pub networks_fault : List NetConfig → List NetConfig → Option ConfigFault
 networks_fault earlier [] = None
 networks_fault earlier (n ∷ ns) =

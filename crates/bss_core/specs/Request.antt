@@ -1,7 +1,7 @@
 -- What a station asks (IEEE Std 802.11-2016, 9.3.3): the one request of a string of octets, and the first fault
 -- of a string that holds none.
-use Rattle.std.specs.Prelude.{ℕ, ◌≡◌, List, Option, Some, None, Result, Ok, Err}
-use Rattle.mac_frame.specs.Frame.{Frame, Mgmt, IsFrame, frame_of}
+use Rattle.std.specs.Prelude.{ℕ, ◌≡◌, Bool, List, Option, Some, None, Result, Ok, Err}
+use Rattle.mac_frame.specs.Frame.{Frame, Mgmt, IsFrame, frame_of, probe_request}
 use Rattle.mac_frame.specs.declared.reading.Unread.{Unread}
 use Rattle.mac_frame.specs.declared.reading.Unread.TheVariants.{Body}
 use Rattle.elements.specs.Elements.{Pair, IsElements, first_of, elements_of}
@@ -15,10 +15,10 @@ pub data Request : Type 0 where
 abbrev pub ssid_id : ℕ
 ssid_id = 0
 
--- The string is this request for the network: a frame whose body is elements.
+-- The string is this request for the network: a probe request is a frame of its subtype whose body is elements.
 abbrev pub IsRequest : List ℕ → List ℕ → Request → Type 0
 IsRequest bss x (Probe from ssid) =
-    (subtype : ℕ) × (to_all : _) × (body : List ℕ) × (es : List Pair) × IsFrame bss x (Mgmt subtype from to_all body)
+    (to_all : Bool) × (body : List ℕ) × (es : List Pair) × IsFrame bss x (Mgmt probe_request from to_all body)
     × IsElements body es × (ssid ≡ first_of ssid_id es)
 
 -- ---- as a function

@@ -2,7 +2,7 @@
 
 ghost use Rattle.std.specs.Prelude.{◌≡◌, []};
 ghost use Rattle.std.specs.List.{list_all};
-ghost use Rattle.bss_core.specs.Configuration.{rate_value, is_rate, has_rate, are_different, rates_fit, numbers_fit, network_fault, is_taken, fault_behind, networks_fault, fault_of};
+ghost use Rattle.bss_core.specs.Configuration.{rate_value, is_rate, has_same_rate, are_different, rates_fit, numbers_fit, network_fault, is_taken, fault_behind, networks_fault, fault_of};
 
 use crate::config::{ConfigFault, MOST_NETWORKS, NetConfig, RadioConfig};
 use mac_frame::MacAddr;
@@ -129,7 +129,7 @@ fn are_different(rates: &[u8]) -> bool
 {
     let mut rest = rates;
     while let Some((first, others)) = rest.split_first() {
-        if has_rate(others, *first) {
+        if has_same_rate(others, *first) {
             return false;
         }
         rest = others;
@@ -138,8 +138,8 @@ fn are_different(rates: &[u8]) -> bool
 }
 
 /// Whether some octet stands for the same rate.
-fn has_rate(rates: &[u8], octet: u8) -> bool
-    ensures { result ≡ has_rate rates.now octet }
+fn has_same_rate(rates: &[u8], octet: u8) -> bool
+    ensures { result ≡ has_same_rate rates.now octet }
 {
     rates
         .iter()

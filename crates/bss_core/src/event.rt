@@ -13,7 +13,7 @@ pub enum Event {
 }
 
 /// Whether the network `bss` hears a string of octets on the air: it has at least 10 octets, and Address 1,
-/// octets 4 to 9, is the network's or the broadcast address (IEEE Std 802.11-2016, 10.2.8).
+/// octets 4 to 9, is the network's or the broadcast address (IEEE Std 802.11-2016, 9.2.4.3).
 pub fn hears(bss: MacAddr, frame: &[u8]) -> bool
     ensures heard { IsTrue result ↔ Hears bss frame.now }
     ensures test { result ≡ is_heard bss frame.now }

@@ -21,7 +21,7 @@ pub use bss::{Bss, Refusal};
 pub use checking::{is_taken, rates_fit};
 pub use config::{ConfigFault, MOST_NETWORKS, NetConfig, RadioConfig};
 pub use event::{Event, hears};
-pub use laws::{checked_networks, one_request, one_step};
+pub use laws::{checked_networks, hearing, one_request, one_step};
 pub use section::{Counts, Section, StationRow};
 
 #[cfg(test)]

@@ -5,8 +5,8 @@
 //! ```text
 //!   Unknown ──authentication──▶ Authenticated ──association──▶ Associated
 //!      ▲                          │       ▲                        │
-//!      └─────deauthentication─────┘       └─────disassociation─────┘
-//!      ▲                                                           │
+//!      └─────deauthentication─────┘       └────disassociation or───┘
+//!      ▲                                       authentication      │
 //!      └──────────────────────deauthentication─────────────────────┘
 //! ```
 #![tactic(auto)]
