@@ -1,5 +1,5 @@
 -- Lists, tables and texts, as the readers of a configuration go over them.
-use Rattle.std.proofs.Common.{◌≡◌, ℕ, length, nat_le, codes, Ok, Bool, true, false, List, [], ◌∷◌, map, Some, None, String, Global, string_bytes, refl, inl, inr, ◌∙◌, arith}
+use Rattle.std.proofs.Common.{◌≡◌, ℕ, length, nat_le, codes, Ok, Err, Bool, true, false, List, [], ◌∷◌, map, Some, None, String, Global, string_bytes, refl, inl, inr, ◌∙◌, arith}
 use Rattle.std.specs.List.{list_any, list_all}
 use Rattle.std.specs.Map.{keys_of}
 use Rattle.std.specs.Str.{bytes_eq, IsUtf8, is_utf8}
@@ -14,7 +14,7 @@ use Rattle.toml.specs.declared.value.Value.{Value}
 use Rattle.toml.proofs.Views.{Entry, items_view-drop}
 use Rattle.bss_core.specs.declared.config.NetConfig.{NetConfig}
 use Rattle.bss_core.specs.Configuration.{dtim_fits, max_stations_fits, max_known_fits, quota_fits, max_events_fits}
-use Rattle.apctl.specs.ConfigurationText.{number_at, bssid_at, ssid_at, rates_at, has_only, are_tables, tables_in, network_of, document_of}
+use Rattle.apctl.specs.ConfigurationText.{number_at, bssid_at, ssid_at, rates_at, has_only, are_tables, tables_in, fault_after, network_of, document_of}
 
 -- a text that is no key of this name
 pub not_among : (key name : List ℕ) → (key ≡ name → ⊥) → bytes_eq key name ≡ false
@@ -65,6 +65,19 @@ pub network_of-read : (earlier : List NetConfig) (ms : Members) (bssid ssid rate
 unfolding network_of
 network_of-read earlier ms bssid ssid rates dtim max_stations max_known quota max_events b s r d stations known q events enough =
     rw (b, s, r, d, stations, known, q, events, enough)
+
+pub network_of-unfit : (earlier : List NetConfig) (ms : Members) (bssid ssid rates : List ℕ) (dtim max_stations max_known quota max_events : ℕ)
+    → bssid_at earlier ms ≡ Some bssid → ssid_at ms ≡ Some ssid → rates_at ms ≡ Some rates
+    → number_at dtim_fits (codes "dtim") ms ≡ Some dtim
+    → number_at max_stations_fits (codes "max_stations") ms ≡ Some max_stations
+    → number_at max_known_fits (codes "max_known") ms ≡ Some max_known
+    → number_at quota_fits (codes "quota") ms ≡ Some quota
+    → number_at max_events_fits (codes "max_events") ms ≡ Some max_events
+    → nat_le max_stations max_known ≡ false
+    → network_of earlier ms ≡ Err (fault_after earlier 12)
+unfolding network_of
+network_of-unfit earlier ms bssid ssid rates dtim max_stations max_known quota max_events b s r d stations known q events few =
+    rw (b, s, r, d, stations, known, q, events, few)
 
 pub ruleset counts = (length_of_networks)
 

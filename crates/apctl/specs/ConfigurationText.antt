@@ -68,7 +68,7 @@ tables_in no_items = []
 tables_in (item (table ms) ds) = ms ∷ tables_in ds
 tables_in (item d ds) = tables_in ds
 
--- no key is unlisted, at the top or in a table of the array of networks
+-- each key is listed, at the top and in the tables of the array of networks
 unfoldable pub is_listed : Members → Bool
 is_listed top =
     has_only radio_keys top
@@ -80,7 +80,7 @@ is_listed top =
 abbrev pub fault_after : List NetConfig → ℕ → ConfigFault
 fault_after earlier code = of_network code (length earlier)
 
--- an address of a station that no earlier network has
+-- no group address, and no earlier network's
 unfoldable pub bssid_at : List NetConfig → Members → Option (List ℕ)
 bssid_at earlier ms =
     option_and_then (passing (λ bssid. not (is_group bssid || is_taken earlier bssid))) (option_and_then address_of (text_at (codes "bssid") ms))

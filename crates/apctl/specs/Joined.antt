@@ -1,4 +1,4 @@
--- The two parts of a text, before and after its first line that is exactly `---` (*profile*).
+-- The two parts of a text, before and after its first line that is exactly `---` (profile).
 use Rattle.std.specs.Prelude.{◌≡◌, ◌≢◌, ℕ, ◌==◌, Bool, if◌then◌else◌, codes, List, [], ◌∷◌, ◌++◌, All, ◌⊎◌}
 use Rattle.std.specs.List.{slice_split, list_any, before_first, after_first, flat_map, join_with_byte}
 use Rattle.std.specs.Str.{bytes_eq}

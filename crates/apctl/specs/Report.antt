@@ -1,4 +1,4 @@
--- The text of a report (*profile*).
+-- The text of a report (profile).
 use Rattle.std.specs.Prelude.{ℕ, Bool, if◌then◌else◌, List, [], ◌∷◌, ◌++◌, length, codes, decimal, flat_map, Result, Ok, Err}
 use Rattle.hex.specs.Hex.{encode_lower}
 use Rattle.mac_frame.specs.Address.{address_text}
@@ -65,7 +65,7 @@ abbrev pub report_text : List Section → List ℕ
 report_text sections = flat_map section_text sections
 
 -- how many failures of its sink a call met that answers this
-abbrev pub failures_met : Result Unit ReportFault → ℕ
-failures_met (Ok u) = 0
+abbrev pub failures_met : {T : Type 0} → Result T ReportFault → ℕ
+failures_met (Ok answer) = 0
 failures_met (Err Write) = 1
 failures_met (Err NoMemory) = 0

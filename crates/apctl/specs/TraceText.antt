@@ -30,7 +30,7 @@ most_octets = 4096
 abbrev pub unknown_kind : ℕ
 unknown_kind = 1
 
--- L2: no octets in hexadecimal digits
+-- L2: a string is not pairs of hexadecimal digits
 abbrev pub not_hexadecimal : ℕ
 not_hexadecimal = 2
 

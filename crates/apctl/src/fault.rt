@@ -1,7 +1,8 @@
 //! What can go wrong, as a user meets it (*profile*): one line on standard error and an exit status.
 
 ghost use Rattle.std.specs.Prelude.{◌≡◌, ◌+◌, ◌^◌, ◌<◌, IfOk};
-ghost use Rattle.apctl.specs.Faults.{status_of, failures_shown};
+ghost use Rattle.apctl.specs.Faults.{status_of};
+ghost use Rattle.apctl.specs.Report.{failures_met};
 
 use crate::replay::TextFault;
 use crate::report::ReportFault;
@@ -57,6 +58,11 @@ impl Fault {
 }
 
 impl From<TextFault> for Fault {
+    ghost use Rattle.std.specs.Prelude.{◌≡◌};
+    ghost use Rattle.apctl.specs.Faults.{of_replay};
+
+    ghost from_gives = { λ fault given. given ≡ of_replay fault };
+
     fn from(fault: TextFault) -> Fault {
         match fault {
             TextFault::Config(fault) => Fault::Config(fault),
@@ -68,17 +74,22 @@ impl From<TextFault> for Fault {
 }
 
 impl From<AllocError> for Fault {
+    ghost use Rattle.std.specs.Prelude.{◌≡◌};
+    ghost use Rattle.apctl.specs.declared.fault.Fault.TheVariants as faults;
+
+    ghost from_gives = { λ _ given. given ≡ faults.Memory };
+
     fn from(_e: AllocError) -> Fault {
         Fault::Memory
     }
 }
 
 /// Writes the line of a fault, and answers the exit status that goes with it. `Write` where a write of `out`
-/// failed, after which a part of the line may stand; `NoMemory` where a growth was refused, and nothing stands.
+/// failed, `NoMemory` where a growth was refused.
 pub fn show_fault<W: Sink>(alloc: Global, fault: &Fault, out: &mut W) -> Result<u8, ReportFault>
     requires { W.failed out.old < 2 ^ 63 }
     ensures status { IfOk result (λ status. status ≡ status_of fault.now) }
-    ensures failures { W.failed out.new ≡ W.failed out.old + failures_shown result }
+    ensures failures { W.failed out.new ≡ W.failed out.old + failures_met result }
 {
     let line = format!(in alloc; "{fault}\n")?;
     write_all(out, line.as_bytes())?;

@@ -5,6 +5,8 @@
 //! and words it promises nothing: that they are what a user gave is shown by tests.
 #![tactic(auto)]
 
+ghost use Rattle.std.specs.Prelude.{◌≡◌, IfOk, IfSome};
+
 mod configuration;
 mod fault;
 mod joined;
@@ -62,7 +64,9 @@ fn has_words(rt: &HostRuntime) -> Result<bool, Fault> {
 }
 
 /// All that a reader gives: standard input. It gives up after 4,294,967,295 reads.
-fn read_input(alloc: Global, reader: &mut impl Read) -> Result<Vec<u8>, Fault> {
+fn read_input<R: Read>(alloc: Global, reader: &mut R) -> Result<Vec<u8>, Fault>
+    ensures { IfOk result (λ input. IfSome (R.remaining reader.old) (λ octets. input.items ≡ octets)) }
+{
     let mut input = Vec::new(alloc);
     let mut piece = [0; READ_AT_ONCE];
     for _ in 0..u32::MAX {

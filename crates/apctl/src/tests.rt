@@ -31,6 +31,13 @@ const NINE_RATES: &str = "network 02:00:00:00:00:01 ssid 6c6162\n\
     air 5000000002aa00000001020000000001020000000001000000000000000000006400010000036c6162010882848b960c121824030106320130\n\
     end\n";
 
+const LAST_TWO_OF_4097: &str = "\
+    air 5000000002aa00000001020000000001020000000001f0ff\
+    00000000000000006400010000036c6162010482840b16030106\n\
+    air 5000000002aa000000010200000000010200000000010000\
+    00000000000000006400010000036c6162010482840b16030106\n\
+    end\n";
+
 /// A configuration with one network.
 fn config(
     alloc: Global,
@@ -77,6 +84,22 @@ fn probes_are_answered(rt: HostRuntime) -> Result<(), Fail> {
 }
 
 #[test]
+fn sequence_numbers_begin_again(rt: HostRuntime) -> Result<(), Fail> {
+    let alloc = rt.alloc();
+    let base = config(alloc, 6, "82840b16", 16, 5000)?;
+    let mut trace = String::new(alloc);
+    for _ in 0..4097 {
+        trace.push_str(PROBE)?;
+    }
+    let (answer, written) = run(alloc, base.as_str(), trace.as_str())?;
+    assert_eq!(rt; answer, Ok(()));
+    assert!(rt; written.as_slice().ends_with(LAST_TWO_OF_4097.as_bytes()));
+    let lines = written.iter().filter(|octet| **octet == b'\n').count();
+    assert_eq!(rt; lines, 4097 + 3);
+    Ok(())
+}
+
+#[test]
 fn faults_are_answered_and_nothing_is_written(rt: HostRuntime) -> Result<(), Fail> {
     let alloc = rt.alloc();
     let base = config(alloc, 6, "82840b16", 16, 100)?;
@@ -92,6 +115,10 @@ fn faults_are_answered_and_nothing_is_written(rt: HostRuntime) -> Result<(), Fai
         })
     };
     let of_line = |code: u8| TextFault::Trace(TraceFault { code, line: 1 });
+    let mut long = String::from_str(alloc, "A ")?;
+    for _ in 0..4097 {
+        long.push_str("00")?;
+    }
     for (config, trace, fault) in [
         ("version = ", PROBE, of_radio(1)),
         (unlisted.as_str(), PROBE, of_radio(3)),
@@ -100,6 +127,7 @@ fn faults_are_answered_and_nothing_is_written(rt: HostRuntime) -> Result<(), Fai
         (known.as_str(), PROBE, of_network(12)),
         (base.as_str(), "X\n", of_line(1)),
         (base.as_str(), "A 4\n", of_line(2)),
+        (base.as_str(), long.as_str(), of_line(5)),
         (channel.as_str(), "X\n", of_radio(4)),
     ] {
         let (answer, written) = run(alloc, config, trace)?;

@@ -1,6 +1,6 @@
 //! The networks of a configuration, one table each.
 
-ghost use Rattle.std.specs.Prelude.{◌≡◌, [], IfOk, option_map, option_copied};
+ghost use Rattle.std.specs.Prelude.{◌≡◌, nat_le, [], IfOk, option_map, option_copied};
 ghost use Rattle.toml.specs.View.{array_view, table_view, items_view};
 ghost use Rattle.apctl.specs.ConfigurationText.{Gives, bssid_at, ssid_at, rates_at, network_of, networks_of, networks_at, are_tables, tables_in};
 
@@ -73,7 +73,7 @@ fn read_network(
     let max_known = number_at(table, "max_known", 1, 10_000).ok_or(at_network(11, place))?;
     let quota = number_at(table, "quota", 0, 100_000).ok_or(at_network(11, place))?;
     let max_events = number_at(table, "max_events", 1, 1_000_000).ok_or(at_network(11, place))?;
-    if max_known < max_stations {
+    if !stations_fit(max_stations, max_known) {
         return Err(at_network(12, place));
     }
     Ok(NetConfig {
@@ -86,6 +86,13 @@ fn read_network(
         quota,
         max_events,
     })
+}
+
+/// Whether as many stations may be known as may be associated.
+fn stations_fit(max_stations: u32, max_known: u32) -> bool
+    ensures { result ≡ nat_le max_stations max_known }
+{
+    max_stations <= max_known
 }
 
 /// The address of a network: no group address, and no earlier network's.
@@ -128,7 +135,7 @@ fn rates_at(alloc: Global, table: &Table) -> Result<Option<Octets>, NoMemory>
         Err(_) => return Ok(None),
     };
     if rates_fit(&rates) {
-        Ok(Some(Octets::from_slice(alloc, &rates)?))
+        Ok(Some(Octets::from_vec(rates)))
     } else {
         Ok(None)
     }

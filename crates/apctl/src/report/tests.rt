@@ -109,6 +109,17 @@ fn stations_and_wired_frames(rt: HostRuntime) -> Result<(), Fail> {
 }
 
 #[test]
+fn two_sections_stand_in_order(rt: HostRuntime) -> Result<(), Fail> {
+    let alloc = rt.alloc();
+    let report = report_of(alloc, &[probed(alloc)?, idle(alloc)?])?;
+    let text = format!(in alloc;
+        "{PROBED}network 02:00:00:00:00:01 ssid 6c6162\nevents 0 clock 0 unread 0 lost 0 kept 0\nend\n"
+    )?;
+    assert_eq!(rt; report.as_slice(), text.as_bytes());
+    Ok(())
+}
+
+#[test]
 fn no_section_has_an_empty_report(rt: HostRuntime) -> Result<(), Fail> {
     assert!(rt; report_of(rt.alloc(), &[])?.is_empty());
     Ok(())

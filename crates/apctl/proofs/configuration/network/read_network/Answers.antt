@@ -1,7 +1,7 @@
-use Rattle.std.proofs.Common.{Some, sym, ap, ◌∙◌, le-leb}
+use Rattle.std.proofs.Common.{rules, Some, sym, ap, ◌∙◌}
 use Rattle.std.specs.Option.{option_copied}
 use Rattle.toml.specs.View.{table_view}
-use Rattle.apctl.proofs.ConfigurationReading.{network_of-read}
+use Rattle.apctl.proofs.ConfigurationReading.{network_of-read, network_of-unfit}
 use Rattle.apctl.proofs.configuration.network.read_network.Goals as goal
 
 pub returns : goal.returns
@@ -15,4 +15,18 @@ returns c =
     (sym c.number_at-3.ensures.value ∙ c.in_ok-max_known.ensures.ok_part)
     (sym c.number_at-4.ensures.value ∙ c.in_ok-quota.ensures.ok_part)
     (sym c.number_at-5.ensures.value ∙ c.in_ok-max_events.ensures.ok_part)
-    (le-leb _ _ c.if-max_known-max_stations.false)
+    (search rules)
+
+pub returns-then-not-stations_fit : goal.returns-then-not-stations_fit
+returns-then-not-stations_fit c =
+    rw c.at_network-then-not-stations_fit.ensures
+    (network_of-unfit c.args.earlier.now (table_view c.args.table.now) _ _ _ _ _ _ _ _
+    (sym c.bssid_at.ensures ∙ c.in_ok-bssid.ensures.ok_part)
+    (sym c.ssid_at.ensures ∙ ap option_copied c.in_ok-ssid.ensures.ok_part)
+    (sym c.in_ok-rates_at.ensures ∙ c.in_ok-rates.ensures.ok_part)
+    (sym c.number_at.ensures.value ∙ c.in_ok-dtim.ensures.ok_part)
+    (sym c.number_at-2.ensures.value ∙ c.in_ok-max_stations.ensures.ok_part)
+    (sym c.number_at-3.ensures.value ∙ c.in_ok-max_known.ensures.ok_part)
+    (sym c.number_at-4.ensures.value ∙ c.in_ok-quota.ensures.ok_part)
+    (sym c.number_at-5.ensures.value ∙ c.in_ok-max_events.ensures.ok_part)
+    (search rules))
