@@ -7,7 +7,7 @@ run: apctl
 	@build/apctl < examples/probe_is_answered/input
 
 # Proves every crate from nothing, tries each must-fail edit, runs each test and the program's stored run, and then
-# the program that was built of what it proved over the examples.
+# the program that was built of what it proved over the examples, and with one growth after another refused.
 test:
 	@.ci/gate
 
