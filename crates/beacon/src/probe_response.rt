@@ -43,10 +43,7 @@ pub fn write_probe_response(
     out.reserve(FIXED_LEN + advert.ssid.len() + advert.rates.len())?;
     write_mgmt(out, PROBE_RESPONSE, to, advert.bss, advert.seq)?;
     let written = append_body(out, advert);
-    if written.is_err() {
-        out.truncate(len);
-    }
-    written
+    out.roll_back(len, written)
 }
 
 /// Appends the body, field by field. After `NoMemory` some fields may stand behind what was there.

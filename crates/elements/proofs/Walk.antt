@@ -131,10 +131,3 @@ some_is (Some es) h = refl
 -- a body of elements is the list of its elements
 pub listed_is : (body : List ℕ) → is_some (elements_of body) ≡ true → elements_of body ≡ Some (listed body)
 listed_is body h = some_is (elements_of body) h
-
--- a body of elements, and what is then read
-pub is_some-elements : (body : List ℕ) (es : List Pair) → IsElements body es → is_some (elements_of body) ≡ true
-is_some-elements body es h = ap is_some (elements_of_elements body es h)
-
-pub same_listed : (body : List ℕ) (es : List Pair) → IsElements body es → listed body ≡ es
-same_listed body es h = ap (λ o. unwrap_or o []) (elements_of_elements body es h)

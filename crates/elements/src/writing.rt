@@ -13,11 +13,8 @@ pub fn write_element(out: &mut Octets, id: u8, body: &[u8]) -> Result<(), NoMemo
 {
     let len = out.as_slice().len();
     out.append(&[id, body.len() as u8])?;
-    let appended = out.append(body);
-    if appended.is_err() {
-        out.truncate(len);
-    }
-    appended
+    let written = out.append(body);
+    out.roll_back(len, written)
 }
 
 /// Appends the first eight rates in element 1, Supported Rates (9.4.2.3). After `NoMemory` `out` is as it was.
@@ -54,8 +51,5 @@ pub fn write_rates(out: &mut Octets, rates: &[u8]) -> Result<(), NoMemory>
     let len = out.as_slice().len();
     write_supported_rates(out, rates)?;
     let written = write_extended_rates(out, rates);
-    if written.is_err() {
-        out.truncate(len);
-    }
-    written
+    out.roll_back(len, written)
 }

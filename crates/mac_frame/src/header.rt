@@ -29,10 +29,7 @@ pub fn write_mgmt(
 {
     let len = out.as_slice().len();
     let written = append_header(out, subtype, to, bss, seq);
-    if written.is_err() {
-        out.truncate(len);
-    }
-    written
+    out.roll_back(len, written)
 }
 
 /// Appends the header, field by field. After `NoMemory` some fields may stand behind what was there.

@@ -35,7 +35,7 @@ impl Octets {
         Octets { octets }
     }
 
-    /// A copy of the octets.
+    /// A copy of the octets. `NoMemory` where the growth was refused.
     pub fn from_slice(alloc: Global, octets: &[u8]) -> Result<Octets, NoMemory>
         ensures { IfOk result (λ string. string ≡ octets.now) }
     {
@@ -44,7 +44,8 @@ impl Octets {
         })
     }
 
-    /// Makes room for so many octets more, so that a writer grows the string once. The string stays as it is.
+    /// Makes room for so many octets more, so that a writer grows the string once. `NoMemory` where the growth was
+    /// refused; the string is as it was either way.
     pub fn reserve(&mut self, count: usize) -> Result<(), NoMemory>
         ensures { self.new ≡ self.old }
     {
@@ -61,14 +62,26 @@ impl Octets {
         Ok(())
     }
 
-    /// Keeps the first `len` octets: a writer that meets want of memory takes back what it appended.
+    /// Keeps the first `len` octets: all of them where there are fewer.
     pub fn truncate(&mut self, len: usize)
         ensures { self.new ≡ take len self.old }
     {
         self.octets.truncate(len);
     }
 
-    /// A second string of the same octets.
+    /// What a writer answers that began at `len` octets: on `NoMemory` it takes back what it appended.
+    pub fn roll_back(&mut self, len: usize, written: Result<(), NoMemory>) -> Result<(), NoMemory>
+        ensures answer { result ≡ written }
+        ensures ok { OnOk result (self.new ≡ self.old) }
+        ensures err { OnErr result (self.new ≡ take len self.old) }
+    {
+        if written.is_err() {
+            self.truncate(len);
+        }
+        written
+    }
+
+    /// A second string of the same octets. `NoMemory` where the growth was refused.
     pub fn copy(&self, alloc: Global) -> Result<Octets, NoMemory>
         ensures { IfOk result (λ string. string ≡ self.now) }
     {
