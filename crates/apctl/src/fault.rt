@@ -10,36 +10,29 @@ use crate::sink::{Sink, write_all};
 use crate::trace::TraceFault;
 use bss_core::ConfigFault;
 use std::alloc::{AllocError, Global};
-use std::fmt;
+use thiserror::Error;
 
 /// A fault of the program. It is shown as its line, without the LF.
-#[derive(Debug, Drop)]
+#[derive(Debug, Drop, Error)]
 pub enum Fault {
     /// The first fault of the configuration.
+    #[error("fault {0}")]
     Config(ConfigFault),
     /// The first fault of the trace.
+    #[error("fault {0}")]
     Trace(TraceFault),
     /// The program was given words that it has no use for.
+    #[error("fault words")]
     Words,
     /// A growth was refused.
+    #[error("fault memory")]
     Memory,
     /// A file of this name, or standard input where it is `-`, can't be read.
+    #[error("fault file {0}")]
     File(String),
     /// Standard output can't be written.
+    #[error("fault output")]
     Output,
-}
-
-impl fmt::Display for Fault {
-    fn fmt<W: fmt::Write>(&self, f: &mut fmt::Formatter<W>) -> fmt::Result {
-        match self {
-            Fault::Config(fault) => write!(f, "fault {fault}"),
-            Fault::Trace(fault) => write!(f, "fault {fault}"),
-            Fault::Words => f.write_str("fault words"),
-            Fault::Memory => f.write_str("fault memory"),
-            Fault::File(name) => write!(f, "fault file {name}"),
-            Fault::Output => f.write_str("fault output"),
-        }
-    }
 }
 
 impl Fault {
