@@ -1,5 +1,5 @@
 -- Lists, tables and texts, as the readers of a configuration go over them.
-use Rattle.std.proofs.Common.{◌≡◌, ℕ, length, nat_le, codes, Ok, Err, Bool, true, false, List, [], ◌∷◌, map, Some, None, String, Global, string_bytes, refl, inl, inr, ◌∙◌, arith}
+use Rattle.std.proofs.Common.{◌≡◌, ℕ, length, nat_le, codes, Ok, Err, if◌then◌else◌, Bool, true, false, List, [], ◌∷◌, map, Some, None, String, Global, string_bytes, refl, inl, inr, ◌∙◌, arith}
 use Rattle.std.specs.List.{list_any, list_all}
 use Rattle.std.specs.Map.{keys_of}
 use Rattle.std.specs.Str.{bytes_eq, IsUtf8, is_utf8}
@@ -53,31 +53,22 @@ pub length_of_networks : (vs : List Value) → are_tables (items_view vs) ≡ tr
 length_of_networks vs only = length_of_tables (map view vs) only ∙ length-map vs view
 
 -- the network of a table, each key of which was read
-pub network_of-read : (earlier : List NetConfig) (ms : Members) (bssid ssid rates : List ℕ) (dtim max_stations max_known quota max_events : ℕ)
+-- where each value is read, the network is theirs, unless fewer may be known than associated
+pub network_of-read : (earlier : List NetConfig) (ms : Members) (bssid ssid rates : List ℕ) (dtim max_stations max_known quota max_events : ℕ) (enough : Bool)
     → bssid_at earlier ms ≡ Some bssid → ssid_at ms ≡ Some ssid → rates_at ms ≡ Some rates
     → number_at dtim_fits (codes "dtim") ms ≡ Some dtim
     → number_at max_stations_fits (codes "max_stations") ms ≡ Some max_stations
     → number_at max_known_fits (codes "max_known") ms ≡ Some max_known
     → number_at quota_fits (codes "quota") ms ≡ Some quota
     → number_at max_events_fits (codes "max_events") ms ≡ Some max_events
-    → nat_le max_stations max_known ≡ true
-    → network_of earlier ms ≡ Ok (record { bssid = bssid; ssid = ssid; rates = rates; dtim = dtim; max_stations = max_stations; max_known = max_known; quota = quota; max_events = max_events })
+    → nat_le max_stations max_known ≡ enough
+    → network_of earlier ms
+    ≡ (if enough then Ok (record { bssid = bssid; ssid = ssid; rates = rates; dtim = dtim; max_stations = max_stations; max_known = max_known; quota = quota; max_events = max_events }) else Err (fault_after earlier 12))
 unfolding network_of
-network_of-read earlier ms bssid ssid rates dtim max_stations max_known quota max_events b s r d stations known q events enough =
-    rw (b, s, r, d, stations, known, q, events, enough)
-
-pub network_of-unfit : (earlier : List NetConfig) (ms : Members) (bssid ssid rates : List ℕ) (dtim max_stations max_known quota max_events : ℕ)
-    → bssid_at earlier ms ≡ Some bssid → ssid_at ms ≡ Some ssid → rates_at ms ≡ Some rates
-    → number_at dtim_fits (codes "dtim") ms ≡ Some dtim
-    → number_at max_stations_fits (codes "max_stations") ms ≡ Some max_stations
-    → number_at max_known_fits (codes "max_known") ms ≡ Some max_known
-    → number_at quota_fits (codes "quota") ms ≡ Some quota
-    → number_at max_events_fits (codes "max_events") ms ≡ Some max_events
-    → nat_le max_stations max_known ≡ false
-    → network_of earlier ms ≡ Err (fault_after earlier 12)
-unfolding network_of
-network_of-unfit earlier ms bssid ssid rates dtim max_stations max_known quota max_events b s r d stations known q events few =
-    rw (b, s, r, d, stations, known, q, events, few)
+network_of-read earlier ms bssid ssid rates dtim max_stations max_known quota max_events true b s r d stations known q events fits =
+    rw (b, s, r, d, stations, known, q, events, fits)
+network_of-read earlier ms bssid ssid rates dtim max_stations max_known quota max_events false b s r d stations known q events fits =
+    rw (b, s, r, d, stations, known, q, events, fits)
 
 pub ruleset counts = (length_of_networks)
 

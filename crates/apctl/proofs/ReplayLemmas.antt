@@ -45,16 +45,6 @@ own_events-push n ls l =
     ap (take n.max_events) (heard-push n.bssid ls l)
     ∙ take-push n.max_events (heard n.bssid ls) (heard_of n.bssid l) (one_at_most n.bssid l)
 
--- a line that is not heard has no event, and one that is has its own
-pub taken_of-unheard : (n : NetConfig) (count : ℕ) (x : List ℕ) → is_heard n.bssid x ≡ false → taken_of n count (Air x) ≡ []
-taken_of-unheard n count x e = cases (ltb count n.max_events)
-  where
-    cases : (b : Bool) → cond b (cond (is_heard n.bssid x) (event.Air x ∷ []) []) [] ≡ []
-    cases true = rw e refl
-    cases false = refl
-
-pub taken_of-full : (n : NetConfig) (count : ℕ) (l : Line) → n.max_events ≤ count → taken_of n count l ≡ []
-taken_of-full n count l h = rw (le-ltb count n.max_events h) refl
-
+-- a line that is heard, where there is room, is its own event
 pub taken_of-heard : (n : NetConfig) (count : ℕ) (x : List ℕ) → is_heard n.bssid x ≡ true → count < n.max_events → taken_of n count (Air x) ≡ event.Air x ∷ []
 taken_of-heard n count x e h = rw (lt-ltb count n.max_events h, e) refl

@@ -1,17 +1,14 @@
 -- Texts that go to a writer piece by piece.
-use Rattle.std.proofs.Common.{◌≡◌, ℕ, ◌-◌, List, [], ◌++◌, Option, Ok, Err, Result, length, take, drop, refl, sym, ap, ◌∙◌, subst, append_assoc, append-nil, take-append-drop}
+use Rattle.std.proofs.Common.{◌≡◌, ℕ, ◌-◌, List, [], ◌++◌, Option, Ok, Err, Result, length, take, drop, sym, ap, ◌∙◌, subst, append_assoc, append-nil, take-append-drop}
 use Rattle.std.proofs.lemmas.List.{take_rest}
 use Rattle.std.proofs.lemmas.Result.{on_ok_weaker, on_err_weaker}
 use Rattle.std.proofs.lemmas.Bool.{false≢true}
 use Rattle.std.specs.Result.{IsErr, OnOk, OnErr}
-use Rattle.std.specs.Io.KnownBytes.{Appends, Keeps}
-use Rattle.std.proofs.KnownBytes.{Appends-nil, Appends-trans, Appends-kept}
+use Rattle.std.specs.Io.KnownBytes.{Appends}
+use Rattle.std.proofs.KnownBytes.{Appends-nil, Appends-trans}
 use Rattle.apctl.specs.Sinks.{AppendsPrefix, Delivers, Stops, Puts}
 
 -- ---- a text that is written from its front
-
-pub Delivers-none : (known : Option (List ℕ)) (text : List ℕ) → Delivers known [] known text text
-Delivers-none known text = record { written = []; in_order = refl; taken = Appends-nil known }
 
 -- a front of what was left was taken
 pub Delivers-front : {a b c : Option (List ℕ)} {rest text : List ℕ} (front back : List ℕ)
@@ -21,15 +18,6 @@ Delivers-front {rest} front back d split more = record {
   in_order = d.in_order ∙ ap (λ l. d.written ++ l) split ∙ sym (append_assoc d.written front back);
   taken = Appends-trans _ _ _ _ _ d.taken more;
 }
-
--- nothing is left
-pub Delivers-all : {a b : Option (List ℕ)} {rest text : List ℕ} → Delivers a [] b rest text → rest ≡ [] → Appends a b text
-Delivers-all {a} {b} d empty =
-    subst (Appends a b) (sym (d.in_order ∙ ap (λ l. d.written ++ l) empty ∙ append-nil d.written)) d.taken
-
--- it stopped
-pub Delivers-stopped : {a b c : Option (List ℕ)} {rest text : List ℕ} → Delivers a [] b rest text → Keeps b c → AppendsPrefix a c text
-Delivers-stopped {rest} d kept = record { written = d.written; rest = rest; in_order = d.in_order; taken = Appends-kept _ _ _ _ d.taken kept }
 
 -- a list is its front and its rest, as the code cuts it
 pub front_and_rest : (xs : List ℕ) (n : ℕ) → xs ≡ take n xs ++ take (length xs - n) (drop n xs)
@@ -72,10 +60,6 @@ Puts-then {r} d e = record { ok = on_ok_weaker r (Delivers-then d) e.ok; err = o
 pub Delivers-nothing : (known : Option (List ℕ)) (held : List ℕ) → Delivers known held known held []
 Delivers-nothing known held = record { written = []; in_order = append-nil held; taken = Appends-nil known }
 
--- the buffer was written, and is empty
-pub Delivers-flushed : {a b : Option (List ℕ)} {p q : List ℕ} → Appends a b p → q ≡ [] → Delivers a p b q []
-Delivers-flushed {p} more empty = record { written = p; in_order = ap (λ l. p ++ l) (sym empty); taken = more }
-
 -- the buffer took the text
 pub Delivers-grown : (known : Option (List ℕ)) {p q : List ℕ} (text : List ℕ) → q ≡ p ++ text → Delivers known p known q text
 Delivers-grown known text grown = record { written = []; in_order = sym grown; taken = Appends-nil known }
@@ -83,17 +67,6 @@ Delivers-grown known text grown = record { written = []; in_order = sym grown; t
 -- it stopped before the text was put
 pub Stops-early : {a b : Option (List ℕ)} {p q : List ℕ} (text : List ℕ) → Delivers a p b q [] → Stops a p b text
 Stops-early text d = Stops-before text (record { holds = _; front = d })
-
--- it stopped while the buffer was written
-pub Stops-in_buffer : {a b : Option (List ℕ)} {p : List ℕ} (text : List ℕ) → AppendsPrefix a b p → Stops a p b text
-Stops-in_buffer {p} text e = record {
-  holds = e.rest ++ text;
-  front = record {
-    written = e.written;
-    in_order = ap (λ l. l ++ text) e.in_order ∙ append_assoc e.written e.rest text;
-    taken = e.taken;
-  };
-}
 
 -- what a call that failed shows
 pub Puts-err : {E : Type 0} (r : Result Unit E) {a b : Option (List ℕ)} {p q t : List ℕ} → IsErr r → Stops a p b t → Puts r a p b q t

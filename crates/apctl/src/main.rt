@@ -63,7 +63,8 @@ fn has_words(rt: &HostRuntime) -> Result<bool, Fault> {
     }
 }
 
-/// All that a reader gives: standard input. It gives up after 4,294,967,295 reads.
+/// All that a reader gives: standard input. An interrupted read is tried again; it gives up after 4,294,967,295
+/// reads.
 fn read_input<R: Read>(alloc: Global, reader: &mut R) -> Result<Vec<u8>, Fault>
     ensures { IfOk result (λ input. IfSome (R.remaining reader.old) (λ octets. input.items ≡ octets)) }
 {
@@ -73,6 +74,7 @@ fn read_input<R: Read>(alloc: Global, reader: &mut R) -> Result<Vec<u8>, Fault>
         match reader.read(&mut piece) {
             Ok(0) => return Ok(input),
             Ok(count) => input.extend_from_slice(&piece[..count])?,
+            Err(error) if error.kind() == ErrorKind::Interrupted => {}
             Err(_) => return Err(unread_input(alloc)),
         }
     }

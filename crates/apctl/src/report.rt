@@ -59,7 +59,7 @@ impl From<AllocError> for ReportFault {
 /// How many octets are collected before they go to the sink, so that a device is not asked for each line.
 const PIECE: usize = 65536;
 
-/// How many octets become digits at a time, in an array, so that a frame takes no memory.
+/// How many octets become digits at a time, in an array, so that no `String` is made for a frame.
 const OCTETS_AT_A_TIME: usize = 32;
 
 /// Has the sink take the report of the sections, whole. Nothing is kept back.
@@ -102,7 +102,7 @@ fn put_section<W: Sink>(
     put(out, piece, b"end\n")
 }
 
-/// Puts the lines that say which network it is and how often what happened to it.
+/// Puts the lines of a network's name and of its counts.
 fn put_heading<W: Sink>(
     alloc: Global,
     out: &mut W,
@@ -120,7 +120,7 @@ fn put_heading<W: Sink>(
     put(out, piece, counts.as_bytes())
 }
 
-/// The line that says which network it is.
+/// The line of a network's address and name.
 #[tactic(auto, unfolding(crate::specs::Report::network_line))]
 fn network_line(alloc: Global, config: &NetConfig) -> Result<String, AllocError>
     ensures { IfOk result (λ line. string_bytes line ≡ network_line config.now) }
@@ -130,7 +130,7 @@ fn network_line(alloc: Global, config: &NetConfig) -> Result<String, AllocError>
     format!(in alloc; "network {bssid} ssid {ssid}\n")
 }
 
-/// The line that says how often what happened to a network that took so many events.
+/// The line of a network's counts, behind how many events it took.
 #[tactic(auto, unfolding(crate::specs::Report::counts_line))]
 fn counts_line(alloc: Global, events: usize, counts: &Counts) -> Result<String, AllocError>
     ensures { IfOk result (λ line. string_bytes line ≡ counts_line events counts.now) }

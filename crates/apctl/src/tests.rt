@@ -146,8 +146,8 @@ fn a_failing_output_keeps_what_it_took(rt: HostRuntime) -> Result<(), Fail> {
         let answer = run_text(alloc, base.as_bytes(), PROBE.as_bytes(), &mut out);
         assert_eq!(rt; answer, Err(TextFault::Write));
         assert_eq!(rt; out.failures, 1);
-        assert!(rt; room <= ANSWERED.len());
-        assert_eq!(rt; out.taken.as_slice(), &ANSWERED.as_bytes()[..room]);
+        assert_eq!(rt; out.taken.len(), room);
+        assert!(rt; ANSWERED.as_bytes().starts_with(out.taken.as_slice()));
     }
     Ok(())
 }

@@ -124,7 +124,8 @@ impl From<FromHexError> for LineFault {
 ///
 /// A text with a fault gives the first: a first word that isn't `A`, also an empty one (`L1`); an odd number of
 /// digits, or another character (`L2`); more than 4096 octets, or a line after the 1,000,000th (`L5`). Where one
-/// line has several, the line too many comes first, and then `L1`, `L2`, `L5`. Skipped lines count.
+/// line has several, the line too many comes first, and then `L1`, `L2`, `L5`. Skipped lines count. `config` names
+/// the networks that a line may name; today no line names one.
 pub fn read_trace(
     alloc: Global,
     config: &RadioConfig,

@@ -89,8 +89,8 @@ impl Model for Bss {
 }
 
 impl Bss {
-    /// A network that has taken no event. The channel, the interval and the configuration are those of a
-    /// [`crate::RadioConfig`] in which `check` finds no fault.
+    /// A network that has taken no event. The channel, the interval in time units and the configuration are those
+    /// of a [`crate::RadioConfig`] in which `check` finds no fault. It takes no memory today.
     pub fn new(
         alloc: Global,
         channel: u8,
@@ -141,6 +141,7 @@ impl Bss {
     pub fn table_len(&self) -> usize
         ensures { result ≡ length (table_of (network_of self.now)) }
     {
+        // No station is kept yet. Naming a field lets the proof see the invariant, which says that none is known.
         let _history = &self.history;
         0
     }
@@ -270,7 +271,7 @@ impl Bss {
         Ok(Reply::Frame(frame))
     }
 
-    /// Takes all out: the section of what it took, with the frames that left it, `air`.
+    /// The section of all that it took, with `air` as the frames that left it. It takes no memory today.
     pub fn into_section(self, air: List<Octets>) -> Result<Section, NoMemory>
         ensures { IfOk result (λ section. section ≡ record {
           config = self.setting.network;

@@ -1,4 +1,4 @@
-//! Configurations, and which of them are sound (*profile*).
+//! Configurations (*profile*).
 
 use mac_frame::{List, MacAddr, Octets};
 use std::fmt;

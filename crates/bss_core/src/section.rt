@@ -22,7 +22,7 @@ pub struct StationRow {
     pub kept: u32,
 }
 
-/// How often what happened to a network (*profile*).
+/// Counts of what happened to a network (*profile*).
 #[derive(Clone, Copy, Debug, PartialEq, Eq)]
 pub struct Counts {
     /// The events that it took.

@@ -1,6 +1,7 @@
 use Rattle.std.proofs.Common.{rules, ◌≡◌, ◌++◌, [], List, ℕ, take, sym, ap, ◌∙◌, append-nil}
-use Rattle.std.proofs.KnownBytes.{Consumes-nil, Consumes-trans, Consumes-whole}
+use Rattle.std.proofs.KnownBytes.{Consumes-nil, Consumes-trans, Consumes-kept, Consumes-whole}
 use Rattle.apctl.proofs.read_input.Goals as goal
+use Rattle.apctl.proofs.read_input.Goals.{in-Ok+in_ok-extend_from_slice-in-Ok, in-Err}
 
 pub loop-init : goal.loop-init
 loop-init g c = rw c.new-input.ensures.items (Consumes-nil (g.R.Read.remaining c.args.reader.now))
@@ -10,9 +11,14 @@ returns-in-Ok-eq0 g c =
     let held : List ℕ = c.loop.input.items in
     let none : take c.in-Ok-eq0.field-0 c.read.new.buf ≡ [] = ap (λ (n : ℕ). take n c.read.new.buf) c.in-Ok-eq0.field-0-test in
     let whole : held ≡ held ++ take c.in-Ok-eq0.field-0 c.read.new.buf = sym (ap (λ (t : List ℕ). held ++ t) none ∙ append-nil held) in
-    let read = Consumes-trans _ _ _ held _ c.loop.invariant c.in-Ok-eq0.ensures.bytes.0 in
-    Consumes-whole _ _ _ (λ (octets : List ℕ). held ≡ octets) read (c.in-Ok-eq0.ensures.bytes.1 c.in-Ok-eq0.field-0-test (search rules)) whole
+    let given = rw c.in-Ok-eq0.is at c.read.ensures.bytes in
+    let read = Consumes-trans _ _ _ held _ c.loop.invariant given.0 in
+    Consumes-whole _ _ _ (λ (octets : List ℕ). held ≡ octets) read (given.1 c.in-Ok-eq0.field-0-test (search rules)) whole
 
 pub loop-preserved : goal.loop-preserved
 loop-preserved g c =
-    rw c.in_ok-extend_from_slice-in-Ok.ensures.items (Consumes-trans _ _ _ c.loop.input.items _ c.loop.invariant c.in-Ok.ensures.bytes.0)
+    elim c.match-read.branch [
+      | in-Ok+in_ok-extend_from_slice-in-Ok w ↦
+          rw (w.input-is, w.in_ok-extend_from_slice-in-Ok.ensures.items) (Consumes-trans _ _ _ c.loop.input.items _ c.loop.invariant w.in-Ok.ensures.bytes.0)
+      | in-Err w ↦ rw w.input-is (Consumes-kept _ _ _ c.loop.input.items c.loop.invariant w.in-Err.ensures.bytes)
+    ]

@@ -1,12 +1,12 @@
-use Rattle.std.proofs.Common.{rules, Some, sym, ap, ◌∙◌}
+use Rattle.std.proofs.Common.{rules, true, false, Some, sym, ap, ◌∙◌}
 use Rattle.std.specs.Option.{option_copied}
 use Rattle.toml.specs.View.{table_view}
-use Rattle.apctl.proofs.ConfigurationReading.{network_of-read, network_of-unfit}
+use Rattle.apctl.proofs.ConfigurationReading.{network_of-read}
 use Rattle.apctl.proofs.configuration.network.read_network.Goals as goal
 
 pub returns : goal.returns
 returns c =
-    network_of-read c.args.earlier.now (table_view c.args.table.now) _ _ _ _ _ _ _ _
+    network_of-read c.args.earlier.now (table_view c.args.table.now) _ _ _ _ _ _ _ _ true
     (sym c.bssid_at.ensures ∙ c.in_ok-bssid.ensures.ok_part)
     (sym c.ssid_at.ensures ∙ ap option_copied c.in_ok-ssid.ensures.ok_part ∙ ap Some (sym c.in_ok-from_slice.ensures))
     (sym c.in_ok-rates_at.ensures ∙ c.in_ok-rates.ensures.ok_part)
@@ -20,7 +20,7 @@ returns c =
 pub returns-then-not-stations_fit : goal.returns-then-not-stations_fit
 returns-then-not-stations_fit c =
     rw c.at_network-then-not-stations_fit.ensures
-    (network_of-unfit c.args.earlier.now (table_view c.args.table.now) _ _ _ _ _ _ _ _
+    (network_of-read c.args.earlier.now (table_view c.args.table.now) _ _ _ _ _ _ _ _ false
     (sym c.bssid_at.ensures ∙ c.in_ok-bssid.ensures.ok_part)
     (sym c.ssid_at.ensures ∙ ap option_copied c.in_ok-ssid.ensures.ok_part)
     (sym c.in_ok-rates_at.ensures ∙ c.in_ok-rates.ensures.ok_part)
