@@ -8,7 +8,7 @@ use Rattle.toml.specs.declared.value.Value.{Value}
 use Rattle.toml.proofs.Views.{items_view-drop}
 use Rattle.bss_core.specs.declared.config.NetConfig.{NetConfig}
 use Rattle.bss_core.specs.declared.config.ConfigFault.{ConfigFault}
-use Rattle.apctl.specs.ConfigurationText.{◌>>=◌, tables_in, network_of, networks_of, Faults}
+use Rattle.apctl.specs.ConfigurationText.{◌>>=◌, tables_in, network_of_table, networks_of, Faults}
 use Rattle.apctl.specs.declared.configuration.fault.ConfigTextFault.{ConfigTextFault}
 use Rattle.apctl.specs.declared.configuration.fault.ConfigTextFault.TheVariants as outcome
 
@@ -54,14 +54,14 @@ module _ (vs : List Value) (i : ℕ) (v : Value) (within : i < length vs) (here 
 
   -- the table of a network
   pub so_far-network : (done : List NetConfig) (ms : Members) (network : NetConfig) → Some ms ≡ as_table (view v)
-      → network_of done ms ≡ Ok network
+      → network_of_table done ms ≡ Ok network
       → so_far done (items_view (drop i vs)) ≡ so_far (done ++ network ∷ []) (items_view (drop (i + 1) vs))
   unfolding so_far
   so_far-network done ms network is read = rw (from_here, tables_in-table _ _ ms (sym is), read) (moved done network _)
 
   -- a table with a fault
   pub so_far-fault : (done : List NetConfig) (ms : Members) (fault : ConfigTextFault) → Some ms ≡ as_table (view v)
-      → Faults fault (network_of done ms) → Faults fault (so_far done (items_view (drop i vs)))
+      → Faults fault (network_of_table done ms) → Faults fault (so_far done (items_view (drop i vs)))
   unfolding so_far
   so_far-fault done ms (outcome.At fault) is read = rw (from_here, tables_in-table _ _ ms (sym is), read) refl
   so_far-fault done ms outcome.NoMemory is read = tt

@@ -1,5 +1,5 @@
 -- Lists, tables and texts, as the readers of a configuration go over them.
-use Rattle.std.proofs.Common.{◌≡◌, ℕ, length, nat_le, codes, Ok, Err, if◌then◌else◌, Bool, true, false, List, [], ◌∷◌, map, Some, None, String, Global, string_bytes, refl, inl, inr, ◌∙◌, arith}
+use Rattle.std.proofs.Common.{◌≡◌, ℕ, length, nat_le, codes, Ok, Err, if◌then◌else◌, Bool, true, false, List, [], ◌∷◌, map, Option, Some, None, String, Global, string_bytes, refl, subst, inl, inr, ◌∙◌, arith}
 use Rattle.std.specs.List.{list_any, list_all}
 use Rattle.std.specs.Map.{keys_of}
 use Rattle.std.specs.Str.{bytes_eq, IsUtf8, is_utf8}
@@ -13,8 +13,8 @@ use Rattle.toml.specs.View.{view, items_of, items_view, members_view}
 use Rattle.toml.specs.declared.value.Value.{Value}
 use Rattle.toml.proofs.Views.{Entry, items_view-drop}
 use Rattle.bss_core.specs.declared.config.NetConfig.{NetConfig}
-use Rattle.bss_core.specs.Configuration.{dtim_fits, max_stations_fits, max_known_fits, quota_fits, max_events_fits}
-use Rattle.apctl.specs.ConfigurationText.{number_at, bssid_at, ssid_at, rates_at, has_only, are_tables, tables_in, fault_after, network_of, document_of}
+use Rattle.bss_core.specs.Configuration.{is_between, dtim_fits, max_stations_fits, max_known_fits, quota_fits, max_events_fits}
+use Rattle.apctl.specs.ConfigurationText.{number_at, bssid_at, ssid_at, rates_at, has_only, are_tables, tables_in, fault_after, network_of_table, document_of}
 
 -- a text that is no key of this name
 pub not_among : (key name : List ℕ) → (key ≡ name → ⊥) → bytes_eq key name ≡ false
@@ -52,9 +52,13 @@ length_of_tables (d ∷ ds) only = absurd (false≢true only)
 pub length_of_networks : (vs : List Value) → are_tables (items_view vs) ≡ true → length (tables_in (items_view vs)) ≡ length vs
 length_of_networks vs only = length_of_tables (map view vs) only ∙ length-map vs view
 
+-- the number at a key, by its greatest value
+pub number_at-most : (least most limit : ℕ) (key : List ℕ) (ms : Members) (n : Option ℕ) → most ≡ limit → number_at (is_between least most) key ms ≡ n → number_at (is_between least limit) key ms ≡ n
+number_at-most least most limit key ms n same read = subst (λ l. number_at (is_between least l) key ms ≡ n) same read
+
 -- the network of a table, each key of which was read
 -- where each value is read, the network is theirs, unless fewer may be known than associated
-pub network_of-read : (earlier : List NetConfig) (ms : Members) (bssid ssid rates : List ℕ) (dtim max_stations max_known quota max_events : ℕ) (enough : Bool)
+pub network_of_table-read : (earlier : List NetConfig) (ms : Members) (bssid ssid rates : List ℕ) (dtim max_stations max_known quota max_events : ℕ) (enough : Bool)
     → bssid_at earlier ms ≡ Some bssid → ssid_at ms ≡ Some ssid → rates_at ms ≡ Some rates
     → number_at dtim_fits (codes "dtim") ms ≡ Some dtim
     → number_at max_stations_fits (codes "max_stations") ms ≡ Some max_stations
@@ -62,12 +66,12 @@ pub network_of-read : (earlier : List NetConfig) (ms : Members) (bssid ssid rate
     → number_at quota_fits (codes "quota") ms ≡ Some quota
     → number_at max_events_fits (codes "max_events") ms ≡ Some max_events
     → nat_le max_stations max_known ≡ enough
-    → network_of earlier ms
+    → network_of_table earlier ms
     ≡ (if enough then Ok (record { bssid = bssid; ssid = ssid; rates = rates; dtim = dtim; max_stations = max_stations; max_known = max_known; quota = quota; max_events = max_events }) else Err (fault_after earlier 12))
-unfolding network_of
-network_of-read earlier ms bssid ssid rates dtim max_stations max_known quota max_events true b s r d stations known q events fits =
+unfolding network_of_table
+network_of_table-read earlier ms bssid ssid rates dtim max_stations max_known quota max_events true b s r d stations known q events fits =
     rw (b, s, r, d, stations, known, q, events, fits)
-network_of-read earlier ms bssid ssid rates dtim max_stations max_known quota max_events false b s r d stations known q events fits =
+network_of_table-read earlier ms bssid ssid rates dtim max_stations max_known quota max_events false b s r d stations known q events fits =
     rw (b, s, r, d, stations, known, q, events, fits)
 
 pub ruleset counts = (length_of_networks)

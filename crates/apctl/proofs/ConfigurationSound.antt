@@ -10,7 +10,7 @@ use Rattle.bss_core.specs.declared.config.NetConfig.{NetConfig}
 use Rattle.bss_core.specs.declared.config.RadioConfig.{RadioConfig}
 use Rattle.bss_core.specs.declared.config.ConfigFault.{ConfigFault}
 use Rattle.apctl.specs.declared.configuration.fault.ConfigTextFault.{ConfigTextFault}
-use Rattle.apctl.specs.ConfigurationText.{◌>>=◌, demand, passing, natural, octets_of, text_at, array_at, number_at, bssid_at, ssid_at, rates_at, network_of, networks_of, are_tables, tables_in, networks_at, is_listed, document_of, radio_of, configuration_of, Gives}
+use Rattle.apctl.specs.ConfigurationText.{◌>>=◌, demand, passing, natural, octets_of_digits, text_at, array_at, number_at, bssid_at, ssid_at, rates_at, network_of_table, networks_of, are_tables, tables_in, networks_at, is_listed, document_of, radio_of, configuration_of, Gives}
 
 -- ---- what holds of what was read
 
@@ -67,7 +67,7 @@ ssid_finds ms = passing_finds ssid_fits (text_at (codes "ssid") ms)
 
 rates_finds : (ms : Members) → Finds (rates_at ms) (λ rates. rates_fit rates ≡ true)
 unfolding rates_at
-rates_finds ms = passing_finds rates_fit (option_and_then octets_of (text_at (codes "rates") ms))
+rates_finds ms = passing_finds rates_fit (option_and_then octets_of_digits (text_at (codes "rates") ms))
 
 networks_finds : (top : Members) → Finds (networks_at top) (λ ds. (are_tables ds && count_fits (length (tables_in ds))) ≡ true)
 unfolding networks_at
@@ -83,8 +83,8 @@ sound_network earlier network b s r numbers enough =
     let (single, free) = or_parts (is_group network.bssid) (is_taken earlier network.bssid) (not-true _ b) in
     rw (free, single, s, r, numbers, le-ltb network.max_known network.max_stations (leb-true _ _ enough)) refl
 
-network_reads : (earlier : List NetConfig) (ms : Members) → Reads (network_of earlier ms) (λ network. fault_behind earlier network ≡ None)
-unfolding network_of
+network_reads : (earlier : List NetConfig) (ms : Members) → Reads (network_of_table earlier ms) (λ network. fault_behind earlier network ≡ None)
+unfolding network_of_table
 network_reads earlier ms =
     then_reads _ _ (found_reads _ (bssid_finds earlier ms)) λ bssid b.
     then_reads _ _ (found_reads _ (ssid_finds ms)) λ ssid s.

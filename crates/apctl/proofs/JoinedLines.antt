@@ -1,9 +1,11 @@
 -- The lines of a text, and its parts where its first line is known.
-use Rattle.std.proofs.Common.{◌≡◌, ℕ, ◌+◌, Bool, true, false, cond, eqb, List, [], ◌∷◌, ◌++◌, take, drop, not, ◌||◌, suc, refl, ap, ◌∙◌, append_assoc, arith}
+use Rattle.std.proofs.Common.{◌≡◌, ℕ, ◌+◌, Bool, true, false, cond, List, [], ◌∷◌, ◌++◌, take, drop, not, ◌||◌, suc, refl, ap, ◌∙◌, arith}
 use Rattle.std.proofs.Math.Numerals.{one-add}
-use Rattle.std.proofs.lemmas.List.Splits.{slice_split_none, slice_split_at, join_with_byte-slice_split}
-use Rattle.std.specs.List.{All, list_any, position_or_len, before_first, after_first, flat_map, join_with_byte}
-use Rattle.apctl.specs.Joined.{cut, ended, is_separator, joined_parts, parts_of}
+use Rattle.std.proofs.lemmas.List.Splits.{join_with_byte-slice_split}
+use Rattle.std.specs.List.{list_any, position_or_len, before_first, after_first, flat_map, join_with_byte}
+use Rattle.apctl.specs.Texts.{LacksLineFeed, cut, ended}
+use Rattle.apctl.specs.Joined.{is_separator, joined_parts, parts_of}
+use Rattle.apctl.proofs.TextLemmas.{cut-ended, cut-last}
 
 -- ---- what stands round the first element that passes a test
 
@@ -55,15 +57,11 @@ parts_at_other line rest lines e =
 
 -- ---- the parts of a text
 
--- line has no LF
-abbrev pub LacksLineFeed : List ℕ → Type 0
-LacksLineFeed line = All (λ octet. eqb octet 10 ≡ false) line
-
 -- a first line `---` with its LF ends the first part at once
 pub joined_parts-separator : (line rest : List ℕ) → LacksLineFeed line → is_separator line ≡ true → joined_parts (ended line ++ rest) ≡ ([], rest)
 unfolding joined_parts
 joined_parts-separator line rest lacks e =
-    ap (λ lines. parts_at (ended line ++ rest) lines) (ap cut (append_assoc line (10 ∷ []) rest) ∙ slice_split_at (λ octet. eqb octet 10) line 10 rest lacks refl)
+    ap (λ lines. parts_at (ended line ++ rest) lines) (cut-ended line rest lacks)
     ∙ parts_at_separator (ended line ++ rest) line (cut rest) e
     ∙ ap (λ after. ([], after)) (join_with_byte-slice_split 10 rest)
 
@@ -72,18 +70,18 @@ pub joined_parts-other : (line rest : List ℕ) → LacksLineFeed line → is_se
     → joined_parts (ended line ++ rest) ≡ (ended line ++ (joined_parts rest).0, (joined_parts rest).1)
 unfolding joined_parts
 joined_parts-other line rest lacks e =
-    ap (λ lines. parts_at (ended line ++ rest) lines) (ap cut (append_assoc line (10 ∷ []) rest) ∙ slice_split_at (λ octet. eqb octet 10) line 10 rest lacks refl)
+    ap (λ lines. parts_at (ended line ++ rest) lines) (cut-ended line rest lacks)
     ∙ parts_at_other line rest (cut rest) e
 
 -- a text that is `---`
 pub joined_parts-last_separator : (line : List ℕ) → LacksLineFeed line → is_separator line ≡ true → joined_parts line ≡ ([], [])
 unfolding joined_parts
 joined_parts-last_separator line lacks e =
-    ap (λ lines. parts_at line lines) (slice_split_none (λ octet. eqb octet 10) line lacks) ∙ parts_at_separator line line [] e
+    ap (λ lines. parts_at line lines) (cut-last line lacks) ∙ parts_at_separator line line [] e
 
 -- a text that is another line
 pub joined_parts-last_other : (line : List ℕ) → LacksLineFeed line → is_separator line ≡ false → joined_parts line ≡ (line, [])
 unfolding joined_parts
 joined_parts-last_other line lacks e =
-    ap (λ lines. parts_at line lines) (slice_split_none (λ octet. eqb octet 10) line lacks)
+    ap (λ lines. parts_at line lines) (cut-last line lacks)
     ∙ ap (λ b. cond (b || false) (parts_of (line ∷ [])) (line, [])) e

@@ -7,27 +7,24 @@ use Rattle.std.proofs.lemmas.List.Sums.{split_at_first, passes_at_first, fails_b
 use Rattle.std.proofs.lemmas.List.Splits.{join_with_byte-slice_split}
 use Rattle.std.proofs.lemmas.Slice.Eq.{bytes_eq-Decides}
 use Rattle.std.specs.List.{All, list_any, position_or_len, before_first, after_first, flat_map, join_with_byte, onto_first}
-use Rattle.apctl.specs.Joined.{IsJoined, cut, ended, is_separator, joined_parts, parts_of, separator}
+use Rattle.apctl.specs.Texts.{LacksLineFeed, cut, ended}
+use Rattle.apctl.specs.Joined.{IsJoined, is_separator, joined_parts, parts_of, separator}
 
 -- ---- the lines of a text
 
--- line has no LF
-abbrev NoLineFeed : List ℕ → Type 0
-NoLineFeed line = All (λ octet. octet ≢ 10) line
-
 -- an octet other than LF, put at the front of the first line
-onto_first_lacks : (octet : ℕ) (lines : List (List ℕ)) → octet ≢ 10 → All NoLineFeed lines → All NoLineFeed (onto_first octet lines)
-onto_first_lacks octet [] other lacks = All-cons NoLineFeed (octet ∷ []) [] (All-cons (λ x. x ≢ 10) octet [] other (All-nil (λ x. x ≢ 10))) (All-nil NoLineFeed)
+onto_first_lacks : (octet : ℕ) (lines : List (List ℕ)) → octet ≢ 10 → All LacksLineFeed lines → All LacksLineFeed (onto_first octet lines)
+onto_first_lacks octet [] other lacks = All-cons LacksLineFeed (octet ∷ []) [] (All-cons (λ x. x ≢ 10) octet [] other (All-nil (λ x. x ≢ 10))) (All-nil LacksLineFeed)
 onto_first_lacks octet (line ∷ lines) other lacks =
-    All-cons NoLineFeed (octet ∷ line) lines (All-cons (λ x. x ≢ 10) octet line other (All-head NoLineFeed line lines lacks)) (All-tail NoLineFeed line lines lacks)
+    All-cons LacksLineFeed (octet ∷ line) lines (All-cons (λ x. x ≢ 10) octet line other (All-head LacksLineFeed line lines lacks)) (All-tail LacksLineFeed line lines lacks)
 
 -- no line of a text has an LF in it
-lines_lack_line_feed : (text : List ℕ) → All NoLineFeed (cut text)
-lines_lack_line_feed [] = All-cons NoLineFeed [] [] (All-nil (λ x. x ≢ 10)) (All-nil NoLineFeed)
+lines_lack_line_feed : (text : List ℕ) → All LacksLineFeed (cut text)
+lines_lack_line_feed [] = All-cons LacksLineFeed [] [] (All-nil (λ x. x ≢ 10)) (All-nil LacksLineFeed)
 lines_lack_line_feed (octet ∷ text) = either (lines_lack_line_feed text) (eqb octet 10) refl
   where
-    either : All NoLineFeed (cut text) → (b : Bool) → eqb octet 10 ≡ b → All NoLineFeed (cond b ([] ∷ cut text) (onto_first octet (cut text)))
-    either rest true e = All-cons NoLineFeed [] (cut text) (All-nil (λ x. x ≢ 10)) rest
+    either : All LacksLineFeed (cut text) → (b : Bool) → eqb octet 10 ≡ b → All LacksLineFeed (cond b ([] ∷ cut text) (onto_first octet (cut text)))
+    either rest true e = All-cons LacksLineFeed [] (cut text) (All-nil (λ x. x ≢ 10)) rest
     either rest false e = onto_first_lacks octet (cut text) (grind arith) rest
 
 -- a line in front of others
@@ -55,12 +52,12 @@ lacks_separator lines none k d within same =
 -- ---- with one
 
 -- the lines before the first `---` are other ones
-others_before : (lines : List (List ℕ)) → All NoLineFeed lines → All (λ line. NoLineFeed line × (line ≢ separator)) (before_first is_separator lines)
+others_before : (lines : List (List ℕ)) → All LacksLineFeed lines → All (λ line. LacksLineFeed line × (line ≢ separator)) (before_first is_separator lines)
 others_before lines lacks k d within =
     let before : k < position_or_len is_separator lines = grind (arith, common_steps) in
     let other : is_separator (get_or lines k d) ≡ false = fails_before_first is_separator lines k d before in
     let line_is : get_or (before_first is_separator lines) k d ≡ get_or lines k d = get_or-take (position_or_len is_separator lines) lines k d before in (
-      All-take NoLineFeed (position_or_len is_separator lines) lines lacks k d within,
+      All-take LacksLineFeed (position_or_len is_separator lines) lines lacks k d within,
       λ same. let is : is_separator (get_or lines k d) ≡ true = is_separator_is (get_or lines k d) (sym line_is ∙ same) in cc,
     )
 
@@ -82,7 +79,7 @@ behind : (text before : List ℕ) (after : List (List ℕ)) → text ≡ before 
 behind text before [] is = inr (is, refl)
 behind text before (line ∷ after) is = inl (is ∙ sym (append_assoc before separator (10 ∷ join_with_byte 10 (line ∷ after))))
 
-joined_at_separator : (text : List ℕ) (lines : List (List ℕ)) → text ≡ join_with_byte 10 lines → All NoLineFeed lines → list_any is_separator lines ≡ true
+joined_at_separator : (text : List ℕ) (lines : List (List ℕ)) → text ≡ join_with_byte 10 lines → All LacksLineFeed lines → list_any is_separator lines ≡ true
     → IsJoined text (parts_of lines).0 (parts_of lines).1
 unfolding IsJoined
 joined_at_separator text lines text_is lacks some =

@@ -1,15 +1,13 @@
 -- The parts of a text, where the lines before a place are known to be other ones than `---`.
-use Rattle.std.proofs.Common.{◌≡◌, subst, ℕ, ◌<◌, ◌≤◌, ◌+◌, ◌-◌, Bool, true, false, eqb, Some, None, List, [], ◌∷◌, ◌++◌, length, get_or, take, drop, ap, sym, ◌∙◌, append_assoc, append-nil, take_at, get_or-take, take-append-drop, length-take, length-drop, length-append, arith}
-use borrow.Author.Tests.{eqb-true}
-use Rattle.std.proofs.lemmas.Grind.{common_steps}
-use Rattle.std.proofs.lemmas.List.{drop_more, drop-drop, take_rest}
-use Rattle.std.proofs.lemmas.List.Elements.{All-from_get_or}
+use Rattle.std.proofs.Common.{◌≡◌, subst, ℕ, ◌<◌, ◌≤◌, ◌+◌, ◌-◌, true, false, Some, None, List, [], ◌∷◌, ◌++◌, length, take, drop, ap, sym, ◌∙◌, append_assoc, append-nil, take_at, take-append-drop, length-take, length-drop, length-append, arith}
+use Rattle.std.proofs.lemmas.List.{drop-drop, take_rest}
 use Rattle.std.proofs.lemmas.List.Quantifiers.{position-Some}
-use Rattle.std.proofs.lemmas.List.Sums.{fails_before_first}
 use Rattle.std.specs.List.{position}
-use Rattle.apctl.specs.Joined.{IsJoined, ended, is_separator, joined_parts}
+use Rattle.apctl.specs.Texts.{is_line_feed, LacksLineFeed, ended}
+use Rattle.apctl.specs.Joined.{IsJoined, is_separator, joined_parts}
 use Rattle.apctl.proofs.JoinedParts.{IsJoined-joined_parts}
-use Rattle.apctl.proofs.JoinedLines.{LacksLineFeed, joined_parts-separator, joined_parts-other, joined_parts-last_separator, joined_parts-last_other}
+use Rattle.apctl.proofs.TextLemmas.{around_line_feed, front_lacks, lacks_from_none}
+use Rattle.apctl.proofs.JoinedLines.{joined_parts-separator, joined_parts-other, joined_parts-last_separator, joined_parts-last_other}
 
 -- The octets before start are other lines than `---`: they go in front of the first part of the rest.
 pub record AreOthersTo (text : List ℕ) (start : ℕ) : Type 0 where
@@ -27,27 +25,11 @@ rest_at text start = take (length text - start) (drop start text)
 abbrev pub line_at : List ℕ → ℕ → ℕ → List ℕ
 line_at text start len = take (start + len - start) (drop start text)
 
--- whether the octet is LF
-abbrev pub is_line_feed : ℕ → Bool
-is_line_feed octet = eqb octet 10
-
--- a text is the octets before an LF, that LF, and those behind it
-around_line_feed : (text : List ℕ) (n : ℕ) → n < length text → is_line_feed (get_or text n 0) ≡ true → text ≡ ended (take n text) ++ drop (n + 1) text
-around_line_feed text n within is =
-    sym (take-append-drop n text)
-    ∙ ap (λ y. take n text ++ y) (drop_more text n 0 within ∙ ap (λ y. y ∷ drop (n + 1) text) (eqb-true (get_or text n 0) 10 is))
-    ∙ sym (append_assoc (take n text) (10 ∷ []) (drop (n + 1) text))
-
 line_at-take : (text : List ℕ) (start len : ℕ) → line_at text start len ≡ take len (drop start text)
 line_at-take text start len = let same : start + len - start ≡ len = omega arith in ap (λ n. take n (drop start text)) same
 
 behind_place : (text : List ℕ) (start len : ℕ) → drop (len + 1) (drop start text) ≡ drop (start + len + 1) text
 behind_place text start len = let same : start + (len + 1) ≡ start + len + 1 = omega arith in drop-drop (len + 1) start text ∙ ap (λ n. drop n text) same
-
--- no LF stands before the first one
-front_lacks : (text : List ℕ) (n : ℕ) → ((k : ℕ) → k < n → is_line_feed (get_or text k 0) ≡ false) → LacksLineFeed (take n text)
-front_lacks text n before = All-from_get_or (λ octet. is_line_feed octet ≡ false) (take n text) 0
-    (λ k small. let below : k < n = omega (arith, length-take n text) in ap is_line_feed (get_or-take n text k 0 below) ∙ before k below)
 
 -- the octets to behind a line are those before it, and the line with its LF
 front_is : (text : List ℕ) (start len : ℕ) → start + len < length text → drop start text ≡ ended (line_at text start len) ++ drop (start + len + 1) text
@@ -85,10 +67,6 @@ line_is text start len below found =
     ∙ ap (λ line. ended line ++ drop (len + 1) (drop start text)) (sym line_same)
     ∙ ap (λ y. ended (line_at text start len) ++ y) (behind_place text start len) in
     record { within = within; lacks = lacks; rest = rest; front = front_is text start len within rest }
-
--- where a text has no LF, it is one line
-lacks_from_none : (text : List ℕ) → position is_line_feed text ≡ None → LacksLineFeed text
-lacks_from_none text none k d within = fails_before_first is_line_feed text k d (grind (arith, common_steps))
 
 -- ---- a step, and each end
 

@@ -2,6 +2,7 @@ pub mod ConfigurationNetworks
 pub mod ConfigurationReading
 pub mod ConfigurationRows
 pub mod ConfigurationSound
+pub mod TextLemmas
 pub mod TraceRows
 pub mod TraceSteps
 pub mod ReportItems

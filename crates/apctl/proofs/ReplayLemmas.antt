@@ -1,7 +1,7 @@
 -- The events of a network, line by line.
-use Rattle.std.proofs.Common.{◌≡◌, ℕ, ◌<◌, ◌≤◌, Bool, true, false, cond, ltb, List, [], ◌∷◌, ◌++◌, length, take, refl, sym, ap, ◌∙◌, append_assoc, append-nil, arith, inl, inr}
+use Rattle.std.proofs.Common.{◌≡◌, ℕ, ◌<◌, ◌≤◌, Bool, true, false, cond, ltb, List, [], ◌∷◌, ◌++◌, length, take, refl, sym, ap, ◌∙◌, append-nil, arith, inl, inr}
 use Rattle.std.proofs.lemmas.Bool.{cases_lt, lt-ltb, le-ltb}
-use Rattle.std.proofs.lemmas.List.{length-append, length-take-le, take_all, take-append-le}
+use Rattle.std.proofs.lemmas.List.{length-append, length-take-le, take_all, take-append-le, flat_map_more}
 use Rattle.bss_core.specs.Hearing.{is_heard}
 use Rattle.bss_core.specs.declared.config.NetConfig.{NetConfig}
 use Rattle.bss_core.specs.declared.event.Event.{Event}
@@ -9,10 +9,6 @@ use Rattle.bss_core.specs.declared.event.Event.TheVariants as event
 use Rattle.apctl.specs.Replay.{heard_of, heard, own_events, taken_of}
 use Rattle.apctl.specs.declared.trace.Line.{Line}
 use Rattle.apctl.specs.declared.trace.Line.TheVariants.{Air}
-
-heard-push : (bss : List ℕ) (ls : List Line) (l : Line) → heard bss (ls ++ l ∷ []) ≡ heard bss ls ++ heard_of bss l
-heard-push bss [] l = append-nil (heard_of bss l)
-heard-push bss (x ∷ ls) l = ap (λ (es : List Event). heard_of bss x ++ es) (heard-push bss ls l) ∙ sym (append_assoc (heard_of bss x) (heard bss ls) (heard_of bss l))
 
 -- a line has one event at most
 cond_length : (b : Bool) (e : Event) → length (cond b (e ∷ []) []) ≤ 1
@@ -42,7 +38,7 @@ own_events-none n = take_all n.max_events [] (omega arith)
 -- the events of one more line
 pub own_events-push : (n : NetConfig) (ls : List Line) (l : Line) → own_events n (ls ++ l ∷ []) ≡ own_events n ls ++ taken_of n (length (own_events n ls)) l
 own_events-push n ls l =
-    ap (take n.max_events) (heard-push n.bssid ls l)
+    ap (take n.max_events) (sym (flat_map_more (heard_of n.bssid) [] ls l))
     ∙ take-push n.max_events (heard n.bssid ls) (heard_of n.bssid l) (one_at_most n.bssid l)
 
 -- a line that is heard, where there is room, is its own event

@@ -77,6 +77,13 @@ Puts-err (Err x) bad e = record { ok = tt; err = e }
 pub Stops-at_once : (known : Option (List ℕ)) (held text : List ℕ) → Stops known held known text
 Stops-at_once known held text = Stops-early text (Delivers-nothing known held)
 
+-- it stopped while what it held was written
+pub Stops-written : {a b : Option (List ℕ)} {p : List ℕ} → AppendsPrefix a b p → Stops a p b []
+Stops-written {p = p} h = record {
+  holds = h.rest;
+  front = record { written = h.written; in_order = append-nil p ∙ h.in_order; taken = h.taken };
+}
+
 -- ---- the whole way, from an empty buffer to an empty one
 
 pub Appends-delivered : {a b : Option (List ℕ)} {p q t : List ℕ} → Delivers a p b q t → p ≡ [] → q ≡ [] → Appends a b t

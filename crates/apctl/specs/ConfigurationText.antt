@@ -89,15 +89,15 @@ unfoldable pub ssid_at : Members → Option (List ℕ)
 ssid_at ms = option_and_then (passing ssid_fits) (text_at (codes "ssid") ms)
 
 -- the octets that hexadecimal digits spell
-abbrev pub octets_of : List ℕ → Option (List ℕ)
-octets_of digits = result_ok (decode_of digits)
+abbrev pub octets_of_digits : List ℕ → Option (List ℕ)
+octets_of_digits digits = result_ok (decode_of digits)
 
 unfoldable pub rates_at : Members → Option (List ℕ)
-rates_at ms = option_and_then (passing rates_fit) (option_and_then octets_of (text_at (codes "rates") ms))
+rates_at ms = option_and_then (passing rates_fit) (option_and_then octets_of_digits (text_at (codes "rates") ms))
 
 -- the network of a table behind earlier networks
-unfoldable pub network_of : List NetConfig → Members → Result NetConfig ConfigFault
-network_of earlier ms = do
+unfoldable pub network_of_table : List NetConfig → Members → Result NetConfig ConfigFault
+network_of_table earlier ms = do
   bssid ← ok_or (bssid_at earlier ms) (fault_after earlier 8)
   ssid ← ok_or (ssid_at ms) (fault_after earlier 9)
   rates ← ok_or (rates_at ms) (fault_after earlier 10)
@@ -113,7 +113,7 @@ network_of earlier ms = do
 abbrev pub networks_of : List NetConfig → List Members → Result (List NetConfig) ConfigFault
 networks_of earlier [] = Ok []
 networks_of earlier (ms ∷ rest) = do
-  network ← network_of earlier ms
+  network ← network_of_table earlier ms
   networks ← networks_of (earlier ++ network ∷ []) rest
   Ok (network ∷ networks)
 

@@ -1,7 +1,8 @@
 -- The two parts of a text, before and after its first line that is exactly `---` (profile).
-use Rattle.std.specs.Prelude.{◌≡◌, ◌≢◌, ℕ, ◌==◌, Bool, if◌then◌else◌, codes, List, [], ◌∷◌, ◌++◌, All, ◌⊎◌}
-use Rattle.std.specs.List.{slice_split, list_any, before_first, after_first, flat_map, join_with_byte}
+use Rattle.std.specs.Prelude.{◌≡◌, ◌≢◌, ℕ, Bool, if◌then◌else◌, codes, List, [], ◌∷◌, ◌++◌, All, ◌⊎◌}
+use Rattle.std.specs.List.{list_any, before_first, after_first, flat_map, join_with_byte}
 use Rattle.std.specs.Str.{bytes_eq}
+use Rattle.apctl.specs.Texts.{LacksLineFeed, cut, ended}
 
 -- the line between the parts
 abbrev pub separator : List ℕ
@@ -9,14 +10,6 @@ separator = codes "---"
 
 abbrev pub is_separator : List ℕ → Bool
 is_separator line = bytes_eq line separator
-
--- the lines of a text, cut at each LF: what follows the last LF is the last line, also where it is empty
-abbrev pub cut : List ℕ → List (List ℕ)
-cut text = slice_split (λ octet. octet == 10) text
-
--- a line and the LF that ends it
-abbrev pub ended : List ℕ → List ℕ
-ended line = line ++ 10 ∷ []
 
 -- the lines before the first that is `---`, each ended by LF again, and those behind it, joined with LF again
 abbrev pub parts_of : List (List ℕ) → List ℕ × List ℕ
@@ -29,7 +22,7 @@ joined_parts text = if list_any is_separator (cut text) then parts_of (cut text)
 -- whole lines, each ended by LF, of which none is `---`
 abbrev pub AreOtherLines : List ℕ → Type 0
 AreOtherLines octets =
-    (lines : List (List ℕ)) × (octets ≡ flat_map ended lines) × All (λ line. All (λ octet. octet ≢ 10) line × (line ≢ separator)) lines
+    (lines : List (List ℕ)) × (octets ≡ flat_map ended lines) × All (λ line. LacksLineFeed line × (line ≢ separator)) lines
 
 -- no line of the text is `---`
 abbrev pub LacksSeparator : List ℕ → Type 0

@@ -1,5 +1,5 @@
 -- What a trace makes of the networks of a configuration: each network takes what it hears, alone.
-use Rattle.std.specs.Prelude.{ℕ, List, [], ◌∷◌, ◌++◌, take, map, nat_lt, if◌then◌else◌}
+use Rattle.std.specs.Prelude.{ℕ, List, [], ◌∷◌, take, map, flat_map, nat_lt, if◌then◌else◌}
 use Rattle.bss_core.specs.Hearing.{is_heard}
 use Rattle.bss_core.specs.Network.{Setting}
 use Rattle.bss_core.specs.Section.{section_of}
@@ -17,8 +17,7 @@ heard_of bss (line.Air x) = if is_heard bss x then event.Air x ∷ [] else []
 
 -- the events of the lines that a network hears, in their order
 abbrev pub heard : List ℕ → List Line → List Event
-heard bss [] = []
-heard bss (line ∷ lines) = heard_of bss line ++ heard bss lines
+heard bss lines = flat_map (heard_of bss) lines
 
 -- the events that a network takes: the first of those that it hears, as many as its history may have
 abbrev pub own_events : NetConfig → List Line → List Event

@@ -1,5 +1,5 @@
 -- The text of a report (profile).
-use Rattle.std.specs.Prelude.{ℕ, Bool, if◌then◌else◌, List, [], ◌∷◌, ◌++◌, length, codes, decimal, flat_map, Result, Ok, Err}
+use Rattle.std.specs.Prelude.{ℕ, Bool, if◌then◌else◌, List, [], ◌++◌, length, codes, decimal, flat_map, Result, Ok, Err}
 use Rattle.hex.specs.Hex.{encode_lower}
 use Rattle.mac_frame.specs.Address.{address_text}
 use Rattle.station_state.specs.declared.Standing.{Standing}
@@ -8,21 +8,18 @@ use Rattle.bss_core.specs.declared.config.NetConfig.{NetConfig}
 use Rattle.bss_core.specs.declared.section.Counts.{Counts}
 use Rattle.bss_core.specs.declared.section.Section.{Section}
 use Rattle.bss_core.specs.declared.section.StationRow.{StationRow}
+use Rattle.apctl.specs.Texts.{ended}
 use Rattle.apctl.specs.declared.report.ReportFault.{ReportFault}
 use Rattle.apctl.specs.declared.report.ReportFault.TheVariants.{Write, NoMemory}
 
--- a line ends with LF
-abbrev pub line : List ℕ → List ℕ
-line text = text ++ 10 ∷ []
-
 -- which network it is: its address, and its name as octets
 unfoldable pub network_line : NetConfig → List ℕ
-network_line config = line (codes "network " ++ address_text config.bssid ++ codes " ssid " ++ encode_lower config.ssid)
+network_line config = ended (codes "network " ++ address_text config.bssid ++ codes " ssid " ++ encode_lower config.ssid)
 
 -- how many events its history has, and what it counted
 unfoldable pub counts_line : ℕ → Counts → List ℕ
 counts_line events counts =
-    line
+    ended
     (codes "events " ++ decimal events ++ codes " clock " ++ decimal counts.clock ++ codes " unread " ++ decimal counts.unread
     ++ codes " lost "
     ++ decimal counts.lost
@@ -36,9 +33,9 @@ mode_text doze = if doze then codes "doze" else codes "active"
 -- how far a station has come; one that is not known has no line
 abbrev pub standing_line : Standing → StationRow → List ℕ
 standing_line Unknown row = []
-standing_line Authenticated row = line (codes "station " ++ address_text row.addr ++ codes " authenticated")
+standing_line Authenticated row = ended (codes "station " ++ address_text row.addr ++ codes " authenticated")
 standing_line Associated row =
-    line
+    ended
     (codes "station " ++ address_text row.addr ++ codes " associated aid " ++ decimal row.aid ++ codes " listen " ++ decimal row.listen
     ++ codes " "
     ++ mode_text row.doze
@@ -50,7 +47,7 @@ station_line row = standing_line row.standing row
 
 -- a frame behind a word that says where it was sent
 unfoldable pub frame_line : List ℕ → List ℕ → List ℕ
-frame_line word frame = line (word ++ encode_lower frame)
+frame_line word frame = ended (word ++ encode_lower frame)
 
 -- what a network did: its stations, then the frames that it sent on the air, then those on the wire
 unfoldable pub section_text : Section → List ℕ
@@ -58,7 +55,7 @@ section_text section =
     network_line section.config ++ counts_line (length section.events) section.counts ++ flat_map station_line section.table
     ++ flat_map (frame_line (codes "air ")) section.air
     ++ flat_map (frame_line (codes "wire ")) section.wire
-    ++ line (codes "end")
+    ++ ended (codes "end")
 
 -- the sections, one after the other
 abbrev pub report_text : List Section → List ℕ

@@ -2,11 +2,11 @@
 use Rattle.std.specs.Prelude.{ℕ, ◌+◌, ◌-◌, ◌≡◌, Bool, true, not, nat_lt, ◌==◌, List, [], ◌∷◌, ◌++◌, length, take, filter, codes, Option, Some, None, Result, Ok, Err, if◌then◌else◌}
 use Rattle.std.specs.List.{suffix_len, before_first, after_first}
 use Rattle.std.specs.Option.{option_to_list}
+use Rattle.std.specs.Str.{bytes_eq}
 use Rattle.std.specs.Str.Lines.{lines}
 use Rattle.hex.specs.Hex.{decode_of}
 use Rattle.hex.specs.declared.error.FromHexError.{FromHexError}
 use Rattle.hex.specs.declared.error.FromHexError.TheVariants.{OutOfMemory}
-use Rattle.mac_frame.specs.Address.{same_octets}
 use Rattle.bss_core.specs.declared.config.RadioConfig.{RadioConfig}
 use Rattle.apctl.specs.declared.trace.Line.{Line}
 use Rattle.apctl.specs.declared.trace.Line.TheVariants.{Air}
@@ -18,11 +18,11 @@ use Rattle.apctl.specs.declared.trace.LineFault.TheVariants as line
 
 -- ---- the limits
 
-abbrev pub most_lines : ℕ
-most_lines = 1000000
+abbrev pub max_lines : ℕ
+max_lines = 1000000
 
-abbrev pub most_octets : ℕ
-most_octets = 4096
+abbrev pub max_octets : ℕ
+max_octets = 4096
 
 -- ---- the faults by their codes, as a user meets them
 
@@ -65,7 +65,7 @@ digits_of text = filter (λ character. not (is_space character)) text
 
 -- what the digits spell, where they spell octets, and not too many
 abbrev pub within_limit : Result (List ℕ) FromHexError → Result (List ℕ) ℕ
-within_limit (Ok octets) = if nat_lt most_octets (length octets) then Err too_many else Ok octets
+within_limit (Ok octets) = if nat_lt max_octets (length octets) then Err too_many else Ok octets
 within_limit (Err e) = Err not_hexadecimal
 
 -- the octets that a text spells in hexadecimal digits of either case, with spaces among them; or its first fault
@@ -74,16 +74,16 @@ octets_of text = within_limit (decode_of (digits_of text))
 
 -- ---- what a line says
 
-abbrev pub heard : Result (List ℕ) ℕ → Result (Option Line) ℕ
-heard (Ok octets) = Ok (Some (Air octets))
-heard (Err code) = Err code
+abbrev pub air_line : Result (List ℕ) ℕ → Result (Option Line) ℕ
+air_line (Ok octets) = Ok (Some (Air octets))
+air_line (Err code) = Err code
 
 -- what a line less the spaces at its end says, nothing where it is skipped; or its first fault
 abbrev pub content_of : List ℕ → Result (Option Line) ℕ
 content_of line =
     if is_skipped line then Ok None
-    else if not (same_octets (first_word line) (codes "A")) then Err unknown_kind
-    else heard (octets_of (behind_first_word line))
+    else if not (bytes_eq (first_word line) (codes "A")) then Err unknown_kind
+    else air_line (octets_of (behind_first_word line))
 
 -- ---- what a text says
 
@@ -95,7 +95,7 @@ at_line number (Err code) = Err (record { code = code; line = number })
 -- what the line with a number says, or its first fault
 abbrev pub line_of : ℕ → List ℕ → Result (Option Line) TraceFault
 line_of number line =
-    at_line number (if nat_lt most_lines number then Err too_many else content_of (without_spaces_at_end line))
+    at_line number (if nat_lt max_lines number then Err too_many else content_of (without_spaces_at_end line))
 
 infixl 10 ◌>>=◌
 abbrev pub ◌>>=◌ : {A B : Type 0} → Result A TraceFault → (A → Result B TraceFault) → Result B TraceFault

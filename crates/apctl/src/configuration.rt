@@ -3,7 +3,7 @@
 //! [`read_config`] promises the configuration of a text, or its first fault in the order C1 to C12. `values` reads
 //! the value at one key, and `network` the table of one network.
 
-ghost use Rattle.std.specs.Prelude.{◌≡◌, Ok, None, IfOk, MatchResult, []};
+ghost use Rattle.std.specs.Prelude.{◌≡◌, Ok, None, IfOk, MatchResult};
 ghost use Rattle.std.specs.Option.{ok_or};
 ghost use Rattle.bss_core.specs.Configuration.{fault_of, of_radio};
 ghost use Rattle.toml.specs.View.{table_view};
@@ -16,7 +16,7 @@ mod network;
 mod tests;
 mod values;
 
-use bss_core::RadioConfig;
+use bss_core::{MAX_CHANNEL, MAX_QUEUE, RadioConfig};
 pub use fault::ConfigTextFault;
 use fault::at_radio;
 use keys::is_listed;
@@ -62,9 +62,9 @@ fn read_radio(alloc: Global, top: &Table) -> Result<RadioConfig, ConfigTextFault
     if !is_listed(top) {
         return Err(at_radio(3));
     }
-    let channel = number_at(top, "channel", 1, 14).ok_or(at_radio(4))?;
-    let interval = number_at(top, "interval", 1, 65_535).ok_or(at_radio(5))?;
-    let queue = number_at(top, "queue", 1, 4096).ok_or(at_radio(6))?;
+    let channel = number_at(top, "channel", 1, u32::from(MAX_CHANNEL)).ok_or(at_radio(4))?;
+    let interval = number_at(top, "interval", 1, u32::from(u16::MAX)).ok_or(at_radio(5))?;
+    let queue = number_at(top, "queue", 1, u32::from(MAX_QUEUE)).ok_or(at_radio(6))?;
     let values = networks_at(top).ok_or(at_radio(7))?;
     let networks = read_networks(alloc, values)?;
     Ok(RadioConfig {

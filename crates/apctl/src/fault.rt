@@ -1,8 +1,9 @@
 //! What can go wrong, as a user meets it (*profile*): one line on standard error and an exit status.
 
 ghost use Rattle.std.specs.Prelude.{◌≡◌, ◌+◌, ◌^◌, ◌<◌, IfOk};
-ghost use Rattle.apctl.specs.Faults.{status_of};
+ghost use Rattle.apctl.specs.Faults.{of_replay, status_of};
 ghost use Rattle.apctl.specs.Report.{failures_met};
+ghost use Rattle.apctl.specs.declared.fault.Fault.TheVariants as faults;
 
 use crate::replay::TextFault;
 use crate::report::ReportFault;
@@ -51,9 +52,6 @@ impl Fault {
 }
 
 impl From<TextFault> for Fault {
-    ghost use Rattle.std.specs.Prelude.{◌≡◌};
-    ghost use Rattle.apctl.specs.Faults.{of_replay};
-
     ghost from_gives = { λ fault given. given ≡ of_replay fault };
 
     fn from(fault: TextFault) -> Fault {
@@ -67,9 +65,6 @@ impl From<TextFault> for Fault {
 }
 
 impl From<AllocError> for Fault {
-    ghost use Rattle.std.specs.Prelude.{◌≡◌};
-    ghost use Rattle.apctl.specs.declared.fault.Fault.TheVariants as faults;
-
     ghost from_gives = { λ _ given. given ≡ faults.Memory };
 
     fn from(_e: AllocError) -> Fault {

@@ -1,7 +1,9 @@
 //! A configuration and a trace in one text (*profile*).
 
 ghost use Rattle.apctl.specs.Joined.{IsJoined, is_separator, joined_parts};
-ghost use Rattle.std.specs.Prelude.{◌==◌, ◌≡◌, position};
+ghost use Rattle.std.specs.Prelude.{◌≡◌};
+
+use crate::text::place_of;
 
 /// What stands alone on the line between a configuration and a trace.
 const SEPARATOR: &[u8] = b"---";
@@ -15,7 +17,7 @@ pub fn split_joined(joined: &[u8]) -> (&[u8], &[u8])
     ensures joined { IsJoined joined.now result.0.now result.1.now }
 {
     let mut start = 0;
-    while let Some(len) = first_line_feed(&joined[start..]) {
+    while let Some(len) = place_of(b'\n', &joined[start..]) {
         let end = start + len;
         if is_separator(&joined[start..end]) {
             return (&joined[..start], &joined[end + 1..]);
@@ -26,13 +28,6 @@ pub fn split_joined(joined: &[u8]) -> (&[u8], &[u8])
         return (&joined[..start], &[]);
     }
     (joined, &[])
-}
-
-/// Where the text's first line ends, if LF ends it.
-fn first_line_feed(text: &[u8]) -> Option<usize>
-    ensures { result ≡ position (λ octet. octet == 10) text.now }
-{
-    text.iter().position(|octet| *octet == b'\n')
 }
 
 /// Whether the line, taken without the LF that may end it, is the one between the parts.

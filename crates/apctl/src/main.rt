@@ -13,6 +13,7 @@ mod joined;
 mod replay;
 mod report;
 mod sink;
+mod text;
 mod trace;
 
 use fault::{Fault, show_fault};

@@ -1,12 +1,12 @@
 //! From the octets of a configuration and a trace to those of a report: each network takes what it hears, alone.
 
-ghost use Rattle.std.specs.Prelude.{◌≡◌, ◌++◌, ◌∷◌, [], List, ℕ, None, IfOk, OnOk, length, ◌<◌, ◌+◌, ◌^◌};
+ghost use Rattle.std.specs.Prelude.{◌≡◌, ◌++◌, [], List, None, IfOk, OnOk, length, ◌<◌, ◌+◌, ◌^◌};
 ghost use Rattle.bss_core.specs.Configuration.{setting_fault, network_fault, fault_of};
 ghost use Rattle.bss_core.specs.Network.{alone};
-ghost use Rattle.bss_core.specs.State.{State};
 ghost use Rattle.bss_core.specs.Section.{section_of};
+ghost use Rattle.apctl.specs.declared.replay.TextFault.TheVariants as faults;
 ghost use Rattle.apctl.specs.declared.trace.Line.TheVariants as Lines;
-ghost use Rattle.apctl.specs.Answer.{Ends, answer_of, failures_of};
+ghost use Rattle.apctl.specs.Answer.{Ends, answer_of, failures_of, of_config, of_trace, of_report};
 ghost use Rattle.apctl.specs.Replay.{own_events, taken_of, setting_of, sections_of};
 
 use crate::configuration::{ConfigTextFault, read_config};
@@ -33,9 +33,6 @@ pub enum TextFault {
 }
 
 impl From<ConfigTextFault> for TextFault {
-    ghost use Rattle.std.specs.Prelude.{◌≡◌};
-    ghost use Rattle.apctl.specs.Answer.{of_config};
-
     ghost from_gives = { λ fault given. given ≡ of_config fault };
 
     fn from(fault: ConfigTextFault) -> TextFault {
@@ -47,9 +44,6 @@ impl From<ConfigTextFault> for TextFault {
 }
 
 impl From<TraceTextFault> for TextFault {
-    ghost use Rattle.std.specs.Prelude.{◌≡◌};
-    ghost use Rattle.apctl.specs.Answer.{of_trace};
-
     ghost from_gives = { λ fault given. given ≡ of_trace fault };
 
     fn from(fault: TraceTextFault) -> TextFault {
@@ -61,9 +55,6 @@ impl From<TraceTextFault> for TextFault {
 }
 
 impl From<ReportFault> for TextFault {
-    ghost use Rattle.std.specs.Prelude.{◌≡◌};
-    ghost use Rattle.apctl.specs.Answer.{of_report};
-
     ghost from_gives = { λ fault given. given ≡ of_report fault };
 
     fn from(fault: ReportFault) -> TextFault {
@@ -75,9 +66,6 @@ impl From<ReportFault> for TextFault {
 }
 
 impl From<NoMemory> for TextFault {
-    ghost use Rattle.std.specs.Prelude.{◌≡◌};
-    ghost use Rattle.apctl.specs.declared.replay.TextFault.TheVariants as faults;
-
     ghost from_gives = { λ _ given. given ≡ faults.NoMemory };
 
     fn from(_e: NoMemory) -> TextFault {

@@ -15,21 +15,24 @@
 //! air, one for each that it sent on the wire, and `end`. Octets are pairs of hexadecimal digits in lower case,
 //! numbers are decimal.
 
-ghost use Rattle.std.specs.Prelude.{◌≡◌, ◌+◌, ◌^◌, ◌<◌, ◌≤◌, [], ◌++◌, length, flat_map, string_bytes, IfOk, OnOk, OnErr};
+ghost use Rattle.std.specs.Prelude.{◌≡◌, ◌+◌, ◌^◌, ◌<◌, ◌≤◌, ◌++◌, length, flat_map, string_bytes, IfOk, OnOk, OnErr};
 ghost use Rattle.std.specs.Io.KnownBytes.{Appends};
 ghost use Rattle.hex.specs.Hex.{encode_lower};
 ghost use Rattle.apctl.specs.Report.{report_text, section_text, network_line, counts_line, station_line, mode_text, frame_line, failures_met};
-ghost use Rattle.apctl.specs.Sinks.{AppendsPrefix, Puts};
+ghost use Rattle.apctl.specs.Sinks.{AppendsPrefix};
+ghost use Rattle.apctl.specs.Buffers.{PutsInto};
 ghost use Rattle.apctl.specs.declared.report.ReportFault.TheVariants.{Write, NoMemory};
 
-use crate::sink::{Failed, Sink, write_all};
+mod buffer;
+#[cfg(test)]
+mod tests;
+
+use crate::sink::{Failed, Sink};
 use bss_core::{Counts, NetConfig, Section, StationRow};
+use buffer::{Buffered, PIECE};
 use mac_frame::Octets;
 use station_state::Standing;
 use std::alloc::{AllocError, Global};
-
-#[cfg(test)]
-mod tests;
 
 /// Why a report could not be written.
 #[derive(Clone, Copy, Debug, PartialEq, Eq)]
@@ -56,9 +59,6 @@ impl From<AllocError> for ReportFault {
     }
 }
 
-/// How many octets are collected before they go to the sink, so that a device is not asked for each line.
-const PIECE: usize = 65536;
-
 /// How many octets become digits at a time, in an array, so that no `String` is made for a frame.
 const OCTETS_AT_A_TIME: usize = 32;
 
@@ -78,46 +78,47 @@ pub fn write_report<W: Sink>(
     ensures failures { W.failed out.new ≡ W.failed out.old + failures_met result }
 {
     let mut piece = Vec::with_capacity(alloc, PIECE)?;
+    let mut buffered = Buffered::new(out, &mut piece);
     for section in sections {
-        put_section(alloc, out, &mut piece, section)?;
+        put_section(alloc, &mut buffered, section)?;
     }
-    flush(out, &mut piece)
+    buffered.flush()
 }
 
 /// Puts what one network did.
 fn put_section<W: Sink>(
     alloc: Global,
-    out: &mut W,
-    piece: &mut Vec<u8>,
+    out: &mut Buffered<'_, W>,
     section: &Section,
 ) -> Result<(), ReportFault>
-    requires { W.failed out.old < 2 ^ 63 }
-    ensures text { Puts result (W.taken out.old) piece.old.items (W.taken out.new) piece.new.items (section_text section.now) }
-    ensures failures { W.failed out.new ≡ W.failed out.old + failures_met result }
+    requires { W.failed out.old.sink.now < 2 ^ 63 }
+    ensures same_sink { out.new.sink.ghost_name ≡ out.old.sink.ghost_name }
+    ensures text { PutsInto W.taken result out.old out.new (section_text section.now) }
+    ensures failures { W.failed out.new.sink.now ≡ W.failed out.old.sink.now + failures_met result }
 {
-    put_heading(alloc, out, piece, section)?;
-    put_stations(alloc, out, piece, section.table.as_slice())?;
-    put_frames(out, piece, b"air ", section.air.as_slice())?;
-    put_frames(out, piece, b"wire ", section.wire.as_slice())?;
-    put(out, piece, b"end\n")
+    put_heading(alloc, out, section)?;
+    put_stations(alloc, out, section.table.as_slice())?;
+    put_frames(out, b"air ", section.air.as_slice())?;
+    put_frames(out, b"wire ", section.wire.as_slice())?;
+    out.put(b"end\n")
 }
 
 /// Puts the lines of a network's name and of its counts.
 fn put_heading<W: Sink>(
     alloc: Global,
-    out: &mut W,
-    piece: &mut Vec<u8>,
+    out: &mut Buffered<'_, W>,
     section: &Section,
 ) -> Result<(), ReportFault>
-    requires { W.failed out.old < 2 ^ 63 }
-    ensures text { Puts result (W.taken out.old) piece.old.items (W.taken out.new) piece.new.items
+    requires { W.failed out.old.sink.now < 2 ^ 63 }
+    ensures same_sink { out.new.sink.ghost_name ≡ out.old.sink.ghost_name }
+    ensures text { PutsInto W.taken result out.old out.new
         (network_line section.now.config ++ counts_line (length section.now.events) section.now.counts) }
-    ensures failures { W.failed out.new ≡ W.failed out.old + failures_met result }
+    ensures failures { W.failed out.new.sink.now ≡ W.failed out.old.sink.now + failures_met result }
 {
     let network = network_line(alloc, &section.config)?;
     let counts = counts_line(alloc, section.events.as_slice().len(), &section.counts)?;
-    put(out, piece, network.as_bytes())?;
-    put(out, piece, counts.as_bytes())
+    out.put(network.as_bytes())?;
+    out.put(counts.as_bytes())
 }
 
 /// The line of a network's address and name.
@@ -148,17 +149,17 @@ fn counts_line(alloc: Global, events: usize, counts: &Counts) -> Result<String, 
 /// Puts a line for each station that is known.
 fn put_stations<W: Sink>(
     alloc: Global,
-    out: &mut W,
-    piece: &mut Vec<u8>,
+    out: &mut Buffered<'_, W>,
     table: &[StationRow],
 ) -> Result<(), ReportFault>
-    requires { W.failed out.old < 2 ^ 63 }
-    ensures text { Puts result (W.taken out.old) piece.old.items (W.taken out.new) piece.new.items (flat_map station_line table.now) }
-    ensures failures { W.failed out.new ≡ W.failed out.old + failures_met result }
+    requires { W.failed out.old.sink.now < 2 ^ 63 }
+    ensures same_sink { out.new.sink.ghost_name ≡ out.old.sink.ghost_name }
+    ensures text { PutsInto W.taken result out.old out.new (flat_map station_line table.now) }
+    ensures failures { W.failed out.new.sink.now ≡ W.failed out.old.sink.now + failures_met result }
 {
     for row in table {
         let line = station_line(alloc, row)?;
-        put(out, piece, line.as_bytes())?;
+        out.put(line.as_bytes())?;
     }
     Ok(())
 }
@@ -197,100 +198,63 @@ fn mode_text(doze: bool) -> &'static str
 
 /// Puts a line for each frame, behind a word that says where it was sent.
 fn put_frames<W: Sink>(
-    out: &mut W,
-    piece: &mut Vec<u8>,
+    out: &mut Buffered<'_, W>,
     word: &[u8],
     frames: &[Octets],
 ) -> Result<(), ReportFault>
-    requires { W.failed out.old < 2 ^ 63 }
-    ensures text { Puts result (W.taken out.old) piece.old.items (W.taken out.new) piece.new.items (flat_map (frame_line word.now) frames.now) }
-    ensures failures { W.failed out.new ≡ W.failed out.old + failures_met result }
+    requires { W.failed out.old.sink.now < 2 ^ 63 }
+    ensures same_sink { out.new.sink.ghost_name ≡ out.old.sink.ghost_name }
+    ensures text { PutsInto W.taken result out.old out.new (flat_map (frame_line word.now) frames.now) }
+    ensures failures { W.failed out.new.sink.now ≡ W.failed out.old.sink.now + failures_met result }
 {
     for frame in frames {
-        put_frame(out, piece, word, frame.as_slice())?;
+        put_frame(out, word, frame.as_slice())?;
     }
     Ok(())
 }
 
 /// Puts a frame's line.
 fn put_frame<W: Sink>(
-    out: &mut W,
-    piece: &mut Vec<u8>,
+    out: &mut Buffered<'_, W>,
     word: &[u8],
     frame: &[u8],
 ) -> Result<(), ReportFault>
-    requires { W.failed out.old < 2 ^ 63 }
-    ensures text { Puts result (W.taken out.old) piece.old.items (W.taken out.new) piece.new.items (frame_line word.now frame.now) }
-    ensures failures { W.failed out.new ≡ W.failed out.old + failures_met result }
+    requires { W.failed out.old.sink.now < 2 ^ 63 }
+    ensures same_sink { out.new.sink.ghost_name ≡ out.old.sink.ghost_name }
+    ensures text { PutsInto W.taken result out.old out.new (frame_line word.now frame.now) }
+    ensures failures { W.failed out.new.sink.now ≡ W.failed out.old.sink.now + failures_met result }
 {
-    put(out, piece, word)?;
-    put_digits(out, piece, frame)?;
-    put(out, piece, b"\n")
+    out.put(word)?;
+    put_digits(out, frame)?;
+    out.put(b"\n")
 }
 
 /// Puts octets as pairs of hexadecimal digits.
-fn put_digits<W: Sink>(out: &mut W, piece: &mut Vec<u8>, octets: &[u8]) -> Result<(), ReportFault>
-    requires { W.failed out.old < 2 ^ 63 }
-    ensures text { Puts result (W.taken out.old) piece.old.items (W.taken out.new) piece.new.items (encode_lower octets.now) }
-    ensures failures { W.failed out.new ≡ W.failed out.old + failures_met result }
+fn put_digits<W: Sink>(out: &mut Buffered<'_, W>, octets: &[u8]) -> Result<(), ReportFault>
+    requires { W.failed out.old.sink.now < 2 ^ 63 }
+    ensures same_sink { out.new.sink.ghost_name ≡ out.old.sink.ghost_name }
+    ensures text { PutsInto W.taken result out.old out.new (encode_lower octets.now) }
+    ensures failures { W.failed out.new.sink.now ≡ W.failed out.old.sink.now + failures_met result }
 {
     let mut rest = octets;
     while !rest.is_empty() {
         let (front, back) = rest.split_at(rest.len().min(OCTETS_AT_A_TIME));
-        put_few_digits(out, piece, front)?;
+        put_few_digits(out, front)?;
         rest = back;
     }
     Ok(())
 }
 
 /// Puts as many octets as are written at a time, or fewer, as pairs of hexadecimal digits.
-fn put_few_digits<W: Sink>(
-    out: &mut W,
-    piece: &mut Vec<u8>,
-    octets: &[u8],
-) -> Result<(), ReportFault>
+fn put_few_digits<W: Sink>(out: &mut Buffered<'_, W>, octets: &[u8]) -> Result<(), ReportFault>
     requires few { length octets.now ≤ OCTETS_AT_A_TIME }
-    requires few_failures { W.failed out.old < 2 ^ 63 }
-    ensures text { Puts result (W.taken out.old) piece.old.items (W.taken out.new) piece.new.items (encode_lower octets.now) }
-    ensures failures { W.failed out.new ≡ W.failed out.old + failures_met result }
+    requires few_failures { W.failed out.old.sink.now < 2 ^ 63 }
+    ensures same_sink { out.new.sink.ghost_name ≡ out.old.sink.ghost_name }
+    ensures text { PutsInto W.taken result out.old out.new (encode_lower octets.now) }
+    ensures failures { W.failed out.new.sink.now ≡ W.failed out.old.sink.now + failures_met result }
 {
     let mut digits = [0; 2 * OCTETS_AT_A_TIME];
     let pairs = &mut digits[..2 * octets.len()];
     hex::encode_to_slice(octets, pairs).unwrap();
-    put(out, piece, pairs)
-}
-
-/// Puts a text behind what the piece holds, which goes to the sink first where both would not fit into a piece.
-fn put<W: Sink>(out: &mut W, piece: &mut Vec<u8>, text: &[u8]) -> Result<(), ReportFault>
-    requires { W.failed out.old < 2 ^ 63 }
-    ensures text { Puts result (W.taken out.old) piece.old.items (W.taken out.new) piece.new.items text.now }
-    ensures failures { W.failed out.new ≡ W.failed out.old + failures_met result }
-{
-    make_room(out, piece, text.len())?;
-    piece.extend_from_slice(text)?;
-    Ok(())
-}
-
-/// Empties the piece where as many more octets would not fit.
-fn make_room<W: Sink>(out: &mut W, piece: &mut Vec<u8>, len: usize) -> Result<(), ReportFault>
-    requires { W.failed out.old < 2 ^ 63 }
-    ensures text { Puts result (W.taken out.old) piece.old.items (W.taken out.new) piece.new.items [] }
-    ensures failures { W.failed out.new ≡ W.failed out.old + failures_met result }
-{
-    if len <= PIECE.saturating_sub(piece.len()) {
-        return Ok(());
-    }
-    flush(out, piece)
-}
-
-/// Has the sink take what the piece holds.
-fn flush<W: Sink>(out: &mut W, piece: &mut Vec<u8>) -> Result<(), ReportFault>
-    requires { W.failed out.old < 2 ^ 63 }
-    ensures text { Puts result (W.taken out.old) piece.old.items (W.taken out.new) piece.new.items [] }
-    ensures empty { OnOk result (piece.new.items ≡ []) }
-    ensures failures { W.failed out.new ≡ W.failed out.old + failures_met result }
-{
-    write_all(out, piece.as_slice())?;
-    piece.clear();
-    Ok(())
+    out.put(pairs)
 }

@@ -3,11 +3,14 @@
 //! [`read_trace`] gives the lines of a text, or its first fault with the number of its line. Which networks hear
 //! a string, and what they do with it, is left to those that take it.
 
-ghost use Rattle.std.specs.Prelude.{◌≡◌, ◌<◌, ◌≤◌, ◌==◌, ◌∷◌, length, position, MatchResult, IfOk, OnOk, Ok};
+ghost use Rattle.std.specs.Prelude.{◌≡◌, ◌<◌, ◌≤◌, ◌∷◌, length, MatchResult, IfOk, OnOk, Ok};
 ghost use Rattle.std.specs.Str.Lines.{lines, strip_carriage_return};
 ghost use Rattle.apctl.specs.TraceText.{is_skipped, without_spaces_at_end, first_word, behind_first_word, digits_of, octets_of, within_limit, content_of, line_of, lines_of, IsTextFault, IsLineFault, text_fault, hexadecimal_fault};
+ghost use Rattle.apctl.specs.declared.trace.TraceTextFault.TheVariants as text_faults;
+ghost use Rattle.apctl.specs.declared.trace.LineFault.TheVariants as line_faults;
 ghost use Rattle.hex.specs.Hex.{decode_of};
 
+use crate::text::place_of;
 use bss_core::RadioConfig;
 use hex::FromHexError;
 use mac_frame::Octets;
@@ -18,10 +21,10 @@ use std::fmt;
 mod tests;
 
 /// The most lines of a text.
-const MOST_LINES: u32 = 1_000_000;
+const MAX_LINES: u32 = 1_000_000;
 
 /// The most octets of a string.
-const MOST_OCTETS: usize = 4096;
+const MAX_OCTETS: usize = 4096;
 
 /// `L1`: the first word of a line is no kind of line.
 const UNKNOWN_KIND: u8 = 1;
@@ -66,9 +69,7 @@ pub enum TraceTextFault {
 }
 
 impl<T: Drop> From<AllocFailed<T>> for TraceTextFault {
-    ghost use Rattle.apctl.specs.declared.trace.TraceTextFault.TheVariants.{NoMemory};
-
-    ghost from_gives = { λ _ e. e ≡ NoMemory };
+    ghost from_gives = { λ _ fault. fault ≡ text_faults.NoMemory };
 
     fn from(_e: AllocFailed<T>) -> TraceTextFault {
         TraceTextFault::NoMemory
@@ -97,9 +98,7 @@ impl LineFault {
 }
 
 impl From<AllocError> for LineFault {
-    ghost use Rattle.apctl.specs.declared.trace.LineFault.TheVariants.{NoMemory};
-
-    ghost from_gives = { λ _ e. e ≡ NoMemory };
+    ghost from_gives = { λ _ fault. fault ≡ line_faults.NoMemory };
 
     fn from(_e: AllocError) -> LineFault {
         LineFault::NoMemory
@@ -176,9 +175,9 @@ fn read_line(alloc: Global, number: u32, line: &[u8]) -> Result<Option<Line>, Tr
     ensures exact { MatchResult result
         (λ said. line_of number line.now ≡ Ok said)
         (IsTextFault (line_of number line.now)) }
-    ensures within { OnOk result (number ≤ MOST_LINES) }
+    ensures within { OnOk result (number ≤ MAX_LINES) }
 {
-    if number > MOST_LINES {
+    if number > MAX_LINES {
         return Err(LineFault::Code(TOO_MANY).at(number));
     }
     read_content(alloc, without_spaces_at_end(line)).map_err(|fault| fault.at(number))
@@ -259,15 +258,8 @@ fn read_digits(alloc: Global, digits: &[u8]) -> Result<Octets, LineFault>
         (IsLineFault (within_limit (decode_of digits.now))) }
 {
     let octets = hex::decode(alloc, digits)?;
-    if octets.len() > MOST_OCTETS {
+    if octets.len() > MAX_OCTETS {
         return Err(LineFault::Code(TOO_MANY));
     }
     Ok(Octets::from_vec(octets))
-}
-
-/// The place of the first such character of a text.
-fn place_of(character: u8, text: &[u8]) -> Option<usize>
-    ensures { result ≡ position (λ c. c == character) text.now }
-{
-    text.iter().position(|c| *c == character)
 }

@@ -1,8 +1,9 @@
 -- What a network announces of itself in a probe response (IEEE Std 802.11-2016, 9.3.3.11), octet by octet.
 use Rattle.std.specs.Prelude.{ℕ, ◌*◌, List, [], ◌∷◌, ◌++◌}
 use Rattle.std.specs.Int.{w16, w64, to_le_bytes}
-use Rattle.mac_frame.specs.Header.{management_header}
-use Rattle.elements.specs.Rates.{element, supported_rates, extended_rates}
+use Rattle.mac_frame.specs.Header.{management_header, probe_response_subtype}
+use Rattle.elements.specs.Elements.{element, ssid_id, dsss_parameter_set_id}
+use Rattle.elements.specs.Rates.{supported_rates, extended_rates}
 use Rattle.beacon.specs.declared.advert.Advert.{Advert}
 
 -- a network as it announces itself, without where its octets lie in memory
@@ -27,7 +28,7 @@ capability = to_le_bytes w16 1
 
 -- DSSS Parameter Set (9.4.2.4): the channel
 abbrev pub channel_element : ℕ → List ℕ
-channel_element channel = element 3 (channel ∷ [])
+channel_element channel = element dsss_parameter_set_id (channel ∷ [])
 
 -- the fields before the elements
 unfoldable pub fixed_fields : Announced → List ℕ
@@ -35,15 +36,11 @@ fixed_fields a = timestamp a.clock a.interval ++ to_le_bytes w16 a.interval ++ c
 
 -- SSID, Supported Rates and DSSS Parameter Set
 unfoldable pub network_elements : Announced → List ℕ
-network_elements a = element 0 a.ssid ++ supported_rates a.rates ++ channel_element a.channel
+network_elements a = element ssid_id a.ssid ++ supported_rates a.rates ++ channel_element a.channel
 
 -- the body of a probe response (9.3.3.11), its elements in the order of their numbers there
 abbrev pub probe_response_body : Announced → List ℕ
 probe_response_body a = fixed_fields a ++ network_elements a ++ extended_rates a.rates
-
--- the subtype of a probe response (9.2.4.1.3)
-abbrev pub probe_response_subtype : ℕ
-probe_response_subtype = 5
 
 -- a probe response to a station
 abbrev pub probe_response : Announced → List ℕ → ℕ → List ℕ

@@ -4,27 +4,20 @@ ghost use Rattle.std.specs.Prelude.{◌≡◌, ◌++◌, ◌<◌, ◌≤◌, len
 ghost use Rattle.beacon.specs.ProbeResponse.{announced, timestamp, fixed_fields, network_elements, probe_response, probe_response_body};
 
 use crate::advert::Advert;
-use elements::{write_element, write_extended_rates, write_supported_rates};
-use mac_frame::{MacAddr, NoMemory, Octets, write_mgmt};
-
-/// The subtype of a probe response (9.2.4.1.3).
-const PROBE_RESPONSE: u8 = 5;
+use elements::{
+    DSSS_PARAMETER_SET, SSID, write_element, write_extended_rates, write_supported_rates,
+};
+use mac_frame::{HEADER_LEN, MacAddr, NoMemory, Octets, PROBE_RESPONSE, write_mgmt};
 
 /// Capability Information: ESS alone (9.4.1.4).
 const CAPABILITY: u16 = 1;
 
-/// The element ID of the SSID (9.4.2.2).
-const SSID: u8 = 0;
-
-/// The element ID of the DSSS Parameter Set (9.4.2.4).
-const DSSS_PARAMETER_SET: u8 = 3;
-
 /// The microseconds of a time unit (3.1).
 const TIME_UNIT: u64 = 1024;
 
-/// The octets of a probe response beside the SSID and the rates: a header of 24, fixed fields of 12, the DSSS
-/// Parameter Set of 3, and the first two octets of three elements (9.3.3.11).
-const FIXED_LEN: usize = 24 + 12 + 3 + 3 * 2;
+/// The octets of a probe response beside the SSID and the rates: the header, fixed fields of 12, the DSSS Parameter
+/// Set of 3, and the first two octets of three elements (9.3.3.11).
+const FIXED_LEN: usize = HEADER_LEN + 12 + 3 + 3 * 2;
 
 /// Appends a whole probe response to the station `to`. After `NoMemory` `out` is as it was.
 pub fn write_probe_response(

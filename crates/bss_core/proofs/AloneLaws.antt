@@ -1,7 +1,7 @@
 -- A network alone, event by event.
-use Rattle.std.proofs.Common.{◌≡◌, ℕ, ◌+◌, ◌≤◌, ◌<◌, Bool, true, false, List, [], ◌∷◌, ◌++◌, length, Option, None, Result, Ok, Err, refl, sym, ap, ◌∙◌, arith, drop, append-nil}
+use Rattle.std.proofs.Common.{◌≡◌, ℕ, ◌+◌, ◌≤◌, ◌<◌, Bool, true, false, List, [], ◌∷◌, ◌++◌, length, Option, None, Result, Ok, Err, refl, sym, ap, ◌∙◌, arith, drop}
 use Rattle.std.proofs.lemmas.List.{length-append}
-use Rattle.mac_frame.specs.declared.reading.Unread.{Unread as Fault}
+use Rattle.mac_frame.specs.declared.frame.Unread.{Unread as Fault}
 use Rattle.bss_core.specs.Request.{Request, Probe, request_of}
 use Rattle.bss_core.specs.Network.{Setting, Network, empty_network, asks_for, answer, answer_probe, step, after, alone}
 use Rattle.bss_core.specs.Configuration.{network_fault}
@@ -9,7 +9,6 @@ use Rattle.std.proofs.Math.Seq.{drop-append_seam}
 use Rattle.bss_core.specs.State.{Keeps, sent_by}
 use Rattle.bss_core.specs.Replies.{after_reply, unread_after, sequence_after, frames_of}
 use Rattle.bss_core.specs.declared.reply.Reply.{Reply}
-use Rattle.bss_core.specs.declared.reply.Reply.TheVariants.{Unread, Nothing, Frame}
 use Rattle.bss_core.specs.declared.event.Event.{Event}
 use Rattle.bss_core.specs.declared.event.Event.TheVariants.{Air}
 
@@ -46,7 +45,7 @@ after_unread : (s : Setting) (n : Network) (es : List Event) → (after s n es).
 after_unread s n [] = omega arith
 after_unread s n (e ∷ es) = omega (arith, step_unread s n e, after_unread s (step s n e) es)
 
-pub unread-le : (s : Setting) (es : List Event) → (alone s es).unread ≤ length es
+unread-le : (s : Setting) (es : List Event) → (alone s es).unread ≤ length es
 unfolding alone
 unread-le s es = omega (arith, after_unread s empty_network es)
 
@@ -70,80 +69,48 @@ after_sequence : (s : Setting) (n : Network) (es : List Event) → n.sequence < 
 after_sequence s n [] h = h
 after_sequence s n (e ∷ es) h = after_sequence s (step s n e) es (step_sequence s n e h)
 
-pub sequence-lt : (s : Setting) (es : List Event) → (alone s es).sequence < 4096
+sequence-lt : (s : Setting) (es : List Event) → (alone s es).sequence < 4096
 unfolding alone
 sequence-lt s es = after_sequence s empty_network es (omega arith)
 
 -- ---- what a network keeps of itself
 
-pub keeps-none : (s : Setting) → network_fault s.network ≡ None → Keeps s [] 0 0 0 0 []
+pub keeps-none : (s : Setting) → network_fault s.network ≡ None → Keeps s [] empty_network
 unfolding alone
-keeps-none s h = record { bounded = omega arith; sound = h; knows_none = refl; clock_is = refl; sequence_is = refl; lost_is = refl; unread_is = refl; wired_is = refl }
+keeps-none s h = record { bounded = omega arith; sound = h; same = refl }
+
+pub kept_unread-le : (s : Setting) (es : List Event) (kept : Network) → Keeps s es kept → kept.unread ≤ length es
+kept_unread-le s es kept k =
+    let unread = ap (λ (n : Network). n.unread) k.same in
+    omega (arith, unread, unread-le s es)
+
+pub kept_sequence-lt : (s : Setting) (es : List Event) (kept : Network) → Keeps s es kept → kept.sequence < 4096
+kept_sequence-lt s es kept k =
+    let sequence = ap (λ (n : Network). n.sequence) k.same in
+    omega (arith, sequence, sequence-lt s es)
 
 -- ---- one more event, by the reply to it
 
 reply_is : (s : Setting) (es : List Event) (e : Event) (r : Reply) → step s (alone s es) e ≡ after_reply r (alone s es) → alone s (es ++ e ∷ []) ≡ after_reply r (alone s es)
 reply_is s es e r h = alone-push s es e ∙ h
 
--- what the reply makes of each part
-known_after : (r : Reply) (n : Network) → (after_reply r n).known ≡ n.known
-known_after Unread n = refl
-known_after Nothing n = refl
-known_after (Frame f) n = refl
-
-clock_after : (r : Reply) (n : Network) → (after_reply r n).clock ≡ n.clock
-clock_after Unread n = refl
-clock_after Nothing n = refl
-clock_after (Frame f) n = refl
-
-lost_after : (r : Reply) (n : Network) → (after_reply r n).lost ≡ n.lost
-lost_after Unread n = refl
-lost_after Nothing n = refl
-lost_after (Frame f) n = refl
-
-wire_after : (r : Reply) (n : Network) → (after_reply r n).wire ≡ n.wire
-wire_after Unread n = refl
-wire_after Nothing n = refl
-wire_after (Frame f) n = refl
-
-sequence_is_after : (r : Reply) (n : Network) → (after_reply r n).sequence ≡ sequence_after r n.sequence
-sequence_is_after Unread n = refl
-sequence_is_after Nothing n = refl
-sequence_is_after (Frame f) n = refl
-
-unread_is_after : (r : Reply) (n : Network) → (after_reply r n).unread ≡ unread_after r n.unread
-unread_is_after Unread n = refl
-unread_is_after Nothing n = refl
-unread_is_after (Frame f) n = refl
-
-air_after : (r : Reply) (n : Network) → (after_reply r n).air ≡ n.air ++ frames_of r
-air_after Unread n = sym (append-nil n.air)
-air_after Nothing n = sym (append-nil n.air)
-air_after (Frame f) n = refl
-
-pub keeps-push : (s : Setting) (es : List Event) (e : Event) (r : Reply) (clock sequence lost unread : ℕ) (wired : List (List ℕ)) → Keeps s es clock sequence lost unread wired → length es < s.network.max_events → step s (alone s es) e ≡ after_reply r (alone s es) → Keeps s (es ++ e ∷ []) clock (sequence_after r sequence) lost (unread_after r unread) wired
-keeps-push s es e r clock sequence lost unread wired k room h =
-    let more = reply_is s es e r h in
-    let n = alone s es in
-    record {
-      bounded = omega (arith, length-append es (e ∷ []));
-      sound = k.sound;
-      knows_none = ap (λ (m : Network). m.known) more ∙ known_after r n ∙ k.knows_none;
-      clock_is = ap (λ (m : Network). m.clock) more ∙ clock_after r n ∙ k.clock_is;
-      sequence_is = ap (λ (m : Network). m.sequence) more ∙ sequence_is_after r n ∙ ap (sequence_after r) k.sequence_is;
-      lost_is = ap (λ (m : Network). m.lost) more ∙ lost_after r n ∙ k.lost_is;
-      unread_is = ap (λ (m : Network). m.unread) more ∙ unread_is_after r n ∙ ap (unread_after r) k.unread_is;
-      wired_is = ap (λ (m : Network). m.wire) more ∙ wire_after r n ∙ k.wired_is;
-    }
+pub keeps-push : (s : Setting) (es : List Event) (e : Event) (r : Reply) (kept : Network) → Keeps s es kept → length es < s.network.max_events → step s (alone s es) e ≡ after_reply r (alone s es) → Keeps s (es ++ e ∷ []) (record kept { sequence = sequence_after r kept.sequence; unread = unread_after r kept.unread })
+keeps-push s es e r kept k room h = record {
+  bounded = omega (arith, length-append es (e ∷ []));
+  sound = k.sound;
+  same =
+      ap (λ (n : Network). record n { air = [] }) (reply_is s es e r h)
+      ∙ ap (λ (n : Network). record n { sequence = sequence_after r n.sequence; unread = unread_after r n.unread }) k.same;
+}
 
 -- the frames that the event adds are those of the reply
 pub sent_by-reply : (s : Setting) (es : List Event) (e : Event) (r : Reply) → step s (alone s es) e ≡ after_reply r (alone s es) → sent_by s es e ≡ frames_of r
 sent_by-reply s es e r h =
-    ap (drop (length (alone s es).air)) (ap (λ (m : Network). m.air) (reply_is s es e r h) ∙ air_after r (alone s es))
+    ap (λ (n : Network). drop (length (alone s es).air) n.air) (reply_is s es e r h)
     ∙ drop-append_seam (alone s es).air (frames_of r)
 
 -- the frames that an event adds stand behind those that were sent
 pub air-push : (s : Setting) (es : List Event) (e : Event) (r : Reply) → step s (alone s es) e ≡ after_reply r (alone s es) → (alone s (es ++ e ∷ [])).air ≡ (alone s es).air ++ sent_by s es e
 air-push s es e r h =
-    ap (λ (m : Network). m.air) (reply_is s es e r h) ∙ air_after r (alone s es)
+    ap (λ (n : Network). n.air) (reply_is s es e r h)
     ∙ ap (λ (fs : List (List ℕ)). (alone s es).air ++ fs) (sym (sent_by-reply s es e r h))

@@ -1,12 +1,13 @@
 -- Strings of octets on which the functions that read requests and test addresses are computed.
 use Rattle.std.proofs.Common.{◌≡◌, ℕ, true, false, List, [], ◌∷◌, ◌++◌, take, Result, Some, None, Ok, Err, refl}
 use Rattle.std.specs.Prelude.{map, replicate}
-use Rattle.mac_frame.specs.declared.reading.Unread.{Unread}
-use Rattle.mac_frame.specs.declared.reading.Unread.TheVariants.{Short, Kind, Body, TooLong}
+use Rattle.mac_frame.specs.declared.frame.Unread.{Unread}
+use Rattle.mac_frame.specs.declared.frame.Unread.TheVariants.{Short, Kind, Body, TooLong}
+use Rattle.mac_frame.specs.Address.{broadcast}
 use Rattle.elements.specs.Elements.{elements_of, elements_within}
 use Rattle.bss_core.specs.Hearing.{is_heard}
 use Rattle.bss_core.specs.Request.{Request, Probe, request_of}
-use Rattle.bss_core.proofs.Samples.{bssid, station, all, lab, probe, probe_with, probe_for_lab, station_rates}
+use Rattle.bss_core.proofs.Samples.{bssid, station, lab, probe, probe_with, probe_for_lab, station_rates}
 
 -- ---- what is heard
 
@@ -77,7 +78,7 @@ an_element_of_255_octets_that_has_254_is_refused = refl
 pub a_fault_of_the_frame_is_a_fault_of_the_request : request_of bssid (take 23 probe) ≡ Err Short
 a_fault_of_the_frame_is_a_fault_of_the_request = refl
 
-pub a_beacon_is_no_request : request_of bssid ((0x80 ∷ 0x00 ∷ 0x00 ∷ 0x00 ∷ []) ++ all ++ station ++ all ++ (0x00 ∷ 0x00 ∷ [])) ≡ Err Kind
+pub a_beacon_is_no_request : request_of bssid ((0x80 ∷ 0x00 ∷ 0x00 ∷ 0x00 ∷ []) ++ broadcast ++ station ++ broadcast ++ (0x00 ∷ 0x00 ∷ [])) ≡ Err Kind
 a_beacon_is_no_request = refl
 
 pub a_long_body_is_refused_before_its_elements : request_of bssid (probe_with (replicate 2305 0)) ≡ Err TooLong

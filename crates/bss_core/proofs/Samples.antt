@@ -1,5 +1,6 @@
 -- A sample configuration, and the frames of one station.
 use Rattle.std.proofs.Common.{ℕ, List, [], ◌∷◌, ◌++◌}
+use Rattle.mac_frame.specs.Address.{broadcast}
 use Rattle.bss_core.specs.Network.{Setting}
 use Rattle.bss_core.specs.declared.config.NetConfig.{NetConfig}
 use Rattle.bss_core.specs.declared.config.RadioConfig.{RadioConfig}
@@ -11,10 +12,6 @@ bssid = 0x02 ∷ 0 ∷ 0 ∷ 0 ∷ 0 ∷ 0x01 ∷ []
 -- 02:aa:00:00:00:01
 abbrev pub station : List ℕ
 station = 0x02 ∷ 0xaa ∷ 0 ∷ 0 ∷ 0 ∷ 0x01 ∷ []
-
--- the broadcast address
-abbrev pub all : List ℕ
-all = 0xff ∷ 0xff ∷ 0xff ∷ 0xff ∷ 0xff ∷ 0xff ∷ []
 
 -- `lab` in ASCII
 abbrev pub lab : List ℕ
@@ -47,7 +44,7 @@ setting = record { channel = 6; interval = 100; network = network }
 -- with this body
 abbrev pub probe_with : List ℕ → List ℕ
 probe_with body =
-    (0x40 ∷ 0x00 ∷ 0x00 ∷ 0x00 ∷ []) ++ all ++ station ++ all ++ (0x00 ∷ 0x00 ∷ []) ++ body
+    (0x40 ∷ 0x00 ∷ 0x00 ∷ 0x00 ∷ []) ++ broadcast ++ station ++ broadcast ++ (0x00 ∷ 0x00 ∷ []) ++ body
 
 -- Supported Rates of the station
 abbrev pub station_rates : List ℕ

@@ -1,11 +1,12 @@
 -- Which configurations are sound, and the first fault of one that isn't (profile).
 use Rattle.std.specs.Prelude.{ℕ, ◌%◌, ◌++◌, nat_le, nat_lt, Bool, true, not, ◌==◌, ◌&&◌, List, [], ◌∷◌, length, Option, Some, None, if◌then◌else◌}
 use Rattle.std.specs.List.{list_any, list_all}
-use Rattle.mac_frame.specs.Address.{is_group, same_octets}
+use Rattle.std.specs.Str.{bytes_eq}
+use Rattle.mac_frame.specs.Address.{is_group}
 use Rattle.bss_core.specs.declared.config.NetConfig.{NetConfig}
 use Rattle.bss_core.specs.declared.config.RadioConfig.{RadioConfig}
 use Rattle.bss_core.specs.declared.config.ConfigFault.{ConfigFault}
-use Rattle.bss_core.specs.declared.config.TheConstants.{MOST_NETWORKS}
+use Rattle.bss_core.specs.declared.config.TheConstants.{MAX_NETWORKS}
 
 -- ---- the limits
 
@@ -22,7 +23,7 @@ abbrev pub queue_fits : ℕ → Bool
 queue_fits = is_between 1 4096
 
 abbrev pub count_fits : ℕ → Bool
-count_fits = is_between 1 MOST_NETWORKS
+count_fits = is_between 1 MAX_NETWORKS
 
 abbrev pub ssid_fits : List ℕ → Bool
 ssid_fits ssid = is_between 1 32 (length ssid)
@@ -92,7 +93,7 @@ network_fault n =
 
 -- a network among others has this BSSID
 abbrev pub is_taken : List NetConfig → List ℕ → Bool
-is_taken others bssid = list_any (λ other. same_octets other.bssid bssid) others
+is_taken others bssid = list_any (λ other. bytes_eq other.bssid bssid) others
 
 -- the first fault of a network behind others
 abbrev pub fault_behind : List NetConfig → NetConfig → Option ℕ

@@ -1,7 +1,7 @@
 -- What a network hears (IEEE Std 802.11-2016, 9.2.4.3): a string of octets that is sent to it or to all.
 use Rattle.std.specs.Prelude.{ℕ, nat_le, Bool, ◌&&◌, ◌⊎◌, ◌≡◌, ◌≤◌, List, length}
-use Rattle.mac_frame.specs.Address.{broadcast}
-use Rattle.mac_frame.specs.Frame.{addressed_to, is_bss_or_broadcast}
+use Rattle.mac_frame.specs.Address.{broadcast, is_bss_or_broadcast}
+use Rattle.mac_frame.specs.Header.{addressed_to}
 
 -- at least ten octets, and Address 1 is the network's or the broadcast address
 pub record Hears (bss x : List ℕ) : Type 0 where

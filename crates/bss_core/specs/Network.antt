@@ -1,8 +1,8 @@
 -- A network alone: what it does with its own events. No other network, no queue, no capacity and no thread
 -- stands in it.
 use Rattle.std.specs.Prelude.{ℕ, ◌+◌, ◌%◌, Bool, true, List, [], ◌∷◌, ◌++◌, map, Option, Some, None, Result, Ok, Err, false, if◌then◌else◌}
-use Rattle.mac_frame.specs.Address.{same_octets}
-use Rattle.mac_frame.specs.declared.reading.Unread.{Unread}
+use Rattle.std.specs.Str.{bytes_eq}
+use Rattle.mac_frame.specs.declared.frame.Unread.{Unread}
 use Rattle.beacon.specs.ProbeResponse.{Announced, probe_response}
 use Rattle.station_state.specs.declared.Standing.TheVariants.{Authenticated}
 use Rattle.bss_core.specs.Request.{Request, Probe, request_of}
@@ -67,7 +67,7 @@ announced_at s clock = record {
 abbrev pub asks_for : List ℕ → Option (List ℕ) → Bool
 asks_for ssid None = false
 asks_for ssid (Some []) = true
-asks_for ssid (Some (octet ∷ octets)) = same_octets (octet ∷ octets) ssid
+asks_for ssid (Some (octet ∷ octets)) = bytes_eq (octet ∷ octets) ssid
 
 abbrev pub answer_probe : Setting → List ℕ → Option (List ℕ) → Network → Network
 answer_probe s from ssid n =

@@ -1,13 +1,8 @@
 -- What a reply makes of a network.
-use Rattle.std.specs.Prelude.{ℕ, ◌+◌, List, [], ◌∷◌}
-use Rattle.bss_core.specs.Network.{Network, count_unread, send, next_sequence}
+use Rattle.std.specs.Prelude.{ℕ, ◌+◌, List, [], ◌∷◌, ◌++◌}
+use Rattle.bss_core.specs.Network.{Network, next_sequence}
 use Rattle.bss_core.specs.declared.reply.Reply.{Reply}
 use Rattle.bss_core.specs.declared.reply.Reply.TheVariants.{Unread, Nothing, Frame}
-
-abbrev pub after_reply : Reply → Network → Network
-after_reply Unread n = count_unread n
-after_reply Nothing n = n
-after_reply (Frame octets) n = send (λ _. octets) n
 
 -- the count of unread events, and the sequence number, behind a reply
 abbrev pub unread_after : Reply → ℕ → ℕ
@@ -25,3 +20,11 @@ abbrev pub frames_of : Reply → List (List ℕ)
 frames_of Unread = []
 frames_of Nothing = []
 frames_of (Frame octets) = octets ∷ []
+
+-- the network behind a reply
+abbrev pub after_reply : Reply → Network → Network
+after_reply r n = record n {
+  sequence = sequence_after r n.sequence;
+  unread = unread_after r n.unread;
+  air = n.air ++ frames_of r;
+}

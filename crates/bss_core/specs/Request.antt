@@ -1,25 +1,29 @@
 -- What a station asks (IEEE Std 802.11-2016, 9.3.3): the one request of a string of octets, and the first fault
 -- of a string that holds none.
 use Rattle.std.specs.Prelude.{ℕ, ◌≡◌, Bool, List, Option, Some, None, Result, Ok, Err}
-use Rattle.mac_frame.specs.Frame.{Frame, Mgmt, IsFrame, frame_of, probe_request}
-use Rattle.mac_frame.specs.declared.reading.Unread.{Unread}
-use Rattle.mac_frame.specs.declared.reading.Unread.TheVariants.{Body}
-use Rattle.elements.specs.Elements.{Pair, IsElements, first_of, elements_of}
+use Rattle.mac_frame.specs.Header.{probe_request_subtype}
+use Rattle.mac_frame.specs.Frame.{Frame, Mgmt, IsFrame, frame_of}
+use Rattle.mac_frame.specs.declared.frame.Unread.{Unread}
+use Rattle.mac_frame.specs.declared.frame.Unread.TheVariants.{Body}
+use Rattle.elements.specs.Elements.{Pair, IsElements, first_of, elements_of, ssid_id}
 
 -- a request
 pub data Request : Type 0 where
   -- a probe request (9.3.3.10), with the SSID that it names, if it names one
   Probe : (from : List ℕ) (ssid : Option (List ℕ)) → Request
 
--- the element ID of the SSID (9.4.2.2)
-abbrev pub ssid_id : ℕ
-ssid_id = 0
+-- the string is a probe request for the network: a frame of its subtype whose body is elements
+pub record IsProbe (bss x from : List ℕ) (ssid : Option (List ℕ)) : Type 0 where
+  pub to_all : Bool
+  pub body : List ℕ
+  pub elements : List Pair
+  pub frame : IsFrame bss x (Mgmt probe_request_subtype from to_all body)
+  pub are_elements : IsElements body elements
+  pub names : ssid ≡ first_of ssid_id elements
 
--- The string is this request for the network: a probe request is a frame of its subtype whose body is elements.
+-- the string is this request for the network
 abbrev pub IsRequest : List ℕ → List ℕ → Request → Type 0
-IsRequest bss x (Probe from ssid) =
-    (to_all : Bool) × (body : List ℕ) × (es : List Pair) × IsFrame bss x (Mgmt probe_request from to_all body)
-    × IsElements body es × (ssid ≡ first_of ssid_id es)
+IsRequest bss x (Probe from ssid) = IsProbe bss x from ssid
 
 -- ---- as a function
 

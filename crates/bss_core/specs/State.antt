@@ -20,13 +20,9 @@ network_of s = alone s.setting s.history
 abbrev pub sent_by : Setting → List Event → Event → List (List ℕ)
 sent_by s es e = drop (length (alone s es).air) (alone s (es ++ e ∷ [])).air
 
--- what a network keeps of itself: a bounded history, and what its history makes of it
-pub record Keeps (s : Setting) (history : List Event) (clock sequence lost unread : ℕ) (wired : List (List ℕ)) : Type 0 where
+-- what a network keeps of itself: a bounded history, and what its history makes of it but for the frames that it
+-- sent on the air
+pub record Keeps (s : Setting) (history : List Event) (kept : Network) : Type 0 where
   pub bounded : length history ≤ s.network.max_events
   pub sound : network_fault s.network ≡ None
-  pub knows_none : (alone s history).known ≡ []
-  pub clock_is : (alone s history).clock ≡ clock
-  pub sequence_is : (alone s history).sequence ≡ sequence
-  pub lost_is : (alone s history).lost ≡ lost
-  pub unread_is : (alone s history).unread ≡ unread
-  pub wired_is : (alone s history).wire ≡ wired
+  pub same : record (alone s history) { air = [] } ≡ kept

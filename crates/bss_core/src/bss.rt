@@ -1,10 +1,11 @@
 //! A network alone, as it runs.
 
-ghost use Rattle.std.specs.Prelude.{◌≡◌, Err, ◌+◌, ◌++◌, ◌∷◌, [], ◌↔◌, ◌<◌, ◌≤◌, Bool, true, false, None, Some, IsTrue, IsOk, IfOk, OnOk, OnErr, IfSome, IfNone, length, is_some, option_to_list, option_map, if◌then◌else◌};
+ghost use Rattle.std.specs.Prelude.{◌≡◌, Err, ◌+◌, ◌++◌, ◌∷◌, [], ◌↔◌, ◌<◌, ◌≤◌, true, false, None, IsTrue, IfOk, OnOk, OnErr, IfNone, length, is_some, option_to_list, option_map, if◌then◌else◌};
 ghost use Rattle.bss_core.specs.Configuration.{setting_fault, network_fault};
-ghost use Rattle.bss_core.specs.Network.{Setting, alone, answer_probe, step, table_of, counts_of};
-ghost use Rattle.bss_core.specs.Replies.{after_reply, frames_of};
+ghost use Rattle.bss_core.specs.Network.{answer_probe, step, table_of, counts_of};
+ghost use Rattle.bss_core.specs.Replies.{after_reply};
 ghost use Rattle.bss_core.specs.State.{State, network_of, sent_by};
+ghost use Rattle.bss_core.specs.declared.bss.Refusal.TheVariants as refusals;
 
 use crate::config::NetConfig;
 use crate::event::Event;
@@ -27,10 +28,7 @@ pub enum Refusal {
 }
 
 impl From<NoMemory> for Refusal {
-    ghost use Rattle.std.specs.Prelude.{◌≡◌};
-    ghost use Rattle.bss_core.specs.declared.bss.Refusal.TheVariants.{NoMemory as N1};
-
-    ghost from_gives = { λ _ refusal. refusal ≡ N1 };
+    ghost from_gives = { λ _ refusal. refusal ≡ refusals.NoMemory };
 
     fn from(_e: NoMemory) -> Refusal {
         Refusal::NoMemory
@@ -38,10 +36,7 @@ impl From<NoMemory> for Refusal {
 }
 
 impl From<AllocError> for Refusal {
-    ghost use Rattle.std.specs.Prelude.{◌≡◌};
-    ghost use Rattle.bss_core.specs.declared.bss.Refusal.TheVariants.{NoMemory as N1};
-
-    ghost from_gives = { λ _ refusal. refusal ≡ N1 };
+    ghost from_gives = { λ _ refusal. refusal ≡ refusals.NoMemory };
 
     fn from(_e: AllocError) -> Refusal {
         Refusal::NoMemory
@@ -70,7 +65,7 @@ pub struct Bss {
 }
 
 impl Model for Bss {
-    ghost use Rattle.std.specs.Prelude.{◌<◌, IsTrue};
+    ghost use Rattle.std.specs.Prelude.{◌<◌, IsTrue, []};
     ghost use Rattle.std.specs.VecDeque.{deque_len, deque_capacity};
     ghost use Rattle.bss_core.specs.State.{State, Keeps};
 
@@ -84,7 +79,15 @@ impl Model for Bss {
     } };
 
     ghost invariant = { λ b.
-        Keeps (record { channel = b.channel; interval = b.interval; network = b.config }) b.history.items b.clock b.sequence b.lost b.unread b.wired.items
+        Keeps (record { channel = b.channel; interval = b.interval; network = b.config }) b.history.items (record {
+          known = [];
+          clock = b.clock;
+          sequence = b.sequence;
+          lost = b.lost;
+          unread = b.unread;
+          air = [];
+          wire = b.wired.items;
+        })
         × (IsTrue b.has_slot → deque_len b.waiting < deque_capacity b.waiting) };
 }
 

@@ -4,18 +4,11 @@ ghost use Rattle.std.specs.Prelude.{◌≡◌, []};
 ghost use Rattle.std.specs.List.{list_all};
 ghost use Rattle.bss_core.specs.Configuration.{rate_value, is_rate, has_same_rate, are_different, rates_fit, numbers_fit, network_fault, is_taken, fault_behind, networks_fault, fault_of};
 
-use crate::config::{ConfigFault, MOST_NETWORKS, NetConfig, RadioConfig};
+use crate::config::{
+    ConfigFault, MAX_CHANNEL, MAX_EVENTS, MAX_KNOWN, MAX_NETWORKS, MAX_QUEUE, MAX_QUOTA, MAX_RATE,
+    MAX_RATES, MAX_SSID_LEN, MAX_STATIONS, NetConfig, RadioConfig,
+};
 use mac_frame::MacAddr;
-
-impl ConfigFault {
-    /// A fault of the radio's own settings.
-    fn of_radio(code: u8) -> ConfigFault
-        ensures code { result.code ≡ code }
-        ensures place { result.place ≡ None }
-    {
-        ConfigFault { code, place: None }
-    }
-}
 
 impl RadioConfig {
     /// The first fault, in the order `C4` to `C12`; the faults from `C8` on are tried network by network. It looks at
@@ -24,17 +17,17 @@ impl RadioConfig {
     pub fn check(&self) -> Option<ConfigFault>
         ensures { result ≡ fault_of self.now }
     {
-        if !(1..=14).contains(&self.channel) {
+        if !(1..=MAX_CHANNEL).contains(&self.channel) {
             return Some(ConfigFault::of_radio(4));
         }
         if self.interval == 0 {
             return Some(ConfigFault::of_radio(5));
         }
-        if !(1..=4096).contains(&self.queue) {
+        if !(1..=MAX_QUEUE).contains(&self.queue) {
             return Some(ConfigFault::of_radio(6));
         }
         let networks = self.networks.as_slice();
-        if !(1..=MOST_NETWORKS).contains(&networks.len()) {
+        if !(1..=MAX_NETWORKS).contains(&networks.len()) {
             return Some(ConfigFault::of_radio(7));
         }
         networks_fault(networks)
@@ -47,10 +40,7 @@ fn networks_fault(networks: &[NetConfig]) -> Option<ConfigFault>
 {
     for (place, network) in networks.iter().enumerate() {
         if let Some(code) = fault_behind(&networks[..place], network) {
-            return Some(ConfigFault {
-                code,
-                place: Some(place),
-            });
+            return Some(ConfigFault::of_network(code, place));
         }
     }
     None
@@ -80,7 +70,7 @@ fn network_fault(network: &NetConfig) -> Option<u8>
     if network.bssid.is_group() {
         return Some(8);
     }
-    if !(1..=32).contains(&network.ssid.as_slice().len()) {
+    if !(1..=MAX_SSID_LEN).contains(&network.ssid.as_slice().len()) {
         return Some(9);
     }
     if !rates_fit(network.rates.as_slice()) {
@@ -100,7 +90,7 @@ fn network_fault(network: &NetConfig) -> Option<u8>
 pub fn rates_fit(rates: &[u8]) -> bool
     ensures { result ≡ rates_fit rates.now }
 {
-    (1..=16).contains(&rates.len()) && are_rates(rates) && are_different(rates)
+    (1..=MAX_RATES).contains(&rates.len()) && are_rates(rates) && are_different(rates)
 }
 
 /// Whether each octet is a rate from 1 to 108, but for the mark of a basic rate.
@@ -113,7 +103,7 @@ fn are_rates(rates: &[u8]) -> bool
 fn is_rate(octet: u8) -> bool
     ensures { result ≡ is_rate octet }
 {
-    (1..=108).contains(&rate_value(octet))
+    (1..=MAX_RATE).contains(&rate_value(octet))
 }
 
 /// The rate of an octet, without the mark of a basic rate.
@@ -151,8 +141,8 @@ fn numbers_fit(network: &NetConfig) -> bool
     ensures { result ≡ numbers_fit network.now }
 {
     network.dtim != 0
-        && (1..=2007).contains(&network.max_stations)
-        && (1..=10_000).contains(&network.max_known)
-        && network.quota <= 100_000
-        && (1..=1_000_000).contains(&network.max_events)
+        && (1..=MAX_STATIONS).contains(&network.max_stations)
+        && (1..=MAX_KNOWN).contains(&network.max_known)
+        && network.quota <= MAX_QUOTA
+        && (1..=MAX_EVENTS).contains(&network.max_events)
 }

@@ -10,7 +10,7 @@ ghost use Rattle.bss_core.specs.declared.config.RadioConfig.{RadioConfig};
 ghost use Rattle.bss_core.specs.declared.event.Event.{Event};
 
 use elements::one_list;
-use mac_frame::{frame_is_addressed, one_frame};
+use mac_frame::{body_has_octets, frame_is_addressed, one_frame};
 
 /// A string of octets is at most one request for a network, which is the one that reading gives; and the network
 /// hears it.
@@ -22,6 +22,7 @@ pub fn one_request()
 {
     one_frame();
     frame_is_addressed();
+    body_has_octets();
     one_list();
 }
 

@@ -19,7 +19,10 @@ mod section;
 
 pub use bss::{Bss, Refusal};
 pub use checking::{is_taken, rates_fit};
-pub use config::{ConfigFault, MOST_NETWORKS, NetConfig, RadioConfig};
+pub use config::{
+    ConfigFault, MAX_CHANNEL, MAX_EVENTS, MAX_KNOWN, MAX_NETWORKS, MAX_QUEUE, MAX_QUOTA,
+    MAX_SSID_LEN, MAX_STATIONS, NetConfig, RadioConfig,
+};
 pub use event::{Event, hears};
 pub use laws::{checked_networks, hearing, one_request, one_step};
 pub use section::{Counts, Section, StationRow};

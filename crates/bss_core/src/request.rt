@@ -1,11 +1,11 @@
 //! The one request of a string of octets (IEEE Std 802.11-2016, 9.3.3).
 
 ghost use Rattle.std.specs.Prelude.{◌≡◌, List, Ok, Err, IfOk, IsOkAnd, MatchResult};
-ghost use Rattle.elements.specs.Elements.{Pair, IsElements, elements_of, first_of};
+ghost use Rattle.elements.specs.Elements.{Pair, IsElements, elements_of, first_of, ssid_id};
 ghost use Rattle.bss_core.specs.Asked.{shown};
-ghost use Rattle.bss_core.specs.Request.{Request as Asking, Probe, IsRequest, probe_of, request_of, ssid_id};
+ghost use Rattle.bss_core.specs.Request.{Request as Asking, Probe, IsRequest, probe_of, request_of};
 
-use elements::Elements;
+use elements::{Elements, SSID};
 use mac_frame::{MacAddr, Rx, Unread, decode};
 
 /// What a station asks.
@@ -19,9 +19,6 @@ pub enum Request<'a> {
         ssid: Option<&'a [u8]>,
     },
 }
-
-/// The element ID of the SSID (9.4.2.2).
-const SSID: u8 = 0;
 
 /// The request of a string of octets for the network `bss`, or its first fault.
 pub fn read(bss: MacAddr, frame: &[u8]) -> Result<Request<'_>, Unread>

@@ -2,8 +2,8 @@
 use Rattle.std.proofs.Common.{◌≡◌, [], ◌∷◌, Some, None, refl}
 use Rattle.std.proofs.Common.{◌++◌, arith}
 use Rattle.std.specs.Prelude.{replicate}
-use Rattle.elements.specs.Elements.{IsElements, elements_within, elements_of, first_of}
-use Rattle.elements.specs.Rates.{element, supported_rates, extended_rates, rates_of}
+use Rattle.elements.specs.Elements.{IsElements, elements_within, elements_of, first_of, element}
+use Rattle.elements.specs.Rates.{supported_rates, extended_rates, rates_of}
 
 four_rates_are_one_element : elements_of (1 ∷ 4 ∷ 2 ∷ 4 ∷ 11 ∷ 22 ∷ []) ≡ Some ((1, 2 ∷ 4 ∷ 11 ∷ 22 ∷ []) ∷ [])
 unfolding elements_of elements_within

@@ -1,7 +1,27 @@
 -- Elements (IEEE Std 802.11-2016, 9.4.2.1): a body is a concatenation of them.
 use Rattle.std.specs.Prelude.{ℕ, zero, suc, ◌≤◌, ◌≡◌, nat_le, ◌==◌, List, [], ◌∷◌, length, take, drop, Option, Some, None, option_map, unwrap_or, if◌then◌else◌}
 use Rattle.std.specs.List.{flat_map, AllByRecursion}
-use Rattle.elements.specs.declared.reading.Element.{Element}
+use Rattle.elements.specs.declared.element.Element.{Element}
+
+-- ---- element IDs (9.4.2.1)
+
+-- the SSID (9.4.2.2)
+abbrev pub ssid_id : ℕ
+ssid_id = 0
+
+-- Supported Rates (9.4.2.3)
+abbrev pub supported_rates_id : ℕ
+supported_rates_id = 1
+
+-- DSSS Parameter Set (9.4.2.4)
+abbrev pub dsss_parameter_set_id : ℕ
+dsss_parameter_set_id = 3
+
+-- Extended Supported Rates (9.4.2.13)
+abbrev pub extended_supported_rates_id : ℕ
+extended_supported_rates_id = 50
+
+-- ---- as a relation
 
 -- what an element says: its element ID and the octets of its Information field
 abbrev pub Pair : Type 0
@@ -14,6 +34,10 @@ shown e = (e.id, e.body.now)
 -- the octets of an element: Element ID, Length, Information
 abbrev pub spelled : Pair → List ℕ
 spelled e = e.0 ∷ length e.1 ∷ e.1
+
+-- an element with this element ID and Information field
+abbrev pub element : ℕ → List ℕ → List ℕ
+element id body = spelled (id, body)
 
 -- the body is these elements, one after another
 pub record IsElements (body : List ℕ) (es : List Pair) : Type 0 where

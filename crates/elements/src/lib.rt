@@ -6,10 +6,14 @@
 //! Which elements a frame needs, and what they mean, is left to the crates above.
 #![tactic(auto)]
 
-mod reading;
+mod element;
+mod rates;
+
+pub use element::{
+    DSSS_PARAMETER_SET, EXTENDED_SUPPORTED_RATES, Element, Elements, Overrun, SSID,
+    SUPPORTED_RATES, one_list, write_element,
+};
+pub use rates::{write_extended_rates, write_rates, write_supported_rates};
+
 #[cfg(test)]
 mod tests;
-mod writing;
-
-pub use reading::{Element, Elements, Overrun, one_list};
-pub use writing::{write_element, write_extended_rates, write_rates, write_supported_rates};

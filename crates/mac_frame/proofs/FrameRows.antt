@@ -2,9 +2,10 @@
 use Rattle.std.proofs.Common.{◌≡◌, ℕ, true, false, List, [], ◌∷◌, ◌++◌, take, slice_index, Ok, Err, refl, ap, inr, arith}
 use Rattle.std.specs.Prelude.{replicate}
 use Rattle.mac_frame.specs.Address.{broadcast}
-use Rattle.mac_frame.specs.Frame.{Mgmt, IsFrame, frame_of, addressed_to}
+use Rattle.mac_frame.specs.Header.{addressed_to}
+use Rattle.mac_frame.specs.Frame.{Mgmt, IsFrame, frame_of}
 use Rattle.mac_frame.proofs.Samples.{network, other_network, station, group}
-use Rattle.mac_frame.specs.declared.reading.Unread.TheVariants.{Short, Version, Kind, Flags, Direction, Address, TooLong}
+use Rattle.mac_frame.specs.declared.frame.Unread.TheVariants.{Short, Version, Kind, Flags, Direction, Address, TooLong}
 
 -- an empty SSID and four rates
 abbrev elements : List ℕ
@@ -169,8 +170,8 @@ an_authentication_frame_is_not_read_yet = refl
 -- ---- the relation, field by field
 
 pub the_probe_request_is_a_frame : IsFrame network probe (Mgmt 4 station true elements)
-the_probe_request_is_a_frame = (
-  record {
+the_probe_request_is_a_frame = record {
+  fields = record {
     control = 0x40;
     flags = 0;
     duration = 0 ∷ 0 ∷ [];
@@ -180,30 +181,32 @@ the_probe_request_is_a_frame = (
     fragment = 0;
     sequence = 0;
     body = elements;
-  },
-  record {
-    string = refl;
-    duration = refl;
-    receiver = refl;
-    transmitter = refl;
-    network = refl;
-    body = omega arith;
-    version = refl;
-    type = refl;
+  };
+  probe_request = record {
+    management = record {
+      string = refl;
+      duration = refl;
+      receiver = refl;
+      transmitter = refl;
+      network = refl;
+      body = omega arith;
+      version = refl;
+      type = refl;
+      to_ds = refl;
+      from_ds = refl;
+      more_fragments = refl;
+      protected = refl;
+      order = refl;
+      first_fragment = refl;
+      from_station = refl;
+      from_another = λ same. omega (arith, ap (λ address. slice_index address 1) same);
+    };
     subtype = refl;
-    to_ds = refl;
-    from_ds = refl;
-    more_fragments = refl;
-    protected = refl;
-    order = refl;
-    first_fragment = refl;
     to_network = inr refl;
-    from_station = refl;
-    from_another = λ same. omega (arith, ap (λ address. slice_index address 1) same);
     of_network = inr refl;
-  },
-  refl,
-  refl,
-  refl,
-  refl,
-)
+  };
+  subtype_is = refl;
+  from_is = refl;
+  to_all_is = refl;
+  body_is = refl;
+}

@@ -1,13 +1,16 @@
 -- A string is a frame, by the concatenation of its fields, exactly where the tests in their order find no fault.
-use Rattle.std.proofs.Common.{◌≡◌, ◌≢◌, ℕ, ◌+◌, ◌≤◌, ◌⊎◌, Bool, true, false, not, ◌&&◌, ◌==◌, ltb, List, ◌++◌, length, take, drop, slice_index, Result, Ok, Err, MatchResult, IfOk, IsOkAnd, if◌then◌else◌, refl, sym, ◌∙◌, ap, subst, inl, inr, ⊎_elim, arith, length-drop}
+use Rattle.std.proofs.Common.{◌≡◌, ◌≢◌, ℕ, ◌+◌, ◌<◌, ◌≤◌, ◌⊎◌, Bool, true, false, not, ◌&&◌, ◌==◌, ltb, List, ◌++◌, length, take, drop, slice_index, Result, Ok, Err, MatchResult, IfOk, IsOkAnd, if◌then◌else◌, refl, sym, ◌∙◌, ap, subst, ⊎_elim, arith, length-drop}
 use Rattle.std.specs.Cmp.Lexicographic.{bytes_decides}
-use Rattle.std.proofs.lemmas.Bool.{eq-eqb, eqb-true, le-ltb, ltb-false, not_from_true, not-false, and_from, and_parts, or_from, or_parts, or_cases, or_left, or_right, and_left, and_cases, false≢true, false_from_ne_true}
-use Rattle.std.proofs.lemmas.List.{length-take-le, take-append-drop}
-use Rattle.mac_frame.specs.Address.{broadcast, is_group, same_octets}
-use Rattle.mac_frame.specs.Frame.{Frame, Mgmt, shown, bits, has_bit, probe_request, Fields, spelled, IsProbeRequest, IsFrame, version_of, type_of, subtype_of, address_at, is_short, has_refused_flags, has_direction, is_bss_or_broadcast, has_wrong_address, frame_of, addressed_to}
-use Rattle.mac_frame.specs.declared.reading.Rx.{Rx}
-use Rattle.mac_frame.specs.declared.reading.Unread.{Unread}
-use Rattle.mac_frame.specs.declared.reading.Unread.TheVariants.{Short, Version, Kind, Flags, Direction, Address, TooLong}
+use Rattle.std.proofs.lemmas.Bool.{eq-eqb, eqb-true, le-ltb, ltb-false, not_from_true, not-false, and_from, and_parts, or_from, or_parts, and_left, and_cases, false≢true, false_from_ne_true}
+use Rattle.std.proofs.lemmas.List.{length-take-le, take-append-drop, get_or-drop}
+use Rattle.std.specs.Str.{bytes_eq}
+use Rattle.mac_frame.specs.Address.{broadcast, is_group, is_bss_or_broadcast}
+use Rattle.mac_frame.specs.Header.{bits, has_bit, probe_request_subtype, address_at, addressed_to}
+use Rattle.mac_frame.specs.Frame.{Frame, Mgmt, shown, Fields, spelled, IsManagement, IsProbeRequest, IsFrame, version_of, type_of, subtype_of, is_short, has_refused_flags, has_direction, has_wrong_address, frame_of}
+use Rattle.mac_frame.specs.declared.frame.Rx.{Rx}
+use Rattle.mac_frame.specs.declared.frame.Unread.{Unread}
+use Rattle.mac_frame.specs.declared.frame.Unread.TheVariants.{Short, Version, Kind, Flags, Direction, Address, TooLong}
+use Rattle.mac_frame.proofs.Addresses.{tested_where_one, is_one_where_tested}
 use Rattle.mac_frame.proofs.Cells.{cells, is_its_cells}
 
 -- ---- where the fields stand
@@ -112,7 +115,7 @@ abbrev pub tests_of : List ℕ → List ℕ → Tests
 tests_of bss x = record {
   short = is_short x;
   version = not (version_of x == 0);
-  kind = not (type_of x == 0 && subtype_of x == probe_request);
+  kind = not (type_of x == 0 && subtype_of x == probe_request_subtype);
   flags = has_refused_flags x;
   direction = has_direction x;
   address = has_wrong_address bss x;
@@ -121,7 +124,7 @@ tests_of bss x = record {
 
 -- the frame of the octets at their places
 abbrev pub frame_at : List ℕ → Frame
-frame_at x = Mgmt (subtype_of x) (address_at x 10) (same_octets (address_at x 4) broadcast) (drop 24 x)
+frame_at x = Mgmt (subtype_of x) (address_at x 10) (bytes_eq (address_at x 4) broadcast) (drop 24 x)
 
 frame_of_is : (bss x : List ℕ) → frame_of bss x ≡ ladder (tests_of bss x) (frame_at x)
 frame_of_is bss x = refl
@@ -152,58 +155,47 @@ ladder_back t f g e =
 
 -- ---- a frame passes the tests
 
-shared_from : (bss address : List ℕ) → (address ≡ bss) ⊎ (address ≡ broadcast) → is_bss_or_broadcast bss address ≡ true
-shared_from bss address h = ⊎_elim
-    (λ e. or_left (same_octets address bss) (same_octets address broadcast) ((bytes_decides address bss).1 e))
-    (λ e. or_right (same_octets address bss) (same_octets address broadcast) ((bytes_decides address broadcast).1 e))
-    h
-
-shared_back : (bss address : List ℕ) → is_bss_or_broadcast bss address ≡ true → (address ≡ bss) ⊎ (address ≡ broadcast)
-shared_back bss address h = ⊎_elim
-    (λ e. inl ((bytes_decides address bss).0 e))
-    (λ e. inr ((bytes_decides address broadcast).0 e))
-    (or_cases (same_octets address bss) (same_octets address broadcast) h)
-
-other_from : (a b : List ℕ) → a ≢ b → same_octets a b ≡ false
-other_from a b n = false_from_ne_true (same_octets a b) (λ e. n ((bytes_decides a b).0 e))
+other_from : (a b : List ℕ) → a ≢ b → bytes_eq a b ≡ false
+other_from a b n = false_from_ne_true (bytes_eq a b) (λ e. n ((bytes_decides a b).0 e))
 
 passes : (bss x : List ℕ) (f : Fields) → IsProbeRequest bss x f → IsPlaced x f → FindsNone (tests_of bss x)
 passes bss x f r p =
+    let m = r.management in
     let long = p.long in
-    let size = r.body in
+    let size = m.body in
     let body_size : length (drop 24 x) ≤ 2304 = subst (λ b. length b ≤ 2304) (sym p.body) size in
-    let version = ap (λ o. bits o 0 2) p.control ∙ r.version in
-    let type = ap (λ o. bits o 2 2) p.control ∙ r.type in
+    let version = ap (λ o. bits o 0 2) p.control ∙ m.version in
+    let type = ap (λ o. bits o 2 2) p.control ∙ m.type in
     let subtype = ap (λ o. bits o 4 4) p.control ∙ r.subtype in
-    let fragment = ap (λ o. bits o 0 4) p.fragment ∙ r.first_fragment in
-    let receiver = ap (is_bss_or_broadcast bss) p.receiver ∙ shared_from bss f.receiver r.to_network in
-    let group = ap is_group p.transmitter ∙ r.from_station in
-    let other = ap (λ a. same_octets a bss) p.transmitter ∙ other_from f.transmitter bss r.from_another in
-    let network = ap (is_bss_or_broadcast bss) p.network ∙ shared_from bss f.network r.of_network in
+    let fragment = ap (λ o. bits o 0 4) p.fragment ∙ m.first_fragment in
+    let receiver = ap (is_bss_or_broadcast bss) p.receiver ∙ tested_where_one bss f.receiver r.to_network in
+    let group = ap is_group p.transmitter ∙ m.from_station in
+    let other = ap (λ a. bytes_eq a bss) p.transmitter ∙ other_from f.transmitter bss m.from_another in
+    let network = ap (is_bss_or_broadcast bss) p.network ∙ tested_where_one bss f.network r.of_network in
     record {
       short = or_from _ _ (le-ltb (length x) 16 (omega arith)) (and_left _ _ (le-ltb (length x) 24 (omega arith)));
       version = not_from_true _ (eq-eqb (version_of x) 0 version);
-      kind = not_from_true _ (and_from _ _ (eq-eqb (type_of x) 0 type) (eq-eqb (subtype_of x) probe_request subtype));
-      flags = or_from _ _ (or_from _ _ (or_from _ _ (ap (λ o. has_bit o 2) p.flags ∙ r.more_fragments) (ap (λ o. has_bit o 6) p.flags ∙ r.protected)) (ap (λ o. has_bit o 7) p.flags ∙ r.order)) (not_from_true _ (eq-eqb (bits (slice_index x 22) 0 4) 0 fragment));
-      direction = or_from _ _ (ap (λ o. has_bit o 0) p.flags ∙ r.to_ds) (ap (λ o. has_bit o 1) p.flags ∙ r.from_ds);
+      kind = not_from_true _ (and_from _ _ (eq-eqb (type_of x) 0 type) (eq-eqb (subtype_of x) probe_request_subtype subtype));
+      flags = or_from _ _ (or_from _ _ (or_from _ _ (ap (λ o. has_bit o 2) p.flags ∙ m.more_fragments) (ap (λ o. has_bit o 6) p.flags ∙ m.protected)) (ap (λ o. has_bit o 7) p.flags ∙ m.order)) (not_from_true _ (eq-eqb (bits (slice_index x 22) 0 4) 0 fragment));
+      direction = or_from _ _ (ap (λ o. has_bit o 0) p.flags ∙ m.to_ds) (ap (λ o. has_bit o 1) p.flags ∙ m.from_ds);
       address = or_from _ _ (or_from _ _ (or_from _ _ (not_from_true _ receiver) group) other) (not_from_true _ network);
       long = le-ltb 2304 (length (drop 24 x)) body_size;
     }
 
-sized : (bss x : List ℕ) (f : Fields) → IsProbeRequest bss x f → IsSized f
-sized bss x f r = record { duration = r.duration; receiver = r.receiver; transmitter = r.transmitter; network = r.network }
+sized : (bss x : List ℕ) (f : Fields) → IsManagement bss x f → IsSized f
+sized bss x f m = record { duration = m.duration; receiver = m.receiver; transmitter = m.transmitter; network = m.network }
 
 -- a frame is what the function gives
 pub is_read : (bss x : List ℕ) (f : Frame) → IsFrame bss x f → frame_of bss x ≡ Ok f
 is_read bss x (Mgmt subtype from to_all body) w =
-    let f = w.0 in
-    let r = w.1 in
-    let p = placed x f r.string (sized bss x f r) in
+    let f = w.fields in
+    let r = w.probe_request in
+    let p = placed x f r.management.string (sized bss x f r.management) in
     let read = ladder_ok (tests_of bss x) (frame_at x) (passes bss x f r p) in
-    let subtype_is : subtype_of x ≡ subtype = ap (λ o. bits o 4 4) p.control ∙ r.subtype ∙ sym w.2 in
-    let from_is : address_at x 10 ≡ from = p.transmitter ∙ sym w.3 in
-    let to_all_is : same_octets (address_at x 4) broadcast ≡ to_all = ap (λ a. same_octets a broadcast) p.receiver ∙ sym w.4 in
-    let body_is : drop 24 x ≡ body = p.body ∙ sym w.5 in
+    let subtype_is : subtype_of x ≡ subtype = ap (λ o. bits o 4 4) p.control ∙ r.subtype ∙ sym w.subtype_is in
+    let from_is : address_at x 10 ≡ from = p.transmitter ∙ sym w.from_is in
+    let to_all_is : bytes_eq (address_at x 4) broadcast ≡ to_all = ap (λ a. bytes_eq a broadcast) p.receiver ∙ sym w.to_all_is in
+    let body_is : drop 24 x ≡ body = p.body ∙ sym w.body_is in
     let frame_is : frame_at x ≡ Mgmt subtype from to_all body = λ i. Mgmt (subtype_is i) (from_is i) (to_all_is i) (body_is i) in
     read ∙ ap Ok frame_is
 
@@ -252,25 +244,27 @@ passed bss x n =
     let another = or_parts _ _ network.0 in
     let station = or_parts _ _ another.0 in
     record {
-      string = spelled_at_places x long;
-      duration = part_length x 2 2 (omega arith);
-      receiver = part_length x 6 4 (omega arith);
-      transmitter = part_length x 6 10 (omega arith);
-      network = part_length x 6 16 (omega arith);
-      body = ltb-false 2304 (length (drop 24 x)) n.long;
-      version = eqb-true (version_of x) 0 (not-false _ n.version);
-      type = type;
-      subtype = eqb-true (subtype_of x) probe_request kind.1;
-      to_ds = direction.0;
-      from_ds = direction.1;
-      more_fragments = protected.0;
-      protected = protected.1;
-      order = order.1;
-      first_fragment = eqb-true (bits (slice_index x 22) 0 4) 0 (not-false _ fragment.1);
-      to_network = shared_back bss (address_at x 4) (not-false _ station.0);
-      from_station = station.1;
-      from_another = λ e. false≢true (sym another.1 ∙ (bytes_decides (address_at x 10) bss).1 e);
-      of_network = shared_back bss (address_at x 16) (not-false _ network.1);
+      management = record {
+        string = spelled_at_places x long;
+        duration = part_length x 2 2 (omega arith);
+        receiver = part_length x 6 4 (omega arith);
+        transmitter = part_length x 6 10 (omega arith);
+        network = part_length x 6 16 (omega arith);
+        body = ltb-false 2304 (length (drop 24 x)) n.long;
+        version = eqb-true (version_of x) 0 (not-false _ n.version);
+        type = type;
+        to_ds = direction.0;
+        from_ds = direction.1;
+        more_fragments = protected.0;
+        protected = protected.1;
+        order = order.1;
+        first_fragment = eqb-true (bits (slice_index x 22) 0 4) 0 (not-false _ fragment.1);
+        from_station = station.1;
+        from_another = λ e. false≢true (sym another.1 ∙ (bytes_decides (address_at x 10) bss).1 e);
+      };
+      subtype = eqb-true (subtype_of x) probe_request_subtype kind.1;
+      to_network = is_one_where_tested bss (address_at x 4) (not-false _ station.0);
+      of_network = is_one_where_tested bss (address_at x 16) (not-false _ network.1);
     }
 
 -- what the function gives is a frame
@@ -278,7 +272,15 @@ pub is_a_frame : (bss x : List ℕ) (f : Frame) → frame_of bss x ≡ Ok f → 
 is_a_frame bss x f e =
     let back = ladder_back (tests_of bss x) (frame_at x) f e in
     let probe = passed bss x back.0 in
-    subst (λ g. IsFrame bss x g) back.1 (fields_at x, probe, probe.subtype, refl, refl, refl)
+    let read : IsFrame bss x (frame_at x) = record {
+      fields = fields_at x;
+      probe_request = probe;
+      subtype_is = probe.subtype;
+      from_is = refl;
+      to_all_is = refl;
+      body_is = refl;
+    } in
+    subst (λ g. IsFrame bss x g) back.1 read
 
 -- ---- what follows
 
@@ -290,9 +292,18 @@ is_one bss x f g v w =
 
 pub is_heard : (bss x : List ℕ) (f : Frame) → IsFrame bss x f → (10 ≤ length x) × ((addressed_to x ≡ bss) ⊎ (addressed_to x ≡ broadcast))
 is_heard bss x (Mgmt subtype from to_all body) w =
-    let p = placed x w.0 w.1.string (sized bss x w.0 w.1) in
+    let m = w.probe_request.management in
+    let p = placed x w.fields m.string (sized bss x w.fields m) in
     let long = p.long in
-    (omega arith, subst (λ a. (a ≡ bss) ⊎ (a ≡ broadcast)) (sym p.receiver) w.1.to_network)
+    (omega arith, subst (λ a. (a ≡ bss) ⊎ (a ≡ broadcast)) (sym p.receiver) w.probe_request.to_network)
+
+-- the body of a frame has octets where the string has
+pub body_octets : (bss x : List ℕ) (subtype : ℕ) (from : List ℕ) (to_all : Bool) (body : List ℕ) → IsFrame bss x (Mgmt subtype from to_all body) → ((place : ℕ) → slice_index x place < 256) → (place : ℕ) → slice_index body place < 256
+body_octets bss x subtype from to_all body w octets place =
+    let m = w.probe_request.management in
+    let p = placed x w.fields m.string (sized bss x w.fields m) in
+    let body_is : drop 24 x ≡ body = p.body ∙ sym w.body_is in
+    subst (λ (b : List ℕ). slice_index b place < 256) body_is (subst (λ octet. octet < 256) (sym (get_or-drop 24 x place 0)) (octets (24 + place)))
 
 -- no frame where the function gives a fault
 pub none_at_fault : (bss x : List ℕ) (f : Frame) (u : Unread) → frame_of bss x ≡ Err u → IsFrame bss x f → ⊥

@@ -1,4 +1,5 @@
 pub mod Cells
+pub mod Addresses
 pub mod Frames
 pub mod Samples
 pub mod FrameRows

@@ -1,7 +1,7 @@
 -- Addresses (IEEE Std 802.11-2016, 9.2.4.3): six octets, as a list.
-use Rattle.std.specs.Prelude.{ℕ, ◌+◌, ◌*◌, ◌/◌, ◌%◌, ◌<◌, ◌≡◌, Bool, false, ◌==◌, ◌&&◌, nat_eq, List, [], ◌∷◌, length, map, slice_index, Option, Some, None, option_map, option_and_then, if◌then◌else◌}
+use Rattle.std.specs.Prelude.{ℕ, ◌+◌, ◌*◌, ◌/◌, ◌%◌, ◌<◌, ◌≡◌, Bool, false, ◌==◌, ◌&&◌, ◌||◌, List, [], ◌∷◌, length, map, slice_index, Option, Some, None, option_map, option_and_then, if◌then◌else◌}
 use Rattle.std.specs.List.{join_with_byte}
-use Rattle.std.specs.Cmp.Lexicographic.{pointwise}
+use Rattle.std.specs.Str.{bytes_eq}
 use Rattle.std.specs.Fmt.{digit_glyph}
 use Rattle.hex.specs.Hex.{hex_digit_value}
 
@@ -18,9 +18,9 @@ broadcast = 255 ∷ 255 ∷ 255 ∷ 255 ∷ 255 ∷ 255 ∷ []
 abbrev pub is_group : List ℕ → Bool
 is_group address = slice_index address 0 % 2 == 1
 
--- the two strings are the same octets
-abbrev pub same_octets : List ℕ → List ℕ → Bool
-same_octets = pointwise nat_eq
+-- the address is the network's or the broadcast one
+abbrev pub is_bss_or_broadcast : List ℕ → List ℕ → Bool
+is_bss_or_broadcast bss address = bytes_eq address bss || bytes_eq address broadcast
 
 -- an octet as two hexadecimal digits in lower case
 abbrev pub octet_text : ℕ → List ℕ

@@ -1,12 +1,13 @@
 -- The frames that are read (IEEE Std 802.11-2016, 9.2.3, 9.2.4 and 9.3.3): which string of octets is which
 -- frame for a network, and the first fault of a string that is none.
-use Rattle.std.specs.Prelude.{ℕ, ◌/◌, ◌%◌, ◌^◌, ◌≤◌, ◌≡◌, ◌≢◌, ◌⊎◌, Bool, false, not, nat_lt, ◌==◌, ◌&&◌, ◌||◌, List, [], ◌∷◌, ◌++◌, length, take, drop, slice_index, Result, Ok, Err, if◌then◌else◌}
-use Rattle.mac_frame.specs.Address.{broadcast, is_group, same_octets}
-use Rattle.mac_frame.specs.declared.reading.FrameControl.{FrameControl}
-use Rattle.mac_frame.specs.declared.reading.Rx.{Rx}
-use Rattle.mac_frame.specs.declared.reading.Rx.TheVariants as rx
-use Rattle.mac_frame.specs.declared.reading.Unread.{Unread}
-use Rattle.mac_frame.specs.declared.reading.Unread.TheVariants.{Short, Version, Kind, Flags, Direction, Address, TooLong}
+use Rattle.std.specs.Prelude.{ℕ, ◌≤◌, ◌≡◌, ◌≢◌, ◌⊎◌, Bool, false, not, nat_lt, ◌==◌, ◌&&◌, ◌||◌, List, [], ◌∷◌, ◌++◌, length, drop, slice_index, Result, Ok, Err, if◌then◌else◌}
+use Rattle.std.specs.Str.{bytes_eq}
+use Rattle.mac_frame.specs.Address.{broadcast, is_group, is_bss_or_broadcast}
+use Rattle.mac_frame.specs.Header.{bits, has_bit, probe_request_subtype, address_at}
+use Rattle.mac_frame.specs.declared.frame.Rx.{Rx}
+use Rattle.mac_frame.specs.declared.frame.Rx.TheVariants as rx
+use Rattle.mac_frame.specs.declared.frame.Unread.{Unread}
+use Rattle.mac_frame.specs.declared.frame.Unread.TheVariants.{Short, Version, Kind, Flags, Direction, Address, TooLong}
 
 -- a frame without where its body lies in memory
 pub data Frame : Type 0 where
@@ -14,31 +15,6 @@ pub data Frame : Type 0 where
 
 abbrev pub shown : Rx → Frame
 shown (rx.Mgmt subtype from to_all body) = Mgmt subtype from to_all body.now
-
--- the bits from low on, as many as count, of an octet
-abbrev pub bits : ℕ → ℕ → ℕ → ℕ
-bits octet low count = octet / 2 ^ low % 2 ^ count
-
--- a bit of an octet is 1
-abbrev pub has_bit : ℕ → ℕ → Bool
-has_bit octet n = bits octet n 1 == 1
-
--- a Frame Control field, of its two octets (9.2.4.1)
-abbrev pub control_of : ℕ → ℕ → FrameControl
-control_of first second = record {
-  version = bits first 0 2;
-  kind = bits first 2 2;
-  subtype = bits first 4 4;
-  to_ds = has_bit second 0;
-  from_ds = has_bit second 1;
-  more_fragments = has_bit second 2;
-  protected = has_bit second 6;
-  order = has_bit second 7;
-}
-
--- the subtype of a probe request (9.2.4.1.3)
-abbrev pub probe_request : ℕ
-probe_request = 4
 
 -- ---- as a relation: the whole string, field by field
 
@@ -63,8 +39,9 @@ spelled f =
     (f.control ∷ f.flags ∷ []) ++ f.duration ++ f.receiver ++ f.transmitter ++ f.network
     ++ (f.fragment ∷ f.sequence ∷ []) ++ f.body
 
--- the string is a probe request for the network, with these fields
-pub record IsProbeRequest (bss x : List ℕ) (f : Fields) : Type 0 where
+-- The string is a management frame from a station, with these fields. Which one it is, and what it says of its receiver
+-- and of its network, is left to each.
+pub record IsManagement (bss x : List ℕ) (f : Fields) : Type 0 where
   pub string : x ≡ spelled f
   pub duration : length f.duration ≡ 2
   pub receiver : length f.receiver ≡ 6
@@ -73,23 +50,34 @@ pub record IsProbeRequest (bss x : List ℕ) (f : Fields) : Type 0 where
   pub body : length f.body ≤ 2304
   pub version : bits f.control 0 2 ≡ 0
   pub type : bits f.control 2 2 ≡ 0
-  pub subtype : bits f.control 4 4 ≡ probe_request
   pub to_ds : has_bit f.flags 0 ≡ false
   pub from_ds : has_bit f.flags 1 ≡ false
   pub more_fragments : has_bit f.flags 2 ≡ false
   pub protected : has_bit f.flags 6 ≡ false
   pub order : has_bit f.flags 7 ≡ false
   pub first_fragment : bits f.fragment 0 4 ≡ 0
-  pub to_network : (f.receiver ≡ bss) ⊎ (f.receiver ≡ broadcast)
   pub from_station : is_group f.transmitter ≡ false
   pub from_another : f.transmitter ≢ bss
+
+-- it is a probe request: sent to the network or to all, and for it or for any
+pub record IsProbeRequest (bss x : List ℕ) (f : Fields) : Type 0 where
+  pub management : IsManagement bss x f
+  pub subtype : bits f.control 4 4 ≡ probe_request_subtype
+  pub to_network : (f.receiver ≡ bss) ⊎ (f.receiver ≡ broadcast)
   pub of_network : (f.network ≡ bss) ⊎ (f.network ≡ broadcast)
+
+-- what is told of a management frame, by its fields
+pub record IsMgmt (bss x : List ℕ) (subtype : ℕ) (from : List ℕ) (to_all : Bool) (body : List ℕ) : Type 0 where
+  pub fields : Fields
+  pub probe_request : IsProbeRequest bss x fields
+  pub subtype_is : subtype ≡ probe_request_subtype
+  pub from_is : from ≡ fields.transmitter
+  pub to_all_is : to_all ≡ bytes_eq fields.receiver broadcast
+  pub body_is : body ≡ fields.body
 
 -- The string is this frame for the network. What nothing above tests is ignored.
 abbrev pub IsFrame : List ℕ → List ℕ → Frame → Type 0
-IsFrame bss x (Mgmt subtype from to_all body) =
-    (f : Fields) × IsProbeRequest bss x f × (subtype ≡ probe_request) × (from ≡ f.transmitter)
-    × (to_all ≡ same_octets f.receiver broadcast) × (body ≡ f.body)
+IsFrame bss x (Mgmt subtype from to_all body) = IsMgmt bss x subtype from to_all body
 
 -- ---- as a function: the tests in their order, by the places of the octets
 
@@ -101,9 +89,6 @@ type_of x = bits (slice_index x 0) 2 2
 
 abbrev pub subtype_of : List ℕ → ℕ
 subtype_of x = bits (slice_index x 0) 4 4
-
-abbrev pub address_at : List ℕ → ℕ → List ℕ
-address_at x place = take 6 (drop place x)
 
 -- too short for a header: 16 octets in a control frame, 24 in any other
 abbrev pub is_short : List ℕ → Bool
@@ -119,14 +104,10 @@ has_refused_flags x =
 abbrev pub has_direction : List ℕ → Bool
 has_direction x = has_bit (slice_index x 1) 0 || has_bit (slice_index x 1) 1
 
--- the address is the network's or the broadcast one
-abbrev pub is_bss_or_broadcast : List ℕ → List ℕ → Bool
-is_bss_or_broadcast bss address = same_octets address bss || same_octets address broadcast
-
 -- not from a station to this network
 abbrev pub has_wrong_address : List ℕ → List ℕ → Bool
 has_wrong_address bss x =
-    not (is_bss_or_broadcast bss (address_at x 4)) || is_group (address_at x 10) || same_octets (address_at x 10) bss
+    not (is_bss_or_broadcast bss (address_at x 4)) || is_group (address_at x 10) || bytes_eq (address_at x 10) bss
     || not (is_bss_or_broadcast bss (address_at x 16))
 
 -- the management frame that a string is for the network, or its first fault behind that of its kind
@@ -136,16 +117,12 @@ management_of bss x =
     else if has_direction x then Err Direction
     else if has_wrong_address bss x then Err Address
     else if nat_lt 2304 (length (drop 24 x)) then Err TooLong
-    else Ok (Mgmt (subtype_of x) (address_at x 10) (same_octets (address_at x 4) broadcast) (drop 24 x))
+    else Ok (Mgmt (subtype_of x) (address_at x 10) (bytes_eq (address_at x 4) broadcast) (drop 24 x))
 
 -- the frame that a string is for the network, or its first fault
 abbrev pub frame_of : List ℕ → List ℕ → Result Frame Unread
 frame_of bss x =
     if is_short x then Err Short
     else if not (version_of x == 0) then Err Version
-    else if not (type_of x == 0 && subtype_of x == probe_request) then Err Kind
+    else if not (type_of x == 0 && subtype_of x == probe_request_subtype) then Err Kind
     else management_of bss x
-
--- the address that a frame is sent to: Address 1
-abbrev pub addressed_to : List ℕ → List ℕ
-addressed_to x = address_at x 4

@@ -8,18 +8,18 @@
 #![tactic(auto)]
 
 mod address;
+mod frame;
 mod header;
 mod item_list;
 mod memory;
 mod octet_string;
-mod reading;
 
 pub use address::MacAddr;
-pub use header::write_mgmt;
+pub use frame::{Rx, Unread, body_has_octets, decode, frame_is_addressed, one_frame};
+pub use header::{HEADER_LEN, PROBE_REQUEST, PROBE_RESPONSE, addressed, write_mgmt};
 pub use item_list::List;
 pub use memory::NoMemory;
 pub use octet_string::Octets;
-pub use reading::{Rx, Unread, addressed, decode, frame_is_addressed, one_frame};
 
 #[cfg(test)]
 mod tests;

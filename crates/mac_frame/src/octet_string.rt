@@ -1,6 +1,6 @@
 //! A string of octets that can grow.
 
-ghost use Rattle.std.specs.Prelude.{◌≡◌, ℕ, List, [], ◌++◌, length, take, OnOk, OnErr, IfOk};
+ghost use Rattle.std.specs.Prelude.{◌≡◌, ℕ, List, [], ◌++◌, take, OnOk, OnErr, IfOk};
 
 use crate::memory::NoMemory;
 use std::alloc::Global;

@@ -44,15 +44,12 @@ impl<T: Drop> From<AllocFailed<T>> for ConfigTextFault {
 pub(super) fn at_radio(code: u8) -> ConfigTextFault
     ensures { result ≡ ConfigTextFault.At (of_radio code) }
 {
-    ConfigTextFault::At(ConfigFault { code, place: None })
+    ConfigTextFault::At(ConfigFault::of_radio(code))
 }
 
 /// A fault of the network at a place: 8 to 12.
 pub(super) fn at_network(code: u8, place: usize) -> ConfigTextFault
     ensures { result ≡ ConfigTextFault.At (of_network code place) }
 {
-    ConfigTextFault::At(ConfigFault {
-        code,
-        place: Some(place),
-    })
+    ConfigTextFault::At(ConfigFault::of_network(code, place))
 }

@@ -2,11 +2,14 @@
 
 ghost use Rattle.std.specs.Prelude.{◌≡◌, nat_le, [], IfOk, option_map, option_copied};
 ghost use Rattle.toml.specs.View.{array_view, table_view, items_view};
-ghost use Rattle.apctl.specs.ConfigurationText.{Gives, bssid_at, ssid_at, rates_at, network_of, networks_of, networks_at, are_tables, tables_in};
+ghost use Rattle.apctl.specs.ConfigurationText.{Gives, bssid_at, ssid_at, rates_at, network_of_table, networks_of, networks_at, are_tables, tables_in};
 
 use crate::configuration::fault::{ConfigTextFault, at_network};
 use crate::configuration::values::{array_at, number_at, text_at};
-use bss_core::{MOST_NETWORKS, NetConfig, is_taken, rates_fit};
+use bss_core::{
+    MAX_EVENTS, MAX_KNOWN, MAX_NETWORKS, MAX_QUOTA, MAX_SSID_LEN, MAX_STATIONS, NetConfig,
+    is_taken, rates_fit,
+};
 use mac_frame::{MacAddr, NoMemory, Octets};
 use std::alloc::Global;
 use toml::value::Array;
@@ -18,7 +21,7 @@ pub(super) fn networks_at(top: &Table) -> Option<&Array>
     ensures { option_map (λ values. array_view values.now) result ≡ networks_at (table_view top.now) }
 {
     let values = array_at(top, "network")?;
-    if are_tables(values) && (1..=MOST_NETWORKS).contains(&values.len()) {
+    if are_tables(values) && (1..=MAX_NETWORKS).contains(&values.len()) {
         Some(values)
     } else {
         None
@@ -56,23 +59,27 @@ pub(super) fn read_networks(
 }
 
 /// The network of a table, behind earlier networks.
-#[tactic(auto, unfolding(crate::specs::ConfigurationText::network_of))]
+#[tactic(auto, unfolding(crate::specs::ConfigurationText::network_of_table))]
 fn read_network(
     alloc: Global,
     earlier: &[NetConfig],
     table: &Table,
 ) -> Result<NetConfig, ConfigTextFault>
-    ensures { Gives (λ network. network) result (network_of earlier.now (table_view table.now)) }
+    ensures { Gives (λ network. network) result (network_of_table earlier.now (table_view table.now)) }
 {
     let place = earlier.len();
     let bssid = bssid_at(earlier, table).ok_or(at_network(8, place))?;
     let ssid = ssid_at(table).ok_or(at_network(9, place))?;
     let rates = rates_at(alloc, table)?.ok_or(at_network(10, place))?;
-    let dtim = number_at(table, "dtim", 1, 255).ok_or(at_network(11, place))?;
-    let max_stations = number_at(table, "max_stations", 1, 2007).ok_or(at_network(11, place))?;
-    let max_known = number_at(table, "max_known", 1, 10_000).ok_or(at_network(11, place))?;
-    let quota = number_at(table, "quota", 0, 100_000).ok_or(at_network(11, place))?;
-    let max_events = number_at(table, "max_events", 1, 1_000_000).ok_or(at_network(11, place))?;
+    let dtim = number_at(table, "dtim", 1, u32::from(u8::MAX)).ok_or(at_network(11, place))?;
+    let max_stations = number_at(table, "max_stations", 1, u32::from(MAX_STATIONS)).ok_or(
+        at_network(11, place),
+    )?;
+    let max_known = number_at(table, "max_known", 1, u32::from(MAX_KNOWN)).ok_or(at_network(
+        11, place,
+    ))?;
+    let quota = number_at(table, "quota", 0, MAX_QUOTA).ok_or(at_network(11, place))?;
+    let max_events = number_at(table, "max_events", 1, MAX_EVENTS).ok_or(at_network(11, place))?;
     if !stations_fit(max_stations, max_known) {
         return Err(at_network(12, place));
     }
@@ -108,13 +115,13 @@ fn bssid_at(earlier: &[NetConfig], table: &Table) -> Option<MacAddr>
     }
 }
 
-/// The name of a network: 1 to 32 octets.
+/// The name of a network: 1 to [`MAX_SSID_LEN`] octets.
 #[tactic(auto, unfolding(crate::specs::ConfigurationText::ssid_at))]
 fn ssid_at(table: &Table) -> Option<&[u8]>
     ensures { option_copied result ≡ ssid_at (table_view table.now) }
 {
     let ssid = text_at(table, "ssid")?.as_bytes();
-    if (1..=32).contains(&ssid.len()) {
+    if (1..=MAX_SSID_LEN).contains(&ssid.len()) {
         Some(ssid)
     } else {
         None

@@ -1,5 +1,5 @@
 -- One more frame's line is put.
-use Rattle.std.proofs.Common.{ap, subst, arith}
+use Rattle.std.proofs.Common.{◌∙◌, ap, subst, arith}
 use Rattle.apctl.specs.Report.{frame_line}
 use Rattle.apctl.specs.Sinks.{Delivers, Stops}
 use Rattle.apctl.proofs.SinkSteps.{Puts-err}
@@ -10,13 +10,15 @@ pub returns-in_err-put_frame-clause-text : goal.returns-in_err-put_frame-clause-
 returns-in_err-put_frame-clause-text g c =
     let word = c.args.word.now in
     Puts-err _ c.from_residual.ensures.0
-    (Stops-item (frame_line word) c.args.frames.now c.loop-frame.frame-index c.frame-item.result c.loop-frame-test.true c.frame-item.is c.loop-frame.invariant.0
+    (Stops-item (frame_line word) c.args.frames.now c.loop-frame.frame-index c.frame-item.result c.loop-frame-test.true c.frame-item.is c.loop-frame.invariant.put
     (subst (Stops _ _ _) (ap (frame_line word) c.as_slice.ensures) c.in_err-put_frame.ensures.text.err))
 
 pub loop-frame-preserved : goal.loop-frame-preserved
 loop-frame-preserved g c =
-    let word = c.args.word.now in (
-      Delivers-item (frame_line word) c.args.frames.now c.loop-frame.frame-index c.frame-item.result c.loop-frame-test.true c.frame-item.is c.loop-frame.invariant.0
-          (subst (Delivers _ _ _ _) (ap (frame_line word) c.as_slice.ensures) c.in_ok-put_frame.ensures.text.ok),
-      omega (arith, c.loop-frame.invariant.1, c.in_ok-put_frame.ensures.failures),
-    )
+    let word = c.args.word.now in
+    record {
+      put = Delivers-item (frame_line word) c.args.frames.now c.loop-frame.frame-index c.frame-item.result c.loop-frame-test.true c.frame-item.is c.loop-frame.invariant.put
+          (subst (Delivers _ _ _ _) (ap (frame_line word) c.as_slice.ensures) c.in_ok-put_frame.ensures.text.ok);
+      failures = omega (arith, c.loop-frame.invariant.failures, c.in_ok-put_frame.ensures.failures);
+      same_sink = c.in_ok-put_frame.ensures.same_sink ∙ c.loop-frame.invariant.same_sink;
+    }

@@ -6,7 +6,9 @@ use Rattle.apctl.specs.Sinks.{Delivers}
 use Rattle.apctl.proofs.report.put_frames.Given as goal
 
 abbrev pub invariant-loop-frame : goal.invariant-loop-frame
-invariant-loop-frame g l =
-    Delivers (g.W.Sink.taken l.initial.out) l.initial.piece.items (g.W.Sink.taken l.out) l.piece.items
-    (flat_map (frame_line l.word) (take l.frame-index l.frames))
-    × (g.W.Sink.failed l.out ≡ g.W.Sink.failed l.initial.out)
+invariant-loop-frame g l = record {
+  put : Delivers (g.W.Sink.taken l.initial.out.sink.now) l.initial.out.piece.now.items (g.W.Sink.taken l.out.sink.now) l.out.piece.now.items
+      (flat_map (frame_line l.word) (take l.frame-index l.frames));
+  failures : g.W.Sink.failed l.out.sink.now ≡ g.W.Sink.failed l.initial.out.sink.now;
+  same_sink : l.out.sink.ghost_name ≡ l.initial.out.sink.ghost_name;
+}

@@ -6,6 +6,8 @@ use Rattle.apctl.specs.Sinks.{Delivers}
 use Rattle.apctl.proofs.report.put_stations.Given as goal
 
 abbrev pub invariant-loop-row : goal.invariant-loop-row
-invariant-loop-row g l =
-    Delivers (g.W.Sink.taken l.initial.out) l.initial.piece.items (g.W.Sink.taken l.out) l.piece.items (flat_map station_line (take l.row-index l.table))
-    × (g.W.Sink.failed l.out ≡ g.W.Sink.failed l.initial.out)
+invariant-loop-row g l = record {
+  put : Delivers (g.W.Sink.taken l.initial.out.sink.now) l.initial.out.piece.now.items (g.W.Sink.taken l.out.sink.now) l.out.piece.now.items (flat_map station_line (take l.row-index l.table));
+  failures : g.W.Sink.failed l.out.sink.now ≡ g.W.Sink.failed l.initial.out.sink.now;
+  same_sink : l.out.sink.ghost_name ≡ l.initial.out.sink.ghost_name;
+}

@@ -6,6 +6,8 @@ use Rattle.apctl.specs.Sinks.{Delivers}
 use Rattle.apctl.proofs.report.write_report.Given as goal
 
 abbrev pub invariant-loop-section : goal.invariant-loop-section
-invariant-loop-section g l =
-    Delivers (g.W.Sink.taken l.initial.out) l.initial.piece.items (g.W.Sink.taken l.out) l.piece.items (flat_map section_text (take l.section-index l.sections))
-    × (g.W.Sink.failed l.out ≡ g.W.Sink.failed l.initial.out)
+invariant-loop-section g l = record {
+  put : Delivers (g.W.Sink.taken l.initial.buffered.sink.now) l.initial.buffered.piece.now.items (g.W.Sink.taken l.buffered.sink.now) l.buffered.piece.now.items (flat_map section_text (take l.section-index l.sections));
+  failures : g.W.Sink.failed l.buffered.sink.now ≡ g.W.Sink.failed l.initial.buffered.sink.now;
+  same_sink : l.buffered.sink.ghost_name ≡ l.initial.buffered.sink.ghost_name;
+}

@@ -1,5 +1,7 @@
 use Rattle.std.proofs.Common.{rules}
-use Rattle.bss_core.proofs.Requests.{asks, frame_in}
+use Rattle.mac_frame.specs.Header.{probe_request_subtype}
+use Rattle.mac_frame.specs.Frame.{Mgmt}
+use Rattle.bss_core.specs.Request.{Probe}
 use Rattle.bss_core.proofs.ReadRequests.{request-from_probe, only-from_probe}
 use Rattle.bss_core.proofs.request.read.Goals as goal
 
@@ -12,6 +14,5 @@ returns-clause-only c =
     only-from_probe c.args.bss c.args.frame.now c.in-Ok.rx _ _ _ c.in-Ok.ensures.only c.read_probe.ensures.only (search rules) (search rules)
 
 pub returns-in-Err-clause-only : goal.returns-in-Err-clause-only
-returns-in-Err-clause-only c r w =
-    let a = asks c.args.bss c.args.frame.now r w in
-    c.in-Err.ensures.only (frame_in c.args.bss c.args.frame.now r a) a.is_frame
+returns-in-Err-clause-only c (Probe from ssid) w =
+    c.in-Err.ensures.only (Mgmt probe_request_subtype from w.to_all w.body) w.frame

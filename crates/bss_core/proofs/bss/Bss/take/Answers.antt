@@ -3,12 +3,12 @@ use Rattle.bss_core.specs.Network.{Setting, step, alone}
 use Rattle.bss_core.specs.Replies.{after_reply, frames_of}
 use Rattle.bss_core.specs.State.{State, network_of, sent_by}
 use Rattle.bss_core.specs.declared.event.Event.{Event}
-use Rattle.bss_core.proofs.AloneLaws.{unread-le, sequence-lt, keeps-push, sent_by-reply, air-push}
+use Rattle.bss_core.proofs.AloneLaws.{kept_unread-le, kept_sequence-lt, keeps-push, sent_by-reply, air-push}
 use Rattle.bss_core.proofs.bss.Bss.take.Goals as goal
 
 pub unread_after-unread-requires : goal.unread_after-unread-requires
 unread_after-unread-requires c =
-    let few : c.self.inside.unread ≤ length c.self.inside.history.items = (let P : ℕ → Type 0 = λ n. n ≤ length c.self.inside.history.items in subst P c.self.invariant.0.unread_is (unread-le _ _)) in
+    let few : c.self.inside.unread ≤ length c.self.inside.history.items = kept_unread-le _ _ _ c.self.invariant.0 in
     let room = c.if-len-self.false in
     let same = c.self.inside.history.ok.0 in
     let len : c.len.result ≡ length c.self.inside.history.items = c.len.ensures ∙ same in
@@ -16,8 +16,7 @@ unread_after-unread-requires c =
     omega arith
 
 pub sequence_after-sequence-requires : goal.sequence_after-sequence-requires
-sequence_after-sequence-requires c =
-    let P : ℕ → Type 0 = λ n. n < 4096 in subst P c.self.invariant.0.sequence_is (sequence-lt _ _)
+sequence_after-sequence-requires c = kept_sequence-lt _ _ _ c.self.invariant.0
 
 pub invariant_of-self-2 : goal.invariant_of-self-2
 invariant_of-self-2 c =
@@ -28,7 +27,7 @@ invariant_of-self-2 c =
     let items : c.push_reserved.new.self.items ≡ es ++ c.args.event ∷ [] = c.push_reserved.ensures.items ∙ ap (λ (h : List Event). h ++ c.args.event ∷ []) c.reserve.ensures.items in
     let P : State → Type 0 = λ st. step st.setting (network_of st) c.args.event ≡ after_reply c.in_ok-reply.reply (network_of st) in
     let replied : step s (alone s es) c.args.event ≡ after_reply c.in_ok-reply.reply (alone s es) = subst P (sym c.self.view_is) c.in_ok-reply.ensures in
-    let kept = keeps-push s es c.args.event c.in_ok-reply.reply c.self.inside.clock c.self.inside.sequence c.self.inside.lost c.self.inside.unread c.self.inside.wired.items c.self.invariant.0 room replied in
+    let kept = keeps-push s es c.args.event c.in_ok-reply.reply _ c.self.invariant.0 room replied in
     (rw (items, c.sequence_after-sequence.ensures, c.unread_after-unread.ensures) kept, λ h. absurd cc)
 
 pub returns-clause-waiting : goal.returns-clause-waiting
