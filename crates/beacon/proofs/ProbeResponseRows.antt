@@ -1,15 +1,12 @@
 -- What the definitions say of some probe responses.
 use Rattle.std.proofs.Common.{◌≡◌, ℕ, List, [], ◌∷◌, ◌++◌, refl}
 use Rattle.std.specs.Int.{w64, to_le_bytes}
+use Rattle.mac_frame.proofs.Samples.{network, station}
 use Rattle.beacon.specs.ProbeResponse.{Announced, timestamp, fixed_fields, network_elements, probe_response_body, probe_response}
 
 -- a network 02:00:00:00:00:01 named lab on channel 6, with a beacon interval of 100 time units
 abbrev lab : List ℕ → Announced
-lab rates = record { bss = 2 ∷ 0 ∷ 0 ∷ 0 ∷ 0 ∷ 1 ∷ []; ssid = 108 ∷ 97 ∷ 98 ∷ []; rates = rates; channel = 6; interval = 100; clock = 0 }
-
--- a station 02:aa:00:00:00:01
-abbrev station : List ℕ
-station = 2 ∷ 170 ∷ 0 ∷ 0 ∷ 0 ∷ 1 ∷ []
+lab rates = record { bss = network; ssid = 108 ∷ 97 ∷ 98 ∷ []; rates = rates; channel = 6; interval = 100; clock = 0 }
 
 -- 1 and 2 Mb/s as basic rates, 5.5 and 11 Mb/s
 abbrev four_rates : List ℕ

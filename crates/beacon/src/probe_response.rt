@@ -19,7 +19,7 @@ const TIME_UNIT: u64 = 1024;
 /// Set of 3, and the first two octets of three elements (9.3.3.11).
 const FIXED_LEN: usize = HEADER_LEN + 12 + 3 + 3 * 2;
 
-/// Appends a whole probe response to the station `to`. After `NoMemory` `out` is as it was.
+/// Appends a whole probe response to the station `to` (9.3.3.11). After `NoMemory` `out` is as it was.
 pub fn write_probe_response(
     out: &mut Octets,
     advert: &Advert<'_>,

@@ -1,17 +1,10 @@
 -- A sample configuration, and the frames of one station.
 use Rattle.std.proofs.Common.{ℕ, List, [], ◌∷◌, ◌++◌}
 use Rattle.mac_frame.specs.Address.{broadcast}
+pub use Rattle.mac_frame.proofs.Samples.{network as bssid, station}
 use Rattle.bss_core.specs.Network.{Setting}
 use Rattle.bss_core.specs.declared.config.NetConfig.{NetConfig}
 use Rattle.bss_core.specs.declared.config.RadioConfig.{RadioConfig}
-
--- 02:00:00:00:00:01
-abbrev pub bssid : List ℕ
-bssid = 0x02 ∷ 0 ∷ 0 ∷ 0 ∷ 0 ∷ 0x01 ∷ []
-
--- 02:aa:00:00:00:01
-abbrev pub station : List ℕ
-station = 0x02 ∷ 0xaa ∷ 0 ∷ 0 ∷ 0 ∷ 0x01 ∷ []
 
 -- `lab` in ASCII
 abbrev pub lab : List ℕ

@@ -210,7 +210,8 @@ impl Bss {
 
     /// Takes an event, and answers its number in the history, from 0. Frames that it sends wait behind the others.
     /// `HistoryFull` exactly where the history is full, which is tested first; `NoMemory` where a growth was
-    /// refused. After either nothing has changed. An air event that the network doesn't hear counts as unread.
+    /// refused. After either nothing has changed. An air event that the network doesn't hear counts as unread
+    /// (*profile*).
     pub fn take(&mut self, event: Event) -> Result<u32, Refusal>
         ensures number { IfOk result (λ number. number ≡ length self.old.history) }
         ensures history { OnOk result (self.new.history ≡ self.old.history ++ event ∷ []) }

@@ -13,7 +13,7 @@ use mac_frame::MacAddr;
 impl RadioConfig {
     /// The first fault, in the order `C4` to `C12`; the faults from `C8` on are tried network by network. It looks at
     /// values alone: that a text has every key, and no other, is for the reader of the text. `None` where the
-    /// configuration is sound.
+    /// configuration is sound (*profile*).
     pub fn check(&self) -> Option<ConfigFault>
         ensures { result ≡ fault_of self.now }
     {
@@ -56,7 +56,7 @@ fn fault_behind(earlier: &[NetConfig], network: &NetConfig) -> Option<u8>
     network_fault(network)
 }
 
-/// Whether a network among others has this BSSID.
+/// Whether a network among others has this BSSID (*profile*).
 pub fn is_taken(others: &[NetConfig], bssid: MacAddr) -> bool
     ensures { result ≡ is_taken others.now bssid }
 {

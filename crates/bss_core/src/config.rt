@@ -6,7 +6,7 @@ ghost use Rattle.bss_core.specs.Configuration.{of_radio, of_network};
 use mac_frame::{List, MacAddr, Octets};
 use std::fmt;
 
-/// The greatest number of a channel (IEEE Std 802.11-2016, 9.4.2.4: the channels of the 2.4 GHz band).
+/// The greatest number of a channel (*profile*; the field is IEEE Std 802.11-2016, 9.4.2.4).
 pub const MAX_CHANNEL: u8 = 14;
 
 /// The most frames that the air queue holds (*profile*).
@@ -82,14 +82,15 @@ pub struct ConfigFault {
 }
 
 impl ConfigFault {
-    /// The fault with this code of the radio's own settings, or of the text as a whole: it has no place.
+    /// The fault with this code, 1 to 7, of the radio's own settings or of the text as a whole: it has no place
+    /// (*profile*).
     pub fn of_radio(code: u8) -> ConfigFault
         ensures { result ≡ of_radio code }
     {
         ConfigFault { code, place: None }
     }
 
-    /// The fault with this code of the network at a place.
+    /// The fault with this code, 8 to 12, of the network at a place, counted from 0 (*profile*).
     pub fn of_network(code: u8, place: usize) -> ConfigFault
         ensures { result ≡ of_network code place }
     {

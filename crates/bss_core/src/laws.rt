@@ -13,7 +13,7 @@ use elements::one_list;
 use mac_frame::{body_has_octets, frame_is_addressed, one_frame};
 
 /// A string of octets is at most one request for a network, which is the one that reading gives; and the network
-/// hears it.
+/// hears it (IEEE Std 802.11-2016, 9.3.3).
 pub fn one_request()
     ensures unique { (bss x : List ℕ) (r s : Request) → IsRequest bss x r → IsRequest bss x s → r ≡ s }
     ensures read { (bss x : List ℕ) (r : Request) → IsRequest bss x r → request_of bss x ≡ Ok r }
@@ -26,7 +26,7 @@ pub fn one_request()
     one_list();
 }
 
-/// The test of what a network hears says so exactly where it hears it.
+/// The test of what a network hears says so exactly where it hears it (IEEE Std 802.11-2016, 9.2.4.3).
 pub fn hearing()
     ensures { (bss x : List ℕ) → (is_heard bss x ≡ true) ↔ Hears bss x }
 {}

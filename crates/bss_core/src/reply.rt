@@ -35,7 +35,7 @@ impl Reply {
         }
     }
 
-    /// The sequence number of the network's next frame.
+    /// The sequence number of the network's next frame (9.2.4.4.2).
     pub fn sequence_after(&self, sequence: u16) -> u16
         requires { sequence < 4096 }
         ensures { result ≡ sequence_after self.now sequence }

@@ -20,7 +20,8 @@ pub enum Request<'a> {
     },
 }
 
-/// The request of a string of octets for the network `bss`, or its first fault.
+/// The request of a string of octets for the network `bss` (9.3.3), or its first fault in the order of [`Unread`]
+/// (*profile*).
 pub fn read(bss: MacAddr, frame: &[u8]) -> Result<Request<'_>, Unread>
     // What is read is this request; what is this request is read.
     ensures request { IfOk result (λ request. IsRequest bss frame.now (shown request)) }

@@ -50,7 +50,8 @@ impl<'a> Model for Elements<'a> {
 }
 
 impl<'a> Elements<'a> {
-    /// The elements of a body: an error exactly where the body is no concatenation of elements. It takes no memory.
+    /// The elements of a body (9.4.2.1): an error exactly where the body is no concatenation of elements. It takes
+    /// no memory.
     #[tactic(auto, using(crate::proofs::Walk::elements_of_elements))]
     pub fn new(body: &'a [u8]) -> Result<Elements<'a>, Overrun>
         ensures ok { IfOk result (λ es. IsElements body.now es) }
@@ -63,7 +64,8 @@ impl<'a> Elements<'a> {
         Ok(Elements { rest: body })
     }
 
-    /// The Information field of the first element with this element ID, if there is one.
+    /// The Information field of the first element with this element ID, if there is one (which of several counts is
+    /// *profile*).
     pub fn first(&self, id: u8) -> Option<&'a [u8]>
         ensures { option_map (λ body. body.now) result ≡ first_of id self.now }
     {
@@ -132,7 +134,7 @@ pub fn write_element(out: &mut Octets, id: u8, body: &[u8]) -> Result<(), NoMemo
     out.roll_back(len, written)
 }
 
-/// A body is one list of elements at most, and reading gives it exactly where there is one.
+/// A body is one list of elements at most, and reading gives it exactly where there is one (9.4.2.1).
 pub fn one_list()
     ensures unique { (body : List ℕ) (es fs : List Pair) → IsElements body es → IsElements body fs → es ≡ fs }
     ensures read { (body : List ℕ) (es : List Pair) → IsElements body es → elements_of body ≡ Some es }

@@ -52,8 +52,8 @@ pub enum Unread {
 /// How many octets follow a header at most (9.2.4.7.1).
 const MAX_BODY_LEN: usize = 2304;
 
-/// The frame that a string of octets is for the network `bss`, or the first fault in the order of [`Unread`].
-/// The faults are all but [`Unread::Body`].
+/// The frame that a string of octets is for the network `bss` (9.2.3, 9.3.3), or the first fault in the order of
+/// [`Unread`] (*profile*). The faults are all but [`Unread::Body`].
 pub fn decode(bss: MacAddr, frame: &[u8]) -> Result<Rx<'_>, Unread>
     // What is read is this frame; what is this frame is read.
     ensures frame { IfOk result (λ rx. IsFrame bss frame.now (shown rx)) }
@@ -111,19 +111,19 @@ fn management(bss: MacAddr, control: FrameControl, frame: &[u8]) -> Result<Rx<'_
     })
 }
 
-/// A string is at most one frame, which is the one that the tests in their order give.
+/// A string is at most one frame, which is the one that the tests in their order give (9.2.3, 9.3.3).
 pub fn one_frame()
     ensures reading { (bss x : List ℕ) (f : Frame) → (frame_of bss x ≡ Ok f) ↔ IsFrame bss x f }
     ensures unique { (bss x : List ℕ) (f g : Frame) → IsFrame bss x f → IsFrame bss x g → f ≡ g }
 {}
 
-/// A frame for a network has an Address 1, which is the network's or the broadcast one.
+/// A frame for a network has an Address 1, which is the network's or the broadcast one (9.2.4.3).
 pub fn frame_is_addressed()
     ensures long { (bss x : List ℕ) (f : Frame) → IsFrame bss x f → 10 ≤ length x }
     ensures receiver { (bss x : List ℕ) (f : Frame) → IsFrame bss x f → (addressed_to x ≡ bss) ⊎ (addressed_to x ≡ broadcast) }
 {}
 
-/// The body of a frame has octets where the string has.
+/// The body of a frame has octets, numbers below 256, where the string has (9.2.3).
 pub fn body_has_octets()
     ensures { (bss x : List ℕ) (subtype : ℕ) (from : List ℕ) (to_all : Bool) (body : List ℕ) → IsFrame bss x (Frame.Mgmt subtype from to_all body)
         → ((place : ℕ) → slice_index x place < 256) → (place : ℕ) → slice_index body place < 256 }

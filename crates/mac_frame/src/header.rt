@@ -106,7 +106,7 @@ pub struct Header {
 }
 
 impl Header {
-    /// The header at the head of a frame.
+    /// The header at the head of a frame of at least 24 octets.
     pub fn new(frame: &[u8]) -> Header
         requires { HEADER_LEN ≤ length frame.now }
         ensures receiver { result.receiver ≡ address_at frame.now 4 }
@@ -157,7 +157,7 @@ fn address_at(frame: &[u8], place: usize) -> MacAddr
     ])
 }
 
-/// What follows the header of a frame.
+/// What follows the header of a frame of at least 24 octets (9.2.3).
 pub fn body_of(frame: &[u8]) -> &[u8]
     requires { HEADER_LEN ≤ length frame.now }
     ensures { result.now ≡ drop 24 frame.now }
@@ -165,7 +165,7 @@ pub fn body_of(frame: &[u8]) -> &[u8]
     &frame[HEADER_LEN..]
 }
 
-/// Address 1 of a string of octets, octets 4 to 9: to whom it was sent. `None` below 10 octets.
+/// Address 1 of a string of octets, octets 4 to 9: to whom it was sent (9.2.3). `None` below 10 octets.
 pub fn addressed(frame: &[u8]) -> Option<MacAddr>
     ensures { SomeIff result (10 ≤ length frame.now) (addressed_to frame.now) }
 {

@@ -71,15 +71,12 @@ fn read_network(
     let bssid = bssid_at(earlier, table).ok_or(at_network(8, place))?;
     let ssid = ssid_at(table).ok_or(at_network(9, place))?;
     let rates = rates_at(alloc, table)?.ok_or(at_network(10, place))?;
-    let dtim = number_at(table, "dtim", 1, u32::from(u8::MAX)).ok_or(at_network(11, place))?;
-    let max_stations = number_at(table, "max_stations", 1, u32::from(MAX_STATIONS)).ok_or(
-        at_network(11, place),
-    )?;
-    let max_known = number_at(table, "max_known", 1, u32::from(MAX_KNOWN)).ok_or(at_network(
-        11, place,
-    ))?;
-    let quota = number_at(table, "quota", 0, MAX_QUOTA).ok_or(at_network(11, place))?;
-    let max_events = number_at(table, "max_events", 1, MAX_EVENTS).ok_or(at_network(11, place))?;
+    let fault = at_network(11, place);
+    let dtim = number_at(table, "dtim", 1, u32::from(u8::MAX)).ok_or(fault)?;
+    let max_stations = number_at(table, "max_stations", 1, u32::from(MAX_STATIONS)).ok_or(fault)?;
+    let max_known = number_at(table, "max_known", 1, u32::from(MAX_KNOWN)).ok_or(fault)?;
+    let quota = number_at(table, "quota", 0, MAX_QUOTA).ok_or(fault)?;
+    let max_events = number_at(table, "max_events", 1, MAX_EVENTS).ok_or(fault)?;
     if !stations_fit(max_stations, max_known) {
         return Err(at_network(12, place));
     }
