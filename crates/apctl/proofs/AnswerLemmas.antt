@@ -3,18 +3,18 @@ use Rattle.std.proofs.Common.{◌≡◌, ℕ, List, Option, Result, Ok, Err, ap,
 use Rattle.std.proofs.KnownBytes.{Keeps-refl}
 use Rattle.bss_core.specs.declared.config.RadioConfig.{RadioConfig}
 use Rattle.bss_core.specs.declared.section.Section.{Section}
-use Rattle.apctl.specs.declared.configuration.fault.ConfigTextFault.{ConfigTextFault}
-use Rattle.apctl.specs.declared.configuration.fault.ConfigTextFault.TheVariants as config
-use Rattle.apctl.specs.declared.trace.Line.{Line}
-use Rattle.apctl.specs.declared.trace.TraceTextFault.{TraceTextFault}
-use Rattle.apctl.specs.declared.trace.TraceTextFault.TheVariants as trace
-use Rattle.apctl.specs.declared.report.ReportFault.{ReportFault}
-use Rattle.apctl.specs.declared.report.ReportFault.TheVariants as report
-use Rattle.apctl.specs.ConfigurationText.{configuration_of, Faults}
-use Rattle.apctl.specs.TraceText.{lines_of, IsTextFault}
+use Rattle.trace.specs.declared.configuration.fault.ConfigTextFault.{ConfigTextFault}
+use Rattle.trace.specs.declared.configuration.fault.ConfigTextFault.TheVariants as config
+use Rattle.workers.specs.declared.line.Line.{Line}
+use Rattle.trace.specs.declared.read.TraceTextFault.{TraceTextFault}
+use Rattle.trace.specs.declared.read.TraceTextFault.TheVariants as trace
+use Rattle.trace.specs.declared.report.ReportFault.{ReportFault}
+use Rattle.trace.specs.declared.report.ReportFault.TheVariants as report
+use Rattle.trace.specs.ConfigurationText.{configuration_of, Faults}
+use Rattle.trace.specs.TraceText.{lines_of, IsTextFault}
 use Rattle.apctl.specs.Replay.{sections_of}
-use Rattle.apctl.specs.Report.{report_text}
-use Rattle.apctl.specs.Sinks.{AppendsPrefix}
+use Rattle.trace.specs.Report.{report_text}
+use Rattle.trace.specs.Sinks.{AppendsPrefix}
 use Rattle.apctl.specs.Answer.{answered, replayed, answer_of, Ends, of_config, of_trace, of_report}
 
 -- a fault of the configuration

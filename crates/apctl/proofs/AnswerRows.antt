@@ -6,11 +6,11 @@ use Rattle.bss_core.specs.Network.{alone}
 use Rattle.bss_core.specs.declared.section.Section.{Section}
 use Rattle.bss_core.proofs.NetworkRows.{the_section_of_one_probe, the_section_of_a_probe_for_another, the_section_of_a_short_history}
 use Rattle.bss_core.specs.Configuration.{of_radio}
-use Rattle.apctl.specs.Report.{report_text, section_text, network_line, counts_line, frame_line}
+use Rattle.trace.specs.Report.{report_text, section_text, network_line, counts_line, frame_line}
 use Rattle.apctl.specs.Answer.{answer_of}
 use Rattle.apctl.specs.declared.replay.TextFault.{TextFault}
 use Rattle.apctl.specs.declared.replay.TextFault.TheVariants.{Config, Trace}
-use Rattle.apctl.proofs.ConfigurationRows.{configuration_on_literals}
+use Rattle.trace.proofs.ConfigurationRows.{configuration_on_literals}
 
 -- the sample, with this channel and this most events
 abbrev config_text : List ℕ → List ℕ → List ℕ

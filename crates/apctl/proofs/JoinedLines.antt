@@ -3,9 +3,9 @@ use Rattle.std.proofs.Common.{◌≡◌, ℕ, ◌+◌, Bool, true, false, cond, 
 use Rattle.std.proofs.Math.Numerals.{one-add}
 use Rattle.std.proofs.lemmas.List.Splits.{join_with_byte-slice_split}
 use Rattle.std.specs.List.{list_any, position_or_len, before_first, after_first, flat_map, join_with_byte}
-use Rattle.apctl.specs.Texts.{LacksLineFeed, cut, ended}
+use Rattle.trace.specs.Texts.{LacksLineFeed, cut, ended}
 use Rattle.apctl.specs.Joined.{is_separator, joined_parts, parts_of}
-use Rattle.apctl.proofs.TextLemmas.{cut-ended, cut-last}
+use Rattle.trace.proofs.TextLemmas.{cut-ended, cut-last}
 
 -- ---- what stands round the first element that passes a test
 

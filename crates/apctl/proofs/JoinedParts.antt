@@ -7,7 +7,7 @@ use Rattle.std.proofs.lemmas.List.Sums.{split_at_first, passes_at_first, fails_b
 use Rattle.std.proofs.lemmas.List.Splits.{join_with_byte-slice_split}
 use Rattle.std.proofs.lemmas.Slice.Eq.{bytes_eq-Decides}
 use Rattle.std.specs.List.{All, list_any, position_or_len, before_first, after_first, flat_map, join_with_byte, onto_first}
-use Rattle.apctl.specs.Texts.{LacksLineFeed, cut, ended}
+use Rattle.trace.specs.Texts.{LacksLineFeed, cut, ended}
 use Rattle.apctl.specs.Joined.{IsJoined, is_separator, joined_parts, parts_of, separator}
 
 -- ---- the lines of a text

@@ -3,10 +3,10 @@ use Rattle.std.proofs.Common.{◌≡◌, subst, ℕ, ◌<◌, ◌≤◌, ◌+◌
 use Rattle.std.proofs.lemmas.List.{drop-drop, take_rest}
 use Rattle.std.proofs.lemmas.List.Quantifiers.{position-Some}
 use Rattle.std.specs.List.{position}
-use Rattle.apctl.specs.Texts.{is_line_feed, LacksLineFeed, ended}
+use Rattle.trace.specs.Texts.{is_line_feed, LacksLineFeed, ended}
 use Rattle.apctl.specs.Joined.{IsJoined, is_separator, joined_parts}
 use Rattle.apctl.proofs.JoinedParts.{IsJoined-joined_parts}
-use Rattle.apctl.proofs.TextLemmas.{around_line_feed, front_lacks, lacks_from_none}
+use Rattle.trace.proofs.TextLemmas.{around_line_feed, front_lacks, lacks_from_none}
 use Rattle.apctl.proofs.JoinedLines.{joined_parts-separator, joined_parts-other, joined_parts-last_separator, joined_parts-last_other}
 
 -- The octets before start are other lines than `---`: they go in front of the first part of the rest.

@@ -1,14 +1,3 @@
-pub mod ConfigurationNetworks
-pub mod ConfigurationReading
-pub mod ConfigurationRows
-pub mod ConfigurationSound
-pub mod TextLemmas
-pub mod TraceRows
-pub mod TraceSteps
-pub mod ReportItems
-pub mod ReportRows
-pub mod ReportDigits
-pub mod SinkSteps
 pub mod JoinedLines
 pub mod JoinedParts
 pub mod JoinedRows

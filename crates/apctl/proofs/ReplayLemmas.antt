@@ -6,9 +6,10 @@ use Rattle.bss_core.specs.Hearing.{is_heard}
 use Rattle.bss_core.specs.declared.config.NetConfig.{NetConfig}
 use Rattle.bss_core.specs.declared.event.Event.{Event}
 use Rattle.bss_core.specs.declared.event.Event.TheVariants as event
-use Rattle.apctl.specs.Replay.{heard_of, heard, own_events, taken_of}
-use Rattle.apctl.specs.declared.trace.Line.{Line}
-use Rattle.apctl.specs.declared.trace.Line.TheVariants.{Air}
+use Rattle.workers.specs.Lines.{heard_of, heard, own_events}
+use Rattle.apctl.specs.Replay.{taken_of}
+use Rattle.workers.specs.declared.line.Line.{Line}
+use Rattle.workers.specs.declared.line.Line.TheVariants.{Air}
 
 -- a line has one event at most
 cond_length : (b : Bool) (e : Event) → length (cond b (e ∷ []) []) ≤ 1

@@ -3,21 +3,21 @@ use Rattle.std.specs.Prelude.{ℕ, ◌≡◌, ◌⊎◌, List, Option, Result, O
 use Rattle.std.specs.Io.KnownBytes.{Appends, Keeps}
 use Rattle.bss_core.specs.declared.config.RadioConfig.{RadioConfig}
 use Rattle.bss_core.specs.declared.config.ConfigFault.{ConfigFault}
-use Rattle.apctl.specs.declared.configuration.fault.ConfigTextFault.{ConfigTextFault}
-use Rattle.apctl.specs.declared.configuration.fault.ConfigTextFault.TheVariants as config
-use Rattle.apctl.specs.declared.trace.Line.{Line}
-use Rattle.apctl.specs.declared.trace.TraceFault.{TraceFault}
-use Rattle.apctl.specs.declared.trace.TraceTextFault.{TraceTextFault}
-use Rattle.apctl.specs.declared.trace.TraceTextFault.TheVariants as trace
-use Rattle.apctl.specs.declared.report.ReportFault.{ReportFault}
-use Rattle.apctl.specs.declared.report.ReportFault.TheVariants as report
+use Rattle.trace.specs.declared.configuration.fault.ConfigTextFault.{ConfigTextFault}
+use Rattle.trace.specs.declared.configuration.fault.ConfigTextFault.TheVariants as config
+use Rattle.workers.specs.declared.line.Line.{Line}
+use Rattle.trace.specs.declared.read.TraceFault.{TraceFault}
+use Rattle.trace.specs.declared.read.TraceTextFault.{TraceTextFault}
+use Rattle.trace.specs.declared.read.TraceTextFault.TheVariants as trace
+use Rattle.trace.specs.declared.report.ReportFault.{ReportFault}
+use Rattle.trace.specs.declared.report.ReportFault.TheVariants as report
 use Rattle.apctl.specs.declared.replay.TextFault.{TextFault}
 use Rattle.apctl.specs.declared.replay.TextFault.TheVariants.{Config, Trace, NoMemory, Write}
-use Rattle.apctl.specs.ConfigurationText.{configuration_of}
-use Rattle.apctl.specs.TraceText.{lines_of}
+use Rattle.trace.specs.ConfigurationText.{configuration_of}
+use Rattle.trace.specs.TraceText.{lines_of}
 use Rattle.apctl.specs.Replay.{sections_of}
-use Rattle.apctl.specs.Report.{report_text}
-use Rattle.apctl.specs.Sinks.{AppendsPrefix}
+use Rattle.trace.specs.Report.{report_text}
+use Rattle.trace.specs.Sinks.{AppendsPrefix}
 
 -- the report of what a trace says to the networks of a configuration, or the trace's fault
 abbrev pub replayed : RadioConfig → Result (List Line) TraceFault → Result (List ℕ) TextFault

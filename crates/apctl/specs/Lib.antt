@@ -1,9 +1,3 @@
-pub mod Texts
-pub mod ConfigurationText
-pub mod TraceText
-pub mod Sinks
-pub mod Buffers
-pub mod Report
 pub mod Joined
 pub mod Replay
 pub mod Answer

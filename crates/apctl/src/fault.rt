@@ -2,16 +2,14 @@
 
 ghost use Rattle.std.specs.Prelude.{◌≡◌, ◌+◌, ◌^◌, ◌<◌, IfOk};
 ghost use Rattle.apctl.specs.Faults.{of_replay, status_of};
-ghost use Rattle.apctl.specs.Report.{failures_met};
+ghost use Rattle.trace.specs.Report.{failures_met};
 ghost use Rattle.apctl.specs.declared.fault.Fault.TheVariants as faults;
 
 use crate::replay::TextFault;
-use crate::report::ReportFault;
-use crate::sink::{Sink, write_all};
-use crate::trace::TraceFault;
 use bss_core::ConfigFault;
 use std::alloc::{AllocError, Global};
 use thiserror::Error;
+use trace::{ReportFault, Sink, TraceFault, write_all};
 
 /// A fault of the program. It is shown as its line, without the LF.
 #[derive(Debug, Drop, Error)]

@@ -7,23 +7,18 @@
 
 ghost use Rattle.std.specs.Prelude.{◌≡◌, IfOk, IfSome};
 
-mod configuration;
 mod fault;
 mod joined;
 mod replay;
-mod report;
-mod sink;
-mod text;
-mod trace;
 
 use fault::{Fault, show_fault};
 use joined::split_joined;
 use replay::run_text;
-use sink::Counted;
 use std::alloc::Global;
 use std::env;
 use std::io::{ErrorKind, Read};
 use std::process::ExitCode;
+use trace::Counted;
 
 #[cfg(test)]
 mod tests;

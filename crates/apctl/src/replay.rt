@@ -5,19 +5,21 @@ ghost use Rattle.bss_core.specs.Configuration.{setting_fault, network_fault, fau
 ghost use Rattle.bss_core.specs.Network.{alone};
 ghost use Rattle.bss_core.specs.Section.{section_of};
 ghost use Rattle.apctl.specs.declared.replay.TextFault.TheVariants as faults;
-ghost use Rattle.apctl.specs.declared.trace.Line.TheVariants as Lines;
+ghost use Rattle.workers.specs.declared.line.Line.TheVariants as Lines;
 ghost use Rattle.apctl.specs.Answer.{Ends, answer_of, failures_of, of_config, of_trace, of_report};
-ghost use Rattle.apctl.specs.Replay.{own_events, taken_of, setting_of, sections_of};
+ghost use Rattle.workers.specs.Lines.{own_events};
+ghost use Rattle.apctl.specs.Replay.{taken_of, setting_of, sections_of};
 
-use crate::configuration::{ConfigTextFault, read_config};
-use crate::report::{ReportFault, write_report};
-use crate::sink::Sink;
-use crate::trace::{Line, TraceFault, TraceTextFault, read_trace};
 use bss_core::{
     Bss, ConfigFault, Event, NetConfig, RadioConfig, Refusal, Section, checked_networks, hears,
 };
 use mac_frame::{List, NoMemory, Octets};
 use std::alloc::Global;
+use trace::{
+    ConfigTextFault, ReportFault, Sink, TraceFault, TraceTextFault, read_config, read_trace,
+    write_report,
+};
+use workers::Line;
 
 /// Why a replay ended without a report.
 #[derive(Clone, Copy, Debug, PartialEq, Eq)]

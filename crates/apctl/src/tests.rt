@@ -1,12 +1,10 @@
 use crate::fault::{Fault, show_fault};
 use crate::joined::split_joined;
 use crate::replay::{TextFault, run_text};
-use crate::sink::Counted;
-use crate::sink::testing::Failing;
-use crate::trace::TraceFault;
 use bss_core::ConfigFault;
 use std::alloc::{AllocError, Global};
 use std::test::Fail;
+use trace::{Counted, Sink, TraceFault};
 
 const PROBE: &str = "A 40000000 ffffffffffff 02aa00000001 ffffffffffff 0000 0000 010402040b16\n";
 
@@ -142,12 +140,13 @@ fn a_failing_output_keeps_what_it_took(rt: HostRuntime) -> Result<(), Fail> {
     let alloc = rt.alloc();
     let base = config(alloc, 6, "82840b16", 16, 100)?;
     for room in [0, 1, 38, 100, ANSWERED.len() - 1] {
-        let mut out = Failing::new(alloc, room);
+        let mut device = vec![in alloc; 0; room]?;
+        let mut out = Counted::new(device.as_mut_slice());
         let answer = run_text(alloc, base.as_bytes(), PROBE.as_bytes(), &mut out);
         assert_eq!(rt; answer, Err(TextFault::Write));
-        assert_eq!(rt; out.failures, 1);
-        assert_eq!(rt; out.taken.len(), room);
-        assert!(rt; ANSWERED.as_bytes().starts_with(out.taken.as_slice()));
+        assert_eq!(rt; out.failures(), 1);
+        assert!(rt; out.into_inner().is_empty());
+        assert!(rt; ANSWERED.as_bytes().starts_with(device.as_slice()));
     }
     Ok(())
 }

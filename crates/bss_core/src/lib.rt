@@ -27,5 +27,3 @@ pub use event::{Event, hears};
 pub use laws::{checked_networks, hearing, one_request, one_step};
 pub use section::{Counts, Section, StationRow};
 
-#[cfg(test)]
-mod tests;

@@ -5,7 +5,8 @@ use Rattle.bss_core.specs.Configuration.{network_fault}
 use Rattle.bss_core.specs.Section.{section_of}
 use Rattle.bss_core.specs.declared.config.NetConfig.{NetConfig}
 use Rattle.bss_core.specs.declared.section.Section.{Section}
-use Rattle.apctl.specs.Replay.{own_events, setting_of}
+use Rattle.workers.specs.Lines.{own_events}
+use Rattle.apctl.specs.Replay.{setting_of}
 use Rattle.apctl.proofs.replay.replay.Goals as goal
 
 pub loop-network-init : goal.loop-network-init

@@ -3,7 +3,8 @@ use Rattle.std.specs.List.{AllByRecursion}
 use Rattle.std.specs.Vec.Iter.{into_iter_items}
 use Rattle.bss_core.specs.Configuration.{setting_fault, network_fault}
 use Rattle.bss_core.specs.Section.{section_of}
-use Rattle.apctl.specs.Replay.{own_events, setting_of}
+use Rattle.workers.specs.Lines.{own_events}
+use Rattle.apctl.specs.Replay.{setting_of}
 use Rattle.apctl.proofs.replay.replay.Given as goal
 
 abbrev pub invariant-loop-network : goal.invariant-loop-network

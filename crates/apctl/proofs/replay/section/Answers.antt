@@ -3,8 +3,9 @@ use Rattle.std.proofs.lemmas.List.{take_more}
 use Rattle.bss_core.specs.Network.{Setting, alone}
 use Rattle.bss_core.specs.declared.event.Event.{Event}
 use Rattle.bss_core.specs.declared.config.NetConfig.{NetConfig}
-use Rattle.apctl.specs.declared.trace.Line.{Line}
-use Rattle.apctl.specs.Replay.{own_events, taken_of}
+use Rattle.workers.specs.declared.line.Line.{Line}
+use Rattle.workers.specs.Lines.{own_events}
+use Rattle.apctl.specs.Replay.{taken_of}
 use Rattle.apctl.proofs.ReplayLemmas.{own_events-none, own_events-push}
 use Rattle.apctl.proofs.replay.section.Goals as goal
 

@@ -1,6 +1,7 @@
 use Rattle.std.proofs.Common.{◌≡◌, [], take}
 use Rattle.bss_core.specs.Network.{alone}
-use Rattle.apctl.specs.Replay.{own_events, setting_of}
+use Rattle.workers.specs.Lines.{own_events}
+use Rattle.apctl.specs.Replay.{setting_of}
 use Rattle.apctl.proofs.replay.section.Given as goal
 
 abbrev pub invariant-loop-line : goal.invariant-loop-line

@@ -1,9 +1,0 @@
-use Rattle.std.proofs.Common.{◌≡◌, [], drop}
-use Rattle.toml.specs.View.{items_view}
-use Rattle.apctl.specs.ConfigurationText.{networks_of, tables_in}
-use Rattle.apctl.proofs.ConfigurationNetworks.{so_far}
-use Rattle.apctl.proofs.configuration.network.read_networks.Given as goal
-
-abbrev pub invariant-loop-value : goal.invariant-loop-value
-invariant-loop-value l =
-    so_far l.networks.items (items_view (drop l.value-index l.values)) ≡ networks_of [] (tables_in (items_view l.values))

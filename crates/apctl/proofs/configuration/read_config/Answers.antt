@@ -1,5 +1,0 @@
-use Rattle.apctl.proofs.ConfigurationSound.{sound_from_exact}
-use Rattle.apctl.proofs.configuration.read_config.Goals as goal
-
-pub returns-clause-sound : goal.returns-clause-sound
-returns-clause-sound c = sound_from_exact _ c.read_radio.result c.read_radio.ensures

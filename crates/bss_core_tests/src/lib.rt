@@ -1,0 +1,8 @@
+//! Tests of the crate `bss_core`, over its public calls.
+//!
+//! They show what no contract says: that calls succeed where there is memory, on octets from outside. They stand beside
+//! that crate since a crate with tests is proved twice.
+#![tactic(auto)]
+
+#[cfg(test)]
+mod tests;

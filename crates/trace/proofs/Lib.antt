@@ -1,0 +1,11 @@
+pub mod ConfigurationNetworks
+pub mod ConfigurationReading
+pub mod ConfigurationRows
+pub mod ConfigurationSound
+pub mod TextLemmas
+pub mod TraceRows
+pub mod TraceSteps
+pub mod ReportItems
+pub mod ReportRows
+pub mod ReportDigits
+pub mod SinkSteps

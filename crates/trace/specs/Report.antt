@@ -1,0 +1,68 @@
+-- The text of a report (profile).
+use Rattle.std.specs.Prelude.{ℕ, Bool, if◌then◌else◌, List, [], ◌++◌, length, codes, decimal, flat_map, Result, Ok, Err}
+use Rattle.hex.specs.Hex.{encode_lower}
+use Rattle.mac_frame.specs.Address.{address_text}
+use Rattle.station_state.specs.declared.Standing.{Standing}
+use Rattle.station_state.specs.declared.Standing.TheVariants.{Unknown, Authenticated, Associated}
+use Rattle.bss_core.specs.declared.config.NetConfig.{NetConfig}
+use Rattle.bss_core.specs.declared.section.Counts.{Counts}
+use Rattle.bss_core.specs.declared.section.Section.{Section}
+use Rattle.bss_core.specs.declared.section.StationRow.{StationRow}
+use Rattle.trace.specs.Texts.{ended}
+use Rattle.trace.specs.declared.report.ReportFault.{ReportFault}
+use Rattle.trace.specs.declared.report.ReportFault.TheVariants.{Write, NoMemory}
+
+-- which network it is: its address, and its name as octets
+unfoldable pub network_line : NetConfig → List ℕ
+network_line config = ended (codes "network " ++ address_text config.bssid ++ codes " ssid " ++ encode_lower config.ssid)
+
+-- how many events its history has, and what it counted
+unfoldable pub counts_line : ℕ → Counts → List ℕ
+counts_line events counts =
+    ended
+    (codes "events " ++ decimal events ++ codes " clock " ++ decimal counts.clock ++ codes " unread " ++ decimal counts.unread
+    ++ codes " lost "
+    ++ decimal counts.lost
+    ++ codes " kept "
+    ++ decimal counts.kept)
+
+-- whether a station dozes
+abbrev pub mode_text : Bool → List ℕ
+mode_text doze = if doze then codes "doze" else codes "active"
+
+-- how far a station has come; one that is not known has no line
+abbrev pub standing_line : Standing → StationRow → List ℕ
+standing_line Unknown row = []
+standing_line Authenticated row = ended (codes "station " ++ address_text row.addr ++ codes " authenticated")
+standing_line Associated row =
+    ended
+    (codes "station " ++ address_text row.addr ++ codes " associated aid " ++ decimal row.aid ++ codes " listen " ++ decimal row.listen
+    ++ codes " "
+    ++ mode_text row.doze
+    ++ codes " kept "
+    ++ decimal row.kept)
+
+unfoldable pub station_line : StationRow → List ℕ
+station_line row = standing_line row.standing row
+
+-- a frame behind a word that says where it was sent
+unfoldable pub frame_line : List ℕ → List ℕ → List ℕ
+frame_line word frame = ended (word ++ encode_lower frame)
+
+-- what a network did: its stations, then the frames that it sent on the air, then those on the wire
+unfoldable pub section_text : Section → List ℕ
+section_text section =
+    network_line section.config ++ counts_line (length section.events) section.counts ++ flat_map station_line section.table
+    ++ flat_map (frame_line (codes "air ")) section.air
+    ++ flat_map (frame_line (codes "wire ")) section.wire
+    ++ ended (codes "end")
+
+-- the sections, one after the other
+abbrev pub report_text : List Section → List ℕ
+report_text sections = flat_map section_text sections
+
+-- how many failures of its sink a call met that answers this
+abbrev pub failures_met : {T : Type 0} → Result T ReportFault → ℕ
+failures_met (Ok answer) = 0
+failures_met (Err Write) = 1
+failures_met (Err NoMemory) = 0

@@ -1,0 +1,22 @@
+//! The text at both ends of the program (*profile*): a configuration and a trace that are read, a report that is
+//! written.
+//!
+//! It promises that [`read_config`] and [`read_trace`] answer the value that a text writes, or its first fault,
+//! unless memory ran out; and that [`write_report`] has a [`Sink`] take exactly the report of the sections it is
+//! handed.
+//!
+//! Which lines a network hears, and what it does about them, is left to the networks.
+#![tactic(auto)]
+
+mod configuration;
+mod line;
+mod read;
+mod report;
+mod sink;
+mod text;
+
+pub use configuration::{ConfigTextFault, read_config};
+pub use read::{TraceFault, TraceTextFault, read_trace};
+pub use report::{ReportFault, write_report};
+pub use sink::{Counted, Failed, Sink, write_all};
+pub use text::place_of;

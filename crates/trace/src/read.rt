@@ -1,0 +1,119 @@
+//! Trace texts: what happened to the networks of a radio, in lines (*profile*).
+//!
+//! [`read_trace`] gives the lines of a text, or its first fault with the number of its line.
+
+ghost use Rattle.std.specs.Prelude.{◌≡◌, ◌<◌, ◌≤◌, ◌∷◌, length, MatchResult, OnOk, Ok};
+ghost use Rattle.std.specs.Str.Lines.{lines, strip_carriage_return};
+ghost use Rattle.trace.specs.TraceText.{line_of, lines_of, IsTextFault};
+ghost use Rattle.trace.specs.declared.read.TraceTextFault.TheVariants as text_faults;
+
+use crate::line::{LineFault, TOO_MANY, read_content, without_spaces_at_end};
+use crate::text::place_of;
+use bss_core::RadioConfig;
+use std::alloc::{AllocFailed, Global};
+use std::fmt;
+use workers::Line;
+
+/// The most lines of a text.
+const MAX_LINES: u32 = 1_000_000;
+
+/// The first fault of a trace text.
+#[derive(Clone, Copy, Debug, PartialEq, Eq)]
+pub struct TraceFault {
+    /// Which fault: 1, 2 or 5, for `L1`, `L2` or `L5`.
+    pub code: u8,
+    /// The number of its line, counted from 1.
+    pub line: u32,
+}
+
+/// The fault as a user meets it, as in `L2 line 7`.
+impl fmt::Display for TraceFault {
+    fn fmt<W: fmt::Write>(&self, f: &mut fmt::Formatter<W>) -> fmt::Result {
+        let TraceFault { code, line } = *self;
+        write!(f, "L{code} line {line}")
+    }
+}
+
+/// Why a trace text is not read.
+#[derive(Clone, Copy, Debug, PartialEq, Eq)]
+pub enum TraceTextFault {
+    /// The text has a fault.
+    At(TraceFault),
+    /// A growth was refused.
+    NoMemory,
+}
+
+impl<T: Drop> From<AllocFailed<T>> for TraceTextFault {
+    ghost from_gives = { λ _ fault. fault ≡ text_faults.NoMemory };
+
+    fn from(_e: AllocFailed<T>) -> TraceTextFault {
+        TraceTextFault::NoMemory
+    }
+}
+
+/// Reads a trace text: lines that end with LF, of which the last may lack it. A CR directly before the LF and
+/// then the spaces at the end of a line are dropped; a line that is then empty, or that begins with `#`, is
+/// skipped. Only spaces part words. The word `A` stands before a string that was heard on the air: hexadecimal
+/// digits of either case, or none, with spaces among them.
+///
+/// A text with a fault gives the first: a first word that isn't `A`, also an empty one (`L1`); an odd number of
+/// digits, or another character (`L2`); more than 4096 octets, or a line after the 1,000,000th (`L5`). Where one
+/// line has several, the line too many comes first, and then `L1`, `L2`, `L5`. Skipped lines count. `config` names
+/// the networks that a line may name; today no line names one.
+pub fn read_trace(
+    alloc: Global,
+    config: &RadioConfig,
+    text: &[u8],
+) -> Result<Vec<Line>, TraceTextFault>
+    ensures exact { MatchResult result
+        (λ read. lines_of config.now text.now ≡ Ok read.items)
+        (IsTextFault (lines_of config.now text.now)) }
+{
+    let mut lines = Vec::new(alloc);
+    let mut rest = text;
+    let mut number = 0;
+    while !rest.is_empty() {
+        number += 1;
+        let (content, behind) = next_line(rest);
+        if let Some(line) = read_line(alloc, number, content)? {
+            lines.push(line)?;
+        }
+        rest = behind;
+    }
+    Ok(lines)
+}
+
+/// The first line of a text, without its end, and the text behind it.
+fn next_line(text: &[u8]) -> (&[u8], &[u8])
+    requires { 0 < length text.now }
+    ensures cut { lines text.now ≡ result.0.now ∷ lines result.1.now }
+    ensures shorter { length result.1.now < length text.now }
+{
+    match place_of(b'\n', text) {
+        Some(end) => (without_carriage_return(&text[..end]), &text[end + 1..]),
+        None => (text, &[]),
+    }
+}
+
+/// A line less the CR at its end, if it has one.
+fn without_carriage_return(line: &[u8]) -> &[u8]
+    ensures { result.now ≡ strip_carriage_return line.now }
+{
+    match line {
+        [front @ .., b'\r'] => front,
+        _ => line,
+    }
+}
+
+/// What the line of a number says.
+fn read_line(alloc: Global, number: u32, line: &[u8]) -> Result<Option<Line>, TraceTextFault>
+    ensures exact { MatchResult result
+        (λ said. line_of number line.now ≡ Ok said)
+        (IsTextFault (line_of number line.now)) }
+    ensures within { OnOk result (number ≤ MAX_LINES) }
+{
+    if number > MAX_LINES {
+        return Err(LineFault::Code(TOO_MANY).at(number));
+    }
+    read_content(alloc, without_spaces_at_end(line)).map_err(|fault| fault.at(number))
+}
