@@ -6,17 +6,11 @@ use Rattle.mac_frame.specs.declared.frame.Unread.{Unread}
 use Rattle.beacon.specs.ProbeResponse.{Announced, probe_response}
 use Rattle.station_state.specs.declared.Standing.TheVariants.{Authenticated}
 use Rattle.bss_core.specs.Request.{Request, Probe, request_of}
-use Rattle.bss_core.specs.declared.config.NetConfig.{NetConfig}
+pub use Rattle.bss_core.specs.declared.setting.Setting.{Setting}
 use Rattle.bss_core.specs.declared.event.Event.{Event}
 use Rattle.bss_core.specs.declared.event.Event.TheVariants.{Air}
 use Rattle.bss_core.specs.declared.section.StationRow.{StationRow}
 use Rattle.bss_core.specs.declared.section.Counts.{Counts}
-
--- a network's configuration with the radio's settings that it uses
-pub record Setting : Type 0 where
-  pub channel : ℕ
-  pub interval : ℕ
-  pub network : NetConfig
 
 -- what a network is at a moment
 pub record Network : Type 0 where

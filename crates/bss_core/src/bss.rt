@@ -12,6 +12,7 @@ use crate::event::Event;
 use crate::reply::{Reply, asks_for};
 use crate::request::{Request, read};
 use crate::section::{Counts, Section};
+use crate::setting::Setting;
 use beacon::{Advert, write_probe_response};
 use mac_frame::{List, MacAddr, NoMemory, Octets};
 use std::alloc::{AllocError, Global};
@@ -51,9 +52,7 @@ impl From<AllocError> for Refusal {
 #[derive(Drop)]
 pub struct Bss {
     alloc: Global,
-    channel: u8,
-    interval: u16,
-    config: NetConfig,
+    setting: Setting,
     history: Vec<Event>,
     waiting: VecDeque<Octets>,
     wired: Vec<Octets>,
@@ -72,14 +71,14 @@ impl Model for Bss {
     ghost Value = { State };
 
     ghost view = { λ b. record {
-      setting = record { channel = b.channel; interval = b.interval; network = b.config };
+      setting = b.setting;
       history = b.history.items;
       waiting = b.waiting.items;
       has_slot = b.has_slot;
     } };
 
     ghost invariant = { λ b.
-        Keeps (record { channel = b.channel; interval = b.interval; network = b.config }) b.history.items (record {
+        Keeps b.setting b.history.items (record {
           known = [];
           clock = b.clock;
           sequence = b.sequence;
@@ -111,9 +110,11 @@ impl Bss {
     {
         Ok(Bss {
             alloc,
-            channel,
-            interval,
-            config,
+            setting: Setting {
+                channel,
+                interval,
+                network: config,
+            },
             history: Vec::new(alloc),
             waiting: VecDeque::new(alloc),
             wired: Vec::new(alloc),
@@ -129,7 +130,7 @@ impl Bss {
     pub fn config(&self) -> &NetConfig
         ensures { result.now ≡ self.now.setting.network }
     {
-        &self.config
+        &self.setting.network
     }
 
     /// The events that it took, the first of them first; at most `max_events`.
@@ -222,7 +223,7 @@ impl Bss {
         ensures full { (result ≡ Err Refusal.HistoryFull) ↔ (length self.old.history ≡ self.old.setting.network.max_events) }
         ensures err { OnErr result (self.new ≡ self.old) }
     {
-        if self.history.len() >= self.config.max_events as usize {
+        if self.history.len() >= self.setting.network.max_events as usize {
             return Err(Refusal::HistoryFull);
         }
         let reply = self.reply(&event)?;
@@ -245,7 +246,7 @@ impl Bss {
             step self.now.setting (network_of self.now) event.now ≡ after_reply reply (network_of self.now)) }
     {
         let Event::Air(frame) = event;
-        let Ok(request) = read(self.config.bssid, frame.as_slice()) else {
+        let Ok(request) = read(self.setting.network.bssid, frame.as_slice()) else {
             return Ok(Reply::Unread);
         };
         match request {
@@ -258,16 +259,16 @@ impl Bss {
         ensures { IfOk result (λ reply.
             answer_probe self.now.setting from (option_map (λ s. s.now) ssid.entry) (network_of self.now) ≡ after_reply reply (network_of self.now)) }
     {
-        if !asks_for(self.config.ssid.as_slice(), ssid) {
+        if !asks_for(self.setting.network.ssid.as_slice(), ssid) {
             return Ok(Reply::Nothing);
         }
         let mut frame = Octets::new(self.alloc);
         let advert = Advert {
-            bss: self.config.bssid,
-            ssid: self.config.ssid.as_slice(),
-            rates: self.config.rates.as_slice(),
-            channel: self.channel,
-            interval: self.interval,
+            bss: self.setting.network.bssid,
+            ssid: self.setting.network.ssid.as_slice(),
+            rates: self.setting.network.rates.as_slice(),
+            channel: self.setting.channel,
+            interval: self.setting.interval,
             clock: self.clock,
             seq: self.sequence,
         };
@@ -289,7 +290,7 @@ impl Bss {
         let counts = self.counts();
         let table = List::from_vec(Vec::new(self.alloc));
         Ok(Section {
-            config: self.config,
+            config: self.setting.network,
             events: List::from_vec(self.history),
             table,
             counts,

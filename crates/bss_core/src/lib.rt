@@ -16,6 +16,7 @@ mod laws;
 mod reply;
 mod request;
 mod section;
+mod setting;
 
 pub use bss::{Bss, Refusal};
 pub use checking::{is_taken, rates_fit};
@@ -26,4 +27,4 @@ pub use config::{
 pub use event::{Event, hears};
 pub use laws::{checked_networks, hearing, one_request, one_step};
 pub use section::{Counts, Section, StationRow};
-
+pub use setting::Setting;

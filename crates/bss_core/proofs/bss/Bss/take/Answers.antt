@@ -12,7 +12,7 @@ unread_after-unread-requires c =
     let room = c.if-len-self.false in
     let same = c.self.inside.history.ok.0 in
     let len : c.len.result ≡ length c.self.inside.history.items = c.len.ensures ∙ same in
-    let small : c.self.inside.config.max_events < 4294967296 = search (rules, c.self.ranges) in
+    let small : c.self.inside.setting.network.max_events < 4294967296 = search (rules, c.self.ranges) in
     omega arith
 
 pub sequence_after-sequence-requires : goal.sequence_after-sequence-requires
@@ -20,7 +20,7 @@ sequence_after-sequence-requires c = kept_sequence-lt _ _ _ c.self.invariant.0
 
 pub invariant_of-self-2 : goal.invariant_of-self-2
 invariant_of-self-2 c =
-    let s : Setting = record { channel = c.self.inside.channel; interval = c.self.inside.interval; network = c.self.inside.config } in
+    let s : Setting = c.self.inside.setting in
     let es : List Event = c.self.inside.history.items in
     let len : c.len.result ≡ length es = c.len.ensures ∙ c.self.inside.history.ok.0 in
     let room : length es < s.network.max_events = omega (arith, c.if-len-self.false) in
@@ -39,7 +39,7 @@ returns-clause-waiting c =
 
 pub returns-clause-air : goal.returns-clause-air
 returns-clause-air c =
-    let s : Setting = record { channel = c.self.inside.channel; interval = c.self.inside.interval; network = c.self.inside.config } in
+    let s : Setting = c.self.inside.setting in
     let es : List Event = c.self.inside.history.items in
     let items : c.push_reserved.new.self.items ≡ es ++ c.args.event ∷ [] = c.push_reserved.ensures.items ∙ ap (λ (h : List Event). h ++ c.args.event ∷ []) c.reserve.ensures.items in
     let P : State → Type 0 = λ st. step st.setting (network_of st) c.args.event ≡ after_reply c.in_ok-reply.reply (network_of st) in
