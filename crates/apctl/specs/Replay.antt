@@ -1,6 +1,6 @@
 -- What a trace makes of the networks of a configuration: each network takes what it hears, alone.
 use Rattle.std.specs.Prelude.{ℕ, List, [], map, nat_lt, if◌then◌else◌}
-use Rattle.bss_core.specs.Network.{Setting}
+use Rattle.bss_core.specs.declared.setting.Setting.{Setting}
 use Rattle.bss_core.specs.Section.{section_of}
 use Rattle.bss_core.specs.declared.config.NetConfig.{NetConfig}
 use Rattle.bss_core.specs.declared.config.RadioConfig.{RadioConfig}

@@ -1,6 +1,7 @@
 use Rattle.std.proofs.Common.{◌≡◌, ◌++◌, ◌∷◌, [], List, ℕ, take, length, ◌+◌, refl, sym, ap, ◌∙◌}
 use Rattle.std.proofs.lemmas.List.{take_more}
-use Rattle.bss_core.specs.Network.{Setting, alone}
+use Rattle.bss_core.specs.Network.{alone}
+use Rattle.bss_core.specs.declared.setting.Setting.{Setting}
 use Rattle.bss_core.specs.declared.event.Event.{Event}
 use Rattle.bss_core.specs.declared.config.NetConfig.{NetConfig}
 use Rattle.workers.specs.declared.line.Line.{Line}

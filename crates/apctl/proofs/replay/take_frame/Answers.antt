@@ -1,7 +1,8 @@
 use Rattle.std.proofs.Common.{◌≡◌, ◌++◌, ◌∷◌, [], List, ℕ, ◌<◌, ◌+◌, true, length, sym, ap, ◌∙◌, arith}
 use Rattle.std.proofs.lemmas.Result.{on_ok_weaker}
 use Rattle.std.proofs.lemmas.List.{length-append}
-use Rattle.bss_core.specs.Network.{Setting, alone}
+use Rattle.bss_core.specs.Network.{alone}
+use Rattle.bss_core.specs.declared.setting.Setting.{Setting}
 use Rattle.bss_core.specs.State.{sent_by}
 use Rattle.bss_core.specs.Hearing.{is_heard}
 use Rattle.bss_core.specs.declared.event.Event.{Event}
