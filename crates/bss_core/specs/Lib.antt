@@ -2,6 +2,7 @@ pub mod Hearing
 pub mod Configuration
 pub mod Request
 pub mod Network
+pub mod Sound
 pub mod Section
 pub mod State
 pub mod Replies

@@ -1,20 +1,19 @@
 //! A network alone, as it runs.
 
-ghost use Rattle.std.specs.Prelude.{◌≡◌, Err, ◌+◌, ◌++◌, ◌∷◌, [], ◌↔◌, ◌<◌, ◌≤◌, true, false, None, IsTrue, IfOk, OnOk, OnErr, IfNone, length, is_some, option_to_list, option_map, if◌then◌else◌};
+ghost use Rattle.std.specs.Prelude.{◌≡◌, Err, ◌+◌, ◌++◌, ◌∷◌, [], ◌↔◌, ◌<◌, ◌≤◌, true, false, None, IsTrue, IfOk, OnOk, OnErr, IfNone, length, is_some, option_to_list, if◌then◌else◌};
 ghost use Rattle.bss_core.specs.Configuration.{setting_fault, network_fault};
-ghost use Rattle.bss_core.specs.Network.{answer_probe, step, table_of, counts_of};
-ghost use Rattle.bss_core.specs.Replies.{after_reply};
+ghost use Rattle.bss_core.specs.Network.{step, table_of, counts_of};
+ghost use Rattle.bss_core.specs.Replies.{no_reply, after_reply};
 ghost use Rattle.bss_core.specs.State.{State, network_of, sent_by};
 ghost use Rattle.bss_core.specs.declared.bss.Refusal.TheVariants as refusals;
 
 use crate::config::NetConfig;
 use crate::event::Event;
-use crate::reply::{Reply, asks_for};
+use crate::reply::Reply;
 use crate::request::{Request, read};
 use crate::section::{Counts, Section};
 use crate::setting::Setting;
-use beacon::{Advert, write_probe_response};
-use mac_frame::{List, MacAddr, NoMemory, Octets};
+use mac_frame::{List, NoMemory, Octets};
 use std::alloc::{AllocError, Global};
 use std::collections::VecDeque;
 use std::marker::Model;
@@ -209,7 +208,7 @@ impl Bss {
         self.has_slot = false;
     }
 
-    /// Takes an event, and answers its number in the history, from 0. Frames that it sends wait behind the others.
+    /// Takes an event, and answers its number in the history, from 0. Frames that it sends wait after the others.
     /// `HistoryFull` exactly where the history is full, which is tested first; `NoMemory` where a growth was
     /// refused. After either nothing has changed. An air event that the network doesn't hear counts as unread
     /// (*profile*).
@@ -228,14 +227,13 @@ impl Bss {
         }
         let reply = self.reply(&event)?;
         self.history.reserve(1)?;
-        self.waiting.reserve(1)?;
-        let unread = reply.unread_after(self.unread);
-        let sequence = reply.sequence_after(self.sequence);
-        reply.send_to(&mut self.waiting);
-        self.unread = unread;
-        self.sequence = sequence;
+        reply.frames.reserve_in(&mut self.waiting)?;
+        // All that may be refused is done.
         let number = self.history.len() as u32;
         self.history.push_reserved(event);
+        reply.frames.append_to(&mut self.waiting);
+        self.sequence = reply.sequence;
+        self.unread += reply.unread;
         self.has_slot = false;
         Ok(number)
     }
@@ -247,33 +245,41 @@ impl Bss {
     {
         let Event::Air(frame) = event;
         let Ok(request) = read(self.setting.network.bssid, frame.as_slice()) else {
-            return Ok(Reply::Unread);
+            let mut reply = self.no_reply();
+            reply.unread = 1;
+            return Ok(reply);
         };
         match request {
             Request::Probe { from, ssid } => self.answer_probe(from, ssid),
         }
     }
 
-    /// The reply to a probe.
-    fn answer_probe(&self, from: MacAddr, ssid: Option<&[u8]>) -> Result<Reply, NoMemory>
-        ensures { IfOk result (λ reply.
-            answer_probe self.now.setting from (option_map (λ s. s.now) ssid.entry) (network_of self.now) ≡ after_reply reply (network_of self.now)) }
+    /// A reply that does nothing yet, for an answer to begin with.
+    pub(crate) fn no_reply(&self) -> Reply
+        ensures nothing { result ≡ no_reply (network_of self.now).sequence }
+        ensures sequence { result.sequence < 4096 }
     {
-        if !asks_for(self.setting.network.ssid.as_slice(), ssid) {
-            return Ok(Reply::Nothing);
-        }
-        let mut frame = Octets::new(self.alloc);
-        let advert = Advert {
-            bss: self.setting.network.bssid,
-            ssid: self.setting.network.ssid.as_slice(),
-            rates: self.setting.network.rates.as_slice(),
-            channel: self.setting.channel,
-            interval: self.setting.interval,
-            clock: self.clock,
-            seq: self.sequence,
-        };
-        write_probe_response(&mut frame, &advert, from)?;
-        Ok(Reply::Frame(frame))
+        Reply::new(self.alloc, self.sequence)
+    }
+
+    /// Its configuration, with its radio's settings.
+    pub(crate) fn setting(&self) -> &Setting
+        ensures setting { result.now ≡ self.now.setting }
+        ensures sound { network_fault result.now.network ≡ None }
+    {
+        &self.setting
+    }
+
+    /// How many beacon intervals have begun.
+    pub(crate) fn clock(&self) -> u32
+        ensures { result ≡ (network_of self.now).clock }
+    {
+        self.clock
+    }
+
+    /// Where its memory comes from.
+    pub(crate) fn alloc(&self) -> Global {
+        self.alloc
     }
 
     /// The section of all that it took, with `air` as the frames that left it. It takes no memory today.

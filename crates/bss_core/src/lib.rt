@@ -8,10 +8,12 @@
 //! When frames leave, and where events come from, is left to the crates above.
 #![tactic(auto)]
 
+mod answer;
 mod bss;
 mod checking;
 mod config;
 mod event;
+mod frames;
 mod laws;
 mod reply;
 mod request;

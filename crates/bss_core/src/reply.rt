@@ -1,70 +1,51 @@
-//! What a network does about one event.
+//! What a network does about one event: built aside, and committed once.
 
-ghost use Rattle.std.specs.Prelude.{◌≡◌, ◌<◌, ◌+◌, ◌^◌, ◌++◌, option_map};
-ghost use Rattle.bss_core.specs.Network.{asks_for};
+ghost use Rattle.std.specs.Prelude.{◌≡◌, ◌<◌, ◌++◌, ◌∷◌, [], OnOk, OnErr};
+ghost use Rattle.bss_core.specs.Network.{next_sequence};
+ghost use Rattle.bss_core.specs.Replies.{no_reply};
 
-use mac_frame::Octets;
-use std::collections::VecDeque;
+use crate::frames::Frames;
+use mac_frame::{NoMemory, Octets};
+use std::alloc::Global;
 
 /// How many sequence numbers there are (IEEE Std 802.11-2016, 9.2.4.4.2).
 const SEQUENCE_NUMBERS: u16 = 4096;
 
-/// What a network does about one event.
+/// What a network does about one event. Each field is one effect.
 #[derive(Debug, Drop)]
-pub enum Reply {
-    /// It counts the event as no request that it reads.
-    Unread,
-    /// Nothing.
-    Nothing,
-    /// It sends this frame.
-    Frame(Octets),
+pub struct Reply {
+    /// The frames that it sends, the first of them first.
+    pub frames: Frames,
+    /// The sequence number of its next frame after these (9.2.4.4.2).
+    pub sequence: u16,
+    /// What is added to its count of unread events.
+    pub unread: u32,
 }
 
 impl Reply {
-    ghost use Rattle.std.specs.VecDeque.{deque_len, deque_capacity};
-    ghost use Rattle.bss_core.specs.Replies.{unread_after, sequence_after, frames_of};
-
-    /// How many events are counted unread, with the one that it replies to.
-    pub fn unread_after(&self, unread: u32) -> u32
-        requires { unread + 1 < 2 ^ 32 }
-        ensures { result ≡ unread_after self.now unread }
+    /// The reply of a network that does nothing, whose next frame has this sequence number.
+    pub fn new(alloc: Global, sequence: u16) -> Reply
+        ensures { result ≡ no_reply sequence }
     {
-        match self {
-            Reply::Unread => unread + 1,
-            Reply::Nothing | Reply::Frame(_) => unread,
+        Reply {
+            frames: Frames::new(alloc),
+            sequence,
+            unread: 0,
         }
     }
 
-    /// The sequence number of the network's next frame (9.2.4.4.2).
-    pub fn sequence_after(&self, sequence: u16) -> u16
-        requires { sequence < 4096 }
-        ensures { result ≡ sequence_after self.now sequence }
+    /// Sends a frame too, which carries the sequence number that the reply has now. After `NoMemory` the reply is as
+    /// it was.
+    pub fn send(&mut self, frame: Octets) -> Result<(), NoMemory>
+        requires { self.old.sequence < 4096 }
+        ensures ok { OnOk result (self.new ≡ record self.old {
+          frames = self.old.frames ++ frame ∷ [];
+          sequence = next_sequence self.old.sequence;
+        }) }
+        ensures err { OnErr result (self.new ≡ self.old) }
     {
-        match self {
-            Reply::Unread | Reply::Nothing => sequence,
-            Reply::Frame(_) => (sequence + 1) % SEQUENCE_NUMBERS,
-        }
-    }
-
-    /// Puts its frame behind those that wait, for which there is room.
-    pub fn send_to(self, waiting: &mut VecDeque<Octets>)
-        requires { deque_len waiting.old < deque_capacity waiting.old }
-        ensures { waiting.new.items ≡ waiting.old.items ++ frames_of self }
-    {
-        if let Reply::Frame(frame) = self {
-            waiting.push_back_reserved(frame);
-        }
-    }
-}
-
-/// Whether a probe asks for the network with the SSID `own`: it names an SSID, the wildcard one of no octets or
-/// this (IEEE Std 802.11-2016, 11.1.4.3.4).
-pub fn asks_for(own: &[u8], ssid: Option<&[u8]>) -> bool
-    ensures { result ≡ asks_for own.now (option_map (λ s. s.now) ssid.entry) }
-{
-    match ssid {
-        None => false,
-        Some([]) => true,
-        Some(name) => name == own,
+        self.frames.push(frame)?;
+        self.sequence = (self.sequence + 1) % SEQUENCE_NUMBERS;
+        Ok(())
     }
 }

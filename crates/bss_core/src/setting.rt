@@ -1,6 +1,11 @@
 //! What a network is configured to be, with what it uses of its radio.
 
+ghost use Rattle.std.specs.Prelude.{◌≡◌};
+ghost use Rattle.beacon.specs.ProbeResponse.{announced};
+ghost use Rattle.bss_core.specs.Network.{announced_at};
+
 use crate::config::NetConfig;
+use beacon::Advert;
 
 /// The configuration of a network, with the settings of its radio that it uses.
 #[derive(Debug, Drop)]
@@ -11,4 +16,22 @@ pub struct Setting {
     pub interval: u16,
     /// The configuration of the network itself.
     pub network: NetConfig,
+}
+
+impl Setting {
+    /// The network as it announces itself at this clock, in a frame with this sequence number.
+    pub(crate) fn advert(&self, clock: u32, sequence: u16) -> Advert<'_>
+        ensures network { announced result ≡ announced_at self.now clock }
+        ensures sequence { result.seq ≡ sequence }
+    {
+        Advert {
+            bss: self.network.bssid,
+            ssid: self.network.ssid.as_slice(),
+            rates: self.network.rates.as_slice(),
+            channel: self.channel,
+            interval: self.interval,
+            clock,
+            seq: sequence,
+        }
+    }
 }

@@ -1,0 +1,3 @@
+//! The answers of a network, one file for each kind of request.
+
+mod probing;

@@ -1,0 +1,42 @@
+//! Probe requests and their answers (IEEE Std 802.11-2016, 11.1.4.3).
+
+ghost use Rattle.std.specs.Prelude.{◌≡◌, IfOk, option_map};
+ghost use Rattle.bss_core.specs.Network.{asks_for, answer_probe};
+ghost use Rattle.bss_core.specs.Replies.{after_reply};
+ghost use Rattle.bss_core.specs.State.{network_of};
+
+use crate::bss::Bss;
+use crate::reply::Reply;
+use beacon::write_probe_response;
+use mac_frame::{MacAddr, NoMemory, Octets};
+
+impl Bss {
+    /// The reply to a probe: a probe response, where the probe asks for this network.
+    pub(crate) fn answer_probe(&self, from: MacAddr, ssid: Option<&[u8]>) -> Result<Reply, NoMemory>
+        ensures { IfOk result (λ reply.
+            answer_probe self.now.setting from (option_map (λ s. s.now) ssid.entry) (network_of self.now) ≡ after_reply reply (network_of self.now)) }
+    {
+        let setting = self.setting();
+        let mut reply = self.no_reply();
+        if !asks_for(setting.network.ssid.as_slice(), ssid) {
+            return Ok(reply);
+        }
+        let mut frame = Octets::new(self.alloc());
+        let advert = setting.advert(self.clock(), reply.sequence);
+        write_probe_response(&mut frame, &advert, from)?;
+        reply.send(frame)?;
+        Ok(reply)
+    }
+}
+
+/// Whether a probe asks for the network with the SSID `own`: it names an SSID, the wildcard one of no octets or
+/// this (11.1.4.3.4).
+fn asks_for(own: &[u8], ssid: Option<&[u8]>) -> bool
+    ensures { result ≡ asks_for own.now (option_map (λ s. s.now) ssid.entry) }
+{
+    match ssid {
+        None => false,
+        Some([]) => true,
+        Some(name) => name == own,
+    }
+}
