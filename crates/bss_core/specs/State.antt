@@ -5,7 +5,7 @@ use Rattle.bss_core.specs.Network.{Setting, Network, alone}
 use Rattle.bss_core.specs.declared.event.Event.{Event}
 
 -- its setting, the events that it took, the frames that wait to leave, and whether there is a slot for one to be
--- given back; all else is what `alone` gives of the setting and the history
+-- given back; its table, its counts and its wired frames are those of `alone` of the setting and the history
 pub record State : Type 0 where
   pub setting : Setting
   pub history : List Event

@@ -46,8 +46,11 @@ impl From<AllocError> for Refusal {
 /// A network that takes events, and answers them by frames that wait until they are taken out.
 ///
 /// Contracts see its configuration with the radio's channel and interval, its history, the frames that wait, and
-/// whether there is a slot for one of them to be given back. All else that it shows is what the definition
-/// `alone` gives of its configuration and its history.
+/// whether there is a slot for one of them to be given back. Its table, its counts and its wired frames are those
+/// that the definition `alone` gives of its configuration and its history. The frames that wait are what
+/// [`Bss::take`] appended, which is what each event adds to the frames of `alone`, less what [`Bss::take_front`]
+/// took, with what [`Bss::give_back`] put before them. That call takes any octets, so the type alone doesn't tie
+/// the waiting frames to `alone`; a caller who gives back only what it took out has that tie.
 #[derive(Drop)]
 pub struct Bss {
     alloc: Global,
@@ -186,17 +189,17 @@ impl Bss {
     /// Takes out the first frame that waits, and leaves a slot to give it back. `None`, and no change, where none
     /// waits.
     pub fn take_front(&mut self) -> Option<Octets>
-        ensures front { self.old.waiting ≡ option_to_list result ++ self.new.waiting }
+        ensures first { self.old.waiting ≡ option_to_list result ++ self.new.waiting }
         ensures slot { self.new.has_slot ≡ (if is_some result then true else self.old.has_slot) }
         ensures none { IfNone result (self.old.waiting ≡ []) }
         ensures setting { self.new.setting ≡ self.old.setting }
         ensures history { self.new.history ≡ self.old.history }
     {
-        let front = self.waiting.pop_front();
-        if front.is_some() {
+        let first = self.waiting.pop_front();
+        if first.is_some() {
             self.has_slot = true;
         }
-        front
+        first
     }
 
     /// Puts a frame before those that wait, in the slot that [`Bss::take_front`] left. Takes no memory.

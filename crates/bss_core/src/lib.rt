@@ -1,9 +1,12 @@
 //! A network of an access point, alone (IEEE Std 802.11-2016, 11.1.4 and 11.3).
 //!
 //! A [`Bss`] is a deterministic state machine: it takes events and keeps what it sends in a list; it has no
-//! socket, no clock and no thread. It promises that whatever it shows (its table, its counts, the frames it
-//! sends) is what its configuration and its history give, by the definition `alone`, in which no other network,
-//! no queue and no thread stands. [`RadioConfig::check`] says which configurations are sound.
+//! socket, no clock and no thread. It promises that its table, its counts and its wired frames are what its
+//! configuration and its history give, by the definition `alone`, in which no other network, no queue and no thread
+//! stands; and that [`Bss::take`] appends to the frames that wait exactly those that the event adds to the frames
+//! of `alone`. Which frames wait depends besides on what [`Bss::take_front`] took out and on what
+//! [`Bss::give_back`] put back, which may be any octets. [`RadioConfig::check`] says which configurations are
+//! sound.
 //!
 //! When frames leave, and where events come from, is left to the crates above.
 #![tactic(auto)]
