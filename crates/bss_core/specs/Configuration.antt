@@ -6,7 +6,6 @@ use Rattle.mac_frame.specs.Address.{is_group}
 use Rattle.bss_core.specs.declared.config.NetConfig.{NetConfig}
 use Rattle.bss_core.specs.declared.config.RadioConfig.{RadioConfig}
 use Rattle.bss_core.specs.declared.config.ConfigFault.{ConfigFault}
-use Rattle.bss_core.specs.declared.config.TheConstants.{MAX_NETWORKS}
 
 -- ---- the limits
 
@@ -23,7 +22,7 @@ abbrev pub queue_fits : ℕ → Bool
 queue_fits = is_between 1 4096
 
 abbrev pub count_fits : ℕ → Bool
-count_fits = is_between 1 MAX_NETWORKS
+count_fits = is_between 1 1
 
 abbrev pub ssid_fits : List ℕ → Bool
 ssid_fits ssid = is_between 1 32 (length ssid)
@@ -95,20 +94,20 @@ network_fault n =
 abbrev pub is_taken : List NetConfig → List ℕ → Bool
 is_taken others bssid = list_any (λ other. bytes_eq other.bssid bssid) others
 
--- the first fault of a network behind others
-abbrev pub fault_behind : List NetConfig → NetConfig → Option ℕ
-fault_behind earlier n = if is_taken earlier n.bssid then Some 8 else network_fault n
+-- the first fault of a network that stands after these
+abbrev pub fault_among : List NetConfig → NetConfig → Option ℕ
+fault_among earlier n = if is_taken earlier n.bssid then Some 8 else network_fault n
 
 -- the fault of the network at a place, and else that of later ones
 abbrev pub fault_at : ℕ → Option ℕ → Option ConfigFault → Option ConfigFault
 fault_at place (Some code) later = Some (of_network code place)
 fault_at place None later = later
 
--- the first fault of the networks, each behind those before it
+-- the first fault of the networks, each after those before it
 abbrev pub networks_fault : List NetConfig → List NetConfig → Option ConfigFault
 networks_fault earlier [] = None
 networks_fault earlier (n ∷ ns) =
-    fault_at (length earlier) (fault_behind earlier n) (networks_fault (earlier ++ n ∷ []) ns)
+    fault_at (length earlier) (fault_among earlier n) (networks_fault (earlier ++ n ∷ []) ns)
 
 -- the first fault of a configuration
 abbrev pub fault_of : RadioConfig → Option ConfigFault

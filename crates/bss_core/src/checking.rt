@@ -2,7 +2,7 @@
 
 ghost use Rattle.std.specs.Prelude.{◌≡◌, []};
 ghost use Rattle.std.specs.List.{list_all};
-ghost use Rattle.bss_core.specs.Configuration.{rate_value, is_rate, has_same_rate, are_different, rates_fit, numbers_fit, network_fault, is_taken, fault_behind, networks_fault, fault_of};
+ghost use Rattle.bss_core.specs.Configuration.{rate_value, is_rate, has_same_rate, are_different, rates_fit, numbers_fit, network_fault, is_taken, fault_among, networks_fault, fault_of};
 
 use crate::config::{
     ConfigFault, MAX_CHANNEL, MAX_EVENTS, MAX_KNOWN, MAX_NETWORKS, MAX_QUEUE, MAX_QUOTA, MAX_RATE,
@@ -34,21 +34,21 @@ impl RadioConfig {
     }
 }
 
-/// The first fault of the networks, each behind those before it.
+/// The first fault of the networks, each after those before it.
 fn networks_fault(networks: &[NetConfig]) -> Option<ConfigFault>
     ensures { result ≡ networks_fault [] networks.now }
 {
     for (place, network) in networks.iter().enumerate() {
-        if let Some(code) = fault_behind(&networks[..place], network) {
+        if let Some(code) = fault_among(&networks[..place], network) {
             return Some(ConfigFault::of_network(code, place));
         }
     }
     None
 }
 
-/// The first fault of a network behind others.
-fn fault_behind(earlier: &[NetConfig], network: &NetConfig) -> Option<u8>
-    ensures { result ≡ fault_behind earlier.now network.now }
+/// The first fault of a network that stands after these.
+fn fault_among(earlier: &[NetConfig], network: &NetConfig) -> Option<u8>
+    ensures { result ≡ fault_among earlier.now network.now }
 {
     if is_taken(earlier, network.bssid) {
         return Some(8);
