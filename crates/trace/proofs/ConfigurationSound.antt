@@ -5,7 +5,7 @@ use Rattle.std.proofs.lemmas.Bool.{and_parts, or_parts, not-true, le-ltb, leb-tr
 use Rattle.std.proofs.lemmas.Result.{IfOk-at_ok}
 use Rattle.toml.specs.Data.{Members, get_member, as_integer}
 use Rattle.mac_frame.specs.Address.{is_group, address_of}
-use Rattle.bss_core.specs.Configuration.{channel_fits, interval_fits, queue_fits, count_fits, ssid_fits, rates_fit, dtim_fits, max_stations_fits, max_known_fits, quota_fits, max_events_fits, numbers_fit, is_taken, of_radio, fault_behind, networks_fault, fault_of}
+use Rattle.bss_core.specs.Configuration.{channel_fits, interval_fits, queue_fits, count_fits, ssid_fits, rates_fit, dtim_fits, max_stations_fits, max_known_fits, quota_fits, max_events_fits, numbers_fit, is_taken, of_radio, fault_among, networks_fault, fault_of}
 use Rattle.bss_core.specs.declared.config.NetConfig.{NetConfig}
 use Rattle.bss_core.specs.declared.config.RadioConfig.{RadioConfig}
 use Rattle.bss_core.specs.declared.config.ConfigFault.{ConfigFault}
@@ -78,12 +78,12 @@ networks_finds top = passing_finds (λ ds. are_tables ds && count_fits (length (
 sound_network : (earlier : List NetConfig) (network : NetConfig)
     → not (is_group network.bssid || is_taken earlier network.bssid) ≡ true → ssid_fits network.ssid ≡ true → rates_fit network.rates ≡ true
     → numbers_fit network ≡ true → nat_le network.max_stations network.max_known ≡ true
-    → fault_behind earlier network ≡ None
+    → fault_among earlier network ≡ None
 sound_network earlier network b s r numbers enough =
     let (single, free) = or_parts (is_group network.bssid) (is_taken earlier network.bssid) (not-true _ b) in
     rw (free, single, s, r, numbers, le-ltb network.max_known network.max_stations (leb-true _ _ enough)) refl
 
-network_reads : (earlier : List NetConfig) (ms : Members) → Reads (network_of_table earlier ms) (λ network. fault_behind earlier network ≡ None)
+network_reads : (earlier : List NetConfig) (ms : Members) → Reads (network_of_table earlier ms) (λ network. fault_among earlier network ≡ None)
 unfolding network_of_table
 network_reads earlier ms =
     then_reads _ _ (found_reads _ (bssid_finds earlier ms)) λ bssid b.
