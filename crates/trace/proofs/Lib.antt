@@ -5,7 +5,7 @@ pub mod ConfigurationSound
 pub mod TextLemmas
 pub mod TraceRows
 pub mod TraceSteps
-pub mod ReportItems
+pub mod SinkSteps
+pub mod BufferSteps
 pub mod ReportRows
 pub mod ReportDigits
-pub mod SinkSteps

@@ -2,5 +2,5 @@ pub mod Texts
 pub mod ConfigurationText
 pub mod TraceText
 pub mod Sinks
-pub mod Buffers
 pub mod Report
+pub mod Buffers

@@ -1,5 +1,5 @@
 -- What writers know of the octets that they took.
-use Rattle.std.specs.Prelude.{ℕ, ◌+◌, ◌≡◌, List, ◌++◌, Option, Result, OnOk, OnErr, is_err, if◌then◌else◌}
+use Rattle.std.specs.Prelude.{ℕ, ◌+◌, ◌≡◌, List, ◌++◌, Option, Result, is_err, if◌then◌else◌}
 use Rattle.std.specs.Io.KnownBytes.{Appends}
 
 -- a writer, and how often writing to it failed
@@ -7,7 +7,7 @@ pub record CountedWriter (T : Type 0) : Type 0 where
   pub inner : T
   pub failures : ℕ
 
--- known octets stay at the front and grow by a prefix of the text, the empty one and the whole among them
+-- known octets stay first and grow by a prefix of the text, the empty one and the whole among them
 pub record AppendsPrefix (old new : Option (List ℕ)) (text : List ℕ) : Type 0 where
   pub written : List ℕ
   pub rest : List ℕ
@@ -26,10 +26,5 @@ pub record Delivers (old : Option (List ℕ)) (held : List ℕ) (new : Option (L
 
 -- It stops on the way: a prefix of what was held, and then the text, is written.
 pub record Stops (old : Option (List ℕ)) (held : List ℕ) (new : Option (List ℕ)) (text : List ℕ) : Type 0 where
-  pub holds : List ℕ
-  pub front : Delivers old held new holds text
-
--- a call puts a text behind what a buffer holds
-pub record Puts {E : Type 0} (result : Result Unit E) (old : Option (List ℕ)) (held : List ℕ) (new : Option (List ℕ)) (holds text : List ℕ) : Type 0 where
-  pub ok : OnOk result (Delivers old held new holds text)
-  pub err : OnErr result (Stops old held new text)
+  pub rest : List ℕ
+  pub prefix : Delivers old held new rest text

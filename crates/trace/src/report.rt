@@ -20,7 +20,7 @@ ghost use Rattle.std.specs.Io.KnownBytes.{Appends};
 ghost use Rattle.hex.specs.Hex.{encode_lower};
 ghost use Rattle.trace.specs.Report.{report_text, section_text, network_line, counts_line, station_line, mode_text, frame_line, failures_met};
 ghost use Rattle.trace.specs.Sinks.{AppendsPrefix};
-ghost use Rattle.trace.specs.Buffers.{PutsInto};
+ghost use Rattle.trace.specs.Buffers.{Puts};
 ghost use Rattle.trace.specs.declared.report.ReportFault.TheVariants.{Write, NoMemory};
 
 mod buffer;
@@ -37,7 +37,7 @@ use std::alloc::{AllocError, Global};
 pub enum ReportFault {
     /// A write failed.
     Write,
-    /// There was no memory.
+    /// A growth was refused.
     NoMemory,
 }
 
@@ -90,9 +90,7 @@ fn put_section<W: Sink>(
     section: &Section,
 ) -> Result<(), ReportFault>
     requires { W.failed out.old.sink.now < 2 ^ 63 }
-    ensures same_sink { out.new.sink.ghost_name ≡ out.old.sink.ghost_name }
-    ensures text { PutsInto W.taken result out.old out.new (section_text section.now) }
-    ensures failures { W.failed out.new.sink.now ≡ W.failed out.old.sink.now + failures_met result }
+    ensures { Puts W.taken W.failed result out.old out.new (section_text section.now) }
 {
     put_heading(alloc, out, section)?;
     put_stations(alloc, out, section.table.as_slice())?;
@@ -108,10 +106,8 @@ fn put_heading<W: Sink>(
     section: &Section,
 ) -> Result<(), ReportFault>
     requires { W.failed out.old.sink.now < 2 ^ 63 }
-    ensures same_sink { out.new.sink.ghost_name ≡ out.old.sink.ghost_name }
-    ensures text { PutsInto W.taken result out.old out.new
+    ensures { Puts W.taken W.failed result out.old out.new
         (network_line section.now.config ++ counts_line (length section.now.events) section.now.counts) }
-    ensures failures { W.failed out.new.sink.now ≡ W.failed out.old.sink.now + failures_met result }
 {
     let network = network_line(alloc, &section.config)?;
     let counts = counts_line(alloc, section.events.as_slice().len(), &section.counts)?;
@@ -129,7 +125,7 @@ fn network_line(alloc: Global, config: &NetConfig) -> Result<String, AllocError>
     format!(in alloc; "network {bssid} ssid {ssid}\n")
 }
 
-/// The line of a network's counts, behind how many events it took.
+/// The line of a network's counts, after how many events it took.
 #[tactic(auto, unfolding(crate::specs::Report::counts_line))]
 fn counts_line(alloc: Global, events: usize, counts: &Counts) -> Result<String, AllocError>
     ensures { IfOk result (λ line. string_bytes line ≡ counts_line events counts.now) }
@@ -151,9 +147,7 @@ fn put_stations<W: Sink>(
     table: &[StationRow],
 ) -> Result<(), ReportFault>
     requires { W.failed out.old.sink.now < 2 ^ 63 }
-    ensures same_sink { out.new.sink.ghost_name ≡ out.old.sink.ghost_name }
-    ensures text { PutsInto W.taken result out.old out.new (flat_map station_line table.now) }
-    ensures failures { W.failed out.new.sink.now ≡ W.failed out.old.sink.now + failures_met result }
+    ensures { Puts W.taken W.failed result out.old out.new (flat_map station_line table.now) }
 {
     for row in table {
         let line = station_line(alloc, row)?;
@@ -194,16 +188,14 @@ fn mode_text(doze: bool) -> &'static str
     if doze { "doze" } else { "active" }
 }
 
-/// Puts a line for each frame, behind a word that says where it was sent.
+/// Puts a line for each frame, after a word that says where it was sent.
 fn put_frames<W: Sink>(
     out: &mut Buffered<'_, W>,
     word: &[u8],
     frames: &[Octets],
 ) -> Result<(), ReportFault>
     requires { W.failed out.old.sink.now < 2 ^ 63 }
-    ensures same_sink { out.new.sink.ghost_name ≡ out.old.sink.ghost_name }
-    ensures text { PutsInto W.taken result out.old out.new (flat_map (frame_line word.now) frames.now) }
-    ensures failures { W.failed out.new.sink.now ≡ W.failed out.old.sink.now + failures_met result }
+    ensures { Puts W.taken W.failed result out.old out.new (flat_map (frame_line word.now) frames.now) }
 {
     for frame in frames {
         put_frame(out, word, frame.as_slice())?;
@@ -218,9 +210,7 @@ fn put_frame<W: Sink>(
     frame: &[u8],
 ) -> Result<(), ReportFault>
     requires { W.failed out.old.sink.now < 2 ^ 63 }
-    ensures same_sink { out.new.sink.ghost_name ≡ out.old.sink.ghost_name }
-    ensures text { PutsInto W.taken result out.old out.new (frame_line word.now frame.now) }
-    ensures failures { W.failed out.new.sink.now ≡ W.failed out.old.sink.now + failures_met result }
+    ensures { Puts W.taken W.failed result out.old out.new (frame_line word.now frame.now) }
 {
     out.put(word)?;
     put_digits(out, frame)?;
@@ -230,15 +220,13 @@ fn put_frame<W: Sink>(
 /// Puts octets as pairs of hexadecimal digits.
 fn put_digits<W: Sink>(out: &mut Buffered<'_, W>, octets: &[u8]) -> Result<(), ReportFault>
     requires { W.failed out.old.sink.now < 2 ^ 63 }
-    ensures same_sink { out.new.sink.ghost_name ≡ out.old.sink.ghost_name }
-    ensures text { PutsInto W.taken result out.old out.new (encode_lower octets.now) }
-    ensures failures { W.failed out.new.sink.now ≡ W.failed out.old.sink.now + failures_met result }
+    ensures { Puts W.taken W.failed result out.old out.new (encode_lower octets.now) }
 {
     let mut rest = octets;
     while !rest.is_empty() {
-        let (front, back) = rest.split_at(rest.len().min(OCTETS_AT_A_TIME));
-        put_few_digits(out, front)?;
-        rest = back;
+        let (few, others) = rest.split_at(rest.len().min(OCTETS_AT_A_TIME));
+        put_few_digits(out, few)?;
+        rest = others;
     }
     Ok(())
 }
@@ -247,9 +235,7 @@ fn put_digits<W: Sink>(out: &mut Buffered<'_, W>, octets: &[u8]) -> Result<(), R
 fn put_few_digits<W: Sink>(out: &mut Buffered<'_, W>, octets: &[u8]) -> Result<(), ReportFault>
     requires few { length octets.now ≤ OCTETS_AT_A_TIME }
     requires few_failures { W.failed out.old.sink.now < 2 ^ 63 }
-    ensures same_sink { out.new.sink.ghost_name ≡ out.old.sink.ghost_name }
-    ensures text { PutsInto W.taken result out.old out.new (encode_lower octets.now) }
-    ensures failures { W.failed out.new.sink.now ≡ W.failed out.old.sink.now + failures_met result }
+    ensures { Puts W.taken W.failed result out.old out.new (encode_lower octets.now) }
 {
     let mut digits = [0; 2 * OCTETS_AT_A_TIME];
     let pairs = &mut digits[..2 * octets.len()];

@@ -1,8 +1,7 @@
-//! A sink behind a piece of memory.
+//! A sink with a piece of memory before it.
 
-ghost use Rattle.std.specs.Prelude.{◌≡◌, ◌+◌, ◌^◌, ◌<◌, [], OnOk};
-ghost use Rattle.trace.specs.Report.{failures_met};
-ghost use Rattle.trace.specs.Buffers.{PutsInto};
+ghost use Rattle.std.specs.Prelude.{◌≡◌, ◌^◌, ◌<◌, [], OnOk};
+ghost use Rattle.trace.specs.Buffers.{Puts};
 
 use crate::report::ReportFault;
 use crate::sink::{Sink, write_all};
@@ -31,14 +30,12 @@ impl<'a, W> Buffered<'a, W> {
 }
 
 impl<W: Sink> Buffered<'_, W> {
-    /// Puts a text behind what the piece holds, which goes to the sink first where both would be more than [`PIECE`]
+    /// Puts a text after what the piece holds, which goes to the sink first where both would be more than [`PIECE`]
     /// octets. `Write` comes exactly where a write to the sink failed, and `NoMemory` where the piece could not grow;
-    /// the sink has then taken a front of what was held and of the text.
+    /// the sink has then taken a prefix of what was held and of the text.
     pub fn put(&mut self, text: &[u8]) -> Result<(), ReportFault>
         requires { W.failed self.old.sink.now < 2 ^ 63 }
-        ensures same_sink { self.new.sink.ghost_name ≡ self.old.sink.ghost_name }
-        ensures text { PutsInto W.taken result self.old self.new text.now }
-        ensures failures { W.failed self.new.sink.now ≡ W.failed self.old.sink.now + failures_met result }
+        ensures { Puts W.taken W.failed result self.old self.new text.now }
     {
         self.make_room(text.len())?;
         self.piece.extend_from_slice(text)?;
@@ -48,9 +45,7 @@ impl<W: Sink> Buffered<'_, W> {
     /// Empties the piece where as many more octets would not fit.
     fn make_room(&mut self, len: usize) -> Result<(), ReportFault>
         requires { W.failed self.old.sink.now < 2 ^ 63 }
-        ensures same_sink { self.new.sink.ghost_name ≡ self.old.sink.ghost_name }
-        ensures text { PutsInto W.taken result self.old self.new [] }
-        ensures failures { W.failed self.new.sink.now ≡ W.failed self.old.sink.now + failures_met result }
+        ensures { Puts W.taken W.failed result self.old self.new [] }
     {
         if len <= PIECE.saturating_sub(self.piece.len()) {
             return Ok(());
@@ -59,13 +54,11 @@ impl<W: Sink> Buffered<'_, W> {
     }
 
     /// Has the sink take what the piece holds, which is empty then. `Write` comes exactly where a write to the sink
-    /// failed; the sink has then taken a front of it.
+    /// failed; the sink has then taken a prefix of it.
     pub fn flush(&mut self) -> Result<(), ReportFault>
         requires { W.failed self.old.sink.now < 2 ^ 63 }
-        ensures same_sink { self.new.sink.ghost_name ≡ self.old.sink.ghost_name }
-        ensures text { PutsInto W.taken result self.old self.new [] }
+        ensures puts { Puts W.taken W.failed result self.old self.new [] }
         ensures empty { OnOk result (self.new.piece.now.items ≡ []) }
-        ensures failures { W.failed self.new.sink.now ≡ W.failed self.old.sink.now + failures_met result }
     {
         write_all(self.sink, self.piece.as_slice())?;
         self.piece.clear();

@@ -1,50 +1,50 @@
 -- The parts are put one after the other.
 use Rattle.std.proofs.Common.{ap, subst}
 use Rattle.std.specs.Prelude.{codes, flat_map}
+use Rattle.trace.specs.Buffers.{Puts}
 use Rattle.trace.specs.Report.{section_text, station_line, frame_line}
-use Rattle.trace.specs.Sinks.{Delivers, Stops}
-use Rattle.trace.proofs.SinkSteps.{Puts-err, Puts-then, Delivers-then, Stops-behind, Stops-before}
+use Rattle.trace.proofs.BufferSteps.{Puts-err, Puts-first, Puts-then}
 use Rattle.trace.proofs.report.put_section.Goals as goal
 
-pub returns-in_err-put_heading-clause-text : goal.returns-in_err-put_heading-clause-text
+pub returns-in_err-put_heading : goal.returns-in_err-put_heading
 unfolding section_text
-returns-in_err-put_heading-clause-text g c =
-    Puts-err _ c.from_residual.ensures.0 (Stops-before _ (Stops-before _ (Stops-before _ (Stops-before _ c.in_err-put_heading.ensures.text.err))))
+returns-in_err-put_heading g c =
+    Puts-err _ c.from_residual.ensures.1 (Puts-first _ (Puts-first _ (Puts-first _ (Puts-first _ c.in_err-put_heading.ensures))))
 
-pub returns-in_err-put_stations-clause-text : goal.returns-in_err-put_stations-clause-text
+pub returns-in_err-put_stations : goal.returns-in_err-put_stations
 unfolding section_text
-returns-in_err-put_stations-clause-text g c =
+returns-in_err-put_stations g c =
     let stations = ap (flat_map station_line) c.as_slice.ensures in
-    let stops = Stops-behind c.in_ok-put_heading.ensures.text.ok (subst (Stops _ _ _) stations c.in_err-put_stations.ensures.text.err) in
-    Puts-err _ c.from_residual-in_err-put_stations.ensures.0 (Stops-before _ (Stops-before _ (Stops-before _ stops)))
+    let stops = Puts-then c.in_ok-put_heading.ensures (subst (Puts _ _ _ _ _) stations c.in_err-put_stations.ensures) in
+    Puts-err _ c.from_residual-in_err-put_stations.ensures.1 (Puts-first _ (Puts-first _ (Puts-first _ stops)))
 
-pub returns-in_err-put_frames-clause-text : goal.returns-in_err-put_frames-clause-text
+pub returns-in_err-put_frames : goal.returns-in_err-put_frames
 unfolding section_text
-returns-in_err-put_frames-clause-text g c =
-    let stations = ap (flat_map station_line) c.as_slice.ensures in
-    let air = ap (flat_map (frame_line (codes "air "))) c.as_slice-2.ensures in
-    let so_far = Delivers-then c.in_ok-put_heading.ensures.text.ok (subst (Delivers _ _ _ _) stations c.in_ok-put_stations.ensures.text.ok) in
-    let stops = Stops-behind so_far (subst (Stops _ _ _) air c.in_err-put_frames.ensures.text.err) in
-    Puts-err _ c.from_residual-in_err-put_frames.ensures.0 (Stops-before _ (Stops-before _ stops))
-
-pub returns-in_err-put_frames-2-clause-text : goal.returns-in_err-put_frames-2-clause-text
-unfolding section_text
-returns-in_err-put_frames-2-clause-text g c =
+returns-in_err-put_frames g c =
     let stations = ap (flat_map station_line) c.as_slice.ensures in
     let air = ap (flat_map (frame_line (codes "air "))) c.as_slice-2.ensures in
-    let wire = ap (flat_map (frame_line (codes "wire "))) c.as_slice-3.ensures in
-    let stations_put = Delivers-then c.in_ok-put_heading.ensures.text.ok (subst (Delivers _ _ _ _) stations c.in_ok-put_stations.ensures.text.ok) in
-    let so_far = Delivers-then stations_put (subst (Delivers _ _ _ _) air c.in_ok-put_frames.ensures.text.ok) in
-    let stops = Stops-behind so_far (subst (Stops _ _ _) wire c.in_err-put_frames-2.ensures.text.err) in
-    Puts-err _ c.from_residual-in_err-put_frames-2.ensures.0 (Stops-before _ stops)
+    let so_far = Puts-then c.in_ok-put_heading.ensures (subst (Puts _ _ _ _ _) stations c.in_ok-put_stations.ensures) in
+    let stops = Puts-then so_far (subst (Puts _ _ _ _ _) air c.in_err-put_frames.ensures) in
+    Puts-err _ c.from_residual-in_err-put_frames.ensures.1 (Puts-first _ (Puts-first _ stops))
 
-pub returns-clause-text : goal.returns-clause-text
+pub returns-in_err-put_frames-2 : goal.returns-in_err-put_frames-2
 unfolding section_text
-returns-clause-text g c =
+returns-in_err-put_frames-2 g c =
     let stations = ap (flat_map station_line) c.as_slice.ensures in
     let air = ap (flat_map (frame_line (codes "air "))) c.as_slice-2.ensures in
     let wire = ap (flat_map (frame_line (codes "wire "))) c.as_slice-3.ensures in
-    let stations_put = Delivers-then c.in_ok-put_heading.ensures.text.ok (subst (Delivers _ _ _ _) stations c.in_ok-put_stations.ensures.text.ok) in
-    let air_put = Delivers-then stations_put (subst (Delivers _ _ _ _) air c.in_ok-put_frames.ensures.text.ok) in
-    let wire_put = Delivers-then air_put (subst (Delivers _ _ _ _) wire c.in_ok-put_frames-2.ensures.text.ok) in
-    Puts-then wire_put c.put.ensures.text
+    let stations_put = Puts-then c.in_ok-put_heading.ensures (subst (Puts _ _ _ _ _) stations c.in_ok-put_stations.ensures) in
+    let so_far = Puts-then stations_put (subst (Puts _ _ _ _ _) air c.in_ok-put_frames.ensures) in
+    let stops = Puts-then so_far (subst (Puts _ _ _ _ _) wire c.in_err-put_frames-2.ensures) in
+    Puts-err _ c.from_residual-in_err-put_frames-2.ensures.1 (Puts-first _ stops)
+
+pub returns : goal.returns
+unfolding section_text
+returns g c =
+    let stations = ap (flat_map station_line) c.as_slice.ensures in
+    let air = ap (flat_map (frame_line (codes "air "))) c.as_slice-2.ensures in
+    let wire = ap (flat_map (frame_line (codes "wire "))) c.as_slice-3.ensures in
+    let stations_put = Puts-then c.in_ok-put_heading.ensures (subst (Puts _ _ _ _ _) stations c.in_ok-put_stations.ensures) in
+    let air_put = Puts-then stations_put (subst (Puts _ _ _ _ _) air c.in_ok-put_frames.ensures) in
+    let wire_put = Puts-then air_put (subst (Puts _ _ _ _ _) wire c.in_ok-put_frames-2.ensures) in
+    Puts-then wire_put c.put.ensures

@@ -1,59 +1,52 @@
--- One more section is put, and in the end the piece is written. The sink behind the piece is the one that was passed.
-use Rattle.std.proofs.Common.{rules, ◌≡◌, ◌∙◌, ℕ, List, [], Option, ap, subst, arith}
+-- One more section is put, and in the end the piece is written. The sink after the piece is the one that was passed.
+use Rattle.std.proofs.Common.{rules, ◌≡◌, ◌∙◌, ℕ, List, [], Option, ap, subst}
 use Rattle.std.specs.Result.{OnOk, OnErr}
 use Rattle.std.specs.Io.KnownBytes.{Appends}
 use Rattle.trace.specs.Report.{report_text, section_text}
 use Rattle.trace.specs.Sinks.{AppendsPrefix}
-use Rattle.trace.proofs.SinkSteps.{flushed, OnErr-always, AppendsPrefix-stopped}
-use Rattle.trace.proofs.ReportItems.{Delivers-item, Delivers-items, Stops-item}
+use Rattle.trace.proofs.BufferSteps.{OnErr-always, Puts-item, Puts-in_item, Puts-items, Puts-flushed, Puts-stopped}
 use Rattle.trace.proofs.report.write_report.Goals as goal
 
 pub returns-in_err-put_section-clause-prefix : goal.returns-in_err-put_section-clause-prefix
 returns-in_err-put_section-clause-prefix g c =
     let sections = c.args.sections.now in
-    let text : List ℕ = report_text sections in
-    let after : Option (List ℕ) = g.W.Sink.taken c.put_section.new.out.sink.now in
     let stops =
-    Stops-item section_text sections c.loop-section.section-index c.section-item.result c.loop-section-test.true c.section-item.is c.loop-section.invariant.put
-    c.in_err-put_section.ensures.text.err in
+    Puts-in_item section_text sections c.loop-section.section-index c.section-item.result c.loop-section-test.true c.section-item.is c.loop-section.invariant
+    c.in_err-put_section.ensures in
     let empty : c.new-buffered.result.piece.now.items ≡ [] = ap (λ piece. piece.items) c.new-buffered.ensures.piece ∙ c.in_ok-piece.ensures.items in
-    let same_sink = c.in_err-put_section.ensures.same_sink ∙ c.loop-section.invariant.same_sink ∙ c.new-buffered.ensures.same_sink in
-    let err : OnErr c.from_residual-in_err-put_section.result (AppendsPrefix (g.W.Sink.taken c.args.out.now) after text) =
+    let same_sink = stops.same_sink ∙ c.new-buffered.ensures.same_sink in
+    let err : OnErr c.from_residual-in_err-put_section.result (AppendsPrefix (g.W.Sink.taken c.args.out.now) (g.W.Sink.taken c.put_section.new.out.sink.now) (report_text sections)) =
     OnErr-always c.from_residual-in_err-put_section.result
-    (subst (λ s. AppendsPrefix (g.W.Sink.taken s) after text) c.new-buffered.ensures.sink (AppendsPrefix-stopped stops empty)) in
+    (subst (λ s. AppendsPrefix (g.W.Sink.taken s) (g.W.Sink.taken c.put_section.new.out.sink.now) (report_text sections)) c.new-buffered.ensures.sink
+    (Puts-stopped stops empty)) in
     search rules
 
 pub loop-section-preserved : goal.loop-section-preserved
 loop-section-preserved g c =
-    let sections = c.args.sections.now in
-    record {
-      put = Delivers-item section_text sections c.loop-section.section-index c.section-item.result c.loop-section-test.true c.section-item.is
-          c.loop-section.invariant.put
-          c.in_ok-put_section.ensures.text.ok;
-      failures = omega (arith, c.loop-section.invariant.failures, c.in_ok-put_section.ensures.failures);
-      same_sink = c.in_ok-put_section.ensures.same_sink ∙ c.loop-section.invariant.same_sink;
-    }
+    Puts-item section_text c.args.sections.now c.loop-section.section-index c.section-item.result c.loop-section-test.true c.section-item.is
+    c.loop-section.invariant
+    c.in_ok-put_section.ensures
 
 pub returns-clause-ok : goal.returns-clause-ok
 returns-clause-ok g c =
     let text : List ℕ = report_text c.args.sections.now in
     let after : Option (List ℕ) = g.W.Sink.taken c.flush.new.self.sink.now in
-    let put = Delivers-items section_text c.args.sections.now c.loop-section.section-index c.loop-section-test.false c.loop-section.invariant.put in
+    let put = Puts-items section_text c.args.sections.now c.loop-section.section-index c.loop-section-test.false c.loop-section.invariant in
     let empty : c.new-buffered.result.piece.now.items ≡ [] = ap (λ piece. piece.items) c.new-buffered.ensures.piece ∙ c.in_ok-piece.ensures.items in
-    let same_sink = c.flush.ensures.same_sink ∙ c.loop-section.invariant.same_sink ∙ c.new-buffered.ensures.same_sink in
+    let same_sink = c.flush.ensures.puts.same_sink ∙ c.loop-section.invariant.same_sink ∙ c.new-buffered.ensures.same_sink in
     let ok : OnOk c.flush.result (Appends (g.W.Sink.taken c.args.out.now) after text) =
     subst (λ s. OnOk c.flush.result (Appends (g.W.Sink.taken s) after text)) c.new-buffered.ensures.sink
-    (flushed c.flush.result empty put c.flush.ensures.text c.flush.ensures.empty).0 in
+    (Puts-flushed c.flush.result put c.flush.ensures.puts c.flush.ensures.empty empty).0 in
     search rules
 
 pub returns-clause-prefix : goal.returns-clause-prefix
 returns-clause-prefix g c =
     let text : List ℕ = report_text c.args.sections.now in
     let after : Option (List ℕ) = g.W.Sink.taken c.flush.new.self.sink.now in
-    let put = Delivers-items section_text c.args.sections.now c.loop-section.section-index c.loop-section-test.false c.loop-section.invariant.put in
+    let put = Puts-items section_text c.args.sections.now c.loop-section.section-index c.loop-section-test.false c.loop-section.invariant in
     let empty : c.new-buffered.result.piece.now.items ≡ [] = ap (λ piece. piece.items) c.new-buffered.ensures.piece ∙ c.in_ok-piece.ensures.items in
-    let same_sink = c.flush.ensures.same_sink ∙ c.loop-section.invariant.same_sink ∙ c.new-buffered.ensures.same_sink in
+    let same_sink = c.flush.ensures.puts.same_sink ∙ c.loop-section.invariant.same_sink ∙ c.new-buffered.ensures.same_sink in
     let err : OnErr c.flush.result (AppendsPrefix (g.W.Sink.taken c.args.out.now) after text) =
     subst (λ s. OnErr c.flush.result (AppendsPrefix (g.W.Sink.taken s) after text)) c.new-buffered.ensures.sink
-    (flushed c.flush.result empty put c.flush.ensures.text c.flush.ensures.empty).1 in
+    (Puts-flushed c.flush.result put c.flush.ensures.puts c.flush.ensures.empty empty).1 in
     search rules

@@ -1,12 +1,12 @@
--- What the sink took is the front of what was left.
+-- What the sink took is a prefix of what was left.
 use Rattle.std.proofs.Common.{arith, take}
-use Rattle.trace.proofs.SinkSteps.{Delivers-front, front_and_rest}
+use Rattle.trace.proofs.SinkSteps.{Delivers-prefix, prefix_and_rest}
 use Rattle.trace.proofs.sink.write_all.Goals as goal
 
 pub loop-rest-preserved : goal.loop-rest-preserved
 loop-rest-preserved g c =
     let rest = c.loop-rest.rest.now in
     let count = c.in_ok-count.count in (
-      Delivers-front (take count rest) _ c.loop-rest.invariant.0 (front_and_rest rest count) c.in_ok-count.ensures.prefix.2,
+      Delivers-prefix (take count rest) _ c.loop-rest.invariant.0 (prefix_and_rest rest count) c.in_ok-count.ensures.prefix.2,
       omega (arith, c.in_ok-count.ensures.failures, c.loop-rest.invariant.1),
     )

@@ -1,9 +1,15 @@
--- A failed write took a front of what the piece holds.
-use Rattle.std.proofs.Common.{subst}
+-- A failed write took a prefix of what the piece holds.
+use Rattle.std.proofs.Common.{rules, subst}
 use Rattle.trace.specs.Sinks.{AppendsPrefix}
-use Rattle.trace.proofs.SinkSteps.{Puts-err, Stops-written}
+use Rattle.trace.proofs.SinkSteps.{Stops-written}
+use Rattle.trace.proofs.BufferSteps.{Puts-err}
 use Rattle.trace.proofs.report.buffer.Buffered.flush.Goals as goal
 
-pub returns-in_err-write_all-clause-text : goal.returns-in_err-write_all-clause-text
-returns-in_err-write_all-clause-text g c =
-    Puts-err _ c.from_residual.ensures.0 (Stops-written (subst (AppendsPrefix _ _) c.as_slice.ensures.value c.in_err-write_all.ensures.err))
+pub returns-in_err-write_all-clause-puts : goal.returns-in_err-write_all-clause-puts
+returns-in_err-write_all-clause-puts g c =
+    Puts-err _ c.from_residual.ensures.1 (record {
+      same_sink = search rules;
+      ok = tt;
+      err = Stops-written (subst (AppendsPrefix _ _) c.as_slice.ensures.value c.in_err-write_all.ensures.err);
+      failures = c.in_err-write_all.ensures.failures;
+    })
