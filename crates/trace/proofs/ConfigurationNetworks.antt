@@ -1,5 +1,5 @@
 -- The networks of an array, as a loop over its values reads them.
-use Rattle.std.proofs.Common.{◌≡◌, ℕ, ◌<◌, ◌+◌, length, get_or, drop, List, [], ◌∷◌, ◌++◌, append_assoc, Some, None, Result, Ok, Err, refl, sym, ap, ◌∙◌, ◌≤◌}
+use Rattle.std.proofs.Common.{◌≡◌, ℕ, ◌<◌, ◌+◌, length, get_or, drop, List, [], ◌∷◌, ◌++◌, append_assoc, Option, Some, None, Result, Ok, Err, refl, sym, ap, ◌∙◌, ◌≤◌}
 use Rattle.std.proofs.lemmas.List.{append-nil, at_drop_all}
 use Rattle.std.proofs.lemmas.Option.{same_Some, none-some}
 use Rattle.toml.specs.Data.{Data, Items, item, Members, table, as_table}
@@ -8,11 +8,10 @@ use Rattle.toml.specs.declared.value.Value.{Value}
 use Rattle.toml.proofs.Views.{items_view-drop}
 use Rattle.bss_core.specs.declared.config.NetConfig.{NetConfig}
 use Rattle.bss_core.specs.declared.config.ConfigFault.{ConfigFault}
-use Rattle.trace.specs.ConfigurationText.{◌>>=◌, tables_in, network_of_table, networks_of, Faults}
-use Rattle.trace.specs.declared.configuration.fault.ConfigTextFault.{ConfigTextFault}
-use Rattle.trace.specs.declared.configuration.fault.ConfigTextFault.TheVariants as outcome
+use Rattle.trace.specs.Faults.{IsFaultOf}
+use Rattle.trace.specs.ConfigurationText.{◌>>=◌, tables_in, network_of_table, networks_of}
 
--- the networks so far, and those that are still to be read behind them
+-- the networks so far, and those that are still to be read after them
 unfoldable pub so_far : List NetConfig → Items → Result (List NetConfig) ConfigFault
 so_far done ds = networks_of done (tables_in ds) >>= (λ more. Ok (done ++ more))
 
@@ -25,7 +24,7 @@ tables_in-other : (d : Data) (ds : Items) → as_table d ≡ None → tables_in 
 tables_in-other (table ms) ds is = absurd (none-some _ (sym is))
 tables_in-other d ds is = refl
 
--- one more network, in front of the others or behind those so far
+-- one more network, before the others or after those so far
 moved : (done : List NetConfig) (network : NetConfig) (read : Result (List NetConfig) ConfigFault)
     → ((read >>= (λ more. Ok (network ∷ more))) >>= (λ more. Ok (done ++ more))) ≡ (read >>= (λ more. Ok ((done ++ network ∷ []) ++ more)))
 moved done network (Ok more) = ap Ok (sym (append_assoc done (network ∷ []) more))
@@ -60,8 +59,8 @@ module _ (vs : List Value) (i : ℕ) (v : Value) (within : i < length vs) (here 
   so_far-network done ms network is read = rw (from_here, tables_in-table _ _ ms (sym is), read) (moved done network _)
 
   -- a table with a fault
-  pub so_far-fault : (done : List NetConfig) (ms : Members) (fault : ConfigTextFault) → Some ms ≡ as_table (view v)
-      → Faults fault (network_of_table done ms) → Faults fault (so_far done (items_view (drop i vs)))
+  pub so_far-fault : (done : List NetConfig) (ms : Members) (fault : Option ConfigFault) → Some ms ≡ as_table (view v)
+      → IsFaultOf (network_of_table done ms) fault → IsFaultOf (so_far done (items_view (drop i vs))) fault
   unfolding so_far
-  so_far-fault done ms (outcome.At fault) is read = rw (from_here, tables_in-table _ _ ms (sym is), read) refl
-  so_far-fault done ms outcome.NoMemory is read = tt
+  so_far-fault done ms (Some fault) is read = rw (from_here, tables_in-table _ _ ms (sym is), read) refl
+  so_far-fault done ms None is read = tt

@@ -1,11 +1,10 @@
 -- Lists, tables and texts, as the readers of a configuration go over them.
-use Rattle.std.proofs.Common.{◌≡◌, ℕ, length, nat_le, codes, Ok, Err, if◌then◌else◌, Bool, true, false, List, [], ◌∷◌, map, Option, Some, None, String, Global, string_bytes, refl, subst, inl, inr, ◌∙◌, arith}
+use Rattle.std.proofs.Common.{◌≡◌, ℕ, length, nat_le, codes, Ok, Err, if◌then◌else◌, Bool, true, false, List, [], ◌∷◌, map, Bor, Option, Some, None, String, Global, string_bytes, refl, subst, inl, inr, ◌∙◌, arith}
 use Rattle.std.specs.List.{list_any, list_all}
 use Rattle.std.specs.Map.{keys_of}
 use Rattle.std.specs.Str.{bytes_eq, IsUtf8, is_utf8}
-use Rattle.std.proofs.lemmas.Slice.Eq.{bytes_eq-Decides}
 use Rattle.std.proofs.lemmas.Str.{IsUtf8-from_is_utf8, is_utf8-from_IsUtf8}
-use Rattle.std.proofs.lemmas.Bool.{cases_Bool, false_from_ne_true, false≢true}
+use Rattle.std.proofs.lemmas.Bool.{cases_Bool, false≢true}
 use Rattle.std.proofs.lemmas.List.{length-map}
 use Rattle.toml.specs.Parse.{parse_document}
 use Rattle.toml.specs.Data.{Data, table, Members}
@@ -16,9 +15,10 @@ use Rattle.bss_core.specs.declared.config.NetConfig.{NetConfig}
 use Rattle.bss_core.specs.Configuration.{is_between, dtim_fits, max_stations_fits, max_known_fits, quota_fits, max_events_fits}
 use Rattle.trace.specs.ConfigurationText.{number_at, bssid_at, ssid_at, rates_at, has_only, are_tables, tables_in, fault_after, network_of_table, document_of}
 
--- a text that is no key of this name
-pub not_among : (key name : List ℕ) → (key ≡ name → ⊥) → bytes_eq key name ≡ false
-not_among key name apart = false_from_ne_true _ (λ same. apart ((bytes_eq-Decides key name).0 same))
+-- a test of what references point to
+pub among_texts : (p : List ℕ → Bool) (texts : List (Bor (List ℕ))) → list_any p (map (λ text. text.now) texts) ≡ list_any (λ text. p text.now) texts
+among_texts p [] = refl
+among_texts p (text ∷ texts) = rw (among_texts p texts)
 
 -- the key is one of these
 abbrev pub is_among : List (List ℕ) → String Global → Bool
@@ -76,7 +76,7 @@ network_of_table-read earlier ms bssid ssid rates dtim max_stations max_known qu
 
 pub ruleset counts = (length_of_networks)
 
-pub ruleset key_lists = (has_only-keys)
+pub ruleset key_lists = (has_only-keys, among_texts)
 
 pub ruleset value_lists = (items_view-drop)
 

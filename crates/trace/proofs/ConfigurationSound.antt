@@ -10,7 +10,8 @@ use Rattle.bss_core.specs.declared.config.NetConfig.{NetConfig}
 use Rattle.bss_core.specs.declared.config.RadioConfig.{RadioConfig}
 use Rattle.bss_core.specs.declared.config.ConfigFault.{ConfigFault}
 use Rattle.trace.specs.declared.configuration.fault.ConfigTextFault.{ConfigTextFault}
-use Rattle.trace.specs.ConfigurationText.{◌>>=◌, demand, passing, natural, octets_of_digits, text_at, array_at, number_at, bssid_at, ssid_at, rates_at, network_of_table, networks_of, are_tables, tables_in, networks_at, is_listed, document_of, radio_of, configuration_of, Gives}
+use Rattle.trace.specs.Faults.{Gives}
+use Rattle.trace.specs.ConfigurationText.{◌>>=◌, demand, passing, natural, octets_of_digits, text_at, array_at, number_at, bssid_at, ssid_at, rates_at, network_of_table, networks_of, are_tables, tables_in, networks_at, is_listed, document_of, radio_of, configuration_of, config_fault}
 
 -- ---- what holds of what was read
 
@@ -73,7 +74,7 @@ networks_finds : (top : Members) → Finds (networks_at top) (λ ds. (are_tables
 unfolding networks_at
 networks_finds top = passing_finds (λ ds. are_tables ds && count_fits (length (tables_in ds))) (array_at (codes "network") top)
 
--- ---- the networks, one behind the other
+-- ---- the networks, one after the other
 
 sound_network : (earlier : List NetConfig) (network : NetConfig)
     → not (is_group network.bssid || is_taken earlier network.bssid) ≡ true → ssid_fits network.ssid ≡ true → rates_fit network.rates ≡ true
@@ -131,6 +132,6 @@ pub configuration_is_sound : (text : List ℕ) (c : RadioConfig) → configurati
 configuration_is_sound text c is = IfOk-at_ok (λ found. fault_of found ≡ None) is (configuration_reads text).reads
 
 -- the same of what was answered for a document
-pub sound_from_exact : (top : Members) (answer : Result RadioConfig ConfigTextFault) → Gives (λ c. c) answer (radio_of top) → IfOk answer (λ c. fault_of c ≡ None)
+pub sound_from_exact : (top : Members) (answer : Result RadioConfig ConfigTextFault) → Gives (λ c. c) config_fault answer (radio_of top) → IfOk answer (λ c. fault_of c ≡ None)
 sound_from_exact top (Ok c) exact = IfOk-at_ok (λ found. fault_of found ≡ None) exact (radio_reads top).reads
 sound_from_exact top (Err fault) exact = tt

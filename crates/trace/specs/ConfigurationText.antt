@@ -1,5 +1,5 @@
 -- The configuration that a text writes, or its first fault (profile).
-use Rattle.std.specs.Prelude.{ℕ, ℤ, pos, negsuc, ◌≡◌, ◌==◌, nat_le, Bool, true, not, ◌&&◌, ◌||◌, if◌then◌else◌, ⊤, List, [], ◌∷◌, ◌++◌, length, codes, Option, Some, None, is_some, option_and_then, Result, Ok, Err, MatchResult}
+use Rattle.std.specs.Prelude.{ℕ, ℤ, pos, negsuc, ◌==◌, nat_le, Bool, true, not, ◌&&◌, ◌||◌, if◌then◌else◌, ⊤, List, [], ◌∷◌, ◌++◌, length, codes, Option, Some, None, is_some, option_and_then, Result, Ok, Err}
 use Rattle.std.specs.List.{list_any, list_all}
 use Rattle.std.specs.Option.{ok_or, option_map_or}
 use Rattle.std.specs.Result.{result_ok}
@@ -15,7 +15,7 @@ use Rattle.bss_core.specs.declared.config.ConfigFault.{ConfigFault}
 use Rattle.trace.specs.declared.configuration.fault.ConfigTextFault.{ConfigTextFault}
 use Rattle.trace.specs.declared.configuration.fault.ConfigTextFault.TheVariants as outcome
 
--- ---- one step behind another, up to the first fault
+-- ---- one step after another, up to the first fault
 
 infixl 10 ◌>>=◌
 abbrev pub ◌>>=◌ : {A B : Type 0} → Result A ConfigFault → (A → Result B ConfigFault) → Result B ConfigFault
@@ -76,7 +76,7 @@ is_listed top =
 
 -- ---- one network
 
--- a fault of the network that stands behind others
+-- a fault of the network that stands after others
 abbrev pub fault_after : List NetConfig → ℕ → ConfigFault
 fault_after earlier code = of_network code (length earlier)
 
@@ -95,7 +95,7 @@ octets_of_digits digits = result_ok (decode_of digits)
 unfoldable pub rates_at : Members → Option (List ℕ)
 rates_at ms = option_and_then (passing rates_fit) (option_and_then octets_of_digits (text_at (codes "rates") ms))
 
--- the network of a table behind earlier networks
+-- the network of a table after earlier networks
 unfoldable pub network_of_table : List NetConfig → Members → Result NetConfig ConfigFault
 network_of_table earlier ms = do
   bssid ← ok_or (bssid_at earlier ms) (fault_after earlier 8)
@@ -109,7 +109,7 @@ network_of_table earlier ms = do
   _ ← demand (nat_le max_stations max_known) (fault_after earlier 12)
   Ok (record { bssid = bssid; ssid = ssid; rates = rates; dtim = dtim; max_stations = max_stations; max_known = max_known; quota = quota; max_events = max_events })
 
--- the networks of the tables from one on, behind earlier networks
+-- the networks of the tables from one on, after earlier networks
 abbrev pub networks_of : List NetConfig → List Members → Result (List NetConfig) ConfigFault
 networks_of earlier [] = Ok []
 networks_of earlier (ms ∷ rest) = do
@@ -152,11 +152,7 @@ configuration_of text = do
 
 -- ---- what a function answers
 
--- the fault that was answered is the one that reading finds; want of memory says nothing
-abbrev pub Faults : {A : Type 0} → ConfigTextFault → Result A ConfigFault → Type 0
-Faults (outcome.At fault) read = read ≡ Err fault
-Faults outcome.NoMemory read = Unit {0}
-
--- what was answered, seen by a view, is what reading finds
-abbrev pub Gives : {A B : Type 0} → (A → B) → Result A ConfigTextFault → Result B ConfigFault → Type 0
-Gives view answer read = MatchResult answer (λ x. read ≡ Ok (view x)) (λ e. Faults e read)
+-- the fault that an error names, none where memory ran out
+abbrev pub config_fault : ConfigTextFault → Option ConfigFault
+config_fault (outcome.At fault) = Some fault
+config_fault outcome.NoMemory = None

@@ -1,4 +1,5 @@
 pub mod Texts
+pub mod Faults
 pub mod ConfigurationText
 pub mod TraceText
 pub mod Sinks

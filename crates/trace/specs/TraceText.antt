@@ -1,5 +1,5 @@
 -- What a trace text says (profile): its lines, or the first fault with the number of its line.
-use Rattle.std.specs.Prelude.{ℕ, ◌+◌, ◌-◌, ◌≡◌, Bool, true, not, nat_lt, ◌==◌, List, [], ◌∷◌, ◌++◌, length, take, filter, codes, Option, Some, None, Result, Ok, Err, if◌then◌else◌}
+use Rattle.std.specs.Prelude.{ℕ, ◌+◌, ◌-◌, Bool, true, not, nat_lt, ◌==◌, List, [], ◌∷◌, ◌++◌, length, take, filter, codes, Option, Some, None, Result, Ok, Err, if◌then◌else◌}
 use Rattle.std.specs.List.{suffix_len, before_first, after_first}
 use Rattle.std.specs.Option.{option_to_list}
 use Rattle.std.specs.Str.{bytes_eq}
@@ -51,8 +51,8 @@ without_spaces_at_end line = take (length line - suffix_len is_space line) line
 abbrev pub first_word : List ℕ → List ℕ
 first_word line = before_first is_space line
 
-abbrev pub behind_first_word : List ℕ → List ℕ
-behind_first_word line = after_first is_space line
+abbrev pub after_first_word : List ℕ → List ℕ
+after_first_word line = after_first is_space line
 
 -- an empty line, or one that begins with `#`
 abbrev pub is_skipped : List ℕ → Bool
@@ -83,7 +83,7 @@ abbrev pub content_of : List ℕ → Result (Option Line) ℕ
 content_of line =
     if is_skipped line then Ok None
     else if not (bytes_eq (first_word line) (codes "A")) then Err unknown_kind
-    else air_line (octets_of (behind_first_word line))
+    else air_line (octets_of (after_first_word line))
 
 -- ---- what a text says
 
@@ -115,15 +115,16 @@ lines_from number (line ∷ rest) = do
 abbrev pub lines_of : RadioConfig → List ℕ → Result (List Line) TraceFault
 lines_of config text = lines_from 1 (lines text)
 
--- ---- what a reader may answer where it reads nothing: the fault, or that a growth was refused
+-- ---- what a reader answers
 
-abbrev pub IsTextFault : {A : Type 0} → Result A TraceFault → TraceTextFault → Type 0
-IsTextFault said (At fault) = said ≡ Err fault
-IsTextFault said NoMemory = Unit {0}
+-- the fault that an error names, none where memory ran out
+abbrev pub trace_fault : TraceTextFault → Option TraceFault
+trace_fault (At fault) = Some fault
+trace_fault NoMemory = None
 
-abbrev pub IsLineFault : {A : Type 0} → Result A ℕ → LineFault → Type 0
-IsLineFault said (line.Code code) = said ≡ Err code
-IsLineFault said line.NoMemory = Unit {0}
+abbrev pub line_fault : LineFault → Option ℕ
+line_fault (line.Code code) = Some code
+line_fault line.NoMemory = None
 
 -- the fault of a text whose line of this number has the fault
 abbrev pub text_fault : ℕ → LineFault → TraceTextFault

@@ -3,11 +3,12 @@
 //! [`read_config`] promises the configuration of a text, or its first fault in the order C1 to C12. `values` reads
 //! the value at one key, and `network` the table of one network.
 
-ghost use Rattle.std.specs.Prelude.{◌≡◌, Ok, None, IfOk, MatchResult};
+ghost use Rattle.std.specs.Prelude.{◌≡◌, None, IfOk};
 ghost use Rattle.std.specs.Option.{ok_or};
 ghost use Rattle.bss_core.specs.Configuration.{fault_of, of_radio};
 ghost use Rattle.toml.specs.View.{table_view};
-ghost use Rattle.trace.specs.ConfigurationText.{Faults, Gives, configuration_of, document_of, radio_of};
+ghost use Rattle.trace.specs.Faults.{Gives};
+ghost use Rattle.trace.specs.ConfigurationText.{config_fault, configuration_of, document_of, radio_of};
 
 mod fault;
 mod keys;
@@ -30,9 +31,7 @@ use values::number_at;
 /// says nothing of the text (*profile*).
 #[tactic(auto, unfolding(crate::specs::ConfigurationText::configuration_of))]
 pub fn read_config(alloc: Global, text: &[u8]) -> Result<RadioConfig, ConfigTextFault>
-    ensures exact { MatchResult result
-        (λ configuration. configuration_of text.now ≡ Ok configuration)
-        (λ fault. Faults fault (configuration_of text.now)) }
+    ensures exact { Gives (λ configuration. configuration) config_fault result (configuration_of text.now) }
     ensures sound { IfOk result (λ configuration. fault_of configuration ≡ None) }
 {
     let top = read_document(alloc, text)?;
@@ -42,7 +41,7 @@ pub fn read_config(alloc: Global, text: &[u8]) -> Result<RadioConfig, ConfigText
 /// The document that a text is: its octets are UTF-8, and `toml` reads them.
 #[tactic(auto, using(crate::proofs::ConfigurationReading::documents))]
 fn read_document(alloc: Global, text: &[u8]) -> Result<Table, ConfigTextFault>
-    ensures { Gives table_view result (ok_or (document_of text.now) (of_radio 1)) }
+    ensures { Gives table_view config_fault result (ok_or (document_of text.now) (of_radio 1)) }
 {
     match toml::table_from_slice(alloc, text) {
         Ok(top) => Ok(top),
@@ -54,7 +53,7 @@ fn read_document(alloc: Global, text: &[u8]) -> Result<Table, ConfigTextFault>
 /// The configuration of a document.
 #[tactic(auto, unfolding(crate::specs::ConfigurationText::radio_of))]
 fn read_radio(alloc: Global, top: &Table) -> Result<RadioConfig, ConfigTextFault>
-    ensures { Gives (λ configuration. configuration) result (radio_of (table_view top.now)) }
+    ensures { Gives (λ configuration. configuration) config_fault result (radio_of (table_view top.now)) }
 {
     number_at(top, "version", 1, 1).ok_or(at_radio(2))?;
     if !is_listed(top) {

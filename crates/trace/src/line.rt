@@ -1,7 +1,8 @@
 //! One line of a trace text (*profile*).
 
-ghost use Rattle.std.specs.Prelude.{◌≡◌, MatchResult, IfOk, Ok};
-ghost use Rattle.trace.specs.TraceText.{is_skipped, without_spaces_at_end, first_word, behind_first_word, digits_of, octets_of, within_limit, content_of, IsLineFault, text_fault, hexadecimal_fault};
+ghost use Rattle.std.specs.Prelude.{◌≡◌, IfOk};
+ghost use Rattle.trace.specs.Faults.{Gives};
+ghost use Rattle.trace.specs.TraceText.{is_skipped, without_spaces_at_end, first_word, after_first_word, digits_of, octets_of, within_limit, content_of, line_fault, text_fault, hexadecimal_fault};
 ghost use Rattle.trace.specs.declared.line.LineFault.TheVariants as line_faults;
 ghost use Rattle.hex.specs.Hex.{decode_of};
 
@@ -77,9 +78,7 @@ pub fn without_spaces_at_end(line: &[u8]) -> &[u8]
 
 /// What a line less the spaces at its end says: nothing where it is skipped.
 pub fn read_content(alloc: Global, line: &[u8]) -> Result<Option<Line>, LineFault>
-    ensures { MatchResult result
-        (λ said. content_of line.now ≡ Ok said)
-        (IsLineFault (content_of line.now)) }
+    ensures { Gives (λ said. said) line_fault result (content_of line.now) }
 {
     if is_skipped(line) {
         return Ok(None);
@@ -98,10 +97,10 @@ fn is_skipped(line: &[u8]) -> bool
     matches!(line, [] | [b'#', ..])
 }
 
-/// The first word of a line, and what stands behind the space after it.
+/// The first word of a line, and what stands after the space that ends it.
 fn split_word(line: &[u8]) -> (&[u8], &[u8])
     ensures word { result.0.now ≡ first_word line.now }
-    ensures behind { result.1.now ≡ behind_first_word line.now }
+    ensures after { result.1.now ≡ after_first_word line.now }
 {
     match place_of(b' ', line) {
         Some(end) => (&line[..end], &line[end + 1..]),
@@ -112,9 +111,7 @@ fn split_word(line: &[u8]) -> (&[u8], &[u8])
 /// The octets that a text spells in hexadecimal digits with spaces among them.
 #[tactic(auto, using(crate::proofs::TraceSteps::digits_of_none))]
 fn read_octets(alloc: Global, text: &[u8]) -> Result<Octets, LineFault>
-    ensures { MatchResult result
-        (λ octets. octets_of text.now ≡ Ok octets)
-        (IsLineFault (octets_of text.now)) }
+    ensures { Gives (λ octets. octets) line_fault result (octets_of text.now) }
 {
     if !text.contains(&b' ') {
         return read_digits(alloc, text);
@@ -134,9 +131,7 @@ fn without_spaces(alloc: Global, text: &[u8]) -> Result<Vec<u8>, AllocError>
 
 /// The octets that hexadecimal digits spell.
 fn read_digits(alloc: Global, digits: &[u8]) -> Result<Octets, LineFault>
-    ensures { MatchResult result
-        (λ octets. within_limit (decode_of digits.now) ≡ Ok octets)
-        (IsLineFault (within_limit (decode_of digits.now))) }
+    ensures { Gives (λ octets. octets) line_fault result (within_limit (decode_of digits.now)) }
 {
     let octets = hex::decode(alloc, digits)?;
     if octets.len() > MAX_OCTETS {

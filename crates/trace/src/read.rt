@@ -2,9 +2,10 @@
 //!
 //! [`read_trace`] gives the lines of a text, or its first fault with the number of its line.
 
-ghost use Rattle.std.specs.Prelude.{◌≡◌, ◌<◌, ◌≤◌, ◌∷◌, length, MatchResult, OnOk, Ok};
+ghost use Rattle.std.specs.Prelude.{◌≡◌, ◌<◌, ◌≤◌, ◌∷◌, length, OnOk};
 ghost use Rattle.std.specs.Str.Lines.{lines, strip_carriage_return};
-ghost use Rattle.trace.specs.TraceText.{line_of, lines_of, IsTextFault};
+ghost use Rattle.trace.specs.Faults.{Gives};
+ghost use Rattle.trace.specs.TraceText.{line_of, lines_of, trace_fault};
 ghost use Rattle.trace.specs.declared.read.TraceTextFault.TheVariants as text_faults;
 
 use crate::line::{LineFault, TOO_MANY, read_content, without_spaces_at_end};
@@ -65,25 +66,23 @@ pub fn read_trace(
     config: &RadioConfig,
     text: &[u8],
 ) -> Result<Vec<Line>, TraceTextFault>
-    ensures exact { MatchResult result
-        (λ read. lines_of config.now text.now ≡ Ok read.items)
-        (IsTextFault (lines_of config.now text.now)) }
+    ensures exact { Gives (λ read. read.items) trace_fault result (lines_of config.now text.now) }
 {
     let mut lines = Vec::new(alloc);
     let mut rest = text;
     let mut number = 0;
     while !rest.is_empty() {
         number += 1;
-        let (content, behind) = next_line(rest);
+        let (content, later) = next_line(rest);
         if let Some(line) = read_line(alloc, number, content)? {
             lines.push(line)?;
         }
-        rest = behind;
+        rest = later;
     }
     Ok(lines)
 }
 
-/// The first line of a text, without its end, and the text behind it.
+/// The first line of a text, without its end, and the text after it.
 fn next_line(text: &[u8]) -> (&[u8], &[u8])
     requires { 0 < length text.now }
     ensures cut { lines text.now ≡ result.0.now ∷ lines result.1.now }
@@ -100,16 +99,14 @@ fn without_carriage_return(line: &[u8]) -> &[u8]
     ensures { result.now ≡ strip_carriage_return line.now }
 {
     match line {
-        [front @ .., b'\r'] => front,
+        [prefix @ .., b'\r'] => prefix,
         _ => line,
     }
 }
 
 /// What the line of a number says.
 fn read_line(alloc: Global, number: u32, line: &[u8]) -> Result<Option<Line>, TraceTextFault>
-    ensures exact { MatchResult result
-        (λ said. line_of number line.now ≡ Ok said)
-        (IsTextFault (line_of number line.now)) }
+    ensures exact { Gives (λ said. said) trace_fault result (line_of number line.now) }
     ensures within { OnOk result (number ≤ MAX_LINES) }
 {
     if number > MAX_LINES {

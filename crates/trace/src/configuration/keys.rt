@@ -1,37 +1,39 @@
 //! The keys that a configuration has.
 
-ghost use Rattle.std.specs.Prelude.{◌≡◌};
+ghost use Rattle.std.specs.Prelude.{◌≡◌, map};
 ghost use Rattle.std.specs.List.{list_any, list_all};
 ghost use Rattle.std.specs.Str.{bytes_eq};
 ghost use Rattle.toml.specs.View.{table_view, items_view};
-ghost use Rattle.trace.specs.ConfigurationText.{radio_keys, network_keys, has_only, tables_in, is_listed};
+ghost use Rattle.trace.specs.ConfigurationText.{network_keys, has_only, tables_in, is_listed};
 
 use crate::configuration::values::array_at;
 use toml::{Table, Value};
+
+/// The keys at the top.
+const RADIO_KEYS: &[&str] = &["version", "channel", "interval", "queue", "network"];
+
+/// The keys of a network.
+const NETWORK_KEYS: &[&str] = &[
+    "bssid",
+    "ssid",
+    "rates",
+    "dtim",
+    "max_stations",
+    "max_known",
+    "quota",
+    "max_events",
+];
 
 /// Whether each key is listed, at the top and in the tables of the array of networks.
 #[tactic(auto, unfolding(crate::specs::ConfigurationText::is_listed))]
 pub(super) fn is_listed(top: &Table) -> bool
     ensures { result ≡ is_listed (table_view top.now) }
 {
-    has_radio_keys(top)
+    has_only(RADIO_KEYS, top)
         && match array_at(top, "network") {
             Some(values) => have_network_keys(values),
             None => true,
         }
-}
-
-/// Whether each key is one that stands at the top.
-#[tactic(auto, using(crate::proofs::ConfigurationReading::key_lists))]
-fn has_radio_keys(top: &Table) -> bool
-    ensures { result ≡ has_only radio_keys (table_view top.now) }
-{
-    for key in top.keys() {
-        if !is_radio_key(key.as_str()) {
-            return false;
-        }
-    }
-    true
 }
 
 /// Whether each key of the tables among the values is one of a network.
@@ -41,7 +43,7 @@ fn have_network_keys(values: &[Value]) -> bool
 {
     for value in values {
         if let Some(network) = value.as_table()
-            && !has_network_keys(network)
+            && !has_only(NETWORK_KEYS, network)
         {
             return false;
         }
@@ -49,35 +51,22 @@ fn have_network_keys(values: &[Value]) -> bool
     true
 }
 
-/// Whether each key is one of a network.
+/// Whether each key of a table is one of these.
 #[tactic(auto, using(crate::proofs::ConfigurationReading::key_lists))]
-fn has_network_keys(network: &Table) -> bool
-    ensures { result ≡ has_only network_keys (table_view network.now) }
+fn has_only(keys: &[&str], table: &Table) -> bool
+    ensures { result ≡ has_only (map (λ listed. listed.now) keys.now) (table_view table.now) }
 {
-    for key in network.keys() {
-        if !is_network_key(key.as_str()) {
+    for key in table.keys() {
+        if !is_among(keys, key.as_str()) {
             return false;
         }
     }
     true
 }
 
-#[tactic(auto, using(crate::proofs::ConfigurationReading::not_among))]
-fn is_radio_key(key: &str) -> bool
-    ensures { result ≡ list_any (bytes_eq key.now) radio_keys }
+/// Whether a key is one of these.
+fn is_among(keys: &[&str], key: &str) -> bool
+    ensures { result ≡ list_any (λ listed. bytes_eq key.now listed.now) keys.now }
 {
-    matches!(
-        key,
-        "version" | "channel" | "interval" | "queue" | "network"
-    )
-}
-
-#[tactic(auto, using(crate::proofs::ConfigurationReading::not_among))]
-fn is_network_key(key: &str) -> bool
-    ensures { result ≡ list_any (bytes_eq key.now) network_keys }
-{
-    matches!(
-        key,
-        "bssid" | "ssid" | "rates" | "dtim" | "max_stations" | "max_known" | "quota" | "max_events"
-    )
+    keys.iter().any(|listed| key == *listed)
 }

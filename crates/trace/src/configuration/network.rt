@@ -2,7 +2,8 @@
 
 ghost use Rattle.std.specs.Prelude.{◌≡◌, nat_le, [], IfOk, option_map, option_copied};
 ghost use Rattle.toml.specs.View.{array_view, table_view, items_view};
-ghost use Rattle.trace.specs.ConfigurationText.{Gives, bssid_at, ssid_at, rates_at, network_of_table, networks_of, networks_at, are_tables, tables_in};
+ghost use Rattle.trace.specs.Faults.{Gives};
+ghost use Rattle.trace.specs.ConfigurationText.{config_fault, bssid_at, ssid_at, rates_at, network_of_table, networks_of, networks_at, are_tables, tables_in};
 
 use crate::configuration::fault::{ConfigTextFault, at_network};
 use crate::configuration::values::{array_at, number_at, text_at};
@@ -41,12 +42,12 @@ fn are_tables(values: &[Value]) -> bool
     true
 }
 
-/// The networks of the tables among the values, each behind those before it.
+/// The networks of the tables among the values, each after those before it.
 pub(super) fn read_networks(
     alloc: Global,
     values: &[Value],
 ) -> Result<Vec<NetConfig>, ConfigTextFault>
-    ensures { Gives (λ networks. networks.items) result (networks_of [] (tables_in (items_view values.now))) }
+    ensures { Gives (λ networks. networks.items) config_fault result (networks_of [] (tables_in (items_view values.now))) }
 {
     let mut networks = Vec::new(alloc);
     for value in values {
@@ -58,14 +59,14 @@ pub(super) fn read_networks(
     Ok(networks)
 }
 
-/// The network of a table, behind earlier networks.
+/// The network of a table, after earlier networks.
 #[tactic(auto, unfolding(crate::specs::ConfigurationText::network_of_table))]
 fn read_network(
     alloc: Global,
     earlier: &[NetConfig],
     table: &Table,
 ) -> Result<NetConfig, ConfigTextFault>
-    ensures { Gives (λ network. network) result (network_of_table earlier.now (table_view table.now)) }
+    ensures { Gives (λ network. network) config_fault result (network_of_table earlier.now (table_view table.now)) }
 {
     let place = earlier.len();
     let bssid = bssid_at(earlier, table).ok_or(at_network(8, place))?;
