@@ -8,8 +8,8 @@ use Rattle.toml.specs.declared.value.Value.{Value}
 use Rattle.toml.proofs.Views.{items_view-drop}
 use Rattle.bss_core.specs.declared.config.NetConfig.{NetConfig}
 use Rattle.bss_core.specs.declared.config.ConfigFault.{ConfigFault}
-use Rattle.trace.specs.Faults.{IsFaultOf}
-use Rattle.trace.specs.ConfigurationText.{◌>>=◌, tables_in, network_of_table, networks_of}
+use Rattle.trace.specs.Faults.{◌>>=◌, IsFaultOf}
+use Rattle.trace.specs.ConfigurationText.{tables_in, network_of_table, networks_of}
 
 -- the networks so far, and those that are still to be read after them
 unfoldable pub so_far : List NetConfig → Items → Result (List NetConfig) ConfigFault

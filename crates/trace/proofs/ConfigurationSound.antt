@@ -10,8 +10,8 @@ use Rattle.bss_core.specs.declared.config.NetConfig.{NetConfig}
 use Rattle.bss_core.specs.declared.config.RadioConfig.{RadioConfig}
 use Rattle.bss_core.specs.declared.config.ConfigFault.{ConfigFault}
 use Rattle.trace.specs.declared.configuration.fault.ConfigTextFault.{ConfigTextFault}
-use Rattle.trace.specs.Faults.{Gives}
-use Rattle.trace.specs.ConfigurationText.{◌>>=◌, demand, passing, natural, octets_of_digits, text_at, array_at, number_at, bssid_at, ssid_at, rates_at, network_of_table, networks_of, are_tables, tables_in, networks_at, is_listed, document_of, radio_of, configuration_of, config_fault}
+use Rattle.trace.specs.Faults.{◌>>=◌, Gives}
+use Rattle.trace.specs.ConfigurationText.{demand, passing, natural, octets_of_digits, text_at, array_at, number_at, bssid_at, ssid_at, rates_at, network_of_table, networks_of, are_tables, tables_in, networks_at, is_listed, document_of, radio_of, configuration_of, config_fault}
 
 -- ---- what holds of what was read
 

@@ -12,15 +12,11 @@ use Rattle.bss_core.specs.Configuration.{channel_fits, interval_fits, queue_fits
 use Rattle.bss_core.specs.declared.config.NetConfig.{NetConfig}
 use Rattle.bss_core.specs.declared.config.RadioConfig.{RadioConfig}
 use Rattle.bss_core.specs.declared.config.ConfigFault.{ConfigFault}
+use Rattle.trace.specs.Faults.{◌>>=◌}
 use Rattle.trace.specs.declared.configuration.fault.ConfigTextFault.{ConfigTextFault}
 use Rattle.trace.specs.declared.configuration.fault.ConfigTextFault.TheVariants as outcome
 
--- ---- one step after another, up to the first fault
-
-infixl 10 ◌>>=◌
-abbrev pub ◌>>=◌ : {A B : Type 0} → Result A ConfigFault → (A → Result B ConfigFault) → Result B ConfigFault
-Ok x >>= next = next x
-Err fault >>= next = Err fault
+-- ---- tests
 
 -- what has to hold, or else this fault
 abbrev pub demand : Bool → ConfigFault → Result ⊤ ConfigFault

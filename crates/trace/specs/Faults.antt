@@ -1,5 +1,11 @@
--- What a call answers that reads a text, where it may run out of memory (profile).
+-- The first fault of a text, and what a call answers that reads it, where it may run out of memory (profile).
 use Rattle.std.specs.Prelude.{◌≡◌, Option, Some, None, Result, Ok, Err, MatchResult}
+
+-- one step after another, up to the first fault
+infixl 10 ◌>>=◌
+abbrev pub ◌>>=◌ : {A B F : Type 0} → Result A F → (A → Result B F) → Result B F
+Ok x >>= next = next x
+Err fault >>= next = Err fault
 
 -- the fault is the one that reading finds; a call that ran out of memory names none, and says nothing of the text
 abbrev pub IsFaultOf : {A F : Type 0} → Result A F → Option F → Type 0

@@ -10,6 +10,7 @@ use Rattle.hex.specs.declared.error.FromHexError.TheVariants.{OutOfMemory}
 use Rattle.bss_core.specs.declared.config.RadioConfig.{RadioConfig}
 use Rattle.workers.specs.declared.line.Line.{Line}
 use Rattle.workers.specs.declared.line.Line.TheVariants.{Air}
+use Rattle.trace.specs.Faults.{◌>>=◌}
 use Rattle.trace.specs.declared.read.TraceFault.{TraceFault}
 use Rattle.trace.specs.declared.read.TraceTextFault.{TraceTextFault}
 use Rattle.trace.specs.declared.read.TraceTextFault.TheVariants.{At, NoMemory}
@@ -96,11 +97,6 @@ at_line number (Err code) = Err (record { code = code; line = number })
 abbrev pub line_of : ℕ → List ℕ → Result (Option Line) TraceFault
 line_of number line =
     at_line number (if nat_lt max_lines number then Err too_many else content_of (without_spaces_at_end line))
-
-infixl 10 ◌>>=◌
-abbrev pub ◌>>=◌ : {A B : Type 0} → Result A TraceFault → (A → Result B TraceFault) → Result B TraceFault
-Ok x >>= f = f x
-Err fault >>= f = Err fault
 
 -- what lines say, the first of which has this number; or the first fault
 abbrev pub lines_from : ℕ → List (List ℕ) → Result (List Line) TraceFault

@@ -5,7 +5,7 @@ ghost use Rattle.bss_core.specs.Configuration.{of_radio, of_network};
 ghost use Rattle.trace.specs.declared.configuration.fault.ConfigTextFault.TheVariants as outcome;
 
 use bss_core::ConfigFault;
-use std::alloc::{AllocError, AllocFailed};
+use std::alloc::AllocFailed;
 
 /// Why no configuration was read.
 #[derive(Clone, Copy, Debug, PartialEq, Eq)]
@@ -20,14 +20,6 @@ impl From<mac_frame::NoMemory> for ConfigTextFault {
     ghost from_gives = { λ _ fault. fault ≡ outcome.NoMemory };
 
     fn from(_refused: mac_frame::NoMemory) -> ConfigTextFault {
-        ConfigTextFault::NoMemory
-    }
-}
-
-impl From<AllocError> for ConfigTextFault {
-    ghost from_gives = { λ _ fault. fault ≡ outcome.NoMemory };
-
-    fn from(_refused: AllocError) -> ConfigTextFault {
         ConfigTextFault::NoMemory
     }
 }
