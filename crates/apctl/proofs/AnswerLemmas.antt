@@ -10,21 +10,22 @@ use Rattle.trace.specs.declared.read.TraceTextFault.{TraceTextFault}
 use Rattle.trace.specs.declared.read.TraceTextFault.TheVariants as trace
 use Rattle.trace.specs.declared.report.ReportFault.{ReportFault}
 use Rattle.trace.specs.declared.report.ReportFault.TheVariants as report
-use Rattle.trace.specs.ConfigurationText.{configuration_of, Faults}
-use Rattle.trace.specs.TraceText.{lines_of, IsTextFault}
+use Rattle.trace.specs.Faults.{IsFaultOf}
+use Rattle.trace.specs.ConfigurationText.{configuration_of, config_fault}
+use Rattle.trace.specs.TraceText.{lines_of, trace_fault}
 use Rattle.apctl.specs.Replay.{sections_of}
 use Rattle.trace.specs.Report.{report_text}
 use Rattle.trace.specs.Sinks.{AppendsPrefix}
 use Rattle.apctl.specs.Answer.{answered, replayed, answer_of, Ends, of_config, of_trace, of_report}
 
 -- a fault of the configuration
-pub config_ends : (e : ConfigTextFault) (ct tt : List ℕ) (old : Option (List ℕ)) → Faults e (configuration_of ct) → Ends (Err (of_config e)) (answer_of ct tt) old old
+pub config_ends : (e : ConfigTextFault) (ct tt : List ℕ) (old : Option (List ℕ)) → IsFaultOf (configuration_of ct) (config_fault e) → Ends (Err (of_config e)) (answer_of ct tt) old old
 unfolding answer_of
 config_ends (config.At fault) ct tt old h = (ap (λ (r : Result RadioConfig _). answered r tt) h, Keeps-refl old)
 config_ends config.NoMemory ct tt old h = inl (Keeps-refl old)
 
 -- a fault of the trace
-pub trace_ends : (e : TraceTextFault) (c : RadioConfig) (ct tt : List ℕ) (old : Option (List ℕ)) → configuration_of ct ≡ Ok c → IsTextFault (lines_of c tt) e → Ends (Err (of_trace e)) (answer_of ct tt) old old
+pub trace_ends : (e : TraceTextFault) (c : RadioConfig) (ct tt : List ℕ) (old : Option (List ℕ)) → configuration_of ct ≡ Ok c → IsFaultOf (lines_of c tt) (trace_fault e) → Ends (Err (of_trace e)) (answer_of ct tt) old old
 unfolding answer_of
 trace_ends (trace.At fault) c ct tt old read h =
     (ap (λ (r : Result RadioConfig _). answered r tt) read ∙ ap (replayed c) h, Keeps-refl old)

@@ -37,7 +37,7 @@ parts_at_separator text line lines e =
     ∙ ap (λ before. (flat_map ended before, join_with_byte 10 (after_first is_separator (line ∷ lines)))) (before_first-cons_yes is_separator line lines e)
     ∙ ap (λ after. ([], join_with_byte 10 after)) (after_first-cons_yes is_separator line lines e)
 
--- any other first line goes in front of the first part
+-- any other first line goes before the first part
 parts_at_other : (line rest : List ℕ) (lines : List (List ℕ)) → is_separator line ≡ false
     → parts_at (ended line ++ rest) (line ∷ lines) ≡ (ended line ++ (parts_at rest lines).0, (parts_at rest lines).1)
 parts_at_other line rest lines e =
@@ -65,7 +65,7 @@ joined_parts-separator line rest lacks e =
     ∙ parts_at_separator (ended line ++ rest) line (cut rest) e
     ∙ ap (λ after. ([], after)) (join_with_byte-slice_split 10 rest)
 
--- another first line with its LF goes in front of the first part
+-- another first line with its LF goes before the first part
 pub joined_parts-other : (line rest : List ℕ) → LacksLineFeed line → is_separator line ≡ false
     → joined_parts (ended line ++ rest) ≡ (ended line ++ (joined_parts rest).0, (joined_parts rest).1)
 unfolding joined_parts

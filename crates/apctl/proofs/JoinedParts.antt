@@ -12,7 +12,7 @@ use Rattle.apctl.specs.Joined.{IsJoined, is_separator, joined_parts, parts_of, s
 
 -- ---- the lines of a text
 
--- an octet other than LF, put at the front of the first line
+-- an octet other than LF, put before the first line
 onto_first_lacks : (octet : ℕ) (lines : List (List ℕ)) → octet ≢ 10 → All LacksLineFeed lines → All LacksLineFeed (onto_first octet lines)
 onto_first_lacks octet [] other lacks = All-cons LacksLineFeed (octet ∷ []) [] (All-cons (λ x. x ≢ 10) octet [] other (All-nil (λ x. x ≢ 10))) (All-nil LacksLineFeed)
 onto_first_lacks octet (line ∷ lines) other lacks =
@@ -27,11 +27,11 @@ lines_lack_line_feed (octet ∷ text) = either (lines_lack_line_feed text) (eqb 
     either rest true e = All-cons LacksLineFeed [] (cut text) (All-nil (λ x. x ≢ 10)) rest
     either rest false e = onto_first_lacks octet (cut text) (grind arith) rest
 
--- a line in front of others
-ended-append : (first front rest : List ℕ) → first ++ 10 ∷ (front ++ rest) ≡ (ended first ++ front) ++ rest
-ended-append first front rest = simp append_assoc
+-- a line before others
+ended-append : (first more rest : List ℕ) → first ++ 10 ∷ (more ++ rest) ≡ (ended first ++ more) ++ rest
+ended-append first more rest = simp append_assoc
 
--- lines in a row with LF between each two, where there are some behind the first ones
+-- lines in a row with LF between each two, where there are some after the first ones
 join_with_byte-append : (before : List (List ℕ)) (line : List ℕ) (after : List (List ℕ))
     → join_with_byte 10 (before ++ line ∷ after) ≡ flat_map ended before ++ join_with_byte 10 (line ∷ after)
 join_with_byte-append [] line after = refl
@@ -65,7 +65,7 @@ others_before lines lacks k d within =
 first_within : (lines : List (List ℕ)) → list_any is_separator lines ≡ true → position_or_len is_separator lines < length lines
 first_within lines some = grind (arith, common_steps, Any-from_list_any, fails_before_first)
 
--- lines are those before the first `---`, that one, and those behind it
+-- lines are those before the first `---`, that one, and those after it
 split_at_separator : (lines : List (List ℕ)) → list_any is_separator lines ≡ true → lines ≡ before_first is_separator lines ++ separator ∷ after_first is_separator lines
 split_at_separator lines some =
     let within = first_within lines some in
@@ -73,11 +73,11 @@ split_at_separator lines some =
     let line_is : line ≡ separator = (bytes_eq-Decides line separator).0 (passes_at_first is_separator lines [] within) in
     split_at_first is_separator lines [] within ∙ ap (λ x. before_first is_separator lines ++ x ∷ after_first is_separator lines) line_is
 
--- what stands behind a first part, where a line `---` and these lines do
-behind : (text before : List ℕ) (after : List (List ℕ)) → text ≡ before ++ join_with_byte 10 (separator ∷ after)
+-- what stands after a first part, where a line `---` and these lines do
+follows : (text before : List ℕ) (after : List (List ℕ)) → text ≡ before ++ join_with_byte 10 (separator ∷ after)
     → (text ≡ before ++ separator ++ 10 ∷ join_with_byte 10 after) ⊎ ((text ≡ before ++ separator) × (join_with_byte 10 after ≡ []))
-behind text before [] is = inr (is, refl)
-behind text before (line ∷ after) is = inl (is ∙ sym (append_assoc before separator (10 ∷ join_with_byte 10 (line ∷ after))))
+follows text before [] is = inr (is, refl)
+follows text before (line ∷ after) is = inl (is ∙ sym (append_assoc before separator (10 ∷ join_with_byte 10 (line ∷ after))))
 
 joined_at_separator : (text : List ℕ) (lines : List (List ℕ)) → text ≡ join_with_byte 10 lines → All LacksLineFeed lines → list_any is_separator lines ≡ true
     → IsJoined text (parts_of lines).0 (parts_of lines).1
@@ -87,7 +87,7 @@ joined_at_separator text lines text_is lacks some =
     let after = after_first is_separator lines in
     inl (
       (before, refl, others_before lines lacks),
-      behind text (flat_map ended before) after (text_is ∙ ap (join_with_byte 10) (split_at_separator lines some) ∙ join_with_byte-append before separator after),
+      follows text (flat_map ended before) after (text_is ∙ ap (join_with_byte 10) (split_at_separator lines some) ∙ join_with_byte-append before separator after),
     )
 
 -- ---- either way

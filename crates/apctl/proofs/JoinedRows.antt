@@ -42,9 +42,9 @@ shorter_is_none : joined_parts (codes "a\n--\nb\n") ≡ (codes "a\n--\nb\n", [])
 unfolding joined_parts
 shorter_is_none = refl
 
-behind_a_space : joined_parts (codes "a\n ---\nb\n") ≡ (codes "a\n ---\nb\n", [])
+after_a_space : joined_parts (codes "a\n ---\nb\n") ≡ (codes "a\n ---\nb\n", [])
 unfolding joined_parts
-behind_a_space = refl
+after_a_space = refl
 
 inside_a_string : joined_parts (codes "ssid = \"\"\"\n---\n\"\"\"\n") ≡ (codes "ssid = \"\"\"\n", codes "\"\"\"\n")
 unfolding joined_parts

@@ -6,10 +6,10 @@ use Rattle.std.specs.List.{position}
 use Rattle.trace.specs.Texts.{is_line_feed, LacksLineFeed, ended}
 use Rattle.apctl.specs.Joined.{IsJoined, is_separator, joined_parts}
 use Rattle.apctl.proofs.JoinedParts.{IsJoined-joined_parts}
-use Rattle.trace.proofs.TextLemmas.{around_line_feed, front_lacks, lacks_from_none}
+use Rattle.trace.proofs.TextLemmas.{around_line_feed, prefix_lacks, lacks_from_none}
 use Rattle.apctl.proofs.JoinedLines.{joined_parts-separator, joined_parts-other, joined_parts-last_separator, joined_parts-last_other}
 
--- The octets before start are other lines than `---`: they go in front of the first part of the rest.
+-- The octets before start are other lines than `---`: they go before the first part of the rest.
 pub record AreOthersTo (text : List ℕ) (start : ℕ) : Type 0 where
   pub within : start ≤ length text
   pub before : (joined_parts text).0 ≡ take start text ++ (joined_parts (drop start text)).0
@@ -28,13 +28,13 @@ line_at text start len = take (start + len - start) (drop start text)
 line_at-take : (text : List ℕ) (start len : ℕ) → line_at text start len ≡ take len (drop start text)
 line_at-take text start len = let same : start + len - start ≡ len = omega arith in ap (λ n. take n (drop start text)) same
 
-behind_place : (text : List ℕ) (start len : ℕ) → drop (len + 1) (drop start text) ≡ drop (start + len + 1) text
-behind_place text start len = let same : start + (len + 1) ≡ start + len + 1 = omega arith in drop-drop (len + 1) start text ∙ ap (λ n. drop n text) same
+after_place : (text : List ℕ) (start len : ℕ) → drop (len + 1) (drop start text) ≡ drop (start + len + 1) text
+after_place text start len = let same : start + (len + 1) ≡ start + len + 1 = omega arith in drop-drop (len + 1) start text ∙ ap (λ n. drop n text) same
 
--- the octets to behind a line are those before it, and the line with its LF
-front_is : (text : List ℕ) (start len : ℕ) → start + len < length text → drop start text ≡ ended (line_at text start len) ++ drop (start + len + 1) text
+-- the octets up to the end of a line are those before it, and the line with its LF
+prefix_is : (text : List ℕ) (start len : ℕ) → start + len < length text → drop start text ≡ ended (line_at text start len) ++ drop (start + len + 1) text
     → take (start + len + 1) text ≡ take start text ++ ended (line_at text start len)
-front_is text start len within rest =
+prefix_is text start len within rest =
     let whole : text ≡ (take start text ++ ended (line_at text start len)) ++ drop (start + len + 1) text =
     sym (take-append-drop start text) ∙ ap (λ y. take start text ++ y) rest ∙ sym (append_assoc (take start text) (ended (line_at text start len)) (drop (start + len + 1) text)) in
     let long : length (take start text ++ ended (line_at text start len)) ≡ start + len + 1 =
@@ -53,7 +53,7 @@ record IsLineAt (text : List ℕ) (start len : ℕ) : Type 0 where
   within : start + len < length text
   lacks : LacksLineFeed (line_at text start len)
   rest : drop start text ≡ ended (line_at text start len) ++ drop (start + len + 1) text
-  front : take (start + len + 1) text ≡ take start text ++ ended (line_at text start len)
+  prefix : take (start + len + 1) text ≡ take start text ++ ended (line_at text start len)
 
 line_is : (text : List ℕ) (start len : ℕ) → start ≤ length text → position is_line_feed (drop start text) ≡ Some len → IsLineAt text start len
 line_is text start len below found =
@@ -61,12 +61,12 @@ line_is text start len below found =
     let inside : len < length (drop start text) = at.0 in
     let within : start + len < length text = omega (arith, length-drop start text) in
     let line_same : line_at text start len ≡ take len (drop start text) = line_at-take text start len in
-    let lacks : LacksLineFeed (line_at text start len) = subst LacksLineFeed (sym line_same) (front_lacks (drop start text) len at.2) in
+    let lacks : LacksLineFeed (line_at text start len) = subst LacksLineFeed (sym line_same) (prefix_lacks (drop start text) len at.2) in
     let rest : drop start text ≡ ended (line_at text start len) ++ drop (start + len + 1) text =
     around_line_feed (drop start text) len inside at.1
     ∙ ap (λ line. ended line ++ drop (len + 1) (drop start text)) (sym line_same)
-    ∙ ap (λ y. ended (line_at text start len) ++ y) (behind_place text start len) in
-    record { within = within; lacks = lacks; rest = rest; front = front_is text start len within rest }
+    ∙ ap (λ y. ended (line_at text start len) ++ y) (after_place text start len) in
+    record { within = within; lacks = lacks; rest = rest; prefix = prefix_is text start len within rest }
 
 -- ---- a step, and each end
 
@@ -81,7 +81,7 @@ AreOthersTo-more text start len others found is =
     record {
       within = let inside : start + len < length text = at.within in omega arith;
       before = others.before ∙ ap (λ p. take start text ++ p.0) parts ∙ sym (append_assoc (take start text) (ended line) (joined_parts rest).0)
-          ∙ ap (λ y. y ++ (joined_parts rest).0) (sym at.front);
+          ∙ ap (λ y. y ++ (joined_parts rest).0) (sym at.prefix);
       after = others.after ∙ ap (λ p. p.1) parts;
     }
 

@@ -19,7 +19,7 @@ cond_length false e = omega arith
 one_at_most : (bss : List ℕ) (l : Line) → length (heard_of bss l) ≤ 1
 one_at_most bss (Air x) = cond_length (is_heard bss x) (event.Air x)
 
--- the front of a list with at most one item more
+-- the prefix of a list with at most one item more
 take-push : (m : ℕ) (xs ys : List Event) → length ys ≤ 1 → take m (xs ++ ys) ≡ take m xs ++ cond (ltb (length (take m xs)) m) ys []
 take-push m xs ys one =
     elim (cases_lt (length xs) m) [

@@ -11,7 +11,7 @@ separator = codes "---"
 abbrev pub is_separator : List ℕ → Bool
 is_separator line = bytes_eq line separator
 
--- the lines before the first that is `---`, each ended by LF again, and those behind it, joined with LF again
+-- the lines before the first that is `---`, each ended by LF again, and those after it, joined with LF again
 abbrev pub parts_of : List (List ℕ) → List ℕ × List ℕ
 parts_of lines = (flat_map ended (before_first is_separator lines), join_with_byte 10 (after_first is_separator lines))
 

@@ -2,3 +2,4 @@ pub mod Joined
 pub mod Replay
 pub mod Answer
 pub mod Faults
+pub mod Input

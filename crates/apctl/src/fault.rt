@@ -35,8 +35,8 @@ pub enum Fault {
 }
 
 impl Fault {
-    /// The exit status of the program that ends with it: 1 for a fault of what it read, 2 for its words, 3 for want
-    /// of memory, 4 for a file or a stream (*profile*).
+    /// The exit status of the program that ends with it: 1 for a fault of what it read, 2 for its words, 3 where
+    /// it ran out of memory, 4 for a file or a stream (*profile*).
     pub fn status(&self) -> u8
         ensures { result ≡ status_of self.now }
     {

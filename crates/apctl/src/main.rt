@@ -1,30 +1,28 @@
 //! The program `apctl`: from the octets of a configuration and a trace to the octets of a report.
 //!
-//! It promises, on [`replay::run_text`], that what it writes is the report of what each network alone makes of its
-//! own events of the trace, or that it answers the first fault and writes nothing. Of files, standard streams
-//! and words it promises nothing: that they are what a user gave is shown by tests.
+//! It promises, on [`input::run_input`], that where it ends well, what it wrote is the report of what each network
+//! alone makes of its own events of the trace that it read; that a fault of the configuration or of the trace is the
+//! first one, and nothing was written then; and that where memory ran out or a write failed, what was written is
+//! nothing or a prefix of that report.
+//!
+//! It promises nothing of words, of the process's streams, or of the line of a fault. That the program is called as a
+//! user called it is shown by tests.
 #![tactic(auto)]
 
-ghost use Rattle.std.specs.Prelude.{◌≡◌, IfOk, IfSome};
-
 mod fault;
+mod input;
 mod joined;
 mod replay;
 
 use fault::{Fault, show_fault};
-use joined::split_joined;
-use replay::run_text;
-use std::alloc::Global;
+use input::run_input;
 use std::env;
-use std::io::{ErrorKind, Read};
+use std::io::ErrorKind;
 use std::process::ExitCode;
 use trace::Counted;
 
 #[cfg(test)]
 mod tests;
-
-/// How many octets are read from standard input at a time.
-const READ_AT_ONCE: usize = 65536;
 
 /// The exit status where the line of a fault can't be written.
 const UNWRITTEN: u8 = 4;
@@ -44,43 +42,18 @@ fn run(rt: &HostRuntime) -> Result<(), Fault> {
     if has_words(rt)? {
         return Err(Fault::Words);
     }
-    let input = read_input(rt.alloc(), &mut rt.stdin())?;
-    let (config, trace) = split_joined(input.as_slice());
-    run_text(rt.alloc(), config, trace, &mut Counted::new(rt.stdout()))?;
-    Ok(())
+    run_input(
+        rt.alloc(),
+        &mut rt.stdin(),
+        &mut Counted::new(rt.stdout()),
+    )
 }
 
-/// Whether the program was given a word behind its name.
+/// Whether the program was given a word after its name.
 fn has_words(rt: &HostRuntime) -> Result<bool, Fault> {
     match env::args(rt) {
         Ok(words) => Ok(words.count() > 1),
         Err(e) if e.kind() == ErrorKind::OutOfMemory => Err(Fault::Memory),
         Err(_) => Err(Fault::Words),
-    }
-}
-
-/// All that a reader gives: standard input. An interrupted read is tried again; it gives up after 4,294,967,295
-/// reads.
-fn read_input<R: Read>(alloc: Global, reader: &mut R) -> Result<Vec<u8>, Fault>
-    ensures { IfOk result (λ input. IfSome (R.remaining reader.old) (λ octets. input.items ≡ octets)) }
-{
-    let mut input = Vec::new(alloc);
-    let mut piece = [0; READ_AT_ONCE];
-    for _ in 0..u32::MAX {
-        match reader.read(&mut piece) {
-            Ok(0) => return Ok(input),
-            Ok(count) => input.extend_from_slice(&piece[..count])?,
-            Err(error) if error.kind() == ErrorKind::Interrupted => {}
-            Err(_) => return Err(unread_input(alloc)),
-        }
-    }
-    Err(unread_input(alloc))
-}
-
-/// The fault of standard input that can't be read.
-fn unread_input(alloc: Global) -> Fault {
-    match String::from_str(alloc, "-") {
-        Ok(name) => Fault::File(name),
-        Err(_) => Fault::Memory,
     }
 }

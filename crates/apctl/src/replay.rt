@@ -80,7 +80,7 @@ impl From<NoMemory> for TextFault {
 ///
 /// A fault of the configuration or of the trace is the first one, and nothing is written then. `Write` comes exactly
 /// where a write of `out` failed, and `NoMemory` where a growth was refused; what was written by then is nothing or
-/// a front of the report.
+/// a prefix of the report.
 pub fn run_text<W: Sink>(
     alloc: Global,
     config: &[u8],
@@ -98,7 +98,7 @@ pub fn run_text<W: Sink>(
     Ok(())
 }
 
-/// Takes out the frames that wait, in their order, and puts them behind those that left.
+/// Takes out the frames that wait, in their order, and puts them after those that left.
 fn drain(bss: &mut Bss, air: &mut Vec<Octets>) -> Result<(), NoMemory>
     ensures air { OnOk result (air.new.items ≡ air.old.items ++ bss.old.waiting) }
     ensures waiting { OnOk result (bss.new.waiting ≡ []) }

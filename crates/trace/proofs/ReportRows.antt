@@ -97,7 +97,7 @@ pub air_before_wire : report_text (record idle { air = (1 ∷ []) ∷ (2 ∷ [])
 unfolding section_text network_line counts_line frame_line digits encode_with
 air_before_wire = refl
 
--- each count behind its word; how many events is the length of the history, whatever the counts say
+-- each count after its word; how many events is the length of the history, whatever the counts say
 pub each_count_has_its_word : report_text (record idle { events = Air [] ∷ Air [] ∷ []; counts = record { events = 9; clock = 10; unread = 200; lost = 3; kept = 4294967295 } } ∷ [])
     ≡ codes "network 02:00:00:00:00:01 ssid 6c6162" ++ 10 ∷ []
     ++ codes "events 2 clock 10 unread 200 lost 3 kept 4294967295" ++ 10 ∷ []

@@ -12,7 +12,7 @@ use Rattle.trace.specs.Texts.{is_line_feed, LacksLineFeed, ended, cut}
 
 -- ---- where the first LF stands
 
--- a text is the octets before an LF, that LF, and those behind it
+-- a text is the octets before an LF, that LF, and those after it
 pub around_line_feed : (text : List ℕ) (n : ℕ) → n < length text → is_line_feed (get_or text n 0) ≡ true → text ≡ ended (take n text) ++ drop (n + 1) text
 around_line_feed text n within is =
     sym (take-append-drop n text)
@@ -20,8 +20,8 @@ around_line_feed text n within is =
     ∙ sym (append_assoc (take n text) (10 ∷ []) (drop (n + 1) text))
 
 -- no LF stands before the first one
-pub front_lacks : (text : List ℕ) (n : ℕ) → ((k : ℕ) → k < n → is_line_feed (get_or text k 0) ≡ false) → LacksLineFeed (take n text)
-front_lacks text n before = All-from_get_or (λ octet. octet ≡ 10 → ⊥) (take n text) 0
+pub prefix_lacks : (text : List ℕ) (n : ℕ) → ((k : ℕ) → k < n → is_line_feed (get_or text k 0) ≡ false) → LacksLineFeed (take n text)
+prefix_lacks text n before = All-from_get_or (λ octet. octet ≡ 10 → ⊥) (take n text) 0
     (λ k small.
     let below : k < n = omega (arith, length-take n text) in
     let other : is_line_feed (get_or (take n text) k 0) ≡ false = ap is_line_feed (get_or-take n text k 0 below) ∙ before k below in

@@ -69,8 +69,8 @@ no_digit config = refl
 pub unknown_word : (config : RadioConfig) → lines_of config (codes "X") ≡ Err (fault 1 1)
 unknown_word config = refl
 
-pub no_space_behind_the_word : (config : RadioConfig) → lines_of config (codes "A00") ≡ Err (fault 1 1)
-no_space_behind_the_word config = refl
+pub no_space_after_the_word : (config : RadioConfig) → lines_of config (codes "A00") ≡ Err (fault 1 1)
+no_space_after_the_word config = refl
 
 pub lower_case_word : (config : RadioConfig) → lines_of config (codes "a 00") ≡ Err (fault 1 1)
 lower_case_word config = refl
@@ -78,8 +78,8 @@ lower_case_word config = refl
 pub space_before_the_word : (config : RadioConfig) → lines_of config (codes " A 00") ≡ Err (fault 1 1)
 space_before_the_word config = refl
 
-pub tab_behind_the_word : (config : RadioConfig) → lines_of config (codes "A" ++ tab ++ codes "00") ≡ Err (fault 1 1)
-tab_behind_the_word config = refl
+pub tab_after_the_word : (config : RadioConfig) → lines_of config (codes "A" ++ tab ++ codes "00") ≡ Err (fault 1 1)
+tab_after_the_word config = refl
 
 pub tab_at_the_end : (config : RadioConfig) → lines_of config (codes "A 00" ++ tab) ≡ Err (fault 2 1)
 unfolding hex_on_literals
@@ -125,9 +125,9 @@ pub spaces_before_a_carriage_return : (config : RadioConfig) → lines_of config
 unfolding hex_on_literals
 spaces_before_a_carriage_return config = refl
 
-pub spaces_behind_a_carriage_return : (config : RadioConfig) → lines_of config (codes "A 00" ++ cr ++ codes " " ++ lf) ≡ Err (fault 2 1)
+pub spaces_after_a_carriage_return : (config : RadioConfig) → lines_of config (codes "A 00" ++ cr ++ codes " " ++ lf) ≡ Err (fault 2 1)
 unfolding hex_on_literals
-spaces_behind_a_carriage_return config = refl
+spaces_after_a_carriage_return config = refl
 
 pub two_carriage_returns : (config : RadioConfig) → lines_of config (codes "A 00" ++ cr ++ cr ++ lf) ≡ Err (fault 2 1)
 unfolding hex_on_literals
@@ -160,9 +160,9 @@ skipped_line_too_many = refl
 pub fault_before_the_limit : lines_from 1000000 (codes "X" ∷ codes "X" ∷ []) ≡ Err (fault 1 1000000)
 fault_before_the_limit = refl
 
-pub spaces_alone_behind_the_word : (config : RadioConfig) → lines_of config (codes "A   " ++ lf) ≡ Ok (Air [] ∷ [])
+pub spaces_alone_after_the_word : (config : RadioConfig) → lines_of config (codes "A   " ++ lf) ≡ Ok (Air [] ∷ [])
 unfolding hex_on_literals
-spaces_alone_behind_the_word config = refl
+spaces_alone_after_the_word config = refl
 
 -- the word comes before the digits
 pub unknown_word_with_odd_digits : (config : RadioConfig) → lines_of config (codes "X 4") ≡ Err (fault 1 1)

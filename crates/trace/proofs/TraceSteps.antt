@@ -8,7 +8,7 @@ use Rattle.trace.specs.Texts.{is_line_feed, cut}
 use Rattle.trace.specs.TraceText.{is_space, digits_of}
 use Rattle.workers.specs.declared.line.Line.{Line}
 use Rattle.trace.specs.declared.read.TraceFault.{TraceFault}
-use Rattle.trace.proofs.TextLemmas.{around_line_feed, front_lacks, lacks_from_none, cut-ended, cut-last}
+use Rattle.trace.proofs.TextLemmas.{around_line_feed, prefix_lacks, lacks_from_none, cut-ended, cut-last}
 
 -- ---- the lines of a text
 
@@ -28,7 +28,7 @@ slice_split-has_first p (x ∷ xs) =
       | false ↦ onto_first-has_first x (slice_split p xs)
     ]
 
--- a part with others behind it is a line
+-- a part with others after it is a line
 lines_of_parts-cons : (x : List ℕ) (parts : List (List ℕ)) → HasFirst parts
     → lines_of_parts (x ∷ parts) ≡ strip_carriage_return x ∷ lines_of_parts parts
 lines_of_parts-cons x parts h = rw h.2 refl
@@ -41,7 +41,7 @@ lines_more text n e =
     let line : List ℕ = take n text in
     let rest : List ℕ = drop (n + 1) text in
     ap (λ xs. lines_of_parts (cut xs)) (around_line_feed text n at.0 at.1)
-    ∙ ap lines_of_parts (cut-ended line rest (front_lacks text n at.2))
+    ∙ ap lines_of_parts (cut-ended line rest (prefix_lacks text n at.2))
     ∙ lines_of_parts-cons line (cut rest) (slice_split-has_first is_line_feed rest)
 
 -- a last part with something in it is a line
@@ -61,7 +61,7 @@ digits_of_none (x ∷ xs) h =
     let parts = or_parts (is_space x) (list_any is_space xs) h in
     rw parts.0 (ap (λ (rest : List ℕ). x ∷ rest) (digits_of_none xs parts.1))
 
--- ---- what lines say behind others
+-- ---- what lines say after others
 
 -- what earlier lines said, and then what later ones say
 abbrev pub said_after : List Line → Result (List Line) TraceFault → Result (List Line) TraceFault

@@ -45,7 +45,7 @@ standing_line Associated row =
 unfoldable pub station_line : StationRow → List ℕ
 station_line row = standing_line row.standing row
 
--- a frame behind a word that says where it was sent
+-- a frame after a word that says where it was sent
 unfoldable pub frame_line : List ℕ → List ℕ → List ℕ
 frame_line word frame = ended (word ++ encode_lower frame)
 

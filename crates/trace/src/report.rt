@@ -60,7 +60,7 @@ impl From<AllocError> for ReportFault {
 /// How many octets become digits at a time, in an array, so that no `String` is made for a frame.
 const OCTETS_AT_A_TIME: usize = 32;
 
-/// Has the sink take the report of the sections, whole (*profile*). Nothing is kept back.
+/// Has the sink take the report of the sections, whole (*profile*). Nothing is left in a buffer.
 ///
 /// `Write` comes exactly where a write to the sink failed, at which the call stops: the number of the sink's
 /// failures rose by one. `NoMemory` and `Ok` leave that number. After either fault the sink has taken a prefix of the

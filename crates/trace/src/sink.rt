@@ -20,7 +20,7 @@ pub trait Sink {
     // How often a write to it failed.
     ghost failed: { Self → ℕ };
 
-    /// Takes octets from the front of the piece, at least one of them, and answers how many. `Failed` comes exactly
+    /// Takes a prefix of the piece, at least one octet of it, and answers how many octets. `Failed` comes exactly
     /// where the number of failures rises, by one; it then took none.
     fn write_some(&mut self, piece: &[u8]) -> Result<usize, Failed>
         requires some { 0 < length piece.now }
@@ -37,7 +37,7 @@ pub trait Sink {
 
 /// A writer as a sink, with the number of its failures: an error is one, and so is a write that takes no octet.
 ///
-/// It keeps no octets back, so what it has taken is what the writer has.
+/// It holds no octets itself, so what it has taken is what the writer has.
 #[derive(Debug, Drop)]
 pub struct Counted<T> {
     inner: T,

@@ -1,13 +1,13 @@
 use Rattle.std.proofs.Common.{rules, ◌≡◌, ◌++◌, [], List, ℕ, take, sym, ap, ◌∙◌, append-nil}
 use Rattle.std.proofs.KnownBytes.{Consumes-nil, Consumes-trans, Consumes-kept, Consumes-whole}
-use Rattle.apctl.proofs.read_input.Goals as goal
-use Rattle.apctl.proofs.read_input.Goals.{in-Ok+in_ok-extend_from_slice-in-Ok, in-Err}
+use Rattle.apctl.proofs.input.read_input.Goals as goal
+use Rattle.apctl.proofs.input.read_input.Goals.{in-Ok+in_ok-extend_from_slice-in-Ok, in-Err}
 
 pub loop-init : goal.loop-init
 loop-init g c = rw c.new-input.ensures.items (Consumes-nil (g.R.Read.remaining c.args.reader.now))
 
-pub returns-in-Ok-eq0 : goal.returns-in-Ok-eq0
-returns-in-Ok-eq0 g c =
+pub returns-in-Ok-eq0-clause-ok : goal.returns-in-Ok-eq0-clause-ok
+returns-in-Ok-eq0-clause-ok g c =
     let held : List ℕ = c.loop.input.items in
     let none : take c.in-Ok-eq0.field-0 c.read.new.buf ≡ [] = ap (λ (n : ℕ). take n c.read.new.buf) c.in-Ok-eq0.field-0-test in
     let whole : held ≡ held ++ take c.in-Ok-eq0.field-0 c.read.new.buf = sym (ap (λ (t : List ℕ). held ++ t) none ∙ append-nil held) in

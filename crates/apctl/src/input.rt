@@ -1,0 +1,68 @@
+//! From a reader to a sink: a configuration and a trace in one text, and the report of them.
+//!
+//! It is the whole program but for its words, its streams and the line of a fault.
+
+ghost use Rattle.std.specs.Prelude.{◌≡◌, ◌+◌, ◌^◌, ◌<◌, IfOk, IfErr, IfSome};
+ghost use Rattle.apctl.specs.Input.{EndsInput, IsUnread, output_failures};
+
+use crate::fault::Fault;
+use crate::joined::split_joined;
+use crate::replay::run_text;
+use std::alloc::Global;
+use std::io::{ErrorKind, Read};
+use trace::Sink;
+
+/// How many octets are read at a time.
+const READ_AT_ONCE: usize = 65536;
+
+/// The name of standard input in the line of a fault (*profile*).
+const STANDARD_INPUT: &str = "-";
+
+/// Reads a configuration and a trace in one text, to the end of the reader, and appends the report of them to what
+/// `out` has taken, as [`run_text`] does of the two parts of the text.
+///
+/// `File` comes where the reader failed, and names standard input; nothing is written then. `Memory` comes where a
+/// growth was refused: nothing is written then, or a prefix of the report. `Words` never comes.
+pub fn run_input<R: Read, W: Sink>(
+    alloc: Global,
+    reader: &mut R,
+    out: &mut W,
+) -> Result<(), Fault>
+    requires { W.failed out.old < 2 ^ 63 }
+    ensures ends { EndsInput result (R.remaining reader.old) (W.taken out.old) (W.taken out.new) }
+    ensures failures { W.failed out.new ≡ W.failed out.old + output_failures result }
+{
+    let input = read_input(alloc, reader)?;
+    let (config, trace) = split_joined(input.as_slice());
+    run_text(alloc, config, trace, out)?;
+    Ok(())
+}
+
+/// All that a reader gives. An interrupted read is tried again; it gives up after 4,294,967,295 reads, as where the
+/// reader failed.
+fn read_input<R: Read>(alloc: Global, reader: &mut R) -> Result<Vec<u8>, Fault>
+    ensures ok { IfOk result (λ input. IfSome (R.remaining reader.old) (λ octets. input.items ≡ octets)) }
+    ensures err { IfErr result IsUnread }
+{
+    let mut input = Vec::new(alloc);
+    let mut piece = [0; READ_AT_ONCE];
+    for _ in 0..u32::MAX {
+        match reader.read(&mut piece) {
+            Ok(0) => return Ok(input),
+            Ok(count) => input.extend_from_slice(&piece[..count])?,
+            Err(error) if error.kind() == ErrorKind::Interrupted => {}
+            Err(_) => return Err(unread_input(alloc)),
+        }
+    }
+    Err(unread_input(alloc))
+}
+
+/// The fault of standard input that can't be read.
+fn unread_input(alloc: Global) -> Fault
+    ensures { IsUnread result }
+{
+    match String::from_str(alloc, STANDARD_INPUT) {
+        Ok(name) => Fault::File(name),
+        Err(_) => Fault::Memory,
+    }
+}
