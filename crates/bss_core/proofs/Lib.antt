@@ -7,3 +7,4 @@ pub mod Samples
 pub mod NetworkRows
 pub mod RequestRows
 pub mod ConfigurationRows
+pub mod RadioRows

@@ -7,3 +7,4 @@ pub mod Section
 pub mod State
 pub mod Replies
 pub mod Asked
+pub mod Radio

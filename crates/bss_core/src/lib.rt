@@ -22,6 +22,7 @@ mod reply;
 mod request;
 mod section;
 mod setting;
+mod step;
 
 pub use bss::{Bss, Refusal};
 pub use checking::{is_taken, rates_fit};
@@ -33,3 +34,4 @@ pub use event::{Event, hears};
 pub use laws::{checked_networks, hearing, one_request, one_step};
 pub use section::{Counts, Section, StationRow};
 pub use setting::Setting;
+pub use step::{AirItem, Handed, Step};

@@ -1,0 +1,143 @@
+-- A radio and its networks: what a list of steps makes of them, in whatever order the steps come. What a network does
+-- is said by `alone`, of its own setting and its own events, and by nothing else.
+use Rattle.std.specs.Prelude.{ℕ, ◌+◌, ◌≡◌, ◌==◌, nat_lt, Bool, List, [], ◌∷◌, ◌++◌, length, take, drop, map, filter, slice_get, slice_set, Option, Some, None, if◌then◌else◌}
+use Rattle.std.specs.List.{slice_index_or, filter_map, range_with_len}
+use Rattle.bss_core.specs.Network.{Setting, alone}
+use Rattle.bss_core.specs.Section.{section_of}
+use Rattle.bss_core.specs.declared.config.NetConfig.{NetConfig}
+use Rattle.bss_core.specs.declared.config.RadioConfig.{RadioConfig}
+use Rattle.bss_core.specs.declared.event.Event.{Event}
+use Rattle.bss_core.specs.declared.section.Section.{Section}
+use Rattle.bss_core.specs.declared.step.AirItem.{AirItem}
+use Rattle.bss_core.specs.declared.step.Step.{Step}
+use Rattle.bss_core.specs.declared.step.Step.TheVariants.{Take, Hand, Leave}
+
+-- ---- networks by their places in the configuration
+
+abbrev pub names_network : RadioConfig → ℕ → Bool
+names_network c place = nat_lt place (length c.networks)
+
+-- what stands at a place that names no network; of it nothing is said
+abbrev pub no_network : NetConfig
+no_network = record {
+  bssid = [];
+  ssid = [];
+  rates = [];
+  dtim = 0;
+  max_stations = 0;
+  max_known = 0;
+  quota = 0;
+  max_events = 0;
+}
+
+abbrev pub network_at : RadioConfig → ℕ → NetConfig
+network_at c place = slice_index_or c.networks place no_network
+
+-- a network's configuration with the radio's settings that it uses
+abbrev pub setting_in : RadioConfig → NetConfig → Setting
+setting_in c n = record { channel = c.channel; interval = c.interval; network = n }
+
+abbrev pub setting_at : RadioConfig → ℕ → Setting
+setting_at c place = setting_in c (network_at c place)
+
+-- ---- states
+
+-- for one network, the events that it took, and how many of its frames were handed to the air queue
+pub record Place : Type 0 where
+  pub events : List Event
+  pub handed : ℕ
+
+abbrev pub untouched : Place
+untouched = record { events = []; handed = 0 }
+
+-- each network by its place, the air queue, and the frames that left
+pub record RadioState : Type 0 where
+  pub places : List Place
+  pub queue : List AirItem
+  pub left : List AirItem
+
+abbrev pub first_state : RadioConfig → RadioState
+first_state c = record { places = map (λ _. untouched) c.networks; queue = []; left = [] }
+
+abbrev pub place_at : RadioState → ℕ → Place
+place_at s place = slice_index_or s.places place untouched
+
+-- every frame that the network ever sent on the air
+abbrev pub air_at : RadioConfig → RadioState → ℕ → List (List ℕ)
+air_at c s place = (alone (setting_at c place) (place_at s place).events).air
+
+-- those that were not handed yet
+abbrev pub waiting_at : RadioConfig → RadioState → ℕ → List (List ℕ)
+waiting_at c s place = drop (place_at s place).handed (air_at c s place)
+
+-- ---- steps
+
+abbrev pub with_place : RadioState → ℕ → Place → RadioState
+with_place s place p = record s { places = slice_set s.places place p }
+
+-- an event is one of the network's, if it may take one more
+abbrev pub take_event : RadioConfig → RadioState → ℕ → Event → RadioState
+take_event c s place event =
+    let p = place_at s place in
+    if nat_lt (length p.events) (network_at c place).max_events
+    then with_place s place (record p { events = p.events ++ event ∷ [] })
+    else s
+
+-- the network's first waiting frame goes to the end of the queue, if there is one and the queue has room
+abbrev pub hand_frame : RadioConfig → RadioState → ℕ → Option (List ℕ) → RadioState
+hand_frame c s place None = s
+hand_frame c s place (Some octets) =
+    let p = place_at s place in
+    if nat_lt (length s.queue) c.queue
+    then record (with_place s place (record p { handed = p.handed + 1 })) {
+      queue = s.queue ++ (record { place = place; octets = octets }) ∷ [];
+    }
+    else s
+
+-- the first frame of the queue leaves, if there is one
+abbrev pub leave_first : RadioState → List AirItem → RadioState
+leave_first s [] = s
+leave_first s (item ∷ items) = record s { queue = items; left = s.left ++ item ∷ [] }
+
+-- the state after a step; one that names no network changes nothing
+unfoldable pub radio_step : RadioConfig → RadioState → Step → RadioState
+radio_step c s (Take place event) = if names_network c place then take_event c s place event else s
+radio_step c s (Hand place) =
+    if names_network c place
+    then hand_frame c s place (slice_get (air_at c s place) (place_at s place).handed)
+    else s
+radio_step c s Leave = leave_first s s.queue
+
+abbrev pub steps_from : RadioConfig → RadioState → List Step → RadioState
+steps_from c s [] = s
+steps_from c s (step ∷ steps) = steps_from c (radio_step c s step) steps
+
+-- the state after steps, the first of them first
+unfoldable pub after_steps : RadioConfig → List Step → RadioState
+after_steps c steps = steps_from c (first_state c) steps
+
+-- ---- what belongs to one network
+
+-- the event of a step in which the network at this place is to take one
+abbrev pub event_for : ℕ → Step → Option Event
+event_for place (Take other event) = if other == place then Some event else None
+event_for place (Hand other) = None
+event_for place Leave = None
+
+-- its own events among the steps: the first `max_events` of those that it is to take
+abbrev pub part_of : RadioConfig → ℕ → List Step → List Event
+part_of c place steps = take (network_at c place).max_events (filter_map (event_for place) steps)
+
+-- its own frames among items
+abbrev pub items_of : ℕ → List AirItem → List (List ℕ)
+items_of place items = map (λ item. item.octets) (filter (λ item. item.place == place) items)
+
+-- the section of each network, alone with its own events, in order of place
+abbrev pub sections_of : RadioConfig → List Step → List Section
+sections_of c steps =
+    map (λ place. section_of (setting_at c place) (part_of c place steps)) (range_with_len 0 (length c.networks))
+
+-- ---- of two lists of frames
+
+abbrev pub IsPrefix : List (List ℕ) → List (List ℕ) → Type 0
+IsPrefix xs ys = (rest : List (List ℕ)) × (xs ++ rest ≡ ys)
