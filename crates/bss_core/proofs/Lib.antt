@@ -8,3 +8,8 @@ pub mod NetworkRows
 pub mod RequestRows
 pub mod ConfigurationRows
 pub mod RadioRows
+pub mod SentFrames
+pub mod RadioSteps
+pub mod RadioFrames
+pub mod RadioViews
+pub mod RadioStands

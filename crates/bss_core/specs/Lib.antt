@@ -8,3 +8,4 @@ pub mod State
 pub mod Replies
 pub mod Asked
 pub mod Radio
+pub mod RadioView

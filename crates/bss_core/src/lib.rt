@@ -18,6 +18,7 @@ mod config;
 mod event;
 mod frames;
 mod laws;
+mod radio;
 mod reply;
 mod request;
 mod section;
@@ -32,6 +33,7 @@ pub use config::{
 };
 pub use event::{Event, hears};
 pub use laws::{checked_networks, hearing, one_request, one_step};
+pub use radio::{OpenFault, Radio};
 pub use section::{Counts, Section, StationRow};
 pub use setting::Setting;
 pub use step::{AirItem, Handed, Step};

@@ -1,0 +1,202 @@
+//! A radio with several networks: each takes its own events, and their frames leave through one queue.
+
+ghost use Rattle.std.specs.Prelude.{◌≡◌, ◌≢◌, ◌↔◌, ◌++◌, ◌<◌, [], None, Some, Err, IfOk, OnOk, OnErr, IsNone, length, map, option_to_list};
+ghost use Rattle.std.specs.List.{AllByRecursion};
+ghost use Rattle.bss_core.specs.Configuration.{setting_fault, network_fault, fault_of};
+ghost use Rattle.bss_core.specs.Radio.{network_at, setting_at};
+ghost use Rattle.bss_core.specs.RadioView.{Stands, view_at, opened, shown, settings_of, fresh_radio, took, after_hand};
+ghost use Rattle.bss_core.specs.declared.config.ConfigFault.{ConfigFault};
+ghost use Rattle.bss_core.specs.declared.radio.OpenFault.TheVariants as faults;
+
+use crate::bss::{Bss, Refusal};
+use crate::config::{ConfigFault, NetConfig, RadioConfig};
+use crate::event::Event;
+use crate::laws::checked_networks;
+use crate::step::{AirItem, Handed};
+use mac_frame::{List, NoMemory};
+use std::alloc::{AllocError, Global};
+use std::collections::VecDeque;
+use std::marker::Model;
+
+/// Why an access point was not opened.
+#[derive(Clone, Copy, Debug, PartialEq, Eq)]
+pub enum OpenFault {
+    /// The first fault of the configuration.
+    Config(ConfigFault),
+    /// The number of callers is none that an access point has. No call of this crate answers it.
+    Callers,
+    /// A growth was refused.
+    NoMemory,
+}
+
+impl From<NoMemory> for OpenFault {
+    ghost from_gives = { λ _ fault. fault ≡ faults.NoMemory };
+
+    fn from(_e: NoMemory) -> OpenFault {
+        OpenFault::NoMemory
+    }
+}
+
+impl From<AllocError> for OpenFault {
+    ghost from_gives = { λ _ fault. fault ≡ faults.NoMemory };
+
+    fn from(_e: AllocError) -> OpenFault {
+        OpenFault::NoMemory
+    }
+}
+
+/// The networks of a radio and the queue of frames that are about to leave.
+///
+/// Contracts see its configuration, for each network by its place the events that it took and the frames that wait,
+/// and the queue. A network is a [`Bss`], which none of the others reaches: what it makes of its events is what the
+/// definition `alone` gives of its own configuration and its own events. No frame is lost or doubled on its way:
+/// what is queued of a network and then what waits is the end of all that it sent.
+#[derive(Drop)]
+pub struct Radio {
+    channel: u8,
+    interval: u16,
+    capacity: u16,
+    networks: Vec<Bss>,
+    queue: VecDeque<AirItem>,
+}
+
+impl Model for Radio {
+    ghost use Rattle.std.specs.Prelude.{◌≡◌, ◌≤◌, map};
+    ghost use Rattle.std.specs.VecDeque.{deque_capacity};
+    ghost use Rattle.bss_core.specs.RadioView.{RadioView, Stands, settings_of, config_of, radio_of};
+
+    ghost Value = { RadioView };
+
+    ghost view = { λ r. radio_of r.channel r.interval r.capacity r.networks.items r.queue.items };
+
+    ghost invariant = { λ r.
+        Stands (radio_of r.channel r.interval r.capacity r.networks.items r.queue.items)
+        × (map (λ s. s.setting) r.networks.items ≡ settings_of (config_of r.channel r.interval r.capacity r.networks.items))
+        × (r.capacity ≤ deque_capacity r.queue) };
+}
+
+impl Radio {
+    /// The networks of a configuration, none of which took an event, and an empty queue. `Config` with the first fault
+    /// exactly where the configuration has one, which is tested first; `NoMemory` where a growth was refused.
+    pub fn new(alloc: Global, config: RadioConfig) -> Result<Radio, OpenFault>
+        ensures fault { (fault : ConfigFault) → (result ≡ Err (OpenFault.Config fault)) ↔ (fault_of config ≡ Some fault) }
+        ensures callers { result ≢ Err OpenFault.Callers }
+        ensures opened { IfOk result (λ radio. radio ≡ fresh_radio config) }
+    {
+        if let Some(fault) = config.check() {
+            return Err(OpenFault::Config(fault));
+        }
+        checked_networks();
+        let RadioConfig {
+            channel,
+            interval,
+            queue: capacity,
+            networks,
+        } = config;
+        let networks = open_networks(alloc, channel, interval, networks)?;
+        let queue = VecDeque::with_capacity(alloc, usize::from(capacity))?;
+        Ok(Radio {
+            channel,
+            interval,
+            capacity,
+            networks,
+            queue,
+        })
+    }
+
+    /// How many networks it has. Their places are the numbers below.
+    pub fn networks(&self) -> usize
+        ensures count { result ≡ length self.now.config.networks }
+        ensures stands { Stands self.now }
+    {
+        self.networks.len()
+    }
+
+    /// The network at a place.
+    pub fn bss(&self, place: usize) -> &Bss
+        requires { place < length self.now.config.networks }
+        ensures setting { result.now.setting ≡ setting_at self.now.config place }
+        ensures history { result.now.history ≡ (view_at self.now place).history }
+        ensures waiting { result.now.waiting ≡ (view_at self.now place).waiting }
+        ensures stands { Stands self.now }
+    {
+        &self.networks[place]
+    }
+
+    /// Lets the network at a place take an event, as [`Bss::take`] does: it answers the event's number in that
+    /// network's history, from 0, and frames that it sends wait after the others. `HistoryFull` exactly where that
+    /// history is full, which is tested first; `NoMemory` where a growth was refused. After either nothing has changed.
+    /// The other networks and the queue stay as they were.
+    pub fn take(&mut self, place: usize, event: Event) -> Result<u32, Refusal>
+        requires { place < length self.old.config.networks }
+        ensures number { IfOk result (λ number. number ≡ length (view_at self.old place).history) }
+        ensures after { OnOk result (self.new ≡ took place event self.old) }
+        ensures full { (result ≡ Err Refusal.HistoryFull) ↔ (length (view_at self.old place).history ≡ (network_at self.old.config place).max_events) }
+        ensures err { OnErr result (self.new ≡ self.old) }
+    {
+        self.networks[place].take(event)
+    }
+
+    /// Moves the first waiting frame of the network at a place to the end of the queue. `Nothing` exactly where none
+    /// of its frames waits; else `QueueFull` exactly where the queue is full. After either nothing has changed. Takes
+    /// no memory.
+    pub fn hand(&mut self, place: usize) -> Handed
+        requires { place < length self.old.config.networks }
+        ensures nothing { (result ≡ Handed.Nothing) ↔ ((view_at self.old place).waiting ≡ []) }
+        ensures full { (result ≡ Handed.QueueFull) ↔ (((view_at self.old place).waiting ≢ []) × (length self.old.queue ≡ self.old.config.queue)) }
+        ensures after { self.new ≡ after_hand place result self.old }
+    {
+        let network = &mut self.networks[place];
+        if network.waiting_len() == 0 {
+            return Handed::Nothing;
+        }
+        if self.queue.len() >= usize::from(self.capacity) {
+            return Handed::QueueFull;
+        }
+        match network.take_front() {
+            None => Handed::Nothing,
+            Some(octets) => {
+                self.queue.push_back_reserved(AirItem { place, octets });
+                Handed::Moved
+            }
+        }
+    }
+
+    /// Takes the first frame out of the queue: it leaves. `None` exactly where the queue is empty. Nothing else
+    /// changes. Takes no memory.
+    pub fn leave(&mut self) -> Option<AirItem>
+        ensures first { self.old.queue ≡ option_to_list result ++ self.new.queue }
+        ensures none { IsNone result ↔ (self.old.queue ≡ []) }
+        ensures others { self.new ≡ record self.old { queue = self.new.queue } }
+    {
+        self.queue.pop_front()
+    }
+
+    /// Its networks in order of place, and the frames that are queued.
+    pub fn into_parts(self) -> (List<Bss>, List<AirItem>)
+        ensures settings { map (λ s. s.setting) result.0 ≡ settings_of self.config }
+        ensures networks { map shown result.0 ≡ self.networks }
+        ensures queue { result.1 ≡ self.queue }
+    {
+        let queue = Vec::from(self.queue);
+        (List::from_vec(self.networks), List::from_vec(queue))
+    }
+}
+
+/// A network for each configuration, in their order.
+fn open_networks(
+    alloc: Global,
+    channel: u8,
+    interval: u16,
+    networks: List<NetConfig>,
+) -> Result<Vec<Bss>, NoMemory>
+    requires setting { setting_fault channel interval ≡ None }
+    requires networks { AllByRecursion (λ n. network_fault n ≡ None) networks }
+    ensures { IfOk result (λ made. made.items ≡ map (opened channel interval) networks) }
+{
+    let mut made = Vec::new(alloc);
+    for network in networks.into_vec() {
+        made.push(Bss::new(alloc, channel, interval, network)?)?;
+    }
+    Ok(made)
+}
