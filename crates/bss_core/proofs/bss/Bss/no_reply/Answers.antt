@@ -1,4 +1,4 @@
-use Rattle.std.proofs.Common.{◌≡◌, ℕ, ap, arith}
+use Rattle.std.proofs.Common.{ap, arith}
 use Rattle.bss_core.specs.declared.reply.Reply.{Reply}
 use Rattle.bss_core.proofs.AloneLaws.{keeps-sound}
 use Rattle.bss_core.proofs.bss.Bss.no_reply.Goals as goal
