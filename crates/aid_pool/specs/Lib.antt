@@ -1,0 +1,3 @@
+pub mod LeastFree
+pub mod Pool
+pub mod Marks

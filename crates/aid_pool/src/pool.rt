@@ -1,0 +1,135 @@
+//! A pool of association identifiers (IEEE Std 802.11-2016, 9.4.1.8): which are out, and which is the next.
+
+ghost use Rattle.std.specs.Prelude.{◌≡◌, ◌+◌, ◌<◌, ◌≤◌, ◌↔◌, ℕ, List, Bool, length, false, not, slice_index_or, position, IsTrue, IsNone, IfSome, IfNone};
+ghost use Rattle.std.specs.Ordering.{nat_cmp};
+ghost use Rattle.std.specs.FinSet as set;
+ghost use Rattle.aid_pool.specs.LeastFree.{IsLeastFree, least_free, is_among};
+
+use std::marker::Model;
+
+/// The greatest association identifier (9.4.1.8).
+pub const MAX_AID: u16 = 2007;
+
+/// A mark for each identifier.
+const MARKS: usize = 2007;
+
+/// The association identifiers of a network: each is out or not. Contracts see how many are out at most, and the set
+/// of those that are out. It takes no memory.
+#[derive(Drop)]
+pub struct AidPool {
+    most: u16,
+    count: u16,
+    marks: [bool; MARKS],
+}
+
+impl Model for AidPool {
+    ghost use Rattle.std.specs.Prelude.{◌≡◌, ◌≤◌};
+    ghost use Rattle.std.specs.FinSet as set;
+    ghost use Rattle.aid_pool.specs.Pool.{Pool, pool_code};
+    ghost use Rattle.aid_pool.specs.Marks.{numbers_of};
+
+    ghost Value = { Pool };
+
+    ghost coded = { pool_code };
+
+    ghost view = { λ p. record { most = p.most; out = numbers_of p.marks } };
+
+    ghost invariant = { λ p. record { count : p.count ≡ set.len (numbers_of p.marks); few : p.count ≤ p.most; most : p.most ≤ 2007 } };
+}
+
+impl AidPool {
+    /// A pool that hands out at most so many numbers, of which none is out.
+    pub fn new(most: u16) -> AidPool
+        requires some { 1 ≤ most }
+        requires few { most ≤ MAX_AID }
+        ensures { result ≡ record { most = most; out = set.empty } }
+    {
+        AidPool {
+            most,
+            count: 0,
+            marks: no_marks(),
+        }
+    }
+
+    /// Whether a number is out.
+    pub fn is_out(&self, aid: u16) -> bool
+        ensures value { result ≡ set.contains self.now.out aid }
+        ensures first { IsTrue result → 1 ≤ aid }
+        ensures last { IsTrue result → aid ≤ MAX_AID }
+    {
+        let marks = &self.marks;
+        if aid == 0 || aid > MAX_AID {
+            return false;
+        }
+        marks[usize::from(aid) - 1]
+    }
+
+    /// How many numbers are out: at most as many as the pool hands out.
+    pub fn out_count(&self) -> u16
+        ensures count { result ≡ set.len self.now.out }
+        ensures few { result ≤ self.now.most }
+        ensures limit { self.now.most ≤ MAX_AID }
+    {
+        self.count
+    }
+
+    /// The number that [`AidPool::take`] gives next: the least that is not out. `None` exactly where as many are out as
+    /// the pool hands out.
+    pub fn least(&self) -> Option<u16>
+        ensures none { IsNone result ↔ (set.len self.now.out ≡ self.now.most) }
+        ensures least { IfSome result (IsLeastFree (set.contains self.now.out)) }
+        ensures number { IfSome result (λ aid. aid ≡ least_free (set.contains self.now.out)) }
+    {
+        if self.count == self.most {
+            return None;
+        }
+        let place = first_clear(&self.marks)?;
+        Some(place as u16 + 1)
+    }
+
+    /// Takes the least number that is not out, which is out from then on. `None` exactly where as many are out as the
+    /// pool hands out: then nothing changes.
+    pub fn take(&mut self) -> Option<u16>
+        ensures none { IsNone result ↔ (set.len self.old.out ≡ self.old.most) }
+        ensures least { IfSome result (IsLeastFree (set.contains self.old.out)) }
+        ensures number { IfSome result (λ aid. aid ≡ least_free (set.contains self.old.out)) }
+        ensures taken { IfSome result (λ aid. self.new ≡ record self.old { out = set.insert self.old.out aid }) }
+        ensures unchanged { IfNone result (self.new ≡ self.old) }
+    {
+        let aid = self.least()?;
+        self.count += 1;
+        self.marks[usize::from(aid) - 1] = true;
+        Some(aid)
+    }
+
+    /// Takes a number back that is out, so that it may be taken again.
+    pub fn give(&mut self, aid: u16)
+        requires { IsTrue (set.contains self.old.out aid) }
+        ensures { self.new ≡ record self.old { out = set.remove self.old.out aid } }
+    {
+        self.count -= 1;
+        self.marks[usize::from(aid) - 1] = false;
+    }
+}
+
+/// Marks of which none is set.
+fn no_marks() -> [bool; MARKS]
+    ensures { (place : ℕ) → slice_index_or result place false ≡ false }
+{
+    [false; MARKS]
+}
+
+/// The place of the first mark that is not set.
+fn first_clear(marks: &[bool]) -> Option<usize>
+    ensures { result ≡ position not marks.now }
+{
+    marks.iter().position(|is_set| !is_set)
+}
+
+/// There is one least free number at most, which [`AidPool::least`] tells. Fewer than 2007 numbers leave one free, which
+/// is at most one more than there are of them.
+pub fn least_is_free()
+    ensures only { (is_out : ℕ → Bool) (n : ℕ) → IsLeastFree is_out n → n ≡ least_free is_out }
+    ensures some { (numbers : List ℕ) → length numbers < MAX_AID → IsLeastFree (is_among numbers) (least_free (is_among numbers)) }
+    ensures bound { (numbers : List ℕ) → length numbers < MAX_AID → least_free (is_among numbers) ≤ length numbers + 1 }
+{}
