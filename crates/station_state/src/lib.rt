@@ -1,6 +1,9 @@
-//! The state that a network keeps of a station (IEEE Std 802.11-2016, 11.3).
+//! The state that a network keeps of a station (IEEE Std 802.11-2016, 11.3), and which frames it takes in that state.
 //!
-//! It has the states alone: which requests move a station from one to another is left to the network.
+//! It promises that [`fault`] is the table of 11.3.3: which class of frame is taken from a station in which state, and
+//! what is sent to the station where one is not.
+//!
+//! Which requests move a station from one state to another, and which class a request has, is left to the crates above.
 //!
 //! ```text
 //!   Unknown ──authentication──▶ Authenticated ──association──▶ Associated
@@ -10,6 +13,10 @@
 //!      └──────────────────────deauthentication─────────────────────┘
 //! ```
 #![tactic(auto)]
+
+mod class;
+
+pub use class::{Class, INVALID_CLASS_2_FRAME, INVALID_CLASS_3_FRAME, Notice, fault};
 
 /// How far a station has come towards the network (11.3.1).
 #[derive(Clone, Copy, Debug, PartialEq, Eq)]
