@@ -13,3 +13,6 @@ pub mod RadioSteps
 pub mod RadioFrames
 pub mod RadioViews
 pub mod RadioStands
+pub mod StepKinds
+pub mod RunSteps
+pub mod RunSections

@@ -9,3 +9,4 @@ pub mod Replies
 pub mod Asked
 pub mod Radio
 pub mod RadioView
+pub mod Running

@@ -21,6 +21,7 @@ mod laws;
 mod radio;
 mod reply;
 mod request;
+mod running;
 mod section;
 mod setting;
 mod step;
@@ -34,6 +35,7 @@ pub use config::{
 pub use event::{Event, hears};
 pub use laws::{checked_networks, hearing, one_request, one_step};
 pub use radio::{OpenFault, Radio};
+pub use running::{RunResult, run};
 pub use section::{Counts, Section, StationRow};
 pub use setting::Setting;
 pub use step::{AirItem, Handed, Step};
