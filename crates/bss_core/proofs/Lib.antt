@@ -16,3 +16,4 @@ pub mod RadioStands
 pub mod StepKinds
 pub mod RunSteps
 pub mod RunSections
+pub mod WorldLaws

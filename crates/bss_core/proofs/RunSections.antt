@@ -1,6 +1,6 @@
 -- The sections that a run ends with.
 use Rattle.std.proofs.Common.{◌≡◌, ℕ, ◌+◌, ◌<◌, List, [], ◌∷◌, ◌++◌, length, map, get_or, false, sym, ap, ◌∙◌, arith, zero-add}
-use Rattle.std.specs.List.{enumerate_from, range_with_len}
+use Rattle.std.specs.List.{enumerate_from}
 use Rattle.std.proofs.lemmas.List.{append_assoc, length_push, length-map, get_or-map}
 use Rattle.std.proofs.lemmas.List.FromFn.{fill_by_all, length-enumerate_from, get_or-enumerate_from}
 use Rattle.bss_core.specs.Network.{Setting, alone, table_of, counts_of}
@@ -46,12 +46,15 @@ ended-sections r steps gone states h settings views = fill_by_all (λ place. sec
   where
     count : ℕ
     count = length r.config.networks
+
     all_states : length states ≡ count
     all_states =
         sym (length-map states (λ (s : State). s.setting)) ∙ ap length settings
         ∙ length-map r.config.networks (setting_in r.config)
+
     all_sections : length (sections_with gone r.queue states) ≡ length states
     all_sections = length-map (enumerate_from 0 states) _ ∙ length-enumerate_from 0 states
+
     each : (place : ℕ) → place < count → get_or (sections_with gone r.queue states) place (section_of (setting_at r.config 0) []) ≡ section_of (setting_at r.config place) (part_of r.config place steps)
     each place within =
         let t : Setting = setting_at r.config place in

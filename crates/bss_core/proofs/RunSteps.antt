@@ -1,12 +1,10 @@
 -- A radio that runs is at the state that the steps so far make: one step more, by its kind.
-use Rattle.std.proofs.Common.{◌≡◌, ◌≢◌, ◌↔◌, ℕ, ◌+◌, ◌≤◌, ◌<◌, List, [], ◌∷◌, ◌++◌, length, take, drop, slice_get, set, Option, Some, None, refl, sym, ap, subst, ◌∙◌, arith, inl, inr}
-use Rattle.std.specs.Prelude.{option_to_list}
+use Rattle.std.proofs.Common.{◌≡◌, ◌≢◌, ◌↔◌, ℕ, ◌+◌, ◌≤◌, ◌<◌, List, [], ◌∷◌, ◌++◌, length, drop, slice_get, set, Some, None, refl, sym, ap, subst, ◌∙◌, arith}
 use Rattle.std.specs.List.{filter_map}
-use Rattle.std.proofs.lemmas.Bool.{cases_lt}
 use Rattle.std.proofs.lemmas.List.{length-take, length-drop, get_or-map, get_or-set_same, get_or-set_other, drop-append-le, drop_more}
 use Rattle.std.proofs.lemmas.Option.{slice_get_past, slice_get-get_or}
 use Rattle.bss_core.specs.Network.{alone}
-use Rattle.bss_core.specs.Radio.{network_at, setting_at, Place, untouched, RadioState, first_state, place_at, air_at, waiting_at, with_place, radio_step, after_steps, event_for, part_of}
+use Rattle.bss_core.specs.Radio.{network_at, setting_at, Place, untouched, RadioState, first_state, place_at, air_at, waiting_at, with_place, radio_step, after_steps, event_for}
 use Rattle.bss_core.specs.RadioView.{RadioView, NetworkView, unused, view_at, Stands, fresh_radio, took, moved, after_hand}
 use Rattle.bss_core.specs.Running.{IsAt}
 use Rattle.bss_core.specs.State.{sent_by}
@@ -54,6 +52,7 @@ is_at-first c =
   where
     view : (place : ℕ) → place < length c.networks → view_at (fresh_radio c) place ≡ unused
     view place within = get_or-map (λ _. unused) c.networks place (network_at c place) unused within
+
     at : (place : ℕ) → place < length c.networks → place_at (first_state c) place ≡ untouched
     at place within = get_or-map (λ _. untouched) c.networks place (network_at c place) untouched within
 
@@ -78,11 +77,14 @@ is_at-changed r before gone step place p v items stands within h is shows = subs
   where
     s : RadioState
     s = after_steps r.config before
+
     next : RadioView
     next = record r { networks = set r.networks place v; queue = items }
+
     here : Shows r.config place p (view_at next place)
     here =
         subst (Shows r.config place p) (sym (get_or-set_same r.networks place v unused (omega (arith, stands.whole)))) shows
+
     each : (q : ℕ) → q < length r.config.networks → Shows r.config q (place_at (with_place s place p) q) (view_at next q)
     each =
         at_each_place s place p (λ q t. q < length r.config.networks → Shows r.config q t (view_at next q)) (omega (arith, length-places r.config before)) (λ _. here) (λ q ne l. subst (Shows r.config q (place_at s q)) (sym (get_or-set_other r.networks place q v unused ne)) (shows-at s r gone q h l))

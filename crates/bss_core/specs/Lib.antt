@@ -10,3 +10,4 @@ pub mod Asked
 pub mod Radio
 pub mod RadioView
 pub mod Running
+pub mod Worlds

@@ -1,6 +1,6 @@
 -- A radio and its networks: what a list of steps makes of them, in whatever order the steps come. What a network does
 -- is said by `alone`, of its own setting and its own events, and by nothing else.
-use Rattle.std.specs.Prelude.{ℕ, ◌+◌, ◌≡◌, ◌==◌, nat_lt, Bool, List, [], ◌∷◌, ◌++◌, length, take, drop, map, filter, slice_get, slice_set, Option, Some, None, if◌then◌else◌}
+use Rattle.std.specs.Prelude.{ℕ, ◌+◌, ◌==◌, nat_lt, Bool, List, [], ◌∷◌, ◌++◌, length, take, drop, map, filter, slice_get, slice_set, Option, Some, None, if◌then◌else◌}
 use Rattle.std.specs.List.{slice_index_or, filter_map, range_with_len}
 use Rattle.bss_core.specs.Network.{Setting, alone}
 use Rattle.bss_core.specs.Section.{section_of}
@@ -136,8 +136,3 @@ items_of place items = map (λ item. item.octets) (filter (λ item. item.place =
 abbrev pub sections_of : RadioConfig → List Step → List Section
 sections_of c steps =
     map (λ place. section_of (setting_at c place) (part_of c place steps)) (range_with_len 0 (length c.networks))
-
--- ---- of two lists of frames
-
-abbrev pub IsPrefix : List (List ℕ) → List (List ℕ) → Type 0
-IsPrefix xs ys = (rest : List (List ℕ)) × (xs ++ rest ≡ ys)

@@ -1,6 +1,6 @@
 //! What follows from the definitions, for whoever stands on them.
 
-ghost use Rattle.std.specs.Prelude.{◌≡◌, ◌↔◌, ◌<◌, ◌++◌, ℕ, true, List, [], ◌∷◌, slice_index, Ok, None};
+ghost use Rattle.std.specs.Prelude.{◌≡◌, ◌↔◌, ◌<◌, ◌++◌, ℕ, true, List, [], ◌∷◌, slice_get, slice_index, Ok, None};
 ghost use Rattle.std.specs.List.{AllByRecursion};
 ghost use Rattle.bss_core.specs.Configuration.{fault_of, setting_fault, network_fault};
 ghost use Rattle.bss_core.specs.Hearing.{Hears, is_heard};
@@ -8,6 +8,10 @@ ghost use Rattle.bss_core.specs.Network.{Setting, alone, empty_network, step};
 ghost use Rattle.bss_core.specs.Request.{Request, IsRequest, request_of};
 ghost use Rattle.bss_core.specs.declared.config.RadioConfig.{RadioConfig};
 ghost use Rattle.bss_core.specs.declared.event.Event.{Event};
+ghost use Rattle.bss_core.specs.declared.step.Step.{Step};
+ghost use Rattle.bss_core.specs.Radio.{after_steps, items_of, sections_of};
+ghost use Rattle.bss_core.specs.State.{sent_by};
+ghost use Rattle.bss_core.specs.Worlds.{AreAlike, AreCutFromOne};
 
 use elements::one_list;
 use mac_frame::{body_has_octets, frame_is_addressed, one_frame};
@@ -42,4 +46,19 @@ pub fn one_step()
 pub fn checked_networks()
     ensures setting { (c : RadioConfig) → fault_of c ≡ None → setting_fault c.channel c.interval ≡ None }
     ensures networks { (c : RadioConfig) → fault_of c ≡ None → AllByRecursion (λ n. network_fault n ≡ None) c.networks }
+{}
+
+/// The frames that a network sent stay, in their order: those of a further event come after them.
+pub fn sent_frames()
+    ensures { (s : Setting) (es : List Event) (e : Event) → (alone s (es ++ e ∷ [])).air ≡ (alone s es).air ++ sent_by s es e }
+{}
+
+/// No network of a radio can touch another. Whatever two radios are and whatever happens to them: where a network of
+/// the one and a network of the other have the same configuration, channel and interval and take the same events, their
+/// sections are the same, and of the frames that left one list begins with the other.
+pub fn two_worlds()
+    ensures sections { (c d : RadioConfig) (steps others : List Step) (p q : ℕ) → AreAlike c d steps others p q →
+        slice_get (sections_of c steps) p ≡ slice_get (sections_of d others) q }
+    ensures left { (c d : RadioConfig) (steps others : List Step) (p q : ℕ) → AreAlike c d steps others p q →
+        AreCutFromOne (items_of p (after_steps c steps).left) (items_of q (after_steps d others).left) }
 {}

@@ -93,12 +93,7 @@ fn make_step(
 }
 
 /// Lets the network at a place, if there is one, take a copy of an event, if its history is not full.
-fn take(
-    alloc: Global,
-    radio: &mut Radio,
-    place: usize,
-    event: &Event,
-) -> Result<(), NoMemory>
+fn take(alloc: Global, radio: &mut Radio, place: usize, event: &Event) -> Result<(), NoMemory>
     ensures config { radio.new.config ≡ radio.old.config }
     ensures made { OnOk result ((before : List Step) (left : List AirItem) →
         IsAt (after_steps radio.old.config before) radio.old left →

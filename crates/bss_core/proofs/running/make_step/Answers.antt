@@ -1,4 +1,4 @@
-use Rattle.std.proofs.Common.{◌≡◌, ◌++◌, ◌∷◌, [], List, length, arith, refl, sym, ap, subst, ◌∙◌}
+use Rattle.std.proofs.Common.{◌≡◌, ◌++◌, ◌∷◌, [], List, arith, refl, sym, ap, subst, ◌∙◌}
 use Rattle.bss_core.specs.Radio.{after_steps}
 use Rattle.bss_core.specs.RadioView.{RadioView}
 use Rattle.bss_core.specs.Running.{IsAt}

@@ -1,8 +1,8 @@
-use Rattle.std.proofs.Common.{◌≡◌, ◌+◌, ◌++◌, ◌∷◌, [], List, ℕ, length, take, Err, refl, arith, sym, ap, subst, ◌∙◌}
+use Rattle.std.proofs.Common.{◌≡◌, ◌+◌, ◌++◌, ◌∷◌, [], List, ℕ, take, Err, sym, ap, subst, ◌∙◌}
 use Rattle.std.proofs.lemmas.List.{take_more, take_all}
 use Rattle.std.proofs.lemmas.Result.{err_from_is_err_and}
 use Rattle.bss_core.specs.Radio.{RadioState, after_steps, sections_of, items_of, waiting_at}
-use Rattle.bss_core.specs.RadioView.{RadioView, fresh_radio}
+use Rattle.bss_core.specs.RadioView.{RadioView}
 use Rattle.bss_core.specs.Running.{IsAt, sections_with}
 use Rattle.bss_core.specs.State.{State}
 use Rattle.bss_core.specs.declared.config.RadioConfig.{RadioConfig}

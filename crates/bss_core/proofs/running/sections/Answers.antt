@@ -1,4 +1,4 @@
-use Rattle.std.proofs.Common.{◌≡◌, ◌++◌, ◌∷◌, [], List, ℕ, length, map, sym, ap, subst, ◌∙◌}
+use Rattle.std.proofs.Common.{◌≡◌, ◌++◌, ◌∷◌, [], List, ℕ, length, map, sym, ap, ◌∙◌}
 use Rattle.std.specs.List.{enumerate_from}
 use Rattle.std.specs.Vec.Iter.{into_iter_items}
 use Rattle.bss_core.specs.Running.{section_with, frames_of}
