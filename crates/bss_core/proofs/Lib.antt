@@ -17,3 +17,4 @@ pub mod StepKinds
 pub mod RunSteps
 pub mod RunSections
 pub mod WorldLaws
+pub mod RadioChanges

@@ -66,7 +66,7 @@ setting-at channel interval capacity states place d same within =
     ∙ get_or-map (setting_in c) c.networks place no_network d.setting (omega (arith, length-map states (λ (s : State). s.setting.network)))
 
 -- a network that changes, and the queue
-radio-changed : (channel interval capacity : ℕ) (states : List State) (items more : List AirItem) (place : ℕ) (d new : State) → place < length states → new.setting ≡ (get_or states place d).setting → radio_of channel interval capacity (set states place new) more ≡ changed (radio_of channel interval capacity states items) place (shown new) more
+pub radio-changed : (channel interval capacity : ℕ) (states : List State) (items more : List AirItem) (place : ℕ) (d new : State) → place < length states → new.setting ≡ (get_or states place d).setting → radio_of channel interval capacity (set states place new) more ≡ changed (radio_of channel interval capacity states items) place (shown new) more
 radio-changed channel interval capacity states items more place d new within same =
     ap (λ (ns : List NetConfig). record (radio_of channel interval capacity (set states place new) more) { config = record (config_of channel interval capacity states) { networks = ns } }) (map-set_same (λ (s : State). s.setting.network) states place new d (ap (λ (s : Setting). s.network) same))
     ∙ ap (λ (vs : List NetworkView). record (radio_of channel interval capacity states more) { networks = vs }) (map-set shown states place new)

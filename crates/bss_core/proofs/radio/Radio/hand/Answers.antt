@@ -3,10 +3,11 @@ use Rattle.std.specs.Prelude.{All}
 use Rattle.std.proofs.lemmas.List.{length-map, length-append}
 use Rattle.std.proofs.lemmas.List.Elements.{All-push}
 use Rattle.bss_core.specs.Radio.{items_of}
-use Rattle.bss_core.specs.RadioView.{RadioView, IsSuffix, radio_of, Stands}
+use Rattle.bss_core.specs.RadioView.{RadioView, IsSuffix, view_at, radio_of, Stands, moved}
 use Rattle.bss_core.specs.State.{State, network_of}
 use Rattle.bss_core.specs.declared.step.AirItem.{AirItem}
 use Rattle.bss_core.proofs.RadioFrames.{items_of-other}
+use Rattle.bss_core.proofs.RadioChanges.{moved-shown}
 use Rattle.bss_core.proofs.RadioStands.{stands-network, settings-changed, last-at, handed-last}
 use Rattle.bss_core.proofs.radio.Radio.hand.Goals as goal
 
@@ -29,3 +30,15 @@ invariant_of-self-in-Some c =
     let room : length (items ++ item ∷ []) ≤ r.capacity = omega (arith, length-append items (item ∷ []), c.if-len-from.false, c.from.ensures, c.len.ensures, r.queue.ok.0) in
     let stands = stands-network r.channel r.interval r.capacity states items (items ++ item ∷ []) place old new keeps.0 keeps.1 within setting room placed (λ q ne. items_of-other q place items octets ne) last in
     (subst (λ (q : List AirItem). Stands (radio_of r.channel r.interval r.capacity (set states place new) q)) (sym c.push_back_reserved.ensures.items) stands, settings-changed r.channel r.interval r.capacity states place old new setting keeps.1, omega (arith, keeps.2, c.push_back_reserved.ensures.capacity))
+
+pub returns-in-Some-clause-after : goal.returns-in-Some-clause-after
+returns-in-Some-clause-after c =
+    let r = c.self.inside in
+    let place : ℕ = c.args.place in
+    let states : List State = r.networks.items in
+    let old : State = c.index_mut-network.result.now in
+    let new : State = c.take_front.new.self in
+    let within : place < length states = omega (arith, length-map states (λ (s : State). s.setting.network), ap (λ (v : RadioView). length v.config.networks) c.self.view_is, c.requires) in
+    let now : RadioView = radio_of r.channel r.interval r.capacity (set states place new) c.push_back_reserved.new.self.items in
+    subst (λ (v : RadioView). now ≡ moved place v (view_at v place).waiting) c.self.view_is
+    (moved-shown r.channel r.interval r.capacity states r.queue.items c.push_back_reserved.new.self.items place c.in-Some.octets old new within c.index_mut-network.ensures.value c.in-Some.ensures.setting c.in-Some.ensures.history c.in-Some.ensures.front c.push_back_reserved.ensures.items)
