@@ -1,6 +1,6 @@
 -- Configurations on which the first fault is computed.
 use Rattle.std.proofs.Common.{◌≡◌, ℕ, List, [], ◌∷◌, Option, Some, None, refl}
-use Rattle.std.specs.Prelude.{replicate}
+use Rattle.std.specs.Prelude.{map, replicate}
 use Rattle.bss_core.specs.Configuration.{of_radio, of_network, network_fault, networks_fault, fault_of}
 use Rattle.bss_core.specs.declared.config.NetConfig.{NetConfig}
 use Rattle.bss_core.specs.declared.config.ConfigFault.{ConfigFault}
@@ -42,11 +42,24 @@ queue_4097_is_refused = refl
 pub no_network_is_refused : fault_of (record radio { networks = [] }) ≡ Some (of_radio 7)
 no_network_is_refused = refl
 
-abbrev second : NetConfig
-second = record network { bssid = 0x02 ∷ 0 ∷ 0 ∷ 0 ∷ 0 ∷ 0x02 ∷ [] }
+-- the network with this last octet of its BSSID
+abbrev with_number : ℕ → NetConfig
+with_number number = record network { bssid = 0x02 ∷ 0 ∷ 0 ∷ 0 ∷ 0 ∷ number ∷ [] }
 
-pub two_networks_are_refused : fault_of (record radio { networks = network ∷ second ∷ [] }) ≡ Some (of_radio 7)
-two_networks_are_refused = refl
+abbrev second : NetConfig
+second = with_number 2
+
+pub two_networks_are_sound : fault_of (record radio { networks = network ∷ second ∷ [] }) ≡ None
+two_networks_are_sound = refl
+
+pub eight_networks_are_sound : fault_of (record radio { networks = map with_number (1 ∷ 2 ∷ 3 ∷ 4 ∷ 5 ∷ 6 ∷ 7 ∷ 8 ∷ []) }) ≡ None
+eight_networks_are_sound = refl
+
+pub nine_networks_are_refused : fault_of (record radio { networks = map with_number (1 ∷ 2 ∷ 3 ∷ 4 ∷ 5 ∷ 6 ∷ 7 ∷ 8 ∷ 9 ∷ []) }) ≡ Some (of_radio 7)
+nine_networks_are_refused = refl
+
+pub the_eighth_network_is_looked_at : fault_of (record radio { networks = map with_number (1 ∷ 2 ∷ 3 ∷ 4 ∷ 5 ∷ 6 ∷ 7 ∷ 1 ∷ []) }) ≡ Some (of_network 8 7)
+the_eighth_network_is_looked_at = refl
 
 -- ---- BSSIDs
 

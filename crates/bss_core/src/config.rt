@@ -13,7 +13,7 @@ pub const MAX_CHANNEL: u8 = 14;
 pub const MAX_QUEUE: u16 = 4096;
 
 /// The most networks of a radio (*profile*).
-pub const MAX_NETWORKS: usize = 1;
+pub const MAX_NETWORKS: usize = 8;
 
 /// The most octets of an SSID (IEEE Std 802.11-2016, 9.4.2.2).
 pub const MAX_SSID_LEN: usize = 32;
