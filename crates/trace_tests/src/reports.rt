@@ -1,7 +1,7 @@
 use bss_core::{Counts, Event, NetConfig, Section, StationRow};
 use mac_frame::{List, MacAddr, Octets};
 use station_state::Standing;
-use std::alloc::Global;
+use std::alloc::{AllocError, Global};
 use std::test::Fail;
 use trace::{Counted, ReportFault, Sink, write_report};
 
@@ -15,24 +15,43 @@ const PROBED: &str = "network 02:00:00:00:00:01 ssid 6c6162\n\
     air 5000000002aa00000001020000000001020000000001000000000000000000006400010000036c6162010482840b16030106\n\
     end\n";
 
+const IDLE: &str = "network 02:00:00:00:00:01 ssid 6c6162\n\
+    events 0 clock 0 unread 0 lost 0 kept 0\n";
+
+const STATIONS: &str = "network 02:00:00:00:00:01 ssid 6c6162\n\
+    events 0 clock 0 unread 0 lost 0 kept 0\n\
+    station 02:aa:00:00:00:01 authenticated\n\
+    station 02:aa:00:00:00:03 associated aid 1 listen 10 active kept 12\n\
+    station 02:aa:00:00:00:04 associated aid 1 listen 10 doze kept 12\n\
+    wire 00ff\n\
+    wire \n\
+    end\n";
+
 /// The octets that a text of digits spells.
 fn octets(alloc: Global, digits: &str) -> Result<Octets, Fail> {
     Ok(Octets::from_slice(alloc, hex::decode(alloc, digits)?.as_slice())?)
 }
 
-/// The network 02:00:00:00:00:01 with the name lab, which did nothing.
-fn idle(alloc: Global) -> Result<Section, Fail> {
-    Ok(Section {
-        config: NetConfig {
-            bssid: MacAddr::new([2, 0, 0, 0, 0, 1]),
-            ssid: Octets::from_slice(alloc, b"lab")?,
-            rates: Octets::from_slice(alloc, &[0x82, 0x84, 0x0b, 0x16])?,
-            dtim: 1,
-            max_stations: 8,
-            max_known: 16,
-            quota: 8,
-            max_events: 100,
-        },
+/// The configuration of the network 02:00:00:00:00:01 with the name lab.
+fn lab(alloc: Global) -> Result<NetConfig, Fail> {
+    let ssid = Octets::from_slice(alloc, b"lab")?;
+    let rates = Octets::from_slice(alloc, &[0x82, 0x84, 0x0b, 0x16])?;
+    Ok(NetConfig {
+        bssid: MacAddr::new([2, 0, 0, 0, 0, 1]),
+        ssid,
+        rates,
+        dtim: 1,
+        max_stations: 8,
+        max_known: 16,
+        quota: 8,
+        max_events: 100,
+    })
+}
+
+/// The section of a network that did nothing.
+fn section_of(alloc: Global, config: NetConfig) -> Section {
+    Section {
+        config,
         events: List::from_vec(Vec::new(alloc)),
         table: List::from_vec(Vec::new(alloc)),
         counts: Counts {
@@ -44,7 +63,12 @@ fn idle(alloc: Global) -> Result<Section, Fail> {
         },
         air: List::from_vec(Vec::new(alloc)),
         wire: List::from_vec(Vec::new(alloc)),
-    })
+    }
+}
+
+/// The network with the name lab, which did nothing.
+fn idle(alloc: Global) -> Result<Section, Fail> {
+    Ok(section_of(alloc, lab(alloc)?))
 }
 
 /// The same network, which took a probe and answered it.
@@ -68,6 +92,44 @@ fn station(standing: Standing, last: u8) -> StationRow {
     }
 }
 
+/// Stations of each standing.
+fn stations(alloc: Global) -> Result<List<StationRow>, Fail> {
+    Ok(List::from_vec(vec![in alloc;
+        station(Standing::Authenticated, 1),
+        station(Standing::Unknown, 2),
+        station(Standing::Associated, 3),
+        station(Standing::Associated, 4),
+    ]?))
+}
+
+/// A frame on the wire, and one of no octets.
+fn wired_frames(alloc: Global) -> Result<List<Octets>, Fail> {
+    let mut frames = Vec::new(alloc);
+    for digits in ["00ff", ""] {
+        frames.push(octets(alloc, digits)?)?;
+    }
+    Ok(List::from_vec(frames))
+}
+
+/// So many frames on the air, each with its number, and their lines.
+fn numbered_frames(alloc: Global, count: u32) -> Result<(Vec<Octets>, String), Fail> {
+    let mut frames = Vec::new(alloc);
+    let mut lines = String::new(alloc);
+    for number in 0..count {
+        let digits = format!(in alloc; "{number:0128x}")?;
+        frames.push(octets(alloc, digits.as_str())?)?;
+        push_line(&mut lines, digits.as_str())?;
+    }
+    Ok((frames, lines))
+}
+
+/// Appends the line of a frame on the air.
+fn push_line(lines: &mut String, digits: &str) -> Result<(), AllocError> {
+    lines.push_str("air ")?;
+    lines.push_str(digits)?;
+    lines.push_str("\n")
+}
+
 /// The report of the sections, whole.
 fn report_of(alloc: Global, sections: &[Section]) -> Result<Vec<u8>, Fail> {
     let mut sink = Counted::new(Vec::new(alloc));
@@ -87,32 +149,25 @@ fn probe_and_its_response(rt: HostRuntime) -> Result<(), Fail> {
 fn stations_and_wired_frames(rt: HostRuntime) -> Result<(), Fail> {
     let alloc = rt.alloc();
     let mut section = idle(alloc)?;
-    section.table = List::from_vec(vec![in alloc;
-        station(Standing::Authenticated, 1),
-        station(Standing::Unknown, 2),
-        station(Standing::Associated, 3),
-        station(Standing::Associated, 4),
-    ]?);
-    section.wire = List::from_vec(vec![in alloc; octets(alloc, "00ff")?, octets(alloc, "")?]?);
-    let text = "network 02:00:00:00:00:01 ssid 6c6162\n\
-        events 0 clock 0 unread 0 lost 0 kept 0\n\
-        station 02:aa:00:00:00:01 authenticated\n\
-        station 02:aa:00:00:00:03 associated aid 1 listen 10 active kept 12\n\
-        station 02:aa:00:00:00:04 associated aid 1 listen 10 doze kept 12\n\
-        wire 00ff\n\
-        wire \n\
-        end\n";
-    assert_eq!(rt; report_of(alloc, &[section])?.as_slice(), text.as_bytes());
+    section.table = stations(alloc)?;
+    section.wire = wired_frames(alloc)?;
+    let report = report_of(alloc, &[section])?;
+    assert_eq!(rt; report.as_slice(), STATIONS.as_bytes());
     Ok(())
+}
+
+/// The report of a network that answered a probe and of one that did nothing.
+fn report_of_two(alloc: Global) -> Result<Vec<u8>, Fail> {
+    let first = probed(alloc)?;
+    let second = idle(alloc)?;
+    report_of(alloc, &[first, second])
 }
 
 #[test]
 fn two_sections_stand_in_order(rt: HostRuntime) -> Result<(), Fail> {
     let alloc = rt.alloc();
-    let report = report_of(alloc, &[probed(alloc)?, idle(alloc)?])?;
-    let text = format!(in alloc;
-        "{PROBED}network 02:00:00:00:00:01 ssid 6c6162\nevents 0 clock 0 unread 0 lost 0 kept 0\nend\n"
-    )?;
+    let text = format!(in alloc; "{PROBED}{IDLE}end\n")?;
+    let report = report_of_two(alloc)?;
     assert_eq!(rt; report.as_slice(), text.as_bytes());
     Ok(())
 }
@@ -123,43 +178,54 @@ fn no_section_has_an_empty_report(rt: HostRuntime) -> Result<(), Fail> {
     Ok(())
 }
 
+/// What writing the sections to a writer of so many octets answers, the failures of the sink, how many octets the
+/// writer has room for in the end, and those that it took.
+fn write_into(
+    alloc: Global,
+    sections: &[Section],
+    room: usize,
+) -> Result<(Result<(), ReportFault>, u64, usize, Vec<u8>), AllocError> {
+    // Once it is full, this writer takes no octet and answers no error.
+    let mut device = vec![in alloc; 0; room]?;
+    let mut sink = Counted::new(device.as_mut_slice());
+    let answer = write_report(alloc, sections, &mut sink);
+    let failures = sink.failures();
+    let left = sink.into_inner().len();
+    Ok((answer, failures, left, device))
+}
+
 #[test]
 fn failing_writer(rt: HostRuntime) -> Result<(), Fail> {
     let alloc = rt.alloc();
     let sections = [probed(alloc)?];
     for room in [0, 1, 17, PROBED.len() - 1] {
-        // Once it is full, this writer takes no octet and answers no error.
-        let mut device = vec![in alloc; 0; room]?;
-        let mut sink = Counted::new(device.as_mut_slice());
-        let answer = write_report(alloc, &sections, &mut sink);
-        assert_eq!(rt; answer, Err(ReportFault::Write), "at {room}");
-        assert_eq!(rt; sink.failures(), 1, "at {room}");
-        assert!(rt; sink.into_inner().is_empty(), "at {room}");
+        let (answer, failures, left, taken) = write_into(alloc, &sections, room)?;
+        assert_eq!(rt;
+            (answer, failures, left),
+            (Err(ReportFault::Write), 1, 0),
+            "at {room}"
+        );
         assert!(rt;
-            PROBED.as_bytes().starts_with(device.as_slice()),
+            PROBED.as_bytes().starts_with(taken.as_slice()),
             "at {room}"
         );
     }
     Ok(())
 }
 
+/// The report of a network that sent these frames on the air.
+fn report_of_frames(alloc: Global, frames: Vec<Octets>) -> Result<Vec<u8>, Fail> {
+    let mut section = idle(alloc)?;
+    section.air = List::from_vec(frames);
+    report_of(alloc, &[section])
+}
+
 #[test]
 fn report_of_many_pieces(rt: HostRuntime) -> Result<(), Fail> {
     let alloc = rt.alloc();
-    let mut section = idle(alloc)?;
-    let mut frames = Vec::new(alloc);
-    let mut text = String::from_str(alloc, "network 02:00:00:00:00:01 ssid 6c6162\n")?;
-    text.push_str("events 0 clock 0 unread 0 lost 0 kept 0\n")?;
-    for number in 0..2000u32 {
-        let line = format!(in alloc; "{number:0128x}")?;
-        frames.push(octets(alloc, line.as_str())?)?;
-        text.push_str("air ")?;
-        text.push_str(line.as_str())?;
-        text.push_str("\n")?;
-    }
-    text.push_str("end\n")?;
-    section.air = List::from_vec(frames);
-    let report = report_of(alloc, &[section])?;
+    let (frames, lines) = numbered_frames(alloc, 2000)?;
+    let report = report_of_frames(alloc, frames)?;
+    let text = format!(in alloc; "{IDLE}{lines}end\n")?;
     assert_eq!(rt; report.len(), 2000 * 133 + 82);
     assert!(rt; report.as_slice() == text.as_bytes());
     Ok(())
