@@ -32,19 +32,19 @@ answered (Err fault) text = Err (Config fault)
 unfoldable pub answer_of : List ℕ → List ℕ → Result (List ℕ) TextFault
 answer_of config_text trace_text = answered (configuration_of config_text) trace_text
 
--- the answer is a report, of which this much was written
-abbrev pub WritesPart : Result (List ℕ) TextFault → Option (List ℕ) → Option (List ℕ) → Type 0
-WritesPart answer old new = (text : List ℕ) × (answer ≡ Ok text) × AppendsPrefix old new text
+-- the answer is a report, of which a prefix was written
+abbrev pub WritesPrefix : Result (List ℕ) TextFault → Option (List ℕ) → Option (List ℕ) → Type 0
+WritesPrefix answer old new = (text : List ℕ) × (answer ≡ Ok text) × AppendsPrefix old new text
 
 -- What the program did, and what its output took meanwhile. Where it ends well, the whole report and nothing else;
--- where a configuration or a trace is at fault, nothing; where a write failed, a part of the report; and where
--- memory was short, nothing or a part of it.
+-- where a configuration or a trace is at fault, nothing; where a write failed, a prefix of the report; and where
+-- it ran out of memory, nothing or a prefix of it.
 abbrev pub Ends : Result Unit TextFault → Result (List ℕ) TextFault → Option (List ℕ) → Option (List ℕ) → Type 0
 Ends (Ok u) answer old new = (text : List ℕ) × (answer ≡ Ok text) × Appends old new text
 Ends (Err (Config fault)) answer old new = (answer ≡ Err (Config fault)) × Keeps old new
 Ends (Err (Trace fault)) answer old new = (answer ≡ Err (Trace fault)) × Keeps old new
-Ends (Err Write) answer old new = WritesPart answer old new
-Ends (Err NoMemory) answer old new = Keeps old new ⊎ WritesPart answer old new
+Ends (Err Write) answer old new = WritesPrefix answer old new
+Ends (Err NoMemory) answer old new = Keeps old new ⊎ WritesPrefix answer old new
 
 -- how many failures of its output a run met that ends so
 abbrev pub failures_of : Result Unit TextFault → ℕ

@@ -1,8 +1,10 @@
 use crate::fault::{Fault, show_fault};
+use crate::input::run_input;
 use crate::joined::split_joined;
 use crate::replay::{TextFault, run_text};
 use bss_core::ConfigFault;
 use std::alloc::{AllocError, Global};
+use std::io::{self, ErrorKind, Read};
 use std::test::Fail;
 use trace::{Counted, Sink, TraceFault};
 
@@ -195,4 +197,45 @@ fn a_joined_text_is_cut_in_two(rt: HostRuntime) {
     let (config, trace) = split_joined(b"version = 1\n---\nA 00\n---\n");
     assert_eq!(rt; config, b"version = 1\n".as_slice());
     assert_eq!(rt; trace, b"A 00\n---\n".as_slice());
+}
+
+#[test]
+fn a_joined_text_is_read_and_answered(rt: HostRuntime) -> Result<(), Fail> {
+    let alloc = rt.alloc();
+    let base = config(alloc, 6, "82840b16", 16, 100)?;
+    let joined = format!(in alloc; "{base}---\n{PROBE}")?;
+    let mut out = Counted::new(Vec::new(alloc));
+    run_input(alloc, &mut joined.as_bytes(), &mut out)?;
+    let written = out.into_inner();
+    assert_eq!(rt; written.as_slice(), ANSWERED.as_bytes());
+    Ok(())
+}
+
+/// A reader that fails where its octets end.
+#[derive(Drop)]
+struct Broken<'a>(&'a [u8]);
+
+impl Read for Broken<'_> {
+    fn read(&mut self, buf: &mut [u8]) -> io::Result<usize> {
+        if self.0.is_empty() {
+            return Err(io::Error::from(ErrorKind::Other));
+        }
+        self.0.read(buf)
+    }
+}
+
+/// Whether the fault is that of standard input.
+fn names_standard_input(answer: &Result<(), Fault>) -> bool {
+    match answer {
+        Err(Fault::File(name)) => name.as_str() == "-",
+        _ => false,
+    }
+}
+
+#[test]
+fn a_reader_that_fails_is_a_fault_and_nothing_is_written(rt: HostRuntime) {
+    let mut out = Counted::new(Vec::new(rt.alloc()));
+    let answer = run_input(rt.alloc(), &mut Broken(b"version = 1\n"), &mut out);
+    assert!(rt; names_standard_input(&answer));
+    assert_eq!(rt; out.into_inner().len(), 0);
 }

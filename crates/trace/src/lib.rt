@@ -1,9 +1,9 @@
 //! The text at both ends of the program (*profile*): a configuration and a trace that are read, a report that is
 //! written.
 //!
-//! It promises that [`read_config`] and [`read_trace`] answer the value that a text writes, or its first fault,
-//! unless memory ran out; and that [`write_report`] has a [`Sink`] take exactly the report of the sections it is
-//! handed.
+//! It promises that [`read_config`] and [`read_trace`] answer the value that a text writes, or its first fault, or
+//! that memory ran out; and that [`write_report`] has a [`Sink`] take exactly the report of the sections it is
+//! handed, or a prefix of it where a write failed or memory ran out.
 //!
 //! Which lines a network hears, and what it does about them, is left to the networks.
 #![tactic(auto)]
