@@ -22,7 +22,7 @@ abbrev pub queue_fits : ℕ → Bool
 queue_fits = is_between 1 4096
 
 abbrev pub count_fits : ℕ → Bool
-count_fits = is_between 1 1
+count_fits = is_between 1 8
 
 abbrev pub ssid_fits : List ℕ → Bool
 ssid_fits ssid = is_between 1 32 (length ssid)

@@ -130,6 +130,7 @@ impl Radio {
     pub fn take(&mut self, place: usize, event: Event) -> Result<u32, Refusal>
         requires { place < length self.old.config.networks }
         ensures number { IfOk result (λ number. number ≡ length (view_at self.old place).history) }
+        ensures room { OnOk result (length (view_at self.old place).history < (network_at self.old.config place).max_events) }
         ensures after { OnOk result (self.new ≡ took place event self.old) }
         ensures full { (result ≡ Err Refusal.HistoryFull) ↔ (length (view_at self.old place).history ≡ (network_at self.old.config place).max_events) }
         ensures err { OnErr result (self.new ≡ self.old) }

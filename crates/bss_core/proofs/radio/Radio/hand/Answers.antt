@@ -41,4 +41,4 @@ returns-in-Some-clause-after c =
     let within : place < length states = omega (arith, length-map states (λ (s : State). s.setting.network), ap (λ (v : RadioView). length v.config.networks) c.self.view_is, c.requires) in
     let now : RadioView = radio_of r.channel r.interval r.capacity (set states place new) c.push_back_reserved.new.self.items in
     subst (λ (v : RadioView). now ≡ moved place v (view_at v place).waiting) c.self.view_is
-    (moved-shown r.channel r.interval r.capacity states r.queue.items c.push_back_reserved.new.self.items place c.in-Some.octets old new within c.index_mut-network.ensures.value c.in-Some.ensures.setting c.in-Some.ensures.history c.in-Some.ensures.front c.push_back_reserved.ensures.items)
+    (moved-shown r.channel r.interval r.capacity states r.queue.items c.push_back_reserved.new.self.items place c.in-Some.octets old new within c.index_mut-network.ensures.value c.in-Some.ensures.setting c.in-Some.ensures.history c.in-Some.ensures.first c.push_back_reserved.ensures.items)
