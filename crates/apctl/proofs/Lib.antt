@@ -2,6 +2,7 @@ pub mod JoinedLines
 pub mod JoinedParts
 pub mod JoinedRows
 pub mod JoinedSteps
+pub mod CheckingLemmas
 pub mod ReplayLemmas
 pub mod AnswerLemmas
 pub mod ReplayRows

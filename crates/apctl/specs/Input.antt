@@ -16,11 +16,11 @@ joined_answer text = answer_of (joined_parts text).0 (joined_parts text).1
 abbrev pub EndsOn : Result Unit TextFault → Option (List ℕ) → Option (List ℕ) → Option (List ℕ) → Type 0
 EndsOn end left old new = (input : List ℕ) × IfSome left (λ octets. input ≡ octets) × Ends end (joined_answer input) old new
 
--- the fault is that of a reader: it failed, or memory ran out before all was read
-abbrev pub IsUnread : Fault → Type 0
-IsUnread (File name) = string_bytes name ≡ codes "-"
-IsUnread Memory = Unit {0}
-IsUnread _ = ⊥
+-- the fault is that of a reader of this name: it failed, or memory ran out before all was read
+abbrev pub IsUnread : List ℕ → Fault → Type 0
+IsUnread wanted (File name) = string_bytes name ≡ wanted
+IsUnread wanted Memory = Unit {0}
+IsUnread wanted _ = ⊥
 
 -- What a run that reads its text did, and what its output took meanwhile. Where the reader failed, nothing is
 -- written; where memory ran out before all was read, neither. Otherwise it is the run of the text that was read.
@@ -30,7 +30,7 @@ EndsInput (Err (Config fault)) left old new = EndsOn (Err (replay.Config fault))
 EndsInput (Err (Trace fault)) left old new = EndsOn (Err (replay.Trace fault)) left old new
 EndsInput (Err Words) left old new = ⊥
 EndsInput (Err Memory) left old new = Keeps old new ⊎ EndsOn (Err replay.NoMemory) left old new
-EndsInput (Err (File name)) left old new = IsUnread (File name) × Keeps old new
+EndsInput (Err (File name)) left old new = IsUnread (codes "-") (File name) × Keeps old new
 EndsInput (Err Output) left old new = EndsOn (Err replay.Write) left old new
 
 -- how many failures of its output a run met that ends so

@@ -23,26 +23,22 @@ const STANDARD_INPUT: &str = "-";
 ///
 /// `File` comes where the reader failed, and names standard input; nothing is written then. `Memory` comes where a
 /// growth was refused: nothing is written then, or a prefix of the report. `Words` never comes.
-pub fn run_input<R: Read, W: Sink>(
-    alloc: Global,
-    reader: &mut R,
-    out: &mut W,
-) -> Result<(), Fault>
+pub fn run_input<R: Read, W: Sink>(alloc: Global, reader: &mut R, out: &mut W) -> Result<(), Fault>
     requires { W.failed out.old < 2 ^ 63 }
     ensures ends { EndsInput result (R.remaining reader.old) (W.taken out.old) (W.taken out.new) }
     ensures failures { W.failed out.new ≡ W.failed out.old + output_failures result }
 {
-    let input = read_input(alloc, reader)?;
+    let input = read_all(alloc, reader, STANDARD_INPUT)?;
     let (config, trace) = split_joined(input.as_slice());
     run_text(alloc, config, trace, out)?;
     Ok(())
 }
 
 /// All that a reader gives. An interrupted read is tried again; it gives up after 4,294,967,295 reads, as where the
-/// reader failed.
-fn read_input<R: Read>(alloc: Global, reader: &mut R) -> Result<Vec<u8>, Fault>
+/// reader failed: `File` with this name then, and `Memory` where a growth was refused.
+pub fn read_all<R: Read>(alloc: Global, reader: &mut R, name: &str) -> Result<Vec<u8>, Fault>
     ensures ok { IfOk result (λ input. IfSome (R.remaining reader.old) (λ octets. input.items ≡ octets)) }
-    ensures err { IfErr result IsUnread }
+    ensures err { IfErr result (IsUnread name.now) }
 {
     let mut input = Vec::new(alloc);
     let mut piece = [0; READ_AT_ONCE];
@@ -51,17 +47,17 @@ fn read_input<R: Read>(alloc: Global, reader: &mut R) -> Result<Vec<u8>, Fault>
             Ok(0) => return Ok(input),
             Ok(count) => input.extend_from_slice(&piece[..count])?,
             Err(error) if error.kind() == ErrorKind::Interrupted => {}
-            Err(_) => return Err(unread_input(alloc)),
+            Err(_) => return Err(unread(alloc, name)),
         }
     }
-    Err(unread_input(alloc))
+    Err(unread(alloc, name))
 }
 
-/// The fault of standard input that can't be read.
-fn unread_input(alloc: Global) -> Fault
-    ensures { IsUnread result }
+/// The fault of a file of this name that can't be read.
+pub fn unread(alloc: Global, name: &str) -> Fault
+    ensures { IsUnread name.now result }
 {
-    match String::from_str(alloc, STANDARD_INPUT) {
+    match String::from_str(alloc, name) {
         Ok(name) => Fault::File(name),
         Err(_) => Fault::Memory,
     }

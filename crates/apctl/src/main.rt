@@ -9,17 +9,24 @@
 //! user called it is shown by tests.
 #![tactic(auto)]
 
+mod checking;
 mod fault;
+mod files;
 mod input;
 mod joined;
 mod replay;
+mod words;
 
+use checking::check_text;
 use fault::{Fault, show_fault};
+use files::read_file;
 use input::run_input;
+use replay::run_text;
 use std::env;
 use std::io::ErrorKind;
 use std::process::ExitCode;
 use trace::Counted;
+use words::{Task, task_of};
 
 #[cfg(test)]
 mod tests;
@@ -37,22 +44,29 @@ fn main(rt: HostRuntime) -> ExitCode {
     }
 }
 
-/// The program without words: the report of the configuration and the trace on standard input.
+/// Does what the words ask for. Files are read whole, in the order of the words, before anything is done with them.
 fn run(rt: &HostRuntime) -> Result<(), Fault> {
-    if has_words(rt)? {
-        return Err(Fault::Words);
+    let alloc = rt.alloc();
+    let words = given_words(rt)?;
+    let mut out = Counted::new(rt.stdout());
+    match task_of(alloc, words.as_slice())? {
+        Task::Joined => run_input(alloc, &mut rt.stdin(), &mut out),
+        Task::Check { config } => {
+            let config = read_file(rt, config)?;
+            Ok(check_text(alloc, config.as_slice(), &mut out)?)
+        }
+        Task::Run { config, trace } => {
+            let config = read_file(rt, config)?;
+            let trace = read_file(rt, trace)?;
+            Ok(run_text(alloc, config.as_slice(), trace.as_slice(), &mut out)?)
+        }
     }
-    run_input(
-        rt.alloc(),
-        &mut rt.stdin(),
-        &mut Counted::new(rt.stdout()),
-    )
 }
 
-/// Whether the program was given a word after its name.
-fn has_words(rt: &HostRuntime) -> Result<bool, Fault> {
+/// The words that the program was given, its own name first.
+fn given_words(rt: &HostRuntime) -> Result<Vec<String>, Fault> {
     match env::args(rt) {
-        Ok(words) => Ok(words.count() > 1),
+        Ok(words) => Ok(words.collect(rt.alloc())?),
         Err(e) if e.kind() == ErrorKind::OutOfMemory => Err(Fault::Memory),
         Err(_) => Err(Fault::Words),
     }

@@ -14,10 +14,10 @@ use bss_core::{
     Bss, ConfigFault, Event, NetConfig, RadioConfig, Refusal, Section, checked_networks, hears,
 };
 use mac_frame::{List, NoMemory, Octets};
-use std::alloc::Global;
+use std::alloc::{AllocError, Global};
 use trace::{
-    ConfigTextFault, ReportFault, Sink, TraceFault, TraceTextFault, read_config, read_trace,
-    write_report,
+    ConfigTextFault, Failed, ReportFault, Sink, TraceFault, TraceTextFault, read_config,
+    read_trace, write_report,
 };
 use workers::Line;
 
@@ -64,6 +64,22 @@ impl From<ReportFault> for TextFault {
             ReportFault::Write => TextFault::Write,
             ReportFault::NoMemory => TextFault::NoMemory,
         }
+    }
+}
+
+impl From<AllocError> for TextFault {
+    ghost from_gives = { λ _ given. given ≡ faults.NoMemory };
+
+    fn from(_e: AllocError) -> TextFault {
+        TextFault::NoMemory
+    }
+}
+
+impl From<Failed> for TextFault {
+    ghost from_gives = { λ _ given. given ≡ faults.Write };
+
+    fn from(_e: Failed) -> TextFault {
+        TextFault::Write
     }
 }
 

@@ -1,7 +1,9 @@
+use crate::checking::check_text;
 use crate::fault::{Fault, show_fault};
 use crate::input::run_input;
 use crate::joined::split_joined;
 use crate::replay::{TextFault, run_text};
+use crate::words::{Task, task_of};
 use bss_core::ConfigFault;
 use std::alloc::{AllocError, Global};
 use std::io::{self, ErrorKind, Read};
@@ -238,4 +240,82 @@ fn a_reader_that_fails_is_a_fault_and_nothing_is_written(rt: HostRuntime) {
     let answer = run_input(rt.alloc(), &mut Broken(b"version = 1\n"), &mut out);
     assert!(rt; names_standard_input(&answer));
     assert_eq!(rt; out.into_inner().len(), 0);
+}
+
+/// The task that these words ask for, after the program's name.
+fn asked<'a>(alloc: Global, words: &'a [String]) -> Option<Task<'a>> {
+    task_of(alloc, words).ok()
+}
+
+/// The words of a line, parted by single spaces.
+fn words_of(alloc: Global, line: &str) -> Result<Vec<String>, AllocError> {
+    let mut words = Vec::new(alloc);
+    for word in line.split(' ') {
+        words.push(String::from_str(alloc, word)?)?;
+    }
+    Ok(words)
+}
+
+#[test]
+fn words_ask_for_a_task(rt: HostRuntime) -> Result<(), Fail> {
+    let alloc = rt.alloc();
+    for (line, task) in [
+        ("apctl", Task::Joined),
+        ("apctl check a.toml", Task::Check { config: "a.toml" }),
+        (
+            "apctl run a.toml -",
+            Task::Run {
+                config: "a.toml",
+                trace: "-",
+            },
+        ),
+        (
+            "apctl run  b",
+            Task::Run {
+                config: "",
+                trace: "b",
+            },
+        ),
+    ] {
+        let words = words_of(alloc, line)?;
+        assert_eq!(rt; asked(alloc, words.as_slice()), Some(task));
+    }
+    Ok(())
+}
+
+#[test]
+fn other_words_are_refused(rt: HostRuntime) -> Result<(), Fail> {
+    let alloc = rt.alloc();
+    for line in [
+        "apctl --help",
+        "apctl help",
+        "apctl --version",
+        "apctl a.toml",
+        "apctl --",
+        "apctl check",
+        "apctl check a b",
+        "apctl check --help",
+        "apctl run a",
+        "apctl run a b c",
+        "apctl play a b",
+        "apctl ",
+    ] {
+        let words = words_of(alloc, line)?;
+        assert!(rt;
+            matches!(task_of(alloc, words.as_slice()), Err(Fault::Words)),
+            "{line}"
+        );
+    }
+    Ok(())
+}
+
+#[test]
+fn a_configuration_is_checked(rt: HostRuntime) -> Result<(), Fail> {
+    let alloc = rt.alloc();
+    let base = config(alloc, 6, "82840b16", 16, 100)?;
+    let mut out = Counted::new(Vec::new(alloc));
+    assert_eq!(rt; check_text(alloc, base.as_bytes(), &mut out), Ok(()));
+    let written = out.into_inner();
+    assert_eq!(rt; written.as_slice(), b"ok 1\n".as_slice());
+    Ok(())
 }

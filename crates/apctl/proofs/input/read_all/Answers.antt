@@ -1,7 +1,7 @@
 use Rattle.std.proofs.Common.{rules, ◌≡◌, ◌++◌, [], List, ℕ, take, sym, ap, ◌∙◌, append-nil}
 use Rattle.std.proofs.KnownBytes.{Consumes-nil, Consumes-trans, Consumes-kept, Consumes-whole}
-use Rattle.apctl.proofs.input.read_input.Goals as goal
-use Rattle.apctl.proofs.input.read_input.Goals.{in-Ok+in_ok-extend_from_slice-in-Ok, in-Err}
+use Rattle.apctl.proofs.input.read_all.Goals as goal
+use Rattle.apctl.proofs.input.read_all.Goals.{in-Ok+in_ok-extend_from_slice-in-Ok, in-Err}
 
 pub loop-init : goal.loop-init
 loop-init g c = rw c.new-input.ensures.items (Consumes-nil (g.R.Read.remaining c.args.reader.now))
