@@ -8,8 +8,8 @@ use Rattle.bss_core.proofs.NetworkRows.{the_section_of_one_probe, the_section_of
 use Rattle.bss_core.specs.Configuration.{of_radio}
 use Rattle.trace.specs.Report.{report_text, section_text, network_line, counts_line, frame_line}
 use Rattle.apctl.specs.Answer.{answer_of}
-use Rattle.apctl.specs.declared.replay.TextFault.{TextFault}
-use Rattle.apctl.specs.declared.replay.TextFault.TheVariants.{Config, Trace}
+use Rattle.apctl.specs.declared.text_fault.TextFault.{TextFault}
+use Rattle.apctl.specs.declared.text_fault.TextFault.TheVariants.{Config, Trace}
 use Rattle.trace.proofs.ConfigurationRows.{configuration_on_literals}
 
 -- the sample, with this channel and this most events

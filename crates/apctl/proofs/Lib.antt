@@ -3,6 +3,10 @@ pub mod JoinedParts
 pub mod JoinedRows
 pub mod JoinedSteps
 pub mod CheckingLemmas
+pub mod DrainSteps
+pub mod TakeSteps
+pub mod LineSteps
+pub mod SectionSteps
 pub mod ReplayLemmas
 pub mod AnswerLemmas
 pub mod ReplayRows

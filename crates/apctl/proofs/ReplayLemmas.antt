@@ -1,13 +1,12 @@
 -- The events of a network, line by line.
-use Rattle.std.proofs.Common.{◌≡◌, ℕ, ◌<◌, ◌≤◌, Bool, true, false, cond, ltb, List, [], ◌∷◌, ◌++◌, length, take, refl, sym, ap, ◌∙◌, append-nil, arith, inl, inr}
+use Rattle.std.proofs.Common.{◌≡◌, ℕ, ◌≤◌, Bool, true, false, cond, ltb, List, [], ◌∷◌, ◌++◌, length, take, refl, sym, ap, ◌∙◌, append-nil, arith, inl, inr}
 use Rattle.std.proofs.lemmas.Bool.{cases_lt, lt-ltb, le-ltb}
 use Rattle.std.proofs.lemmas.List.{length-append, length-take-le, take_all, take-append-le, flat_map_more}
 use Rattle.bss_core.specs.Hearing.{is_heard}
 use Rattle.bss_core.specs.declared.config.NetConfig.{NetConfig}
 use Rattle.bss_core.specs.declared.event.Event.{Event}
 use Rattle.bss_core.specs.declared.event.Event.TheVariants as event
-use Rattle.workers.specs.Lines.{heard_of, heard, own_events}
-use Rattle.apctl.specs.Replay.{taken_of}
+use Rattle.workers.specs.Lines.{heard_of, heard, own_events, taken_of}
 use Rattle.workers.specs.declared.line.Line.{Line}
 use Rattle.workers.specs.declared.line.Line.TheVariants.{Air}
 
@@ -16,8 +15,8 @@ cond_length : (b : Bool) (e : Event) → length (cond b (e ∷ []) []) ≤ 1
 cond_length true e = omega arith
 cond_length false e = omega arith
 
-one_at_most : (bss : List ℕ) (l : Line) → length (heard_of bss l) ≤ 1
-one_at_most bss (Air x) = cond_length (is_heard bss x) (event.Air x)
+one_at_most : (place : ℕ) (bss : List ℕ) (l : Line) → length (heard_of place bss l) ≤ 1
+one_at_most place bss (Air x) = cond_length (is_heard bss x) (event.Air x)
 
 -- the prefix of a list with at most one item more
 take-push : (m : ℕ) (xs ys : List Event) → length ys ≤ 1 → take m (xs ++ ys) ≡ take m xs ++ cond (ltb (length (take m xs)) m) ys []
@@ -33,15 +32,23 @@ take-push m xs ys one =
           rw (same, full, le-ltb m m (omega arith)) (sym (append-nil (take m xs)))
     ]
 
-pub own_events-none : (n : NetConfig) → own_events n [] ≡ []
-own_events-none n = take_all n.max_events [] (omega arith)
+pub own_events-none : (place : ℕ) (n : NetConfig) → own_events place n [] ≡ []
+own_events-none place n = take_all n.max_events [] (omega arith)
 
 -- the events of one more line
-pub own_events-push : (n : NetConfig) (ls : List Line) (l : Line) → own_events n (ls ++ l ∷ []) ≡ own_events n ls ++ taken_of n (length (own_events n ls)) l
-own_events-push n ls l =
-    ap (take n.max_events) (sym (flat_map_more (heard_of n.bssid) [] ls l))
-    ∙ take-push n.max_events (heard n.bssid ls) (heard_of n.bssid l) (one_at_most n.bssid l)
+pub own_events-push : (place : ℕ) (n : NetConfig) (ls : List Line) (l : Line) → own_events place n (ls ++ l ∷ []) ≡ own_events place n ls ++ taken_of place n (own_events place n ls) l
+own_events-push place n ls l =
+    ap (take n.max_events) (sym (flat_map_more (heard_of place n.bssid) [] ls l))
+    ∙ take-push n.max_events (heard place n.bssid ls) (heard_of place n.bssid l) (one_at_most place n.bssid l)
 
--- a line that is heard, where there is room, is its own event
-pub taken_of-heard : (n : NetConfig) (count : ℕ) (x : List ℕ) → is_heard n.bssid x ≡ true → count < n.max_events → taken_of n count (Air x) ≡ event.Air x ∷ []
-taken_of-heard n count x e h = rw (lt-ltb count n.max_events h, e) refl
+-- what a network takes of a line that it hears is the line's event, where there is room
+pub taken_of-heard : (place : ℕ) (n : NetConfig) (history : List Event) (x : List ℕ) → is_heard n.bssid x ≡ true → taken_of place n history (Air x) ≡ cond (ltb (length history) n.max_events) (event.Air x ∷ []) []
+taken_of-heard place n history x e = rw e refl
+
+-- it takes nothing of a line that it doesn't hear
+pub taken_of-unheard : (place : ℕ) (n : NetConfig) (history : List Event) (x : List ℕ) → is_heard n.bssid x ≡ false → taken_of place n history (Air x) ≡ []
+taken_of-unheard place n history x e = cases (ltb (length history) n.max_events) refl
+  where
+    cases : (b : Bool) → ltb (length history) n.max_events ≡ b → taken_of place n history (Air x) ≡ []
+    cases true room = rw (room, e) refl
+    cases false room = rw room refl

@@ -18,7 +18,7 @@ to_another = (0x50 ∷ 0x00 ∷ 0x00 ∷ 0x00 ∷ []) ++ station ++ bssid ++ bss
 
 -- what is not for the network is left out, and what is stays in its order
 heard_lines_stay_in_order :
-    heard bssid (Air to_the_network ∷ Air to_another ∷ Air (take 9 probe) ∷ Air [] ∷ Air probe ∷ Air to_the_network ∷ [])
+    heard 0 bssid (Air to_the_network ∷ Air to_another ∷ Air (take 9 probe) ∷ Air [] ∷ Air probe ∷ Air to_the_network ∷ [])
     ≡ event.Air to_the_network ∷ event.Air probe ∷ event.Air to_the_network ∷ []
 heard_lines_stay_in_order = refl
 
@@ -26,17 +26,17 @@ heard_lines_stay_in_order = refl
 abbrev short : NetConfig
 short = record network { max_events = 1 }
 
-second_probe_is_not_taken : own_events short (Air probe ∷ Air probe ∷ []) ≡ event.Air probe ∷ []
+second_probe_is_not_taken : own_events 0 short (Air probe ∷ Air probe ∷ []) ≡ event.Air probe ∷ []
 second_probe_is_not_taken = refl
 
 -- the first that it hears, though another line comes before it
-unheard_lines_take_no_room : own_events short (Air to_another ∷ Air probe ∷ Air to_the_network ∷ []) ≡ event.Air probe ∷ []
+unheard_lines_take_no_room : own_events 0 short (Air to_another ∷ Air probe ∷ Air to_the_network ∷ []) ≡ event.Air probe ∷ []
 unheard_lines_take_no_room = refl
 
-each_heard_line_is_taken_where_there_is_room : own_events network (Air probe ∷ Air probe_for_another ∷ []) ≡ event.Air probe ∷ event.Air probe_for_another ∷ []
+each_heard_line_is_taken_where_there_is_room : own_events 1 network (Air probe ∷ Air probe_for_another ∷ []) ≡ event.Air probe ∷ event.Air probe_for_another ∷ []
 each_heard_line_is_taken_where_there_is_room = refl
 
-no_line_is_no_event : own_events network [] ≡ []
+no_line_is_no_event : own_events 1 network [] ≡ []
 no_line_is_no_event = refl
 
 sections_of_one_network : sections_of radio (Air to_another ∷ Air probe ∷ []) ≡ section_of setting (event.Air probe ∷ []) ∷ []

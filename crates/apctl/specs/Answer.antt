@@ -11,8 +11,8 @@ use Rattle.trace.specs.declared.read.TraceTextFault.{TraceTextFault}
 use Rattle.trace.specs.declared.read.TraceTextFault.TheVariants as trace
 use Rattle.trace.specs.declared.report.ReportFault.{ReportFault}
 use Rattle.trace.specs.declared.report.ReportFault.TheVariants as report
-use Rattle.apctl.specs.declared.replay.TextFault.{TextFault}
-use Rattle.apctl.specs.declared.replay.TextFault.TheVariants.{Config, Trace, NoMemory, Write}
+use Rattle.apctl.specs.declared.text_fault.TextFault.{TextFault}
+use Rattle.apctl.specs.declared.text_fault.TextFault.TheVariants.{Config, Trace, NoMemory, Write}
 use Rattle.trace.specs.ConfigurationText.{configuration_of}
 use Rattle.trace.specs.TraceText.{lines_of}
 use Rattle.apctl.specs.Replay.{sections_of}

@@ -4,8 +4,8 @@ use Rattle.bss_core.specs.declared.config.RadioConfig.{RadioConfig}
 use Rattle.bss_core.specs.declared.config.ConfigFault.{ConfigFault}
 use Rattle.trace.specs.ConfigurationText.{configuration_of}
 use Rattle.trace.specs.Texts.{ended}
-use Rattle.apctl.specs.declared.replay.TextFault.{TextFault}
-use Rattle.apctl.specs.declared.replay.TextFault.TheVariants.{Config}
+use Rattle.apctl.specs.declared.text_fault.TextFault.{TextFault}
+use Rattle.apctl.specs.declared.text_fault.TextFault.TheVariants.{Config}
 
 -- how many networks there are
 unfoldable pub count_line : ℕ → List ℕ

@@ -2,8 +2,8 @@
 use Rattle.std.specs.Prelude.{ℕ}
 use Rattle.apctl.specs.declared.fault.Fault.{Fault}
 use Rattle.apctl.specs.declared.fault.Fault.TheVariants.{Config, Trace, Words, Memory, File, Output}
-use Rattle.apctl.specs.declared.replay.TextFault.{TextFault}
-use Rattle.apctl.specs.declared.replay.TextFault.TheVariants as replay
+use Rattle.apctl.specs.declared.text_fault.TextFault.{TextFault}
+use Rattle.apctl.specs.declared.text_fault.TextFault.TheVariants as replay
 
 -- the fault of a replay that ended without a report
 abbrev pub of_replay : TextFault → Fault

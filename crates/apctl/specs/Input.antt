@@ -3,8 +3,8 @@ use Rattle.std.specs.Prelude.{ℕ, ◌≡◌, ◌⊎◌, List, Option, Result, O
 use Rattle.std.specs.Io.KnownBytes.{Keeps}
 use Rattle.apctl.specs.declared.fault.Fault.{Fault}
 use Rattle.apctl.specs.declared.fault.Fault.TheVariants.{Config, Trace, Words, Memory, File, Output}
-use Rattle.apctl.specs.declared.replay.TextFault.{TextFault}
-use Rattle.apctl.specs.declared.replay.TextFault.TheVariants as replay
+use Rattle.apctl.specs.declared.text_fault.TextFault.{TextFault}
+use Rattle.apctl.specs.declared.text_fault.TextFault.TheVariants as replay
 use Rattle.apctl.specs.Answer.{Ends, answer_of}
 use Rattle.apctl.specs.Joined.{joined_parts}
 

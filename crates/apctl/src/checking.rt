@@ -4,7 +4,7 @@ ghost use Rattle.std.specs.Prelude.{◌≡◌, ◌+◌, ◌^◌, ◌<◌, length
 ghost use Rattle.apctl.specs.Answer.{Ends, failures_of};
 ghost use Rattle.apctl.specs.Checking.{check_of, count_line};
 
-use crate::replay::TextFault;
+use crate::text_fault::TextFault;
 use std::alloc::{AllocError, Global};
 use trace::{Sink, read_config, write_all};
 

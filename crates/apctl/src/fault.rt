@@ -5,7 +5,7 @@ ghost use Rattle.apctl.specs.Faults.{of_replay, status_of};
 ghost use Rattle.trace.specs.Report.{failures_met};
 ghost use Rattle.apctl.specs.declared.fault.Fault.TheVariants as faults;
 
-use crate::replay::TextFault;
+use crate::text_fault::TextFault;
 use bss_core::ConfigFault;
 use std::alloc::{AllocError, Global};
 use thiserror::Error;

@@ -14,7 +14,9 @@ mod fault;
 mod files;
 mod input;
 mod joined;
+mod left;
 mod replay;
+mod text_fault;
 mod words;
 
 use checking::check_text;

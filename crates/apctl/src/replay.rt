@@ -1,95 +1,21 @@
 //! From the octets of a configuration and a trace to those of a report: each network takes what it hears, alone.
 
-ghost use Rattle.std.specs.Prelude.{◌≡◌, ◌++◌, [], List, None, IfOk, OnOk, length, ◌<◌, ◌+◌, ◌^◌};
-ghost use Rattle.bss_core.specs.Configuration.{setting_fault, network_fault, fault_of};
-ghost use Rattle.bss_core.specs.Network.{alone};
-ghost use Rattle.bss_core.specs.Section.{section_of};
-ghost use Rattle.apctl.specs.declared.replay.TextFault.TheVariants as faults;
+ghost use Rattle.std.specs.Prelude.{◌≡◌, ◌<◌, ◌+◌, ◌^◌, ℕ, [], false, None, IsTrue, IfSome, IfNone, IfOk, OnOk, length};
+ghost use Rattle.bss_core.specs.Configuration.{fault_of};
+ghost use Rattle.bss_core.specs.RadioView.{fresh_radio, view_at};
 ghost use Rattle.workers.specs.declared.line.Line.TheVariants as Lines;
-ghost use Rattle.apctl.specs.Answer.{Ends, answer_of, failures_of, of_config, of_trace, of_report};
-ghost use Rattle.workers.specs.Lines.{own_events};
-ghost use Rattle.apctl.specs.Replay.{taken_of, setting_of, sections_of};
+ghost use Rattle.apctl.specs.Answer.{Ends, answer_of, failures_of};
+ghost use Rattle.apctl.specs.Replay.{IsDrained, TakesAt, TakesLine, sections_of, sections_at, is_heard_at, leaves, emptied, SendsFirst};
 
+use crate::left::Left;
+use crate::text_fault::TextFault;
 use bss_core::{
-    Bss, ConfigFault, Event, NetConfig, RadioConfig, Refusal, Section, checked_networks, hears,
+    Event, Handed, OpenFault, Radio, RadioConfig, Refusal, Section, hears, sent_frames,
 };
 use mac_frame::{List, NoMemory, Octets};
-use std::alloc::{AllocError, Global};
-use trace::{
-    ConfigTextFault, Failed, ReportFault, Sink, TraceFault, TraceTextFault, read_config,
-    read_trace, write_report,
-};
+use std::alloc::Global;
+use trace::{Sink, read_config, read_trace, write_report};
 use workers::Line;
-
-/// Why a replay ended without a report.
-#[derive(Clone, Copy, Debug, PartialEq, Eq)]
-pub enum TextFault {
-    /// The first fault of the configuration.
-    Config(ConfigFault),
-    /// The first fault of the trace, where the configuration has none.
-    Trace(TraceFault),
-    /// A growth was refused.
-    NoMemory,
-    /// A write failed.
-    Write,
-}
-
-impl From<ConfigTextFault> for TextFault {
-    ghost from_gives = { λ fault given. given ≡ of_config fault };
-
-    fn from(fault: ConfigTextFault) -> TextFault {
-        match fault {
-            ConfigTextFault::At(fault) => TextFault::Config(fault),
-            ConfigTextFault::NoMemory => TextFault::NoMemory,
-        }
-    }
-}
-
-impl From<TraceTextFault> for TextFault {
-    ghost from_gives = { λ fault given. given ≡ of_trace fault };
-
-    fn from(fault: TraceTextFault) -> TextFault {
-        match fault {
-            TraceTextFault::At(fault) => TextFault::Trace(fault),
-            TraceTextFault::NoMemory => TextFault::NoMemory,
-        }
-    }
-}
-
-impl From<ReportFault> for TextFault {
-    ghost from_gives = { λ fault given. given ≡ of_report fault };
-
-    fn from(fault: ReportFault) -> TextFault {
-        match fault {
-            ReportFault::Write => TextFault::Write,
-            ReportFault::NoMemory => TextFault::NoMemory,
-        }
-    }
-}
-
-impl From<AllocError> for TextFault {
-    ghost from_gives = { λ _ given. given ≡ faults.NoMemory };
-
-    fn from(_e: AllocError) -> TextFault {
-        TextFault::NoMemory
-    }
-}
-
-impl From<Failed> for TextFault {
-    ghost from_gives = { λ _ given. given ≡ faults.Write };
-
-    fn from(_e: Failed) -> TextFault {
-        TextFault::Write
-    }
-}
-
-impl From<NoMemory> for TextFault {
-    ghost from_gives = { λ _ given. given ≡ faults.NoMemory };
-
-    fn from(_e: NoMemory) -> TextFault {
-        TextFault::NoMemory
-    }
-}
 
 /// Reads a configuration and a trace, lets each network take what it hears of the trace's lines, in order, and
 /// lets every frame leave as soon as it waits; then appends the report of all networks to what `out` has taken.
@@ -109,103 +35,152 @@ pub fn run_text<W: Sink>(
 {
     let config = read_config(alloc, config)?;
     let lines = read_trace(alloc, &config, trace)?;
-    let sections = replay(alloc, config, lines.as_slice())?;
+    let sections = replay(alloc, config, lines)?;
     write_report(alloc, sections.as_slice(), out)?;
     Ok(())
 }
 
-/// Takes out the frames that wait, in their order, and puts them after those that left.
-fn drain(bss: &mut Bss, air: &mut Vec<Octets>) -> Result<(), NoMemory>
-    ensures air { OnOk result (air.new.items ≡ air.old.items ++ bss.old.waiting) }
-    ensures waiting { OnOk result (bss.new.waiting ≡ []) }
-    ensures setting { bss.new.setting ≡ bss.old.setting }
-    ensures history { bss.new.history ≡ bss.old.history }
+/// The section of each network, in order of place: each takes what it hears of the lines.
+fn replay(alloc: Global, config: RadioConfig, lines: Vec<Line>) -> Result<Vec<Section>, NoMemory>
+    requires { fault_of config ≡ None }
+    ensures { IfOk result (λ sections. sections.items ≡ sections_of config lines.items) }
 {
-    while let Some(frame) = bss.take_front() {
-        air.push(frame)?;
+    let mut radio = open(alloc, config)?;
+    let mut left = Left::new(alloc, radio.networks())?;
+    for line in lines {
+        take_line(alloc, &mut radio, &mut left, line)?;
     }
-    Ok(())
+    sections(alloc, radio, left)
 }
 
-/// Takes a string of octets that was heard on the air, where the network hears it, and lets its frames leave. A
-/// full history takes no more.
-fn take_frame(
-    alloc: Global,
-    bss: &mut Bss,
-    air: &mut Vec<Octets>,
-    frame: &[u8],
-) -> Result<(), NoMemory>
-    requires waiting { bss.old.waiting ≡ [] }
-    requires air { air.old.items ≡ (alone bss.old.setting bss.old.history).air }
-    ensures setting { bss.new.setting ≡ bss.old.setting }
-    ensures history { OnOk result (bss.new.history ≡ bss.old.history ++ taken_of bss.old.setting.network (length bss.old.history) (Lines.Air frame.now)) }
-    ensures waiting { OnOk result (bss.new.waiting ≡ []) }
-    ensures air { OnOk result (air.new.items ≡ (alone bss.new.setting bss.new.history).air) }
+/// The radio of a configuration without a fault.
+fn open(alloc: Global, config: RadioConfig) -> Result<Radio, NoMemory>
+    requires { fault_of config ≡ None }
+    ensures { IfOk result (λ radio. radio ≡ fresh_radio config) }
 {
-    if !hears(bss.config().bssid, frame) {
-        return Ok(());
+    match Radio::new(alloc, config) {
+        Ok(radio) => Ok(radio),
+        Err(OpenFault::NoMemory) => Err(NoMemory),
+        Err(OpenFault::Config(_)) => unreachable!(),
+        Err(OpenFault::Callers) => unreachable!(),
     }
-    let event = Event::Air(Octets::from_slice(alloc, frame)?);
-    match bss.take(event) {
-        Ok(_) => drain(bss, air),
+}
+
+/// Takes a line in each network that hears it, in order of place, and lets their frames leave.
+fn take_line(alloc: Global, radio: &mut Radio, left: &mut Left, line: Line) -> Result<(), NoMemory>
+    requires { IsDrained radio.old left.old }
+    ensures { OnOk result (IsDrained radio.new left.new × TakesLine line radio.old radio.new) }
+{
+    let Line::Air(octets) = line;
+    take_octets(alloc, radio, left, octets)
+}
+
+/// Takes a string of octets that was heard on the air in each network that hears it, in order of place, and lets
+/// their frames leave. It is copied for each of them but the last, into which it moves.
+fn take_octets(
+    alloc: Global,
+    radio: &mut Radio,
+    left: &mut Left,
+    octets: Octets,
+) -> Result<(), NoMemory>
+    requires { IsDrained radio.old left.old }
+    ensures { OnOk result (IsDrained radio.new left.new × TakesLine (Lines.Air octets) radio.old radio.new) }
+{
+    let Some(last) = last_hearer(radio, octets.as_slice()) else {
+        return Ok(());
+    };
+    for place in 0..last {
+        if is_heard_at(radio, place, octets.as_slice()) {
+            let copy = octets.copy(alloc)?;
+            take_event(radio, left, place, Event::Air(copy))?;
+        }
+    }
+    take_event(radio, left, last, Event::Air(octets))
+}
+
+/// Whether the network at a place hears a string of octets.
+fn is_heard_at(radio: &Radio, place: usize, octets: &[u8]) -> bool
+    requires { place < length radio.now.config.networks }
+    ensures { result ≡ is_heard_at radio.now place octets.now }
+{
+    hears(radio.bss(place).config().bssid, octets)
+}
+
+/// The last network in order of place that hears a string of octets, if one does.
+fn last_hearer(radio: &Radio, octets: &[u8]) -> Option<usize>
+    ensures last { IfSome result (λ last. (last < length radio.now.config.networks) × IsTrue (is_heard_at radio.now last octets.now)
+        × ((place : ℕ) → last < place → place < length radio.now.config.networks → is_heard_at radio.now place octets.now ≡ false)) }
+    ensures none { IfNone result ((place : ℕ) → place < length radio.now.config.networks → is_heard_at radio.now place octets.now ≡ false) }
+{
+    let mut after = radio.networks();
+    while after > 0 {
+        after -= 1;
+        if is_heard_at(radio, after, octets) {
+            return Some(after);
+        }
+    }
+    None
+}
+
+/// Lets the network at a place take an event, and its frames leave. A full history takes no more.
+fn take_event(
+    radio: &mut Radio,
+    left: &mut Left,
+    place: usize,
+    event: Event,
+) -> Result<(), NoMemory>
+    requires there { place < length radio.old.config.networks }
+    requires drained { IsDrained radio.old left.old }
+    ensures { OnOk result (IsDrained radio.new left.new × TakesAt place event radio.old radio.new) }
+{
+    sent_frames();
+    match radio.take(place, event) {
+        Ok(_) => drain(radio, left, place),
         Err(Refusal::HistoryFull) => Ok(()),
         Err(Refusal::NoMemory) => Err(NoMemory),
     }
 }
 
-/// Takes the event of a line, as [`take_frame`] does.
-fn take_line(
-    alloc: Global,
-    bss: &mut Bss,
-    air: &mut Vec<Octets>,
-    line: &Line,
-) -> Result<(), NoMemory>
-    requires waiting { bss.old.waiting ≡ [] }
-    requires air { air.old.items ≡ (alone bss.old.setting bss.old.history).air }
-    ensures setting { bss.new.setting ≡ bss.old.setting }
-    ensures history { OnOk result (bss.new.history ≡ bss.old.history ++ taken_of bss.old.setting.network (length bss.old.history) line.now) }
-    ensures waiting { OnOk result (bss.new.waiting ≡ []) }
-    ensures air { OnOk result (air.new.items ≡ (alone bss.new.setting bss.new.history).air) }
+/// Hands the frames that wait at a place to the air queue, one at a time, and lets each leave.
+fn drain(radio: &mut Radio, left: &mut Left, place: usize) -> Result<(), NoMemory>
+    requires sound { fault_of radio.old.config ≡ None }
+    requires there { place < length radio.old.config.networks }
+    requires whole { length left.old ≡ length radio.old.config.networks }
+    requires queue { radio.old.queue ≡ [] }
+    ensures radio { OnOk result (radio.new ≡ emptied place radio.old) }
+    ensures left { OnOk result (left.new ≡ leaves left.old place (view_at radio.old place).waiting) }
 {
-    let Line::Air(frame) = line;
-    take_frame(alloc, bss, air, frame.as_slice())
+    while send_first(radio, left, place)? {}
+    Ok(())
 }
 
-/// The section of a network that takes what it hears of the lines.
-fn section(
-    alloc: Global,
-    channel: u8,
-    interval: u16,
-    config: NetConfig,
-    lines: &[Line],
-) -> Result<Section, NoMemory>
-    requires setting { setting_fault channel interval ≡ None }
-    requires network { network_fault config ≡ None }
-    ensures { IfOk result (λ section. section ≡ section_of (setting_of channel interval config) (own_events config lines.now)) }
+/// Lets the first frame that waits at a place leave through the air queue, which is empty. Answers whether there was
+/// one.
+fn send_first(radio: &mut Radio, left: &mut Left, place: usize) -> Result<bool, NoMemory>
+    requires sound { fault_of radio.old.config ≡ None }
+    requires there { place < length radio.old.config.networks }
+    requires whole { length left.old ≡ length radio.old.config.networks }
+    requires queue { radio.old.queue ≡ [] }
+    ensures { IfOk result (λ sent. SendsFirst sent place radio.old left.old radio.new left.new) }
 {
-    let mut bss = Bss::new(alloc, channel, interval, config)?;
-    let mut air = Vec::new(alloc);
-    for line in lines {
-        take_line(alloc, &mut bss, &mut air, line)?;
+    if radio.hand(place) != Handed::Moved {
+        return Ok(false);
     }
-    bss.into_section(List::from_vec(air))
+    if let Some(item) = radio.leave() {
+        left.push(item)?;
+    }
+    Ok(true)
 }
 
-/// The section of each network, in order of place: each takes what it hears of the lines.
-fn replay(alloc: Global, config: RadioConfig, lines: &[Line]) -> Result<Vec<Section>, NoMemory>
-    requires { fault_of config ≡ None }
-    ensures { IfOk result (λ sections. sections.items ≡ sections_of config lines.now) }
+/// The section of each network, in order of place, with the frames that left.
+fn sections(alloc: Global, radio: Radio, left: Left) -> Result<Vec<Section>, NoMemory>
+    requires { IsDrained radio left }
+    ensures { IfOk result (λ sections. sections.items ≡ sections_at radio) }
 {
-    checked_networks();
-    let RadioConfig {
-        channel,
-        interval,
-        queue: _,
-        networks,
-    } = config;
+    let (networks, _) = radio.into_parts();
     let mut sections = Vec::new(alloc);
-    for network in networks.into_vec() {
-        sections.push(section(alloc, channel, interval, network, lines)?)?;
+    for (network, air) in networks.into_vec().into_iter().zip(left.into_vec()) {
+        sections.push(network.into_section(List::from_vec(air))?)?;
     }
     Ok(sections)
 }

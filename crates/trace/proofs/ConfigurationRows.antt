@@ -78,9 +78,18 @@ channel_15_is_too_high : configuration_of (radio_text (codes "1") (codes "15") +
 unfolding configuration_on_literals
 channel_15_is_too_high = refl
 
-two_networks_are_too_many : configuration_of (sound_radio ++ entry ++ sound_keys ++ entry ++ sound_keys) ≡ Err (of_radio 7)
+-- their keys are not looked at either, but that each is listed
+nine_networks_are_too_many : configuration_of (sound_radio ++ codes "network = [{}, {}, {}, {}, {}, {}, {}, {}, {}]\n") ≡ Err (of_radio 7)
 unfolding configuration_on_literals
-two_networks_are_too_many = refl
+nine_networks_are_too_many = refl
+
+eight_networks_are_as_many_as_there_may_be : configuration_of (sound_radio ++ codes "network = [{}, {}, {}, {}, {}, {}, {}, {}]\n") ≡ Err (of_network 8 0)
+unfolding configuration_on_literals
+eight_networks_are_as_many_as_there_may_be = refl
+
+address_of_an_earlier_network_is_refused : configuration_of (sound_radio ++ entry ++ sound_keys ++ entry ++ sound_keys) ≡ Err (of_network 8 1)
+unfolding configuration_on_literals
+address_of_an_earlier_network_is_refused = refl
 
 -- its keys are not looked at
 single_table_is_no_array : configuration_of (sound_radio ++ codes "[network]\ncolour = 1\n") ≡ Err (of_radio 7)

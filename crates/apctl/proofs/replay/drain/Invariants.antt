@@ -1,12 +1,10 @@
-use Rattle.std.proofs.Common.{◌≡◌, ◌++◌, length}
+use Rattle.std.proofs.Common.{length}
+use Rattle.bss_core.specs.RadioView.{view_at}
+use Rattle.apctl.proofs.DrainSteps.{Drains}
 use Rattle.apctl.proofs.replay.drain.Given as goal
 
-abbrev pub invariant-loop-frame : goal.invariant-loop-frame
-invariant-loop-frame l = record {
-  moved : l.air.items ++ l.bss.waiting ≡ l.initial.air.items ++ l.initial.bss.waiting;
-  setting : l.bss.setting ≡ l.initial.bss.setting;
-  history : l.bss.history ≡ l.initial.bss.history;
-}
+abbrev pub invariant-loop : goal.invariant-loop
+invariant-loop l = Drains l.place l.initial.radio l.initial.left l.radio l.left
 
-abbrev pub decreases-loop-frame : goal.decreases-loop-frame
-decreases-loop-frame l = length l.bss.waiting
+abbrev pub decreases-loop : goal.decreases-loop
+decreases-loop l = length (view_at l.radio l.place).waiting

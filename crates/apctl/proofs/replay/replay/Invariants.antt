@@ -1,16 +1,15 @@
-use Rattle.std.proofs.Common.{◌≡◌, ◌++◌, None, map}
-use Rattle.std.specs.List.{AllByRecursion}
+use Rattle.std.proofs.Common.{◌≡◌, ◌++◌, ℕ, ◌<◌, length}
 use Rattle.std.specs.Vec.Iter.{into_iter_items}
-use Rattle.bss_core.specs.Configuration.{setting_fault, network_fault}
-use Rattle.bss_core.specs.Section.{section_of}
+use Rattle.bss_core.specs.Radio.{network_at}
+use Rattle.bss_core.specs.RadioView.{view_at}
 use Rattle.workers.specs.Lines.{own_events}
-use Rattle.apctl.specs.Replay.{setting_of}
+use Rattle.apctl.specs.Replay.{IsDrained}
 use Rattle.apctl.proofs.replay.replay.Given as goal
 
-abbrev pub invariant-loop-network : goal.invariant-loop-network
-invariant-loop-network l = record {
-  setting : setting_fault l.channel l.interval ≡ None;
-  sound : AllByRecursion (λ n. network_fault n ≡ None) (into_iter_items l.network-iterator);
-  made : l.sections.items ++ map (λ n. section_of (setting_of l.channel l.interval n) (own_events n l.lines)) (into_iter_items l.network-iterator)
-      ≡ map (λ n. section_of (setting_of l.channel l.interval n) (own_events n l.lines)) l.fn.config.networks;
+abbrev pub invariant-loop-line : goal.invariant-loop-line
+invariant-loop-line l = record {
+  drained : IsDrained l.radio l.left;
+  config : l.radio.config ≡ l.fn.config;
+  history : (place : ℕ) → place < length l.fn.config.networks → (view_at l.radio place).history ≡ own_events place (network_at l.fn.config place) l.yielded;
+  all : l.yielded ++ into_iter_items l.line-iterator ≡ l.fn.lines.items;
 }

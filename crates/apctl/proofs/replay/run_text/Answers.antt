@@ -1,4 +1,4 @@
-use Rattle.std.proofs.Common.{◌≡◌, ap, ◌∙◌}
+use Rattle.std.proofs.Common.{◌≡◌, ◌∙◌}
 use Rattle.std.proofs.lemmas.Result.{err_from_is_err_and}
 use Rattle.apctl.specs.Replay.{sections_of}
 use Rattle.apctl.proofs.AnswerLemmas.{config_ends, trace_ends, answer_of-sections, report_ends}
@@ -17,12 +17,12 @@ returns-in_err-lines-clause-ends g c =
 pub returns-in_err-write_report-clause-ends : goal.returns-in_err-write_report-clause-ends
 returns-in_err-write_report-clause-ends g c =
     let p = err_from_is_err_and c.from_residual-in_err-write_report.result c.from_residual-in_err-write_report.ensures.1 in
-    let same : c.as_slice-2.result.now ≡ sections_of c.in_ok-config.config c.in_ok-lines.lines.items = c.as_slice-2.ensures.value ∙ c.in_ok-sections.ensures ∙ ap (sections_of c.in_ok-config.config) c.as_slice.ensures.value in
-    let read = answer_of-sections c.in_ok-config.config c.in_ok-lines.lines.items c.as_slice-2.result.now c.args.config.now c.args.trace.now c.in_ok-config.ensures.exact c.in_ok-lines.ensures.exact same in
+    let same : c.as_slice.result.now ≡ sections_of c.in_ok-config.config c.in_ok-lines.lines.items = c.as_slice.ensures.value ∙ c.in_ok-sections.ensures in
+    let read = answer_of-sections c.in_ok-config.config c.in_ok-lines.lines.items c.as_slice.result.now c.args.config.now c.args.trace.now c.in_ok-config.ensures.exact c.in_ok-lines.ensures.exact same in
     rw (p.1, p.2) (report_ends c.in_err-write_report.field-0.0 _ c.args.config.now c.args.trace.now _ _ read c.in_err-write_report.ensures.prefix)
 
 pub returns-clause-ends : goal.returns-clause-ends
 returns-clause-ends g c =
-    let same : c.as_slice-2.result.now ≡ sections_of c.in_ok-config.config c.in_ok-lines.lines.items = c.as_slice-2.ensures.value ∙ c.in_ok-sections.ensures ∙ ap (sections_of c.in_ok-config.config) c.as_slice.ensures.value in
-    let read = answer_of-sections c.in_ok-config.config c.in_ok-lines.lines.items c.as_slice-2.result.now c.args.config.now c.args.trace.now c.in_ok-config.ensures.exact c.in_ok-lines.ensures.exact same in
+    let same : c.as_slice.result.now ≡ sections_of c.in_ok-config.config c.in_ok-lines.lines.items = c.as_slice.ensures.value ∙ c.in_ok-sections.ensures in
+    let read = answer_of-sections c.in_ok-config.config c.in_ok-lines.lines.items c.as_slice.result.now c.args.config.now c.args.trace.now c.in_ok-config.ensures.exact c.in_ok-lines.ensures.exact same in
     (_, read, c.in_ok-write_report.ensures.ok)
