@@ -132,6 +132,7 @@ impl Radio {
         ensures number { IfOk result (λ number. number ≡ length (view_at self.old place).history) }
         ensures room { OnOk result (length (view_at self.old place).history < (network_at self.old.config place).max_events) }
         ensures after { OnOk result (self.new ≡ took place event self.old) }
+        ensures config { self.new.config ≡ self.old.config }
         ensures full { (result ≡ Err Refusal.HistoryFull) ↔ (length (view_at self.old place).history ≡ (network_at self.old.config place).max_events) }
         ensures err { OnErr result (self.new ≡ self.old) }
     {
@@ -146,6 +147,7 @@ impl Radio {
         ensures nothing { (result ≡ Handed.Nothing) ↔ ((view_at self.old place).waiting ≡ []) }
         ensures full { (result ≡ Handed.QueueFull) ↔ (((view_at self.old place).waiting ≢ []) × (length self.old.queue ≡ self.old.config.queue)) }
         ensures after { self.new ≡ after_hand place result self.old }
+        ensures config { self.new.config ≡ self.old.config }
     {
         let network = &mut self.networks[place];
         if network.waiting_len() == 0 {

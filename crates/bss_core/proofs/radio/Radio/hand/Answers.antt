@@ -8,7 +8,7 @@ use Rattle.bss_core.specs.State.{State, network_of}
 use Rattle.bss_core.specs.declared.step.AirItem.{AirItem}
 use Rattle.bss_core.proofs.RadioFrames.{items_of-other}
 use Rattle.bss_core.proofs.RadioChanges.{moved-shown}
-use Rattle.bss_core.proofs.RadioStands.{stands-network, settings-changed, last-at, handed-last}
+use Rattle.bss_core.proofs.RadioStands.{radio-changed, stands-network, settings-changed, last-at, handed-last}
 use Rattle.bss_core.proofs.radio.Radio.hand.Goals as goal
 
 pub invariant_of-self-in-Some : goal.invariant_of-self-in-Some
@@ -42,3 +42,15 @@ returns-in-Some-clause-after c =
     let now : RadioView = radio_of r.channel r.interval r.capacity (set states place new) c.push_back_reserved.new.self.items in
     subst (λ (v : RadioView). now ≡ moved place v (view_at v place).waiting) c.self.view_is
     (moved-shown r.channel r.interval r.capacity states r.queue.items c.push_back_reserved.new.self.items place c.in-Some.octets old new within c.index_mut-network.ensures.value c.in-Some.ensures.setting c.in-Some.ensures.history c.in-Some.ensures.first c.push_back_reserved.ensures.items)
+
+pub returns-in-Some-clause-config : goal.returns-in-Some-clause-config
+returns-in-Some-clause-config c =
+    let r = c.self.inside in
+    let place : ℕ = c.args.place in
+    let states : List State = r.networks.items in
+    let old : State = c.index_mut-network.result.now in
+    let new : State = c.take_front.new.self in
+    let within : place < length states = omega (arith, length-map states (λ (s : State). s.setting.network), ap (λ (v : RadioView). length v.config.networks) c.self.view_is, c.requires) in
+    let setting : new.setting ≡ (get_or states place old).setting = c.in-Some.ensures.setting ∙ ap (λ (s : State). s.setting) c.index_mut-network.ensures.value in
+    ap (λ (v : RadioView). v.config) (radio-changed r.channel r.interval r.capacity states r.queue.items c.push_back_reserved.new.self.items place old new within setting)
+    ∙ ap (λ (v : RadioView). v.config) c.self.view_is

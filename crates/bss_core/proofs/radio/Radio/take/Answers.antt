@@ -5,7 +5,7 @@ use Rattle.bss_core.specs.Radio.{items_of}
 use Rattle.bss_core.specs.RadioView.{RadioView, IsSuffix, radio_of, took}
 use Rattle.bss_core.specs.State.{State, network_of}
 use Rattle.bss_core.proofs.RadioChanges.{took-shown}
-use Rattle.bss_core.proofs.RadioStands.{stands-network, settings-changed, last-at, took-last}
+use Rattle.bss_core.proofs.RadioStands.{radio-changed, stands-network, settings-changed, last-at, took-last}
 use Rattle.bss_core.proofs.radio.Radio.take.Goals as goal
 
 pub invariant_of-self : goal.invariant_of-self
@@ -34,3 +34,15 @@ returns-clause-after c =
     let now : RadioView = radio_of r.channel r.interval r.capacity (set states place new) r.queue.items in
     subst (λ (v : RadioView). OnOk c.take.result (now ≡ took place c.args.event v)) c.self.view_is
     (took-shown r.channel r.interval r.capacity states r.queue.items place old new c.args.event c.take.result c.self.invariant.1 within c.index_mut.ensures.value c.take.ensures.setting c.take.ensures.history c.take.ensures.waiting)
+
+pub returns-clause-config : goal.returns-clause-config
+returns-clause-config c =
+    let r = c.self.inside in
+    let place : ℕ = c.args.place in
+    let states : List State = r.networks.items in
+    let old : State = c.index_mut.result.now in
+    let new : State = c.take.new.self in
+    let within : place < length states = omega (arith, length-map states (λ (s : State). s.setting.network), ap (λ (v : RadioView). length v.config.networks) c.self.view_is, c.requires) in
+    let setting : new.setting ≡ (get_or states place old).setting = c.take.ensures.setting ∙ ap (λ (s : State). s.setting) c.index_mut.ensures.value in
+    ap (λ (v : RadioView). v.config) (radio-changed r.channel r.interval r.capacity states r.queue.items r.queue.items place old new within setting)
+    ∙ ap (λ (v : RadioView). v.config) c.self.view_is
