@@ -8,6 +8,8 @@ use mac_frame::{List, MacAddr, NoMemory, Octets};
 use std::alloc::Global;
 use std::test::Fail;
 
+mod radio;
+
 const BSSID: [u8; 6] = [0x02, 0, 0, 0, 0, 0x01];
 
 /// The probe request of the station 02:aa:00:00:00:01 for any network.
