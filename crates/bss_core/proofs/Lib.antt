@@ -12,7 +12,7 @@ pub mod SentFrames
 pub mod RadioSteps
 pub mod RadioFrames
 pub mod RadioViews
-pub mod RadioStands
+pub mod RadioKeeps
 pub mod StepKinds
 pub mod RunSteps
 pub mod RunSections

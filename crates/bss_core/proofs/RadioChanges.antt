@@ -8,7 +8,7 @@ use Rattle.bss_core.specs.State.{State, sent_by}
 use Rattle.bss_core.specs.declared.bss.Refusal.{Refusal}
 use Rattle.bss_core.specs.declared.event.Event.{Event}
 use Rattle.bss_core.specs.declared.step.AirItem.{AirItem}
-use Rattle.bss_core.proofs.RadioStands.{setting-at, radio-changed}
+use Rattle.bss_core.proofs.RadioKeeps.{setting-at, radio-changed}
 
 -- the network at a place, as the radio shows it
 pub view-is : (channel interval capacity : ℕ) (states : List State) (items : List AirItem) (place : ℕ) (s : State) → place < length states → s ≡ get_or states place s → view_at (radio_of channel interval capacity states items) place ≡ shown s

@@ -5,7 +5,7 @@ use Rattle.std.proofs.lemmas.List.{length-take, length-drop, get_or-map, get_or-
 use Rattle.std.proofs.lemmas.Option.{slice_get_past, slice_get-get_or}
 use Rattle.bss_core.specs.Network.{alone}
 use Rattle.bss_core.specs.Radio.{network_at, setting_at, Place, untouched, RadioState, first_state, place_at, air_at, waiting_at, with_place, radio_step, after_steps, event_for}
-use Rattle.bss_core.specs.RadioView.{RadioView, NetworkView, unused, view_at, Stands, fresh_radio, took, moved, after_hand}
+use Rattle.bss_core.specs.RadioView.{RadioView, NetworkView, unused, view_at, IsSound, fresh_radio, took, moved, after_hand}
 use Rattle.bss_core.specs.Running.{IsAt}
 use Rattle.bss_core.specs.State.{sent_by}
 use Rattle.bss_core.specs.declared.config.RadioConfig.{RadioConfig}
@@ -72,8 +72,8 @@ record Shows (c : RadioConfig) (place : ℕ) (p : Place) (v : NetworkView) : Typ
 shows-at : (s : RadioState) (r : RadioView) (gone : List AirItem) (place : ℕ) → IsAt s r gone → place < length r.config.networks → Shows r.config place (place_at s place) (view_at r place)
 shows-at s r gone place h within = record { history = h.history place within; waiting = h.waiting place within }
 
-is_at-changed : (r : RadioView) (before : List Step) (gone : List AirItem) (step : Step) (place : ℕ) (p : Place) (v : NetworkView) (items : List AirItem) → Stands r → place < length r.config.networks → IsAt (after_steps r.config before) r gone → radio_step r.config (after_steps r.config before) step ≡ record (with_place (after_steps r.config before) place p) { queue = items } → Shows r.config place p v → IsAt (after_steps r.config (before ++ step ∷ [])) (record r { networks = set r.networks place v; queue = items }) gone
-is_at-changed r before gone step place p v items stands within h is shows = subst (λ (t : RadioState). IsAt t next gone) (sym (after_steps-push r.config before step ∙ is)) (record { left = h.left; queue = refl; history = λ q l. (each q l).history; waiting = λ q l. (each q l).waiting })
+is_at-changed : (r : RadioView) (before : List Step) (gone : List AirItem) (step : Step) (place : ℕ) (p : Place) (v : NetworkView) (items : List AirItem) → IsSound r → place < length r.config.networks → IsAt (after_steps r.config before) r gone → radio_step r.config (after_steps r.config before) step ≡ record (with_place (after_steps r.config before) place p) { queue = items } → Shows r.config place p v → IsAt (after_steps r.config (before ++ step ∷ [])) (record r { networks = set r.networks place v; queue = items }) gone
+is_at-changed r before gone step place p v items sound within h is shows = subst (λ (t : RadioState). IsAt t next gone) (sym (after_steps-push r.config before step ∙ is)) (record { left = h.left; queue = refl; history = λ q l. (each q l).history; waiting = λ q l. (each q l).waiting })
   where
     s : RadioState
     s = after_steps r.config before
@@ -83,7 +83,7 @@ is_at-changed r before gone step place p v items stands within h is shows = subs
 
     here : Shows r.config place p (view_at next place)
     here =
-        subst (Shows r.config place p) (sym (get_or-set_same r.networks place v unused (omega (arith, stands.whole)))) shows
+        subst (Shows r.config place p) (sym (get_or-set_same r.networks place v unused (omega (arith, sound.whole)))) shows
 
     each : (q : ℕ) → q < length r.config.networks → Shows r.config q (place_at (with_place s place p) q) (view_at next q)
     each =
@@ -97,8 +97,8 @@ history-le r before gone place h within =
     let part = ap length (h.history place within ∙ events-part r.config before place within) in
     omega (arith, length-take (network_at r.config place).max_events (filter_map (event_for place) before))
 
-pub is_at-took : (r : RadioView) (before : List Step) (gone : List AirItem) (place : ℕ) (event : Event) → Stands r → place < length r.config.networks → length (view_at r place).history ≢ (network_at r.config place).max_events → IsAt (after_steps r.config before) r gone → IsAt (after_steps r.config (before ++ Take place event ∷ [])) (took place event r) gone
-is_at-took r before gone place event stands within not_full h =
+pub is_at-took : (r : RadioView) (before : List Step) (gone : List AirItem) (place : ℕ) (event : Event) → IsSound r → place < length r.config.networks → length (view_at r place).history ≢ (network_at r.config place).max_events → IsAt (after_steps r.config before) r gone → IsAt (after_steps r.config (before ++ Take place event ∷ [])) (took place event r) gone
+is_at-took r before gone place event sound within not_full h =
     let c : RadioConfig = r.config in
     let s : RadioState = after_steps c before in
     let p : Place = place_at s place in
@@ -109,7 +109,7 @@ is_at-took r before gone place event stands within not_full h =
     let sent : List (List ℕ) = sent_by (setting_at c place) p.events event in
     let waits : (view_at r place).waiting ++ sent_by (setting_at c place) (view_at r place).history event ≡ drop p.handed (alone (setting_at c place) (p.events ++ event ∷ [])).air = ap (λ (es : List Event). (view_at r place).waiting ++ sent_by (setting_at c place) es event) shown.history ∙ ap (λ (fs : List (List ℕ)). fs ++ sent) shown.waiting ∙ sym (drop-append-le p.handed frames sent (handed-le c before place)) ∙ ap (drop p.handed) (sym (air-push (setting_at c place) p.events event)) in
     subst (λ (q : List AirItem). IsAt (after_steps c (before ++ Take place event ∷ [])) (record (took place event r) { queue = q }) gone) (sym h.queue)
-    (is_at-changed r before gone (Take place event) place _ _ s.queue stands within h (take-room c s place event within room) (record { history = ap (λ (es : List Event). es ++ event ∷ []) shown.history; waiting = waits }))
+    (is_at-changed r before gone (Take place event) place _ _ s.queue sound within h (take-room c s place event within room) (record { history = ap (λ (es : List Event). es ++ event ∷ []) shown.history; waiting = waits }))
 
 pub is_at-full : (r : RadioView) (before : List Step) (gone : List AirItem) (place : ℕ) (event : Event) → place < length r.config.networks → length (view_at r place).history ≡ (network_at r.config place).max_events → IsAt (after_steps r.config before) r gone → IsAt (after_steps r.config (before ++ Take place event ∷ [])) r gone
 is_at-full r before gone place event within full h =
@@ -136,34 +136,34 @@ hand_refused r before gone place octets rest within first full h =
     let next = frame-next (air_at r.config s place) (place_at s place).handed octets rest (sym (h.waiting place within) ∙ first) in
     is_at-same r before gone (Hand place) h (hand-full r.config s place octets within next.0 (omega (arith, full, ap length h.queue)))
 
-hand_moved : (r : RadioView) (before : List Step) (gone : List AirItem) (place : ℕ) (octets : List ℕ) (rest : List (List ℕ)) → Stands r → place < length r.config.networks → (view_at r place).waiting ≡ octets ∷ rest → length r.queue ≢ r.config.queue → IsAt (after_steps r.config before) r gone → IsAt (after_steps r.config (before ++ Hand place ∷ [])) (moved place r (octets ∷ rest)) gone
-hand_moved r before gone place octets rest stands within first not_full h =
+hand_moved : (r : RadioView) (before : List Step) (gone : List AirItem) (place : ℕ) (octets : List ℕ) (rest : List (List ℕ)) → IsSound r → place < length r.config.networks → (view_at r place).waiting ≡ octets ∷ rest → length r.queue ≢ r.config.queue → IsAt (after_steps r.config before) r gone → IsAt (after_steps r.config (before ++ Hand place ∷ [])) (moved place r (octets ∷ rest)) gone
+hand_moved r before gone place octets rest sound within first not_full h =
     let c : RadioConfig = r.config in
     let s : RadioState = after_steps c before in
     let shown = shows-at s r gone place h within in
     let next = frame-next (air_at c s place) (place_at s place).handed octets rest (sym shown.waiting ∙ first) in
-    let room : length s.queue < c.queue = omega (arith, stands.bounded, ap length h.queue) in
+    let room : length s.queue < c.queue = omega (arith, sound.bounded, ap length h.queue) in
     subst (λ (q : List AirItem). IsAt (after_steps c (before ++ Hand place ∷ [])) (record (moved place r (octets ∷ rest)) { queue = q ++ (record { place = place; octets = octets }) ∷ [] }) gone) (sym h.queue)
-    (is_at-changed r before gone (Hand place) place _ _ (s.queue ++ (record { place = place; octets = octets }) ∷ []) stands within h (hand-frame c s place octets within next.0 room) (record { history = shown.history; waiting = sym next.1 }))
+    (is_at-changed r before gone (Hand place) place _ _ (s.queue ++ (record { place = place; octets = octets }) ∷ []) sound within h (hand-frame c s place octets within next.0 room) (record { history = shown.history; waiting = sym next.1 }))
 
 -- whatever `hand` answers, as it says when it answers it
-is_at-handed_by : (r : RadioView) (before : List Step) (gone : List AirItem) (place : ℕ) (waiting : List (List ℕ)) (answer : Handed) → (view_at r place).waiting ≡ waiting → Stands r → place < length r.config.networks → (answer ≡ Nothing) ↔ ((view_at r place).waiting ≡ []) → (answer ≡ QueueFull) ↔ (((view_at r place).waiting ≢ []) × (length r.queue ≡ r.config.queue)) → IsAt (after_steps r.config before) r gone → IsAt (after_steps r.config (before ++ Hand place ∷ [])) (after_hand place answer r) gone
-is_at-handed_by r before gone place waiting Nothing is stands within nothing full h =
+is_at-handed_by : (r : RadioView) (before : List Step) (gone : List AirItem) (place : ℕ) (waiting : List (List ℕ)) (answer : Handed) → (view_at r place).waiting ≡ waiting → IsSound r → place < length r.config.networks → (answer ≡ Nothing) ↔ ((view_at r place).waiting ≡ []) → (answer ≡ QueueFull) ↔ (((view_at r place).waiting ≢ []) × (length r.queue ≡ r.config.queue)) → IsAt (after_steps r.config before) r gone → IsAt (after_steps r.config (before ++ Hand place ∷ [])) (after_hand place answer r) gone
+is_at-handed_by r before gone place waiting Nothing is sound within nothing full h =
     hand_empty r before gone place within (nothing.0 refl) h
-is_at-handed_by r before gone place [] QueueFull is stands within nothing full h = absurd ((full.0 refl).0 is)
-is_at-handed_by r before gone place (octets ∷ rest) QueueFull is stands within nothing full h =
+is_at-handed_by r before gone place [] QueueFull is sound within nothing full h = absurd ((full.0 refl).0 is)
+is_at-handed_by r before gone place (octets ∷ rest) QueueFull is sound within nothing full h =
     hand_refused r before gone place octets rest within is (full.0 refl).1 h
-is_at-handed_by r before gone place [] Moved is stands within nothing full h =
+is_at-handed_by r before gone place [] Moved is sound within nothing full h =
     let wrong : Moved ≡ Nothing = nothing.1 is in
     absurd cc
-is_at-handed_by r before gone place (octets ∷ rest) Moved is stands within nothing full h =
+is_at-handed_by r before gone place (octets ∷ rest) Moved is sound within nothing full h =
     let not_full : length r.queue ≢ r.config.queue = λ e. (let some : (view_at r place).waiting ≢ [] = λ none. (let same : octets ∷ rest ≡ [] = sym is ∙ none in cc) in let wrong : Moved ≡ QueueFull = full.1 (some, e) in cc) in
     subst (λ (w : List (List ℕ)). IsAt (after_steps r.config (before ++ Hand place ∷ [])) (moved place r w) gone) (sym is)
-    (hand_moved r before gone place octets rest stands within is not_full h)
+    (hand_moved r before gone place octets rest sound within is not_full h)
 
-pub is_at-handed : (r : RadioView) (before : List Step) (gone : List AirItem) (place : ℕ) (answer : Handed) → Stands r → place < length r.config.networks → (answer ≡ Nothing) ↔ ((view_at r place).waiting ≡ []) → (answer ≡ QueueFull) ↔ (((view_at r place).waiting ≢ []) × (length r.queue ≡ r.config.queue)) → IsAt (after_steps r.config before) r gone → IsAt (after_steps r.config (before ++ Hand place ∷ [])) (after_hand place answer r) gone
-is_at-handed r before gone place answer stands within nothing full h =
-    is_at-handed_by r before gone place (view_at r place).waiting answer refl stands within nothing full h
+pub is_at-handed : (r : RadioView) (before : List Step) (gone : List AirItem) (place : ℕ) (answer : Handed) → IsSound r → place < length r.config.networks → (answer ≡ Nothing) ↔ ((view_at r place).waiting ≡ []) → (answer ≡ QueueFull) ↔ (((view_at r place).waiting ≢ []) × (length r.queue ≡ r.config.queue)) → IsAt (after_steps r.config before) r gone → IsAt (after_steps r.config (before ++ Hand place ∷ [])) (after_hand place answer r) gone
+is_at-handed r before gone place answer sound within nothing full h =
+    is_at-handed_by r before gone place (view_at r place).waiting answer refl sound within nothing full h
 
 -- ---- a frame that leaves
 

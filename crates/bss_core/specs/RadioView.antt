@@ -69,8 +69,8 @@ opened channel interval n = record {
 abbrev pub IsSuffix : List (List ℕ) → List (List ℕ) → Type 0
 IsSuffix xs ys = (before : List (List ℕ)) × (before ++ xs ≡ ys)
 
-pub record Stands (r : RadioView) : Type 0 where
-  pub sound : fault_of r.config ≡ None
+pub record IsSound (r : RadioView) : Type 0 where
+  pub accepted : fault_of r.config ≡ None
   pub whole : length r.networks ≡ length r.config.networks
   pub bounded : length r.queue ≤ r.config.queue
   pub placed : All (λ item. item.place < length r.config.networks) r.queue

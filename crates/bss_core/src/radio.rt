@@ -4,7 +4,7 @@ ghost use Rattle.std.specs.Prelude.{◌≡◌, ◌≢◌, ◌↔◌, ◌++◌, �
 ghost use Rattle.std.specs.List.{AllByRecursion};
 ghost use Rattle.bss_core.specs.Configuration.{setting_fault, network_fault, fault_of};
 ghost use Rattle.bss_core.specs.Radio.{network_at, setting_at};
-ghost use Rattle.bss_core.specs.RadioView.{Stands, view_at, opened, shown, settings_of, fresh_radio, took, after_hand};
+ghost use Rattle.bss_core.specs.RadioView.{IsSound, view_at, opened, shown, settings_of, fresh_radio, took, after_hand};
 ghost use Rattle.bss_core.specs.declared.config.ConfigFault.{ConfigFault};
 ghost use Rattle.bss_core.specs.declared.radio.OpenFault.TheVariants as faults;
 
@@ -63,14 +63,14 @@ pub struct Radio {
 impl Model for Radio {
     ghost use Rattle.std.specs.Prelude.{◌≡◌, ◌≤◌, map};
     ghost use Rattle.std.specs.VecDeque.{deque_capacity};
-    ghost use Rattle.bss_core.specs.RadioView.{RadioView, Stands, settings_of, config_of, radio_of};
+    ghost use Rattle.bss_core.specs.RadioView.{RadioView, IsSound, settings_of, config_of, radio_of};
 
     ghost Value = { RadioView };
 
     ghost view = { λ r. radio_of r.channel r.interval r.capacity r.networks.items r.queue.items };
 
     ghost invariant = { λ r.
-        Stands (radio_of r.channel r.interval r.capacity r.networks.items r.queue.items)
+        IsSound (radio_of r.channel r.interval r.capacity r.networks.items r.queue.items)
         × (map (λ s. s.setting) r.networks.items ≡ settings_of (config_of r.channel r.interval r.capacity r.networks.items))
         × (r.capacity ≤ deque_capacity r.queue) };
 }
@@ -107,7 +107,7 @@ impl Radio {
     /// How many networks it has. Their places are the numbers below.
     pub fn networks(&self) -> usize
         ensures count { result ≡ length self.now.config.networks }
-        ensures stands { Stands self.now }
+        ensures sound { IsSound self.now }
     {
         self.networks.len()
     }
@@ -118,7 +118,7 @@ impl Radio {
         ensures setting { result.now.setting ≡ setting_at self.now.config place }
         ensures history { result.now.history ≡ (view_at self.now place).history }
         ensures waiting { result.now.waiting ≡ (view_at self.now place).waiting }
-        ensures stands { Stands self.now }
+        ensures sound { IsSound self.now }
     {
         &self.networks[place]
     }

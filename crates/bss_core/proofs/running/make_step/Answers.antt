@@ -11,7 +11,7 @@ use Rattle.bss_core.proofs.running.make_step.Goals as goal
 pub returns-then-place-networks-clause-made : goal.returns-then-place-networks-clause-made
 returns-then-place-networks-clause-made c before h =
     let r : RadioView = c.args.radio.now in
-    let at = is_at-handed r before c.args.left.now.items c.in-Hand.place c.hand.result c.networks.ensures.stands (omega (arith, c.networks.ensures.count)) c.hand.ensures.nothing c.hand.ensures.full h in
+    let at = is_at-handed r before c.args.left.now.items c.in-Hand.place c.hand.result c.networks.ensures.sound (omega (arith, c.networks.ensures.count)) c.hand.ensures.nothing c.hand.ensures.full h in
     subst (λ (x : Step). IsAt (after_steps r.config (before ++ x ∷ [])) c.hand.new.self c.args.left.now.items) (sym c.in-Hand.is)
     (subst (λ (v : RadioView). IsAt (after_steps r.config (before ++ Hand c.in-Hand.place ∷ [])) v c.args.left.now.items) (sym c.hand.ensures.after) at)
 

@@ -1,9 +1,9 @@
 use Rattle.std.proofs.Common.{arith}
 use Rattle.bss_core.specs.RadioView.{radio_of}
-use Rattle.bss_core.proofs.RadioStands.{stands-left}
+use Rattle.bss_core.proofs.RadioKeeps.{sound-left}
 use Rattle.bss_core.proofs.radio.Radio.leave.Goals as goal
 
 pub invariant_of-self : goal.invariant_of-self
 invariant_of-self c =
     let r = c.self.inside in
-    (stands-left (radio_of r.channel r.interval r.capacity r.networks.items r.queue.items) c.pop_front.result c.pop_front.new.self.items c.pop_front.ensures.items c.self.invariant.0, c.self.invariant.1, omega (arith, c.self.invariant.2, c.pop_front.ensures.capacity))
+    (sound-left (radio_of r.channel r.interval r.capacity r.networks.items r.queue.items) c.pop_front.result c.pop_front.new.self.items c.pop_front.ensures.items c.self.invariant.0, c.self.invariant.1, omega (arith, c.self.invariant.2, c.pop_front.ensures.capacity))

@@ -5,7 +5,7 @@ use Rattle.bss_core.specs.Radio.{items_of}
 use Rattle.bss_core.specs.RadioView.{RadioView, IsSuffix, radio_of, took}
 use Rattle.bss_core.specs.State.{State, network_of}
 use Rattle.bss_core.proofs.RadioChanges.{took-shown}
-use Rattle.bss_core.proofs.RadioStands.{radio-changed, stands-network, settings-changed, last-at, took-last}
+use Rattle.bss_core.proofs.RadioKeeps.{radio-changed, sound-network, settings-changed, last-at, took-last}
 use Rattle.bss_core.proofs.radio.Radio.take.Goals as goal
 
 pub invariant_of-self : goal.invariant_of-self
@@ -21,7 +21,7 @@ invariant_of-self c =
     let setting : new.setting ≡ (get_or states place old).setting = c.take.ensures.setting ∙ ap (λ (s : State). s.setting) c.index_mut.ensures.value in
     let before = subst (λ (s : State). IsSuffix (queued ++ s.waiting) (network_of s).air) (sym c.index_mut.ensures.value) (last-at r.channel r.interval r.capacity states r.queue.items place old keeps.0 keeps.1 within) in
     let last = took-last c.take.result old new c.args.event queued c.take.ensures.waiting c.take.ensures.air c.take.ensures.err before in
-    (stands-network r.channel r.interval r.capacity states r.queue.items r.queue.items place old new keeps.0 keeps.1 within setting keeps.0.bounded (subst (λ n. All (λ item. item.place < n) r.queue.items) (length-map states (λ (s : State). s.setting.network)) keeps.0.placed) (λ q ne. refl) last, settings-changed r.channel r.interval r.capacity states place old new setting keeps.1, keeps.2)
+    (sound-network r.channel r.interval r.capacity states r.queue.items r.queue.items place old new keeps.0 keeps.1 within setting keeps.0.bounded (subst (λ n. All (λ item. item.place < n) r.queue.items) (length-map states (λ (s : State). s.setting.network)) keeps.0.placed) (λ q ne. refl) last, settings-changed r.channel r.interval r.capacity states place old new setting keeps.1, keeps.2)
 
 pub returns-clause-after : goal.returns-clause-after
 returns-clause-after c =

@@ -7,7 +7,7 @@ use Rattle.std.proofs.lemmas.List.Elements.{All-rest}
 use Rattle.std.proofs.Math.Seq.{map-set_same}
 use Rattle.bss_core.specs.Network.{Setting, alone}
 use Rattle.bss_core.specs.Radio.{no_network, setting_at, setting_in, items_of}
-use Rattle.bss_core.specs.RadioView.{RadioView, NetworkView, unused, view_at, settings_of, shown, config_of, radio_of, IsSuffix, Stands}
+use Rattle.bss_core.specs.RadioView.{RadioView, NetworkView, unused, view_at, settings_of, shown, config_of, radio_of, IsSuffix, IsSound}
 use Rattle.bss_core.specs.State.{State, network_of, sent_by}
 use Rattle.bss_core.specs.declared.bss.Refusal.{Refusal}
 use Rattle.bss_core.specs.declared.config.NetConfig.{NetConfig}
@@ -45,9 +45,9 @@ abbrev EndsFrames : RadioConfig → List AirItem → ℕ → NetworkView → Typ
 EndsFrames c items place v =
     IsSuffix (items_of place items ++ v.waiting) (alone (setting_at c place) v.history).air
 
-stands-changed : (r : RadioView) (place : ℕ) (v : NetworkView) (items : List AirItem) → Stands r → place < length r.config.networks → length items ≤ r.config.queue → All (λ item. item.place < length r.config.networks) items → ((other : ℕ) → (other ≡ place → ⊥) → items_of other items ≡ items_of other r.queue) → EndsFrames r.config items place v → Stands (changed r place v items)
-stands-changed r place v items h within bounded placed others last = record {
-  sound = h.sound;
+sound-changed : (r : RadioView) (place : ℕ) (v : NetworkView) (items : List AirItem) → IsSound r → place < length r.config.networks → length items ≤ r.config.queue → All (λ item. item.place < length r.config.networks) items → ((other : ℕ) → (other ≡ place → ⊥) → items_of other items ≡ items_of other r.queue) → EndsFrames r.config items place v → IsSound (changed r place v items)
+sound-changed r place v items h within bounded placed others last = record {
+  accepted = h.accepted;
   whole = length-set r.networks place v ∙ h.whole;
   bounded = bounded;
   placed = placed;
@@ -77,7 +77,7 @@ settings-changed channel interval capacity states place d new same all =
     ∙ ap (λ (ns : List NetConfig). settings_of (record (config_of channel interval capacity states) { networks = ns })) (sym (map-set_same (λ (s : State). s.setting.network) states place new d (ap (λ (s : Setting). s.network) same)))
 
 -- what is queued and then waits of a network, by the network itself
-pub last-at : (channel interval capacity : ℕ) (states : List State) (items : List AirItem) (place : ℕ) (d : State) → Stands (radio_of channel interval capacity states items) → map (λ (s : State). s.setting) states ≡ settings_of (config_of channel interval capacity states) → place < length states → IsSuffix (items_of place items ++ (get_or states place d).waiting) (network_of (get_or states place d)).air
+pub last-at : (channel interval capacity : ℕ) (states : List State) (items : List AirItem) (place : ℕ) (d : State) → IsSound (radio_of channel interval capacity states items) → map (λ (s : State). s.setting) states ≡ settings_of (config_of channel interval capacity states) → place < length states → IsSuffix (items_of place items ++ (get_or states place d).waiting) (network_of (get_or states place d)).air
 last-at channel interval capacity states items place d h same within =
     let c : RadioConfig = config_of channel interval capacity states in
     let view : view_at (radio_of channel interval capacity states items) place ≡ shown (get_or states place d) = get_or-map shown states place d unused within in
@@ -86,14 +86,14 @@ last-at channel interval capacity states items place d h same within =
     subst (λ (t : Setting). IsSuffix (items_of place items ++ (get_or states place d).waiting) (alone t (get_or states place d).history).air) (sym setting)
     (subst (λ (v : NetworkView). IsSuffix (items_of place items ++ v.waiting) (alone (setting_at c place) v.history).air) view given)
 
-pub stands-network : (channel interval capacity : ℕ) (states : List State) (items more : List AirItem) (place : ℕ) (d new : State) → Stands (radio_of channel interval capacity states items) → map (λ (s : State). s.setting) states ≡ settings_of (config_of channel interval capacity states) → place < length states → new.setting ≡ (get_or states place d).setting → length more ≤ capacity → All (λ item. item.place < length states) more → ((other : ℕ) → (other ≡ place → ⊥) → items_of other more ≡ items_of other items) → IsSuffix (items_of place more ++ new.waiting) (network_of new).air → Stands (radio_of channel interval capacity (set states place new) more)
-stands-network channel interval capacity states items more place d new h same within setting bounded placed others last =
+pub sound-network : (channel interval capacity : ℕ) (states : List State) (items more : List AirItem) (place : ℕ) (d new : State) → IsSound (radio_of channel interval capacity states items) → map (λ (s : State). s.setting) states ≡ settings_of (config_of channel interval capacity states) → place < length states → new.setting ≡ (get_or states place d).setting → length more ≤ capacity → All (λ item. item.place < length states) more → ((other : ℕ) → (other ≡ place → ⊥) → items_of other more ≡ items_of other items) → IsSuffix (items_of place more ++ new.waiting) (network_of new).air → IsSound (radio_of channel interval capacity (set states place new) more)
+sound-network channel interval capacity states items more place d new h same within setting bounded placed others last =
     let r : RadioView = radio_of channel interval capacity states items in
     let count = length-map states (λ (s : State). s.setting.network) in
     let at = setting ∙ setting-at channel interval capacity states place d same within in
     let ends = subst (λ (t : Setting). IsSuffix (items_of place more ++ new.waiting) (alone t new.history).air) at last in
-    subst Stands (sym (radio-changed channel interval capacity states items more place d new within setting))
-    (stands-changed r place (shown new) more h (omega (arith, count)) bounded (subst (λ n. All (λ (item : AirItem). item.place < n) more) (sym count) placed) others ends)
+    subst IsSound (sym (radio-changed channel interval capacity states items more place d new within setting))
+    (sound-changed r place (shown new) more h (omega (arith, count)) bounded (subst (λ n. All (λ (item : AirItem). item.place < n) more) (sym count) placed) others ends)
 
 -- ---- a network takes an event
 
@@ -120,10 +120,10 @@ handed-last old new place items octets front setting history h =
 
 -- ---- a frame leaves
 
-pub stands-left : (r : RadioView) (o : Option AirItem) (rest : List AirItem) → r.queue ≡ option_to_list o ++ rest → Stands r → Stands (record r { queue = rest })
-stands-left r None rest is h = subst (λ (q : List AirItem). Stands (record r { queue = q })) is h
-stands-left r (Some item) rest is h = record {
-  sound = h.sound;
+pub sound-left : (r : RadioView) (o : Option AirItem) (rest : List AirItem) → r.queue ≡ option_to_list o ++ rest → IsSound r → IsSound (record r { queue = rest })
+sound-left r None rest is h = subst (λ (q : List AirItem). IsSound (record r { queue = q })) is h
+sound-left r (Some item) rest is h = record {
+  accepted = h.accepted;
   whole = h.whole;
   bounded = omega (arith, h.bounded, ap length is);
   placed = All-rest (λ (i : AirItem). i.place < length r.config.networks) item rest r.queue is h.placed;
