@@ -1,7 +1,7 @@
 -- What a network announces of itself in a probe response (IEEE Std 802.11-2016, 9.3.3.11), octet by octet.
 use Rattle.std.specs.Prelude.{ℕ, ◌*◌, List, [], ◌∷◌, ◌++◌}
 use Rattle.std.specs.Int.{w16, w64, to_le_bytes}
-use Rattle.mac_frame.specs.Header.{management_header, probe_response_subtype}
+use Rattle.mac_frame.specs.Management.{probe_response_subtype, management_header, capability}
 use Rattle.elements.specs.Elements.{element, ssid_id, dsss_parameter_set_id}
 use Rattle.elements.specs.Rates.{supported_rates, extended_rates}
 use Rattle.beacon.specs.declared.advert.Advert.{Advert}
@@ -21,10 +21,6 @@ announced a = record { bss = a.bss; ssid = a.ssid.now; rates = a.rates.now; chan
 -- Timestamp (9.4.1.10), in microseconds: the clock counts beacon intervals of so many time units of 1024 (profile)
 unfoldable pub timestamp : ℕ → ℕ → List ℕ
 timestamp clock interval = to_le_bytes w64 (clock * interval * 1024)
-
--- Capability Information (9.4.1.4): ESS alone
-abbrev pub capability : List ℕ
-capability = to_le_bytes w16 1
 
 -- DSSS Parameter Set (9.4.2.4): the channel
 abbrev pub channel_element : ℕ → List ℕ

@@ -7,15 +7,12 @@ use crate::advert::Advert;
 use elements::{
     DSSS_PARAMETER_SET, SSID, write_element, write_extended_rates, write_supported_rates,
 };
-use mac_frame::{HEADER_LEN, MacAddr, NoMemory, Octets, PROBE_RESPONSE, write_mgmt};
-
-/// Capability Information: ESS alone (9.4.1.4).
-const CAPABILITY: u16 = 1;
+use mac_frame::{CAPABILITY, HEADER_LEN, MacAddr, NoMemory, Octets, PROBE_RESPONSE, write_mgmt};
 
 /// The microseconds of a time unit (3.1).
 const TIME_UNIT: u64 = 1024;
 
-/// The octets of a probe response beside the SSID and the rates: the header, fixed fields of 12, the DSSS Parameter
+/// The octets of a probe response without the SSID and the rates: the header, fixed fields of 12, the DSSS Parameter
 /// Set of 3, and the first two octets of three elements (9.3.3.11).
 const FIXED_LEN: usize = HEADER_LEN + 12 + 3 + 3 * 2;
 
@@ -39,7 +36,7 @@ pub fn write_probe_response(
     out.roll_back(len, written)
 }
 
-/// Appends the body, field by field. After `NoMemory` some fields may stand behind what was there.
+/// Appends the body, field by field. After `NoMemory` some fields may follow what was there.
 fn append_body(out: &mut Octets, advert: &Advert<'_>) -> Result<(), NoMemory>
     requires ssid { length advert.now.ssid.now ≤ 32 }
     requires few_rates { length advert.now.rates.now ≤ 16 }

@@ -18,7 +18,7 @@ elements_within-enough (suc m) (suc n) (id ∷ len ∷ rest) p q =
     ap (λ others. cond (leb len (length rest)) (before (id, take len rest) others) None)
     (elements_within-enough m n (drop len rest) (omega (arith, length-drop len rest)) (omega (arith, length-drop len rest)))
 
--- the first element is read, and the walk goes on behind it
+-- the first element is read, and the walk goes on after it
 pub elements_of-cons : (id len : ℕ) (rest : List ℕ) → elements_of (id ∷ len ∷ rest) ≡ cond (leb len (length rest)) (before (id, take len rest) (elements_of (drop len rest))) None
 unfolding elements_of elements_within
 elements_of-cons id len rest =
@@ -45,18 +45,18 @@ elements_of-spelled (e ∷ es) =
     elements_of-fits e.0 (length e.1) (e.1 ++ others) here
     ∙ rw (take_at e.1 others (length e.1) refl, drop_at e.1 others (length e.1) refl, elements_of-spelled es) refl
 
--- what stands behind an element in front of others
+-- what comes after an element that is before others
 pub before_is : (e : Pair) (o : Option (List Pair)) (es : List Pair) → before e o ≡ Some es → (others : List Pair) × (o ≡ Some others) × (e ∷ others ≡ es)
 before_is e None es h = absurd (none-some es h)
 before_is e (Some others) es h = (others, refl, same_Some (e ∷ others) es h)
 
--- an element in front of a concatenation of elements
+-- an element before a concatenation of elements
 pub IsElements-cons : (id len : ℕ) (rest : List ℕ) (others : List Pair) → len < 256 → len ≤ length rest → IsElements (drop len rest) others → IsElements (id ∷ len ∷ rest) ((id, take len rest) ∷ others)
-IsElements-cons id len rest others octet fits behind =
+IsElements-cons id len rest others octet fits after =
     let same : length (take len rest) ≡ len = omega (arith, length-take len rest) in
     record {
-      whole = rw (same, ← behind.whole, take-append-drop len rest) refl;
-      short = (omega arith, behind.short);
+      whole = rw (same, ← after.whole, take-append-drop len rest) refl;
+      short = (omega arith, after.short);
     }
 
 -- a test that gave something was true
@@ -112,7 +112,7 @@ elements_of_overrun (id ∷ len ∷ rest) two passes =
     let some : eqb (length (id ∷ len ∷ rest)) 0 ≡ false = search (arith, tests) in
     elements_of-overrun id len rest (omega arith) ∙ rw some refl
 
--- any others are, and the walk goes on behind it
+-- any others are, and the walk goes on after it
 pub elements_of_split : (body : List ℕ) → get_or body 1 0 + 2 ≤ length body → elements_of body ≡ before (get_or body 0 0, take (get_or body 1 0) (take (length body - 2) (drop 2 body))) (elements_of (drop (get_or body 1 0) (take (length body - 2) (drop 2 body))))
 elements_of_split [] fits = absurd (omega arith)
 elements_of_split (id ∷ []) fits = absurd (omega arith)

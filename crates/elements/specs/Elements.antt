@@ -51,7 +51,7 @@ first_of id (e ∷ es) = if e.0 == id then Some e.1 else first_of id es
 
 -- ---- as a function
 
--- an element in front of others, if there are others
+-- an element before others, if there are others
 abbrev pub before : Pair → Option (List Pair) → Option (List Pair)
 before e es = option_map (λ others. e ∷ others) es
 

@@ -6,7 +6,7 @@ ghost use Rattle.elements.specs.Rates.{supported_rates, extended_rates, rates_of
 use crate::element::{EXTENDED_SUPPORTED_RATES, SUPPORTED_RATES, write_element};
 use mac_frame::{NoMemory, Octets};
 
-/// How many rates stand in Supported Rates; those behind them stand in Extended Supported Rates (9.4.2.3).
+/// How many rates stand in Supported Rates; those after them stand in Extended Supported Rates (9.4.2.3).
 const MAX_SUPPORTED_RATES: usize = 8;
 
 /// Appends the first eight rates in Supported Rates (9.4.2.3). After `NoMemory` `out` is as it was.

@@ -1,6 +1,9 @@
 -- Headers on which the definitions are computed.
 use Rattle.std.proofs.Common.{◌≡◌, ℕ, List, [], ◌∷◌, take, refl}
-use Rattle.mac_frame.specs.Header.{sequence_control, management_header}
+use Rattle.mac_frame.specs.Header.{sequence_control}
+use Rattle.std.specs.Int.{w16, to_le_bytes}
+use Rattle.mac_frame.specs.Management.{probe_request_subtype, probe_response_subtype, management_header, capability}
+use Rattle.mac_frame.specs.declared.management.TheConstants.{CAPABILITY, PROBE_REQUEST, PROBE_RESPONSE}
 use Rattle.mac_frame.proofs.Samples.{network, station}
 
 abbrev probe_response : List ℕ
@@ -22,3 +25,17 @@ the_last_number_is_4095 = refl
 
 pub the_greatest_subtype_leaves_type_and_version_0 : take 2 (management_header 15 station network 4095) ≡ 0xf0 ∷ 0 ∷ []
 the_greatest_subtype_leaves_type_and_version_0 = refl
+
+pub ess_alone_is_the_lowest_bit : capability ≡ 0x01 ∷ 0x00 ∷ []
+ess_alone_is_the_lowest_bit = refl
+
+-- ---- the constants of the code
+
+pub the_written_capability_is_ess_alone : to_le_bytes w16 CAPABILITY ≡ capability
+the_written_capability_is_ess_alone = refl
+
+pub the_probe_request_is_the_standards : PROBE_REQUEST ≡ probe_request_subtype
+the_probe_request_is_the_standards = refl
+
+pub the_probe_response_is_the_standards : PROBE_RESPONSE ≡ probe_response_subtype
+the_probe_response_is_the_standards = refl

@@ -1,7 +1,12 @@
 pub mod Cells
 pub mod Addresses
+pub mod FrameControls
+pub mod Headers
+pub mod Written
+pub mod ManagementFrames
 pub mod Frames
 pub mod Samples
-pub mod FrameRows
 pub mod AddressRows
+pub mod FrameControlRows
 pub mod HeaderRows
+pub mod FrameRows

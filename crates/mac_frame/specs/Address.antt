@@ -1,5 +1,5 @@
 -- Addresses (IEEE Std 802.11-2016, 9.2.4.3): six octets, as a list.
-use Rattle.std.specs.Prelude.{ℕ, ◌+◌, ◌*◌, ◌/◌, ◌%◌, ◌<◌, ◌≡◌, Bool, false, ◌==◌, ◌&&◌, ◌||◌, List, [], ◌∷◌, length, map, slice_index, Option, Some, None, option_map, option_and_then, if◌then◌else◌}
+use Rattle.std.specs.Prelude.{ℕ, ◌+◌, ◌*◌, ◌/◌, ◌%◌, ◌<◌, ◌≡◌, Bool, false, not, ◌==◌, ◌&&◌, ◌||◌, List, [], ◌∷◌, length, map, slice_index, Option, Some, None, option_map, option_and_then, if◌then◌else◌}
 use Rattle.std.specs.List.{join_with_byte}
 use Rattle.std.specs.Str.{bytes_eq}
 use Rattle.std.specs.Fmt.{digit_glyph}
@@ -21,6 +21,10 @@ is_group address = slice_index address 0 % 2 == 1
 -- the address is the network's or the broadcast one
 abbrev pub is_bss_or_broadcast : List ℕ → List ℕ → Bool
 is_bss_or_broadcast bss address = bytes_eq address bss || bytes_eq address broadcast
+
+-- the address may be that of a station of the network: neither a group address nor the network's own
+abbrev pub is_station : List ℕ → List ℕ → Bool
+is_station bss address = not (is_group address || bytes_eq address bss)
 
 -- an octet as two hexadecimal digits in lower case
 abbrev pub octet_text : ℕ → List ℕ

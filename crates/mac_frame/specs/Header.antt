@@ -1,38 +1,58 @@
--- Headers (IEEE Std 802.11-2016, 9.2.3): the fields of one that is heard, and the octets of one that is sent.
-use Rattle.std.specs.Prelude.{ℕ, ◌+◌, ◌*◌, ◌/◌, ◌%◌, ◌^◌, Bool, ◌==◌, List, [], ◌∷◌, ◌++◌, take, drop}
-use Rattle.std.specs.Int.{w16, to_le_bytes}
-use Rattle.mac_frame.specs.declared.header.FrameControl.{FrameControl}
+-- Headers of 24 octets (IEEE Std 802.11-2016, 9.2.3, 9.3.2.1 and 9.3.3.2): what all frames that have one share, and the
+-- octets of one that is sent.
+use Rattle.std.specs.Prelude.{ℕ, ◌*◌, ◌≤◌, ◌≡◌, ◌≢◌, Bool, false, not, nat_lt, ◌==◌, ◌||◌, List, [], ◌∷◌, ◌++◌, length, take, drop, Result, Ok, Err, if◌then◌else◌}
+use Rattle.std.specs.Int.{w16, from_le_bytes, to_le_bytes}
+use Rattle.mac_frame.specs.Address.{is_group, is_station}
+use Rattle.mac_frame.specs.FrameControl.{bits, control_of, has_refused_flags, octets_of}
+use Rattle.mac_frame.specs.declared.frame_control.FrameControl.{FrameControl}
+use Rattle.mac_frame.specs.declared.frame.Unread.{Unread}
+use Rattle.mac_frame.specs.declared.frame.Unread.TheVariants.{Flags, Direction, Address, TooLong}
 
--- ---- subtypes of management frames (9.2.4.1.3)
+-- Sequence Control (9.2.4.4): the fragment number in the low four bits
+abbrev pub fragment_of : List ℕ → ℕ
+fragment_of sequence_control = bits (from_le_bytes w16 sequence_control) 0 4
 
-abbrev pub probe_request_subtype : ℕ
-probe_request_subtype = 4
+-- ---- heard, as a relation: the whole string, field by field
 
-abbrev pub probe_response_subtype : ℕ
-probe_response_subtype = 5
+-- the fields of a header in their order, and the body that follows them
+pub record Fields : Type 0 where
+  pub control : List ℕ
+  pub duration : List ℕ
+  pub address_1 : List ℕ
+  pub address_2 : List ℕ
+  pub address_3 : List ℕ
+  pub sequence_control : List ℕ
+  pub body : List ℕ
 
--- ---- heard
+abbrev pub spelled : Fields → List ℕ
+spelled f =
+    f.control ++ f.duration ++ f.address_1 ++ f.address_2 ++ f.address_3 ++ f.sequence_control ++ f.body
 
--- the bits from low on, as many as count, of an octet
-abbrev pub bits : ℕ → ℕ → ℕ → ℕ
-bits octet low count = octet / 2 ^ low % 2 ^ count
+-- The string is a whole frame in the clear that a station sends, with these fields. Of which kind it is, where it goes,
+-- and what Address 1 and Address 3 are, is left to each kind.
+pub record IsHeaded (bss x : List ℕ) (f : Fields) : Type 0 where
+  pub string : x ≡ spelled f
+  pub control : length f.control ≡ 2
+  pub duration : length f.duration ≡ 2
+  pub address_1 : length f.address_1 ≡ 6
+  pub address_2 : length f.address_2 ≡ 6
+  pub address_3 : length f.address_3 ≡ 6
+  pub sequence_control : length f.sequence_control ≡ 2
+  pub version : (control_of f.control).version ≡ 0
+  pub more_fragments : (control_of f.control).more_fragments ≡ false
+  pub protected : (control_of f.control).protected ≡ false
+  pub order : (control_of f.control).order ≡ false
+  pub first_fragment : fragment_of f.sequence_control ≡ 0
+  pub from_station : is_group f.address_2 ≡ false
+  pub from_another : f.address_2 ≢ bss
+  -- 9.2.4.7.1
+  pub body : length f.body ≤ 2304
 
--- a bit of an octet is 1
-abbrev pub has_bit : ℕ → ℕ → Bool
-has_bit octet n = bits octet n 1 == 1
+-- ---- heard, as tests, by the places of the octets
 
--- a Frame Control field, of its two octets (9.2.4.1)
-abbrev pub control_of : ℕ → ℕ → FrameControl
-control_of first second = record {
-  version = bits first 0 2;
-  kind = bits first 2 2;
-  subtype = bits first 4 4;
-  to_ds = has_bit second 0;
-  from_ds = has_bit second 1;
-  more_fragments = has_bit second 2;
-  protected = has_bit second 6;
-  order = has_bit second 7;
-}
+-- Frame Control
+abbrev pub control_at : List ℕ → FrameControl
+control_at x = control_of (take 2 x)
 
 -- the six octets from a place on
 abbrev pub address_at : List ℕ → ℕ → List ℕ
@@ -42,11 +62,32 @@ address_at x place = take 6 (drop place x)
 abbrev pub addressed_to : List ℕ → List ℕ
 addressed_to x = address_at x 4
 
--- ---- sent
+-- the fragment number, of Sequence Control
+abbrev pub fragment_at : List ℕ → ℕ
+fragment_at x = fragment_of (take 2 (drop 22 x))
 
--- Frame Control (9.2.4.1): version 0, the type and the subtype in the first octet, every bit of the second 0
-abbrev pub frame_control : ℕ → ℕ → List ℕ
-frame_control type subtype = (16 * subtype + 4 * type) ∷ 0 ∷ []
+-- a fragment, a protected frame, or one with an HT Control field
+abbrev pub is_refused : List ℕ → Bool
+is_refused x = has_refused_flags (control_at x) || not (fragment_at x == 0)
+
+-- Address 2 is that of a station
+abbrev pub is_from_station : List ℕ → List ℕ → Bool
+is_from_station bss x = is_station bss (address_at x 10)
+
+-- more octets after the header than a frame has
+abbrev pub is_too_long : List ℕ → Bool
+is_too_long x = nat_lt 2304 (length (drop 24 x))
+
+-- what is read where none of these faults is there, and the first of them elsewhere
+abbrev pub unless_faulty : {A : Type 0} → Bool → Bool → Bool → Bool → A → Result A Unread
+unless_faulty refused direction address too_long frame =
+    if refused then Err Flags
+    else if direction then Err Direction
+    else if address then Err Address
+    else if too_long then Err TooLong
+    else Ok frame
+
+-- ---- sent
 
 -- Duration (9.2.4.2) is sent as 0 (profile)
 abbrev pub duration : List ℕ
@@ -56,7 +97,7 @@ duration = 0 ∷ 0 ∷ []
 abbrev pub sequence_control : ℕ → List ℕ
 sequence_control sequence = to_le_bytes w16 (16 * sequence)
 
--- the header of a management frame (9.3.3.2): Address 1 the receiver, Address 2 and Address 3 the BSSID
-abbrev pub management_header : ℕ → List ℕ → List ℕ → ℕ → List ℕ
-management_header subtype to bss sequence =
-    frame_control 0 subtype ++ duration ++ to ++ bss ++ bss ++ sequence_control sequence
+-- a header: Frame Control, Duration, Address 1, Address 2, Address 3 and Sequence Control
+abbrev pub header : FrameControl → List ℕ → List ℕ → List ℕ → ℕ → List ℕ
+header control address_1 address_2 address_3 sequence =
+    octets_of control ++ duration ++ address_1 ++ address_2 ++ address_3 ++ sequence_control sequence

@@ -1,39 +1,32 @@
-//! Headers (IEEE Std 802.11-2016, 9.2.3 and 9.3.3.2): their numbers and their layout, read and written.
+//! Headers (IEEE Std 802.11-2016, 9.2.3): where the fields of one stand, what is read of them, and one that is sent.
 //!
-//! Where a field of a header stands is known here alone.
+//! No other file of the code knows where a field of a header stands.
 
-ghost use Rattle.std.specs.Prelude.{◌≡◌, ◌+◌, ◌++◌, ◌<◌, ◌≤◌, ◌||◌, not, length, slice_index, take, drop, OnOk, OnErr};
+ghost use Rattle.std.specs.Prelude.{◌≡◌, ◌+◌, ◌++◌, ◌<◌, ◌≤◌, length, take, drop, OnOk, OnErr};
 ghost use Rattle.std.specs.Option.{SomeIff};
-ghost use Rattle.std.specs.Str.{bytes_eq};
-ghost use Rattle.mac_frame.specs.Address.{broadcast, is_group, is_bss_or_broadcast};
-ghost use Rattle.mac_frame.specs.Header.{bits, has_bit, control_of, address_at, addressed_to, management_header};
+ghost use Rattle.mac_frame.specs.Header.{control_at, address_at, addressed_to, fragment_at, is_refused, is_from_station, is_too_long, header};
 
 use crate::address::MacAddr;
+use crate::frame_control::{FrameControl, bits};
 use crate::memory::NoMemory;
 use crate::octet_string::Octets;
 
-/// The type of a management frame (9.2.4.1.3).
-pub const MANAGEMENT: u8 = 0;
-
-/// The type of a control frame (9.2.4.1.3).
-pub const CONTROL: u8 = 1;
-
-/// The subtype of a probe request, a management frame (9.2.4.1.3).
-pub const PROBE_REQUEST: u8 = 4;
-
-/// The subtype of a probe response, a management frame (9.2.4.1.3).
-pub const PROBE_RESPONSE: u8 = 5;
-
-/// How many octets the header of a management frame has (9.3.3.2).
+/// How many octets the header has of a management frame (9.3.3.2) and of a data frame with three addresses (9.3.2.1).
 pub const HEADER_LEN: usize = 24;
 
-/// How many octets the header of a control frame has that is read (9.3.1.5).
+/// How many octets the header has of the control frame that is read (9.3.1.5).
 pub const CONTROL_HEADER_LEN: usize = 16;
+
+/// How many octets follow a header at most (9.2.4.7.1).
+const MAX_BODY_LEN: usize = 2304;
 
 /// How many octets an address has (9.2.4.3.2).
 const ADDRESS_LEN: usize = 6;
 
-/// Where Address 1 stands, behind Frame Control and Duration (9.2.3).
+/// Where Frame Control stands (9.2.3).
+const FRAME_CONTROL: usize = 0;
+
+/// Where Address 1 stands, after Frame Control and Duration.
 const ADDRESS_1: usize = 4;
 
 /// Where Address 2 stands.
@@ -45,101 +38,36 @@ const ADDRESS_3: usize = ADDRESS_2 + ADDRESS_LEN;
 /// Where Sequence Control stands.
 const SEQUENCE_CONTROL: usize = ADDRESS_3 + ADDRESS_LEN;
 
-/// Duration, which the profile sends as 0 (9.2.4.2).
-const DURATION: [u8; 2] = [0, 0];
-
-/// A Frame Control field (9.2.4.1). Retry, Power Management and More Data are not read.
-#[derive(Clone, Copy)]
-pub struct FrameControl {
-    pub version: u8,
-    pub kind: u8,
-    pub subtype: u8,
-    pub to_ds: bool,
-    pub from_ds: bool,
-    pub more_fragments: bool,
-    pub protected: bool,
-    pub order: bool,
-}
-
-impl FrameControl {
-    /// The field of these two octets, the first of them sent first.
-    pub fn new(first: u8, second: u8) -> FrameControl
-        ensures { result ≡ control_of first second }
-    {
-        FrameControl {
-            version: bits(first, 0, 2),
-            kind: bits(first, 2, 2),
-            subtype: bits(first, 4, 4),
-            to_ds: has_bit(second, 0),
-            from_ds: has_bit(second, 1),
-            more_fragments: has_bit(second, 2),
-            protected: has_bit(second, 6),
-            order: has_bit(second, 7),
-        }
-    }
-}
-
-/// The bits of an octet from `low` on, as many as `count`.
-fn bits(octet: u8, low: u32, count: u32) -> u8
-    requires low { low < 8 }
-    requires count { count < 8 }
-    ensures { result ≡ bits octet low count }
+/// Frame Control at the beginning of a frame of at least two octets.
+pub fn control_at(frame: &[u8]) -> FrameControl
+    requires { 2 ≤ length frame.now }
+    ensures { result ≡ control_at frame.now }
 {
-    (octet >> low) & ((1 << count) - 1)
+    FrameControl::from_octets([frame[FRAME_CONTROL], frame[FRAME_CONTROL + 1]])
 }
 
-/// Whether a bit of an octet is 1.
-fn has_bit(octet: u8, place: u32) -> bool
-    requires { place < 8 }
-    ensures { result ≡ has_bit octet place }
+/// Address 1 of a frame of at least 10 octets: to whom it is sent (9.2.4.3).
+pub fn address_1(frame: &[u8]) -> MacAddr
+    requires { 10 ≤ length frame.now }
+    ensures { result ≡ address_at frame.now 4 }
 {
-    bits(octet, place, 1) == 1
+    address_at(frame, ADDRESS_1)
 }
 
-/// What is read of a header of 24 octets (9.3.3.2) beside Frame Control.
-#[derive(Clone, Copy)]
-pub struct Header {
-    pub receiver: MacAddr,
-    pub transmitter: MacAddr,
-    pub network: MacAddr,
-    pub fragment: u8,
+/// Address 2 of a frame of at least 16 octets: who sends it (9.2.4.3).
+pub fn address_2(frame: &[u8]) -> MacAddr
+    requires { 16 ≤ length frame.now }
+    ensures { result ≡ address_at frame.now 10 }
+{
+    address_at(frame, ADDRESS_2)
 }
 
-impl Header {
-    /// The header at the head of a frame of at least 24 octets.
-    pub fn new(frame: &[u8]) -> Header
-        requires { HEADER_LEN ≤ length frame.now }
-        ensures receiver { result.receiver ≡ address_at frame.now 4 }
-        ensures transmitter { result.transmitter ≡ address_at frame.now 10 }
-        ensures network { result.network ≡ address_at frame.now 16 }
-        ensures fragment { result.fragment ≡ bits (slice_index frame.now 22) 0 4 }
-    {
-        Header {
-            receiver: address_at(frame, ADDRESS_1),
-            transmitter: address_at(frame, ADDRESS_2),
-            network: address_at(frame, ADDRESS_3),
-            fragment: bits(frame[SEQUENCE_CONTROL], 0, 4),
-        }
-    }
-
-    /// Whether it is sent to the broadcast address.
-    pub fn is_to_all(&self) -> bool
-        ensures { result ≡ bytes_eq self.now.receiver broadcast }
-    {
-        self.receiver.is_broadcast()
-    }
-
-    /// Whether it is not from a station to this network: its receiver and its network are `bss` or the
-    /// broadcast address, and its transmitter is neither a group address nor `bss`.
-    pub fn has_wrong_address(&self, bss: MacAddr) -> bool
-        ensures { result ≡ (not (is_bss_or_broadcast bss self.now.receiver) || is_group self.now.transmitter || bytes_eq self.now.transmitter bss || not (is_bss_or_broadcast bss self.now.network)) }
-    {
-        let is_bss_or_broadcast = |address: MacAddr| address == bss || address.is_broadcast();
-        !is_bss_or_broadcast(self.receiver)
-            || self.transmitter.is_group()
-            || self.transmitter == bss
-            || !is_bss_or_broadcast(self.network)
-    }
+/// Address 3 of a frame with a header of 24 octets, which means another thing in each kind of frame (9.2.4.3).
+pub fn address_3(frame: &[u8]) -> MacAddr
+    requires { HEADER_LEN ≤ length frame.now }
+    ensures { result ≡ address_at frame.now 16 }
+{
+    address_at(frame, ADDRESS_3)
 }
 
 /// The six octets of a frame from a place on, as an address.
@@ -155,6 +83,41 @@ fn address_at(frame: &[u8], place: usize) -> MacAddr
         frame[place + 4],
         frame[place + 5],
     ])
+}
+
+/// The fragment number of a frame with a header of 24 octets (9.2.4.4.3).
+fn fragment_at(frame: &[u8]) -> u16
+    requires { HEADER_LEN ≤ length frame.now }
+    ensures { result ≡ fragment_at frame.now }
+{
+    let sequence_control = [frame[SEQUENCE_CONTROL], frame[SEQUENCE_CONTROL + 1]];
+    bits(u16::from_le_bytes(sequence_control), 0, 4)
+}
+
+/// Whether a frame with a header of 24 octets is a fragment, protected, or has an HT Control field (9.2.4.1, 9.2.4.4.3).
+pub fn is_refused(control: FrameControl, frame: &[u8]) -> bool
+    requires long { HEADER_LEN ≤ length frame.now }
+    requires control { control ≡ control_at frame.now }
+    ensures { result ≡ is_refused frame.now }
+{
+    control.has_refused_flags() || fragment_at(frame) != 0
+}
+
+/// Whether Address 2 may be that of a station of the network `bss`: it is neither a group address nor `bss`.
+pub fn is_from_station(bss: MacAddr, frame: &[u8]) -> bool
+    requires { 16 ≤ length frame.now }
+    ensures { result ≡ is_from_station bss frame.now }
+{
+    let transmitter = address_2(frame);
+    !(transmitter.is_group() || transmitter == bss)
+}
+
+/// Whether more octets follow the header of 24 octets than a frame has (9.2.4.7.1).
+pub fn is_too_long(frame: &[u8]) -> bool
+    requires { HEADER_LEN ≤ length frame.now }
+    ensures { result ≡ is_too_long frame.now }
+{
+    body_of(frame).len() > MAX_BODY_LEN
 }
 
 /// What follows the header of a frame of at least 24 octets (9.2.3).
@@ -175,42 +138,36 @@ pub fn addressed(frame: &[u8]) -> Option<MacAddr>
     Some(address_at(frame, ADDRESS_1))
 }
 
-/// Appends the header of a management frame (9.3.3.2) of this subtype, to a receiver, from the network `bss`,
-/// with a sequence number. After `NoMemory` `out` is as it was.
-pub fn write_mgmt(
+/// Appends a header (9.2.3): Frame Control, the three addresses, fragment number 0 and a sequence number.
+/// After `NoMemory` `out` is as it was.
+pub fn append_header(
     out: &mut Octets,
-    subtype: u8,
-    to: MacAddr,
-    bss: MacAddr,
+    control: FrameControl,
+    address_1: MacAddr,
+    address_2: MacAddr,
+    address_3: MacAddr,
     seq: u16,
 ) -> Result<(), NoMemory>
-    requires subtype { subtype < 16 }
+    requires version { control.version < 4 }
+    requires kind { control.kind < 4 }
+    requires subtype { control.subtype < 16 }
     requires seq { seq < 4096 }
-    ensures ok { OnOk result (out.new ≡ out.old ++ management_header subtype to bss seq) }
+    ensures ok { OnOk result (out.new ≡ out.old ++ header control address_1 address_2 address_3 seq) }
     ensures err { OnErr result (out.new ≡ out.old) }
 {
-    let len = out.as_slice().len();
-    let written = append_header(out, subtype, to, bss, seq);
-    out.roll_back(len, written)
+    let mut header = [0; HEADER_LEN];
+    put(&mut header, FRAME_CONTROL, &control.to_octets());
+    put(&mut header, ADDRESS_1, &address_1.octets());
+    put(&mut header, ADDRESS_2, &address_2.octets());
+    put(&mut header, ADDRESS_3, &address_3.octets());
+    put(&mut header, SEQUENCE_CONTROL, &(16 * seq).to_le_bytes());
+    out.append(&header)
 }
 
-/// Appends the header, field by field. After `NoMemory` some fields may stand behind what was there.
-fn append_header(
-    out: &mut Octets,
-    subtype: u8,
-    to: MacAddr,
-    bss: MacAddr,
-    seq: u16,
-) -> Result<(), NoMemory>
-    requires subtype { subtype < 16 }
-    requires seq { seq < 4096 }
-    ensures ok { OnOk result (out.new ≡ out.old ++ management_header subtype to bss seq) }
-    ensures err { OnErr result (take (length out.old) out.new ≡ out.old) }
+/// Writes a field of a header at its place.
+fn put(header: &mut [u8; HEADER_LEN], place: usize, field: &[u8])
+    requires { place + length field.now ≤ HEADER_LEN }
+    ensures { header.new ≡ take place header.old ++ field.now ++ drop (place + length field.now) header.old }
 {
-    out.append(&[16 * subtype + 4 * MANAGEMENT, 0])?;
-    out.append(&DURATION)?;
-    out.append(&to.octets())?;
-    out.append(&bss.octets())?;
-    out.append(&bss.octets())?;
-    out.append(&(16 * seq).to_le_bytes())
+    header[place..place + field.len()].copy_from_slice(field);
 }

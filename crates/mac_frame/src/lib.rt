@@ -9,15 +9,20 @@
 
 mod address;
 mod frame;
+mod frame_control;
 mod header;
 mod item_list;
+mod laws;
+mod management;
 mod memory;
 mod octet_string;
 
 pub use address::MacAddr;
-pub use frame::{Rx, Unread, body_has_octets, decode, frame_is_addressed, one_frame};
-pub use header::{HEADER_LEN, PROBE_REQUEST, PROBE_RESPONSE, addressed, write_mgmt};
+pub use frame::{Rx, Unread, decode};
+pub use header::{HEADER_LEN, addressed};
 pub use item_list::List;
+pub use laws::{body_has_octets, frame_is_addressed, hearing, one_frame};
+pub use management::{CAPABILITY, PROBE_REQUEST, PROBE_RESPONSE, write_mgmt};
 pub use memory::NoMemory;
 pub use octet_string::Octets;
 

@@ -1,10 +1,10 @@
-//! Want of memory, as an ordinary error.
+//! Out of memory, as an ordinary error.
 
 use std::alloc::{AllocError, AllocFailed};
 use std::error::Error;
 use std::fmt;
 
-/// A growth was refused. Every crate of the project answers want of memory by this type.
+/// A growth was refused. Every crate of the project answers that it is out of memory by this type.
 #[derive(Clone, Copy, Debug, PartialEq, Eq)]
 pub struct NoMemory;
 

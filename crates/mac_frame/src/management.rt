@@ -1,0 +1,89 @@
+//! Management frames (IEEE Std 802.11-2016, 9.3.3): their subtypes, which of them are read, and the header of one that
+//! is sent.
+
+ghost use Rattle.std.specs.Prelude.{◌≡◌, ◌++◌, ◌<◌, ◌≤◌, length, Ok, Err, MatchResult, OnOk, OnErr};
+ghost use Rattle.mac_frame.specs.Header.{control_at};
+ghost use Rattle.mac_frame.specs.Management.{is_management_read, is_probe_addressed, management_of, management_header};
+ghost use Rattle.mac_frame.specs.Rx.{shown};
+
+use crate::address::MacAddr;
+use crate::frame::{Rx, Unread};
+use crate::frame_control::{FrameControl, MANAGEMENT};
+use crate::header::{
+    HEADER_LEN, address_1, address_2, address_3, append_header, body_of, is_from_station,
+    is_refused, is_too_long,
+};
+use crate::memory::NoMemory;
+use crate::octet_string::Octets;
+
+/// The subtype of a probe request (9.2.4.1.3).
+pub const PROBE_REQUEST: u8 = 4;
+
+/// The subtype of a probe response (9.2.4.1.3).
+pub const PROBE_RESPONSE: u8 = 5;
+
+/// Capability Information as it is sent: ESS alone (9.4.1.4).
+pub const CAPABILITY: u16 = 1;
+
+/// Whether a frame is a management frame of a subtype that is read (9.2.4.1.3).
+pub fn is_management_read(control: FrameControl) -> bool
+    ensures { result ≡ is_management_read control }
+{
+    control.kind == MANAGEMENT && control.subtype == PROBE_REQUEST
+}
+
+/// The management frame that a string of octets is for the network `bss`, or its first fault after that of its kind
+/// (9.3.3.2).
+pub fn management_of(bss: MacAddr, control: FrameControl, frame: &[u8]) -> Result<Rx<'_>, Unread>
+    requires long { HEADER_LEN ≤ length frame.now }
+    requires control { control ≡ control_at frame.now }
+    ensures { MatchResult result
+        (λ rx. management_of bss frame.now ≡ Ok (shown rx))
+        (λ fault. management_of bss frame.now ≡ Err fault) }
+{
+    if is_refused(control, frame) {
+        return Err(Unread::Flags);
+    }
+    if control.to_ds || control.from_ds {
+        return Err(Unread::Direction);
+    }
+    if !is_from_station(bss, frame) || !is_probe_addressed(bss, frame) {
+        return Err(Unread::Address);
+    }
+    if is_too_long(frame) {
+        return Err(Unread::TooLong);
+    }
+    Ok(Rx::Mgmt {
+        subtype: control.subtype,
+        from: address_2(frame),
+        to_all: address_1(frame).is_broadcast(),
+        body: body_of(frame),
+    })
+}
+
+/// Whether a probe request is sent to the network `bss` or to all, and for it or for any (11.1.4.3).
+fn is_probe_addressed(bss: MacAddr, frame: &[u8]) -> bool
+    requires { HEADER_LEN ≤ length frame.now }
+    ensures { result ≡ is_probe_addressed bss frame.now }
+{
+    let is_bss_or_broadcast = |address: MacAddr| address == bss || address.is_broadcast();
+    is_bss_or_broadcast(address_1(frame)) && is_bss_or_broadcast(address_3(frame))
+}
+
+/// Appends the header of a management frame (9.3.3.2) of this subtype, to a receiver, from the network `bss`,
+/// with a sequence number. After `NoMemory` `out` is as it was.
+pub fn write_mgmt(
+    out: &mut Octets,
+    subtype: u8,
+    to: MacAddr,
+    bss: MacAddr,
+    seq: u16,
+) -> Result<(), NoMemory>
+    requires subtype { subtype < 16 }
+    requires seq { seq < 4096 }
+    ensures ok { OnOk result (out.new ≡ out.old ++ management_header subtype to bss seq) }
+    ensures err { OnErr result (out.new ≡ out.old) }
+{
+    let control = FrameControl::plain(MANAGEMENT, subtype);
+    append_header(out, control, to, bss, bss, seq)
+}
