@@ -2,7 +2,7 @@
 use Rattle.std.specs.Prelude.{ℕ, ◌<◌, ◌≡◌, ◌≢◌, ◌++◌, nat_lt, Bool, true, false, List, [], ◌∷◌, length, map, replicate, slice_set, None, if◌then◌else◌}
 use Rattle.std.specs.List.{range_with_len, slice_index_or}
 use Rattle.bss_core.specs.Configuration.{fault_of}
-use Rattle.bss_core.specs.Hearing.{is_heard}
+use Rattle.mac_frame.specs.Hearing.{is_heard}
 use Rattle.bss_core.specs.Network.{alone}
 use Rattle.bss_core.specs.Radio.{network_at, setting_at}
 use Rattle.bss_core.specs.RadioView.{RadioView, view_at}

@@ -1,5 +1,4 @@
 pub mod AloneLaws
-pub mod HearingSteps
 pub mod Requests
 pub mod Checked
 pub mod ReadRequests

@@ -1,6 +1,6 @@
 -- What is read of a string, by what is read of its frame and of its body.
 use Rattle.std.proofs.Common.{◌≡◌, ℕ, List, Result, Ok, Err, IfOk, IsOkAnd, subst}
-use Rattle.mac_frame.specs.Header.{probe_request_subtype}
+use Rattle.mac_frame.specs.Management.{probe_request_subtype}
 use Rattle.mac_frame.specs.Frame.{Frame, Mgmt, IsFrame, shown as shown_frame}
 use Rattle.mac_frame.specs.declared.frame.Rx.{Rx}
 use Rattle.mac_frame.specs.declared.frame.Rx.TheVariants as rx

@@ -1,4 +1,3 @@
-pub mod Hearing
 pub mod Configuration
 pub mod Request
 pub mod Network

@@ -1,7 +1,7 @@
 -- What a station asks (IEEE Std 802.11-2016, 9.3.3): the one request of a string of octets, and the first fault
 -- of a string that holds none.
 use Rattle.std.specs.Prelude.{ℕ, ◌≡◌, Bool, List, Option, Some, None, Result, Ok, Err}
-use Rattle.mac_frame.specs.Header.{probe_request_subtype}
+use Rattle.mac_frame.specs.Management.{probe_request_subtype}
 use Rattle.mac_frame.specs.Frame.{Frame, Mgmt, IsFrame, frame_of}
 use Rattle.mac_frame.specs.declared.frame.Unread.{Unread}
 use Rattle.mac_frame.specs.declared.frame.Unread.TheVariants.{Body}

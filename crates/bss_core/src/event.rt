@@ -1,7 +1,7 @@
 //! What happens to a network.
 
 ghost use Rattle.std.specs.Prelude.{◌≡◌, ◌↔◌, IsTrue};
-ghost use Rattle.bss_core.specs.Hearing.{Hears, is_heard};
+ghost use Rattle.mac_frame.specs.Hearing.{Hears, is_heard};
 
 use mac_frame::{MacAddr, Octets, addressed};
 

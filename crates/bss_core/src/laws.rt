@@ -1,9 +1,9 @@
 //! What follows from the definitions, for whoever stands on them.
 
-ghost use Rattle.std.specs.Prelude.{◌≡◌, ◌↔◌, ◌<◌, ◌++◌, ℕ, true, List, [], ◌∷◌, slice_get, slice_index, Ok, None};
+ghost use Rattle.std.specs.Prelude.{◌≡◌, ◌<◌, ◌++◌, ℕ, List, [], ◌∷◌, slice_get, slice_index, Ok, None};
 ghost use Rattle.std.specs.List.{AllByRecursion};
+ghost use Rattle.mac_frame.specs.Hearing.{Hears};
 ghost use Rattle.bss_core.specs.Configuration.{fault_of, setting_fault, network_fault};
-ghost use Rattle.bss_core.specs.Hearing.{Hears, is_heard};
 ghost use Rattle.bss_core.specs.Network.{Setting, alone, empty_network, step};
 ghost use Rattle.bss_core.specs.Request.{Request, IsRequest, request_of};
 ghost use Rattle.bss_core.specs.declared.config.RadioConfig.{RadioConfig};
@@ -29,11 +29,6 @@ pub fn one_request()
     body_has_octets();
     one_list();
 }
-
-/// The test of what a network hears says so exactly where it hears it (IEEE Std 802.11-2016, 9.2.4.3).
-pub fn hearing()
-    ensures { (bss x : List ℕ) → (is_heard bss x ≡ true) ↔ Hears bss x }
-{}
 
 /// A network alone begins empty, and each further event is one further step.
 pub fn one_step()

@@ -1,5 +1,5 @@
 use Rattle.std.proofs.Common.{Ok, ap, subst, sym, ◌∙◌}
-use Rattle.mac_frame.specs.Header.{probe_request_subtype}
+use Rattle.mac_frame.specs.Management.{probe_request_subtype}
 use Rattle.mac_frame.specs.Frame.{Mgmt, frame_of}
 use Rattle.bss_core.specs.Request.{Probe, IsRequest, probe_of, request_in}
 use Rattle.bss_core.proofs.Requests.{probe-from_frame, read-from_in}

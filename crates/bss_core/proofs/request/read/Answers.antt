@@ -1,5 +1,5 @@
 use Rattle.std.proofs.Common.{rules}
-use Rattle.mac_frame.specs.Header.{probe_request_subtype}
+use Rattle.mac_frame.specs.Management.{probe_request_subtype}
 use Rattle.mac_frame.specs.Frame.{Mgmt}
 use Rattle.bss_core.specs.Request.{Probe}
 use Rattle.bss_core.proofs.ReadRequests.{request-from_probe, only-from_probe}
