@@ -33,10 +33,9 @@ pub use config::{
     MAX_SSID_LEN, MAX_STATIONS, NetConfig, RadioConfig,
 };
 pub use event::{Event, hears};
-pub use laws::{checked_networks, hearing, one_request, one_step, sent_frames, two_worlds};
+pub use laws::{checked_networks, one_request, one_step, sent_frames, two_worlds};
 pub use radio::{OpenFault, Radio};
 pub use running::{RunResult, run};
-pub use laws::{checked_networks, one_request, one_step};
 pub use section::{Counts, Section, StationRow};
 pub use setting::Setting;
 pub use step::{AirItem, Handed, Step};
