@@ -1,22 +1,37 @@
-# The targets of this repository. They need the Rattle toolchain's command `rt` on the path, and coreutils.
+# The targets of this repository. All need the Rattle toolchain's command `rt` on the path, GNU make, bash, coreutils,
+# diffutils, grep and sed; `wrong` and `bench` need python3 too.
 
-.PHONY: run test bench apctl
+.PHONY: run try test wrong bench apctl
 
-# Proves, builds and runs the program on an example: its report is all that stands on standard output.
+# What `run` and `try` give to the program: a configuration and a trace.
+INPUT = examples/probe_is_answered/input
+
+# Proves what the program stands on, builds it and runs it. Lines on standard error tell how far it is; the report is all
+# that stands on standard output, and comes last.
 run: apctl
-	@build/apctl < examples/probe_is_answered/input
+	@build/apctl < $(INPUT)
 
-# Proves every crate from nothing, tries each must-fail edit, runs each test and the program's stored run, and then
-# the program that was built of what it proved over the examples, and with one growth after another refused.
+# Runs the program without any proof, and says so on standard error: the same report, within a minute.
+try:
+	@mkdir -p build
+	@cd crates/apctl && rt try < ../../$(INPUT) 2> ../../build/log || { cat ../../build/log >&2; exit 1; }
+	@echo 'Nothing was proved. "make run" proves the program first.' >&2
+
+# The gate. Proves every crate from nothing, tries each edit of crates/*/must-fail, runs each test, runs the program that was
+# built of what was proved over the examples and with one growth after another refused, and finds edits of wrong/ that can't
+# be applied. The last line is 'N passed, M failed'.
 test:
 	@.ci/gate
+
+# Tries the wrong bodies of wrong/, which the gate doesn't try: all, or with NAME=bss_core those of one crate, as many at a time as
+# there are processors, or with JOBS=2 two. The last line is 'N refused, M not'.
+wrong:
+	@JOBS="$(JOBS)" wrong/try $(NAME)
 
 # Measures the program on long traces.
 bench: apctl
 	@bench/measure
 
-# The built program, from proved crates.
+# The built program, build/apctl, of proved crates.
 apctl:
-	@mkdir -p build
-	@cd crates/apctl && rt run < stdin > ../../build/log 2>&1 || { cat ../../build/log >&2; exit 1; }
-	@cp crates/apctl/out/apctl build/apctl
+	@.ci/build
