@@ -1,0 +1,52 @@
+-- TIMs on which the definitions are computed.
+use Rattle.std.proofs.Common.{◌≡◌, ◌==◌, ◌||◌, ℕ, Bool, true, false, List, [], ◌∷◌, ◌++◌, refl}
+use Rattle.std.specs.Prelude.{replicate}
+use Rattle.tim.specs.Tim.{tim_octets, partial_of, from_first_pair, up_to_last, virtual_bitmap, octet_at, bits_from}
+
+the_last_number_stands_at_place_250 : tim_octets 0 1 false (λ n. n == 2007) ≡ 5 ∷ 4 ∷ 0 ∷ 1 ∷ 0xfa ∷ 0x80 ∷ []
+unfolding tim_octets partial_of from_first_pair up_to_last virtual_bitmap octet_at bits_from
+the_last_number_stands_at_place_250 = refl
+
+an_even_place_comes_first : tim_octets 0 1 false (λ n. n == 16) ≡ 5 ∷ 4 ∷ 0 ∷ 1 ∷ 0x02 ∷ 0x01 ∷ []
+unfolding tim_octets partial_of from_first_pair up_to_last virtual_bitmap octet_at bits_from
+an_even_place_comes_first = refl
+
+the_octet_before_an_odd_place_is_sent : tim_octets 0 1 false (λ n. n == 8) ≡ 5 ∷ 5 ∷ 0 ∷ 1 ∷ 0 ∷ 0 ∷ 0x01 ∷ []
+unfolding tim_octets partial_of from_first_pair up_to_last virtual_bitmap octet_at bits_from
+the_octet_before_an_odd_place_is_sent = refl
+
+the_first_and_the_last_number_take_every_octet :
+    tim_octets 0 1 false (λ n. n == 1 || n == 2007)
+    ≡ (5 ∷ 0xfe ∷ 0 ∷ 1 ∷ 0 ∷ 0x02 ∷ []) ++ replicate 249 0 ++ (0x80 ∷ [])
+unfolding tim_octets partial_of from_first_pair up_to_last virtual_bitmap octet_at bits_from
+the_first_and_the_last_number_take_every_octet = refl
+
+no_number_is_one_octet : tim_octets 0 1 false (λ n. false) ≡ 5 ∷ 4 ∷ 0 ∷ 1 ∷ 0 ∷ 0 ∷ []
+unfolding tim_octets partial_of from_first_pair up_to_last virtual_bitmap octet_at bits_from
+no_number_is_one_octet = refl
+
+the_group_stands_in_bit_0_of_control : tim_octets 0 3 true (λ n. n == 16) ≡ 5 ∷ 4 ∷ 0 ∷ 3 ∷ 0x03 ∷ 0x01 ∷ []
+unfolding tim_octets partial_of from_first_pair up_to_last virtual_bitmap octet_at bits_from
+the_group_stands_in_bit_0_of_control = refl
+
+the_count_stands_before_the_period : tim_octets 2 3 false (λ n. n == 1) ≡ 5 ∷ 4 ∷ 2 ∷ 3 ∷ 0 ∷ 0x02 ∷ []
+unfolding tim_octets partial_of from_first_pair up_to_last virtual_bitmap octet_at bits_from
+the_count_stands_before_the_period = refl
+
+number_0_and_numbers_from_2008_on_are_not_shown : tim_octets 0 1 false (λ n. n == 0 || n == 2008) ≡ 5 ∷ 4 ∷ 0 ∷ 1 ∷ 0 ∷ 0 ∷ []
+unfolding tim_octets partial_of from_first_pair up_to_last virtual_bitmap octet_at bits_from
+number_0_and_numbers_from_2008_on_are_not_shown = refl
+
+every_number_is_250_octets_of_ones :
+    tim_octets 0 1 false (λ n. true) ≡ (5 ∷ 0xfe ∷ 0 ∷ 1 ∷ 0 ∷ 0xfe ∷ []) ++ replicate 250 0xff
+unfolding tim_octets partial_of from_first_pair up_to_last virtual_bitmap octet_at bits_from
+every_number_is_250_octets_of_ones = refl
+
+eight_numbers_fill_the_last_octet :
+    tim_octets 0 1 false (λ n. n == 2000 || n == 2001 || n == 2006) ≡ 5 ∷ 4 ∷ 0 ∷ 1 ∷ 0xfa ∷ 0x43 ∷ []
+unfolding tim_octets partial_of from_first_pair up_to_last virtual_bitmap octet_at bits_from
+eight_numbers_fill_the_last_octet = refl
+
+zero_octets_between_are_sent : tim_octets 0 1 false (λ n. n == 17 || n == 47) ≡ 5 ∷ 7 ∷ 0 ∷ 1 ∷ 0x02 ∷ 0x02 ∷ 0 ∷ 0 ∷ 0x80 ∷ []
+unfolding tim_octets partial_of from_first_pair up_to_last virtual_bitmap octet_at bits_from
+zero_octets_between_are_sent = refl
