@@ -1,1 +1,6 @@
 pub mod TimRows
+pub mod Octets
+pub mod Partial
+pub mod Spelling
+pub mod Laws
+pub mod Aids

@@ -1,1 +1,2 @@
 pub mod Tim
+pub mod Bitmap

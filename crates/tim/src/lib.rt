@@ -5,3 +5,7 @@
 //!
 //! Whose units wait, and when a beacon is sent, is left to the crates above.
 #![tactic(auto)]
+
+mod bitmap;
+
+pub use bitmap::{Bitmap, MAX_AID};
