@@ -1,14 +1,15 @@
 -- Sets of association identifiers by the tests that they answer.
-use Rattle.std.proofs.Common.{◌≡◌, ◌==◌, ◌≢◌, ℕ, zero, suc, ◌+◌, ◌<◌, ◌≤◌, Bool, true, false, not, ◌&&◌, ◌||◌, nat_le, nat_eq, filter, List, [], ◌∷◌, length, get_or, set, refl, sym, ap, ◌∙◌, subst, ⊎_elim, inl, inr, arith, tests}
+use Rattle.std.proofs.Common.{◌≡◌, ◌==◌, ◌≢◌, ℕ, zero, suc, ◌+◌, ◌<◌, ◌≤◌, Bool, true, false, not, ◌&&◌, ◌||◌, nat_le, nat_eq, filter, List, [], ◌∷◌, length, get_or, set, take, drop, ◌*◌, refl, sym, ap, ◌∙◌, subst, ⊎_elim, inl, inr, arith, tests}
 use Rattle.std.specs.List.{range_with_len, list_any}
 use Rattle.std.specs.Ordering.{nat_cmp, eq_by_cmp}
 use Rattle.std.specs.Cmp.{nat_cmp_total, unsigned_tied}
 use Rattle.std.specs.FinSet.{FinSet, contains, insert, remove, empty, contains-from_list_nat, contains-insert, contains-remove, contains-empty, same_set, nat_cmp-IsAntisymmetric}
 use Rattle.std.proofs.lemmas.Bool.{eqb-true, eq-eqb, ne_eqb, cases_eq, cases_Bool, le-leb, lt-leb, cases_lt, and_from, and_left, and_right, or_parts, or_left, not_from_true}
-use Rattle.std.proofs.lemmas.List.{get_or-set_same, get_or-set_other}
+use Rattle.std.proofs.lemmas.List.{get_or-set_same, get_or-set_other, get_or-take, get_or-drop}
 use Rattle.std.proofs.lemmas.Map.Views.{any-filter_same}
-use Rattle.tim.specs.Tim.{max_aid, is_shown}
+use Rattle.tim.specs.Tim.{max_aid, is_shown, bits_from, octet_at}
 use Rattle.tim.specs.Bitmap.{aids_where}
+use Rattle.tim.proofs.Octets.{bits_from-same}
 
 -- a list of numbers in a row has those between its ends
 list_any-range : (q a n : ℕ) → list_any (λ y. nat_eq y q) (range_with_len a n) ≡ (nat_le a q && nat_le (suc q) (a + n))
@@ -115,3 +116,16 @@ aids_of-remove has aid least greatest within = same_aids (λ n. get_or (set has 
         ap (λ b. nat_le 1 q && nat_le q max_aid && b) (get_or-set_other has aid q false false other)
         ∙ sym (remove_at q aid (aids_of has) ∙ ap (λ b. not b && contains (aids_of has) q) (ne_eqb q aid other) ∙ contains-aids_where _ q))
     (cases_eq q aid))
+
+-- the octet of the virtual bitmap at a place, of the truth values of its eight numbers
+pub octet_at-aids_of : (has : List Bool) (place : ℕ) → place < 251 → get_or has 0 false ≡ false → length has ≡ 2008 → octet_at (contains (aids_of has)) place ≡ bits_from (λ k. get_or (take 8 (drop (8 * place) has)) k false) 8 0
+unfolding octet_at
+octet_at-aids_of has place below first long = bits_from-same (is_shown (contains (aids_of has))) (λ k. get_or (take 8 (drop (8 * place) has)) k false) 8 (8 * place) 0 (λ k k_below.
+    shown_by has (8 * place + k) first long (omega arith)
+    ∙ sym (get_or-take 8 (drop (8 * place) has) (0 + k) false (omega arith) ∙ get_or-drop (8 * place) has (0 + k) false ∙ ap (λ n. get_or has n false) (let at : 8 * place + (0 + k) ≡ 8 * place + k = omega arith in at)))
+  where
+    shown_by : (has : List Bool) (n : ℕ) → get_or has 0 false ≡ false → length has ≡ 2008 → n ≤ max_aid → is_shown (contains (aids_of has)) n ≡ get_or has n false
+    shown_by has zero first long most = sym first
+    shown_by has (suc n) first long most =
+        let least : 1 ≤ suc n = omega arith in
+        shown_at (contains (aids_of has)) (suc n) least most ∙ contains-aids_of has (suc n) least most

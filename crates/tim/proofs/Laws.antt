@@ -1,26 +1,26 @@
 -- A set is shown by exactly one string, and a string shows one thing at most.
-use Rattle.std.proofs.Common.{◌≡◌, ◌↔◌, ℕ, zero, suc, ◌+◌, ◌-◌, ◌*◌, ◌/◌, ◌%◌, ◌<◌, ◌≤◌, Bool, true, false, ◌&&◌, nat_le, IsTrue, List, [], ◌∷◌, length, get_or, map, refl, sym, ap, ◌∙◌, subst, ⊎_elim, arith}
-use Rattle.std.specs.Int.{bit_at}
+use Rattle.std.proofs.Common.{◌≡◌, ◌↔◌, ℕ, zero, suc, ◌+◌, ◌-◌, ◌*◌, ◌/◌, ◌%◌, ◌<◌, ◌≤◌, Bool, true, false, ◌&&◌, nat_le, IsTrue, List, [], ◌∷◌, ◌++◌, append_assoc, length, get_or, map, refl, sym, ap, ◌∙◌, subst, ⊎_elim, arith}
+use Rattle.std.specs.Int.{bit_at, from_bool}
 use Rattle.std.specs.List.{range_with_len}
 use Rattle.std.proofs.lemmas.Bool.{cases_lt, le-leb, leb-true, and_parts, and_from, cases_Bool, false≢true, false_from_ne_true}
 use Rattle.std.proofs.lemmas.List.{get_or_past}
 use Rattle.std.proofs.lemmas.Nat.Bits.{bit_at_lowest}
-use Rattle.tim.specs.Tim.{IsAid, SameNumbers, max_aid, tim_id, first_place, bit_of, HasNumber, ShowsTim, is_shown, bits_from, octet_at, virtual_bitmap, partial_of, element_of, tim_octets}
-use Rattle.tim.proofs.Octets.{bit_of-le, bit_at-octet_at, length-virtual_bitmap, get_or-virtual_bitmap, virtual_bitmap-lt}
+use Rattle.tim.specs.Tim.{IsAid, SameNumbers, max_aid, tim_id, first_place, HasNumber, ShowsTim, is_shown, bits_from, octet_at, virtual_bitmap, partial_of, element_of, tim_octets}
+use Rattle.tim.proofs.Octets.{from_bool-le, bit_at-octet_at, length-virtual_bitmap, get_or-virtual_bitmap, virtual_bitmap-lt}
 use Rattle.tim.proofs.Partial.{IsPartial, partial_of-is}
 use Rattle.tim.proofs.Spelling.{sent_at, sent_at-from, sent_at-before, sent_at-has, has-sent_at, no_bit, IsUsed, IsSpelled, spelled, shows, one_spelling}
 
 -- ---- Bitmap Control
 
-pub control_half : (half : ℕ) (group : Bool) → first_place (2 * half + bit_of group) ≡ 2 * half
+pub control_half : (half : ℕ) (group : Bool) → first_place (2 * half + from_bool group) ≡ 2 * half
 control_half half group =
-    let low = bit_of-le group in
+    let low = from_bool-le group in
     omega arith
 
-pub control_bit : (half : ℕ) (group : Bool) → bit_at (2 * half + bit_of group) 0 ≡ bit_of group
+pub control_bit : (half : ℕ) (group : Bool) → bit_at (2 * half + from_bool group) 0 ≡ from_bool group
 control_bit half group =
-    let low = bit_of-le group in
-    let lowest : (2 * half + bit_of group) % 2 ≡ bit_of group = omega arith in
+    let low = from_bool-le group in
+    let lowest : (2 * half + from_bool group) % 2 ≡ from_bool group = omega arith in
     bit_at_lowest _ ∙ lowest
 
 pub same_control : (control control' : ℕ) → control / 2 ≡ control' / 2 → bit_at control 0 ≡ bit_at control' 0 → control ≡ control'
@@ -39,17 +39,17 @@ aid-shown members n shown =
     let both = and_parts _ _ parts.0 in
     ((leb-true 1 n both.0, leb-true n max_aid both.1), parts.1)
 
-pub bit_of-true : (b : Bool) → bit_of b ≡ 1 → b ≡ true
-bit_of-true true e = refl
-bit_of-true false e = absurd (omega arith)
+pub from_bool-true : (b : Bool) → from_bool b ≡ 1 → b ≡ true
+from_bool-true true e = refl
+from_bool-true false e = absurd (omega arith)
 
 -- the bit of a number in the virtual bitmap
-pub bit_in_bitmap : (members : ℕ → Bool) (n : ℕ) → n ≤ max_aid → bit_at (get_or (virtual_bitmap members) (n / 8) 0) (n % 8) ≡ bit_of (is_shown members n)
+pub bit_in_bitmap : (members : ℕ → Bool) (n : ℕ) → n ≤ max_aid → bit_at (get_or (virtual_bitmap members) (n / 8) 0) (n % 8) ≡ from_bool (is_shown members n)
 bit_in_bitmap members n most =
     let number : 8 * (n / 8) + n % 8 ≡ n = omega arith in
     ap (λ o. bit_at o (n % 8)) (get_or-virtual_bitmap members (n / 8) (omega arith))
     ∙ bit_at-octet_at members (n / 8) (n % 8) (omega arith)
-    ∙ ap (λ m. bit_of (is_shown members m)) number
+    ∙ ap (λ m. from_bool (is_shown members m)) number
 
 -- ---- what is sent of the virtual bitmap
 
@@ -63,11 +63,11 @@ sent-partial bitmap half octets w place = ⊎_elim
 
 has-shown : (members : ℕ → Bool) (half : ℕ) (octets : List ℕ) → IsPartial (virtual_bitmap members) half octets → (n : ℕ) → n ≤ max_aid → HasNumber (2 * half) octets n → is_shown members n ≡ true
 has-shown members half octets w n most here =
-    bit_of-true _ (sym (bit_in_bitmap members n most) ∙ sym (ap (λ o. bit_at o (n % 8)) (sent-partial _ half octets w (n / 8))) ∙ sent_at-has (2 * half) octets n here)
+    from_bool-true _ (sym (bit_in_bitmap members n most) ∙ sym (ap (λ o. bit_at o (n % 8)) (sent-partial _ half octets w (n / 8))) ∙ sent_at-has (2 * half) octets n here)
 
 shown-has : (members : ℕ → Bool) (half : ℕ) (octets : List ℕ) → IsPartial (virtual_bitmap members) half octets → (n : ℕ) → n ≤ max_aid → is_shown members n ≡ true → HasNumber (2 * half) octets n
 shown-has members half octets w n most shown =
-    has-sent_at (2 * half) octets n (ap (λ o. bit_at o (n % 8)) (sent-partial _ half octets w (n / 8)) ∙ bit_in_bitmap members n most ∙ ap bit_of shown)
+    has-sent_at (2 * half) octets n (ap (λ o. bit_at o (n % 8)) (sent-partial _ half octets w (n / 8)) ∙ bit_in_bitmap members n most ∙ ap from_bool shown)
 
 spelled-partial : (members : ℕ → Bool) (half : ℕ) (octets : List ℕ) → IsPartial (virtual_bitmap members) half octets → IsSpelled (2 * half) octets
 spelled-partial members half octets w = record {
@@ -89,12 +89,12 @@ tim_octets_show count period group members counted fits at_0 =
     let octets = (partial_of bitmap).1 in
     let w : IsPartial bitmap half octets = partial_of-is bitmap (omega (arith, length-virtual_bitmap members)) in
     let s = spelled-partial members half octets w in
-    let first_is : 2 * half ≡ first_place (2 * half + bit_of group) = sym (control_half half group) in
+    let first_is : 2 * half ≡ first_place (2 * half + from_bool group) = sym (control_half half group) in
     let numbers : (n : ℕ) → IsAid n → IsTrue (members n) ↔ HasNumber (2 * half) octets n = λ n aid.
         (λ member. shown-has members half octets w n aid.1 (shown-aid members n aid ∙ member),
          λ here. sym (shown-aid members n aid) ∙ has-shown members half octets w n aid.1 here) in
-    shows count period (2 * half + bit_of group) group octets members counted fits
-    (omega (arith, bit_of-le group, s.some, s.within))
+    shows count period (2 * half + from_bool group) group octets members counted fits
+    (omega (arith, from_bool-le group, s.some, s.within))
     (control_bit half group) at_0
     (subst (λ first. IsSpelled first octets) first_is s)
     (subst (λ first. (n : ℕ) → IsAid n → IsTrue (members n) ↔ HasNumber first octets n) first_is numbers)
@@ -108,7 +108,7 @@ one_string t u count period group members w v =
     let control_is : w.control ≡ v.control = same_control w.control v.control same.0 (w.traffic_indicator ∙ sym v.traffic_indicator) in
     w.string ∙ (λ i. tim_id ∷ (length (same.1 i) + 3) ∷ count ∷ period ∷ control_is i ∷ same.1 i) ∙ sym v.string
 
-same_group : (group group' : Bool) → bit_of group ≡ bit_of group' → group ≡ group'
+same_group : (group group' : Bool) → from_bool group ≡ from_bool group' → group ≡ group'
 same_group true true e = refl
 same_group true false e = absurd (omega (arith, e))
 same_group false true e = absurd (omega (arith, e))
@@ -138,17 +138,26 @@ same_shown members others same n = ⊎_elim
     (λ outside. ap (λ b. b && members n) outside ∙ sym (ap (λ b. b && others n) outside))
     (cases_Bool (nat_le 1 n && nat_le n max_aid))
 
-same_bits : (members others : ℕ → Bool) → SameNumbers members others → (count n : ℕ) → bits_from members count n ≡ bits_from others count n
-unfolding bits_from
-same_bits members others same zero n = refl
-same_bits members others same (suc count) n =
-    λ i. bit_of (same_shown members others same n i) + 2 * same_bits members others same count (suc n) i
-
 same_bitmap : (members others : ℕ → Bool) → SameNumbers members others → virtual_bitmap members ≡ virtual_bitmap others
 unfolding virtual_bitmap octet_at
-same_bitmap members others same = λ i. map (λ place. same_bits members others same 8 (8 * place) i) (range_with_len 0 251)
+same_bitmap members others same = λ i. map (λ place. bits_from (λ n. same_shown members others same n i) 8 (8 * place)) (range_with_len 0 251)
 
 -- sets with the same numbers are one set
 pub same_tim : (count period : ℕ) (group : Bool) (members others : ℕ → Bool) → SameNumbers members others → tim_octets count period group members ≡ tim_octets count period group others
 unfolding tim_octets
 same_tim count period group members others same = ap (λ bitmap. element_of count period group (partial_of bitmap)) (same_bitmap members others same)
+
+-- ---- written
+
+-- the octets of a TIM, by what is sent of the virtual bitmap
+pub tim_octets_sent : (count period : ℕ) (group : Bool) (members : ℕ → Bool) (bitmap octets : List ℕ) (offset : ℕ) → bitmap ≡ virtual_bitmap members → (offset, octets) ≡ partial_of bitmap → tim_octets count period group members ≡ tim_id ∷ (length octets + 3) ∷ count ∷ period ∷ (2 * offset + from_bool group) ∷ octets
+unfolding tim_octets
+tim_octets_sent count period group members bitmap octets offset is sent = ap (element_of count period group) (sym (sent ∙ ap partial_of is))
+
+-- the fields and then the octets, behind what was there
+pub tim_written : (old header octets : List ℕ) (count period offset bit : ℕ) (group : Bool) (members : ℕ → Bool) → header ≡ old ++ (tim_id ∷ (length octets + 3) ∷ count ∷ period ∷ (2 * offset + bit) ∷ []) → bit ≡ from_bool group → tim_octets count period group members ≡ tim_id ∷ (length octets + 3) ∷ count ∷ period ∷ (2 * offset + from_bool group) ∷ octets → header ++ octets ≡ old ++ tim_octets count period group members
+tim_written old header octets count period offset bit group members header_is bit_is is =
+    ap (λ h. h ++ octets) header_is
+    ∙ append_assoc old (tim_id ∷ (length octets + 3) ∷ count ∷ period ∷ (2 * offset + bit) ∷ []) octets
+    ∙ ap (λ b. old ++ (tim_id ∷ (length octets + 3) ∷ count ∷ period ∷ (2 * offset + b) ∷ octets)) bit_is
+    ∙ ap (λ t. old ++ t) (sym is)

@@ -1,49 +1,68 @@
 -- The octets of the virtual bitmap have the bits of the numbers that are shown.
-use Rattle.std.proofs.Common.{◌≡◌, ℕ, zero, suc, ◌+◌, ◌*◌, ◌/◌, ◌%◌, ◌^◌, ◌<◌, ◌≤◌, Bool, true, false, cond, length, get_or, refl, sym, ap, ◌∙◌, subst, ⊎_elim, arith}
-use Rattle.std.proofs.Math.Nat.{pow-suc}
-use Rattle.std.specs.Int.{bit_at}
+use Rattle.std.proofs.Common.{◌≡◌, ℕ, zero, suc, ◌+◌, ◌-◌, ◌*◌, ◌/◌, ◌%◌, ◌^◌, ◌<◌, ◌≤◌, Bool, true, false, cond, List, length, get_or, refl, sym, ap, ◌∙◌, subst, ⊎_elim, arith}
+use Rattle.std.proofs.Math.Nat.{pow-suc, pow-le-pow_right}
+use Rattle.std.specs.Int.{bit_at, from_bool}
 use Rattle.std.proofs.lemmas.Bool.{cases_lt}
 use Rattle.std.proofs.lemmas.Nat.Bits.{bit_at_lowest, bit_at-suc}
-use Rattle.std.proofs.lemmas.List.FromFn.{length-map-range_with_len, get_or-map-range_with_len}
+use Rattle.std.proofs.lemmas.List.FromFn.{fill_by_all, length-map-range_with_len, get_or-map-range_with_len}
 use Rattle.std.proofs.lemmas.List.{get_or_past}
-use Rattle.tim.specs.Tim.{bit_of, is_shown, bits_from, octet_at, virtual_bitmap}
+use Rattle.tim.specs.Tim.{is_shown, bits_from, octet_at, virtual_bitmap}
 
-pub bit_of-le : (b : Bool) → bit_of b ≤ 1
-bit_of-le true = omega arith
-bit_of-le false = omega arith
+pub from_bool-le : (b : Bool) → from_bool b ≤ 1
+from_bool-le true = omega arith
+from_bool-le false = omega arith
 
 -- each of the bits is that of its number
-pub bit_at-bits_from : (members : ℕ → Bool) (count n k : ℕ) → k < count → bit_at (bits_from members count n) k ≡ bit_of (is_shown members (n + k))
+pub bit_at-bits_from : (bit : ℕ → Bool) (count n k : ℕ) → k < count → bit_at (bits_from bit count n) k ≡ from_bool (bit (n + k))
 unfolding bits_from
-bit_at-bits_from members zero n k below = absurd (omega arith)
-bit_at-bits_from members (suc count) n zero below =
-    let first = bit_of-le (is_shown members n) in
+bit_at-bits_from bit zero n k below = absurd (omega arith)
+bit_at-bits_from bit (suc count) n zero below =
+    let first = from_bool-le (bit n) in
     let number : n ≡ n + 0 = omega arith in
-    let lowest : (bit_of (is_shown members n) + 2 * bits_from members count (suc n)) % 2 ≡ bit_of (is_shown members n) = omega arith in
-    bit_at_lowest _ ∙ lowest ∙ ap (λ number. bit_of (is_shown members number)) number
-bit_at-bits_from members (suc count) n (suc k) below =
-    let first = bit_of-le (is_shown members n) in
-    let others : (bit_of (is_shown members n) + 2 * bits_from members count (suc n)) / 2 ≡ bits_from members count (suc n) = omega arith in
+    let lowest : (from_bool (bit n) + 2 * bits_from bit count (suc n)) % 2 ≡ from_bool (bit n) = omega arith in
+    bit_at_lowest _ ∙ lowest ∙ ap (λ number. from_bool (bit number)) number
+bit_at-bits_from bit (suc count) n (suc k) below =
+    let first = from_bool-le (bit n) in
+    let others : (from_bool (bit n) + 2 * bits_from bit count (suc n)) / 2 ≡ bits_from bit count (suc n) = omega arith in
     let number : suc n + k ≡ n + suc k = omega arith in
-    bit_at-suc _ k ∙ ap (λ rest. bit_at rest k) others ∙ bit_at-bits_from members count (suc n) k (omega arith) ∙ ap (λ number. bit_of (is_shown members number)) number
+    bit_at-suc _ k ∙ ap (λ rest. bit_at rest k) others ∙ bit_at-bits_from bit count (suc n) k (omega arith) ∙ ap (λ number. from_bool (bit number)) number
 
 -- and there are no others
-pub bits_from-lt : (members : ℕ → Bool) (count n : ℕ) → bits_from members count n < 2 ^ count
+pub bits_from-lt : (bit : ℕ → Bool) (count n : ℕ) → bits_from bit count n < 2 ^ count
 unfolding bits_from
-bits_from-lt members zero n = omega arith
-bits_from-lt members (suc count) n =
-    let first = bit_of-le (is_shown members n) in
-    let others = bits_from-lt members count (suc n) in
+bits_from-lt bit zero n = omega arith
+bits_from-lt bit (suc count) n =
+    let first = from_bool-le (bit n) in
+    let others = bits_from-lt bit count (suc n) in
     omega (arith, pow-suc 2 count)
 
+-- one bit in front of the others
+pub bits_from-more : (bit : ℕ → Bool) (count n : ℕ) → bits_from bit (suc count) n ≡ from_bool (bit n) + 2 * bits_from bit count (suc n)
+unfolding bits_from
+bits_from-more bit count n = refl
+
+-- the same bits, at other numbers
+pub bits_from-same : (bit other : ℕ → Bool) (count n m : ℕ) → ((k : ℕ) → k < count → bit (n + k) ≡ other (m + k)) → bits_from bit count n ≡ bits_from other count m
+unfolding bits_from
+bits_from-same bit other zero n m same = refl
+bits_from-same bit other (suc count) n m same =
+    let here : n + 0 ≡ n = omega arith in
+    let there : m + 0 ≡ m = omega arith in
+    let first : bit n ≡ other m = ap bit (sym here) ∙ same 0 (omega arith) ∙ ap other there in
+    let others : bits_from bit count (suc n) ≡ bits_from other count (suc m) = bits_from-same bit other count (suc n) (suc m) (λ k below.
+        let next : suc n + k ≡ n + suc k = omega arith in
+        let next_other : m + suc k ≡ suc m + k = omega arith in
+        ap bit next ∙ same (suc k) (omega arith) ∙ ap other next_other) in
+    λ i. from_bool (first i) + 2 * others i
+
 -- the octet at a place has the bits of its eight numbers
-pub bit_at-octet_at : (members : ℕ → Bool) (place k : ℕ) → k < 8 → bit_at (octet_at members place) k ≡ bit_of (is_shown members (8 * place + k))
+pub bit_at-octet_at : (members : ℕ → Bool) (place k : ℕ) → k < 8 → bit_at (octet_at members place) k ≡ from_bool (is_shown members (8 * place + k))
 unfolding octet_at
-bit_at-octet_at members place k below = bit_at-bits_from members 8 (8 * place) k below
+bit_at-octet_at members place k below = bit_at-bits_from (is_shown members) 8 (8 * place) k below
 
 pub octet_at-lt : (members : ℕ → Bool) (place : ℕ) → octet_at members place < 256
 unfolding octet_at
-octet_at-lt members place = bits_from-lt members 8 (8 * place)
+octet_at-lt members place = bits_from-lt (is_shown members) 8 (8 * place)
 
 -- the virtual bitmap has 251 octets
 pub length-virtual_bitmap : (members : ℕ → Bool) → length (virtual_bitmap members) ≡ 251
@@ -61,3 +80,31 @@ virtual_bitmap-lt members place = ⊎_elim
     (λ below. subst (λ octet. octet < 256) (sym (get_or-virtual_bitmap members place below)) (octet_at-lt members place))
     (λ past. subst (λ octet. octet < 256) (sym (get_or_past (virtual_bitmap members) place 0 (omega (arith, length-virtual_bitmap members)))) (omega arith))
     (cases_lt place 251)
+
+-- octets that are all those of a set are its virtual bitmap
+pub virtual_bitmap-from : (members : ℕ → Bool) (octets : List ℕ) → length octets ≡ 251 → ((place : ℕ) → place < 251 → get_or octets place 0 ≡ octet_at members place) → octets ≡ virtual_bitmap members
+unfolding virtual_bitmap
+virtual_bitmap-from members octets long each = fill_by_all (octet_at members) octets 251 0 long each
+
+-- ---- an octet from its bits, the highest first
+
+pub bits_from-none : (bit : ℕ → Bool) (n : ℕ) → bits_from bit 0 n ≡ 0
+unfolding bits_from
+bits_from-none bit n = refl
+
+-- the next lower bit
+pub octet_more : (bit : ℕ → Bool) (k octet : ℕ) → 0 < k → k ≤ 8 → octet ≡ bits_from bit (8 - k) k → 2 * octet + from_bool (bit (k - 1)) ≡ bits_from bit (8 - (k - 1)) (k - 1)
+octet_more bit k octet more within is =
+    let rest : 8 - (k - 1) ≡ suc (8 - k) = omega arith in
+    let here : suc (k - 1) ≡ k = omega arith in
+    let others : octet ≡ bits_from bit (8 - k) (suc (k - 1)) = is ∙ ap (bits_from bit (8 - k)) (sym here) in
+    let one = bits_from-more bit (8 - k) (k - 1) in
+    let sum : from_bool (bit (k - 1)) + 2 * octet ≡ 2 * octet + from_bool (bit (k - 1)) = omega arith in
+    sym sum ∙ ap (λ o. from_bool (bit (k - 1)) + 2 * o) others ∙ sym one ∙ ap (λ count. bits_from bit count (k - 1)) (sym rest)
+
+-- is an octet
+pub octet_fits : (bit : ℕ → Bool) (k octet : ℕ) → 0 < k → k ≤ 8 → octet ≡ bits_from bit (8 - k) k → 2 * octet + from_bool (bit (k - 1)) < 256
+octet_fits bit k octet more within is =
+    let below = bits_from-lt bit (8 - (k - 1)) (k - 1) in
+    let most : 2 ^ (8 - (k - 1)) ≤ 256 = pow-le-pow_right {n = 2} (omega arith) {j = 8} (omega arith) in
+    omega (arith, octet_more bit k octet more within is, below, most)

@@ -1,6 +1,7 @@
 -- What is sent of the octets of a virtual bitmap.
-use Rattle.std.proofs.Common.{◌≡◌, ◌⊎◌, ℕ, zero, suc, ◌+◌, ◌-◌, ◌*◌, ◌<◌, ◌≤◌, List, [], ◌∷◌, length, get_or, refl, sym, ap, ◌∙◌, subst, inl, inr, ⊎_elim, arith}
-use Rattle.std.proofs.lemmas.List.{get_or_past}
+use Rattle.std.proofs.Common.{◌≡◌, ◌⊎◌, ℕ, zero, suc, ◌+◌, ◌-◌, ◌*◌, ◌<◌, ◌≤◌, List, [], ◌∷◌, length, get_or, take, drop, refl, sym, ap, ◌∙◌, subst, inl, inr, ⊎_elim, arith}
+use Rattle.std.proofs.lemmas.Bool.{cases_lt}
+use Rattle.std.proofs.lemmas.List.{get_or_past, get_or-take, length-take, take_rest, ext_get_or}
 use Rattle.tim.specs.Tim.{put, up_to_last, from_first_pair, or_zero, partial_of}
 use Rattle.tim.proofs.Spelling.{IsUsed}
 
@@ -142,3 +143,71 @@ partial_of-is bitmap some =
     let pairs_is : w.0 ≡ (from_first_pair 0 last).0 = omega (arith, w.1) in
     subst (λ pairs. IsPartial bitmap pairs (or_zero (from_first_pair 0 last).1)) pairs_is
     (partial_from bitmap last w.0 (from_first_pair 0 last).1 some (get_or-up_to_last bitmap) (length-up_to_last bitmap) (Ends-up_to_last bitmap) w.2)
+
+-- ---- by the places of the octets, one step at a time
+
+-- octets of which the last isn't 0 are those that they have at each place
+pub same_ends : (xs ys : List ℕ) → Ends xs → Ends ys → ((place : ℕ) → get_or xs place 0 ≡ get_or ys place 0) → xs ≡ ys
+same_ends xs ys ends ends' same =
+    let long : length xs ≡ length ys = ⊎_elim
+        (λ shorter. absurd (omega (arith, ends' (omega arith), same (length ys - 1), get_or_past xs (length ys - 1) 0 (omega arith))))
+        (λ rest. ⊎_elim
+            (λ longer. absurd (omega (arith, ends (omega arith), same (length xs - 1), get_or_past ys (length xs - 1) 0 (omega arith))))
+            (λ within. omega arith)
+            (cases_lt (length ys) (length xs)))
+        (cases_lt (length xs) (length ys)) in
+    ext_get_or 0 xs ys long (λ place below. same place)
+
+-- a last octet that is 0 is dropped
+pub up_to_last_zero : (octets : List ℕ) → 1 ≤ length octets → get_or octets (length octets - 1) 0 ≡ 0 → up_to_last (take (length octets - 1) octets) ≡ up_to_last octets
+up_to_last_zero octets some last = same_ends _ _ (Ends-up_to_last (take (length octets - 1) octets)) (Ends-up_to_last octets)
+    (λ place. get_or-up_to_last (take (length octets - 1) octets) place ∙ others place ∙ sym (get_or-up_to_last octets place))
+  where
+    others : (place : ℕ) → get_or (take (length octets - 1) octets) place 0 ≡ get_or octets place 0
+    others place = ⊎_elim
+        (λ before. get_or-take (length octets - 1) octets place 0 before)
+        (λ from. get_or_past (take (length octets - 1) octets) place 0 (omega (arith, length-take (length octets - 1) octets))
+            ∙ ⊎_elim
+                (λ here. sym last ∙ (let at : length octets - 1 ≡ place = omega arith in ap (λ p. get_or octets p 0) at))
+                (λ past. sym (get_or_past octets place 0 past))
+                (cases_lt place (length octets)))
+        (cases_lt place (length octets - 1))
+
+-- octets of which the last isn't 0 stay
+pub up_to_last_other : (octets : List ℕ) → Ends octets → octets ≡ up_to_last octets
+up_to_last_other octets ends = same_ends octets (up_to_last octets) ends (Ends-up_to_last octets) (λ place. sym (get_or-up_to_last octets place))
+
+-- a first pair that is 0 and 0 is passed
+pub from_first_pair_zero : (passed : ℕ) (octets : List ℕ) → 2 ≤ length octets → get_or octets 0 0 ≡ 0 → get_or octets 1 0 ≡ 0 → from_first_pair (passed + 1) (take (length octets - 2) (drop 2 octets)) ≡ from_first_pair passed octets
+unfolding from_first_pair
+from_first_pair_zero passed [] two first second = absurd (omega arith)
+from_first_pair_zero passed (o ∷ []) two first second = absurd (omega arith)
+from_first_pair_zero passed (zero ∷ zero ∷ octets) two first second =
+    let next : passed + 1 ≡ suc passed = omega arith in
+    (λ i. from_first_pair (next i) (take_rest (zero ∷ zero ∷ octets) 2 i))
+from_first_pair_zero passed (zero ∷ suc p ∷ octets) two first second = absurd (omega arith)
+from_first_pair_zero passed (suc o ∷ p ∷ octets) two first second = absurd (omega arith)
+
+-- any other octets stay
+pub from_first_pair_other : (passed : ℕ) (octets : List ℕ) → (2 ≤ length octets → 0 < get_or octets 0 0 + get_or octets 1 0) → (passed, octets) ≡ from_first_pair passed octets
+unfolding from_first_pair
+from_first_pair_other passed [] begins = refl
+from_first_pair_other passed (zero ∷ []) begins = refl
+from_first_pair_other passed (zero ∷ zero ∷ octets) begins = absurd (omega (arith, begins (omega arith)))
+from_first_pair_other passed (zero ∷ suc p ∷ octets) begins = refl
+from_first_pair_other passed (suc o ∷ octets) begins = refl
+
+-- what is sent, by the steps that find it
+sent : (bitmap : List ℕ) (passed : ℕ) (octets : List ℕ) → (passed, octets) ≡ from_first_pair 0 (up_to_last bitmap) → (passed, or_zero octets) ≡ partial_of bitmap
+unfolding partial_of
+sent bitmap passed octets is = λ i. ((is i).0, or_zero (is i).1)
+
+-- nothing is left
+pub partial_empty : (bitmap : List ℕ) (passed : ℕ) (octets : List ℕ) → (passed, octets) ≡ from_first_pair 0 (up_to_last bitmap) → length octets ≡ 0 → (passed, 0 ∷ []) ≡ partial_of bitmap
+partial_empty bitmap passed [] is none = sent bitmap passed [] is
+partial_empty bitmap passed (o ∷ os) is none = absurd (omega arith)
+
+-- something is
+pub partial_some : (bitmap : List ℕ) (passed : ℕ) (octets : List ℕ) → (passed, octets) ≡ from_first_pair 0 (up_to_last bitmap) → 1 ≤ length octets → (passed, octets) ≡ partial_of bitmap
+partial_some bitmap passed [] is some = absurd (omega arith)
+partial_some bitmap passed (o ∷ os) is some = sent bitmap passed (o ∷ os) is

@@ -1,10 +1,10 @@
 -- The one spelling of a set of numbers, by its octets alone.
 use Rattle.std.proofs.Common.{◌≡◌, ◌↔◌, ◌⊎◌, ℕ, zero, suc, ◌+◌, ◌-◌, ◌*◌, ◌/◌, ◌%◌, ◌<◌, ◌≤◌, Bool, true, false, cond, leb, IsTrue, List, [], ◌∷◌, length, get_or, refl, sym, ap, ◌∙◌, subst, inl, inr, ⊎_elim, arith}
-use Rattle.std.specs.Int.{bit_at, w8, trailing_zeros}
+use Rattle.std.specs.Int.{bit_at, from_bool, w8, trailing_zeros}
 use Rattle.std.proofs.lemmas.Bool.{cases_lt, cases_eq, cases_order, cases_Bool, le-leb, lt-leb, false≢true, false_from_ne_true}
 use Rattle.std.proofs.lemmas.List.{get_or_past, ext_get_or}
 use Rattle.std.proofs.lemmas.Nat.Bits.{bit_at-zero, bit_at-lt, bit_at-trailing_zeros, same_from_bits_below}
-use Rattle.tim.specs.Tim.{IsAid, SameNumbers, first_place, bit_of, HasNumber, ShowsTim, tim_id}
+use Rattle.tim.specs.Tim.{IsAid, SameNumbers, first_place, HasNumber, ShowsTim, tim_id}
 
 -- ---- the octet at a place
 
@@ -111,7 +111,7 @@ spelled t count period group members w =
     }
 
 -- spelled octets that have the numbers of a set, behind fields that fit, are a TIM of it
-pub shows : (count period control : ℕ) (group : Bool) (octets : List ℕ) (members : ℕ → Bool) → count < period → period < 256 → control < 256 → bit_at control 0 ≡ bit_of group → (IsTrue group → count ≡ 0) → IsSpelled (first_place control) octets → ((n : ℕ) → IsAid n → IsTrue (members n) ↔ HasNumber (first_place control) octets n) → ShowsTim (tim_id ∷ (length octets + 3) ∷ count ∷ period ∷ control ∷ octets) count period group members
+pub shows : (count period control : ℕ) (group : Bool) (octets : List ℕ) (members : ℕ → Bool) → count < period → period < 256 → control < 256 → bit_at control 0 ≡ from_bool group → (IsTrue group → count ≡ 0) → IsSpelled (first_place control) octets → ((n : ℕ) → IsAid n → IsTrue (members n) ↔ HasNumber (first_place control) octets n) → ShowsTim (tim_id ∷ (length octets + 3) ∷ count ∷ period ∷ control ∷ octets) count period group members
 shows count period control group octets members counted period_fits control_fits indicator at_0 s numbers = record {
   control = control;
   octets = octets;

@@ -1,8 +1,8 @@
 -- The TIM element (IEEE Std 802.11-2016, 9.4.2.6): how a string of octets shows a set of association identifiers.
 --
 -- A set of numbers is handed in as a test. Only what it answers at an association identifier counts.
-use Rattle.std.specs.Prelude.{ℕ, zero, suc, ◌+◌, ◌-◌, ◌*◌, ◌/◌, ◌%◌, ◌<◌, ◌≤◌, ◌≡◌, ◌↔◌, Bool, true, false, IsTrue, nat_le, ◌&&◌, List, [], ◌∷◌, length, map, slice_index, if◌then◌else◌}
-use Rattle.std.specs.Int.{bit_at}
+use Rattle.std.specs.Prelude.{ℕ, zero, suc, ◌+◌, ◌-◌, ◌*◌, ◌/◌, ◌%◌, ◌<◌, ◌≤◌, ◌≡◌, ◌↔◌, Bool, true, false, IsTrue, nat_le, ◌&&◌, List, [], ◌∷◌, length, map, slice_index}
+use Rattle.std.specs.Int.{bit_at, from_bool}
 use Rattle.std.specs.List.{range_with_len}
 
 -- the element ID of TIM (9.4.2.1)
@@ -20,10 +20,6 @@ IsAid n = (1 ≤ n) × (n ≤ max_aid)
 -- two tests answer alike at each association identifier
 abbrev pub SameNumbers : (ℕ → Bool) → (ℕ → Bool) → Type 0
 SameNumbers members others = (n : ℕ) → IsAid n → members n ≡ others n
-
--- a truth value as a bit
-abbrev pub bit_of : Bool → ℕ
-bit_of b = if b then 1 else 0
 
 -- ---- as a relation: which numbers the octets have
 
@@ -48,7 +44,7 @@ pub record ShowsTim (t : List ℕ) (count period : ℕ) (group : Bool) (members 
   pub string : t ≡ tim_id ∷ (length octets + 3) ∷ count ∷ period ∷ control ∷ octets
   pub in_octets : (place : ℕ) → slice_index t place < 256
   pub count_below_period : count < period
-  pub traffic_indicator : bit_at control 0 ≡ bit_of group
+  pub traffic_indicator : bit_at control 0 ≡ from_bool group
   -- the group's units follow the beacon at count 0 alone
   pub group_at_0 : IsTrue group → count ≡ 0
   pub some : 1 ≤ length octets
@@ -70,14 +66,14 @@ pub record ShowsTim (t : List ℕ) (count period : ℕ) (group : Bool) (members 
 abbrev pub is_shown : (ℕ → Bool) → ℕ → Bool
 is_shown members n = nat_le 1 n && nat_le n max_aid && members n
 
--- so many bits of the virtual bitmap from a number on, the first of them the lowest
+-- so many bits from a number on, the first of them the lowest
 unfoldable pub bits_from : (ℕ → Bool) → ℕ → ℕ → ℕ
-bits_from members zero n = 0
-bits_from members (suc count) n = bit_of (is_shown members n) + 2 * bits_from members count (suc n)
+bits_from bit zero n = 0
+bits_from bit (suc count) n = from_bool (bit n) + 2 * bits_from bit count (suc n)
 
 -- the octet at a place of the virtual bitmap
 unfoldable pub octet_at : (ℕ → Bool) → ℕ → ℕ
-octet_at members place = bits_from members 8 (8 * place)
+octet_at members place = bits_from (is_shown members) 8 (8 * place)
 
 -- the octets of the virtual bitmap
 unfoldable pub virtual_bitmap : (ℕ → Bool) → List ℕ
@@ -111,7 +107,7 @@ partial_of bitmap =
 
 -- a TIM of these fields
 abbrev pub element_of : ℕ → ℕ → Bool → ℕ × List ℕ → List ℕ
-element_of count period group p = tim_id ∷ (length p.1 + 3) ∷ count ∷ period ∷ (2 * p.0 + bit_of group) ∷ p.1
+element_of count period group p = tim_id ∷ (length p.1 + 3) ∷ count ∷ period ∷ (2 * p.0 + from_bool group) ∷ p.1
 
 -- the TIM that shows a set
 unfoldable pub tim_octets : ℕ → ℕ → Bool → (ℕ → Bool) → List ℕ

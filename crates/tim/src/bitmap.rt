@@ -1,17 +1,21 @@
-//! A set of association identifiers (IEEE Std 802.11-2016, 9.4.1.8), and the octets of its virtual bitmap.
+//! A set of association identifiers (IEEE Std 802.11-2016, 9.4.1.8), and its virtual bitmap (9.4.2.6).
 
-ghost use Rattle.std.specs.Prelude.{◌≡◌, ◌≤◌};
+ghost use Rattle.std.specs.Prelude.{◌≡◌, ◌<◌, ◌≤◌, false, length, slice_index_or};
 ghost use Rattle.std.specs.FinSet as set;
+ghost use Rattle.tim.specs.Tim.{bits_from, octet_at, virtual_bitmap};
 
 use std::marker::Model;
 
 /// The greatest association identifier (9.4.1.8). The least is 1.
 pub const MAX_AID: u16 = 2007;
 
+/// How many octets the virtual bitmap has: that of the greatest identifier stands at the last place, 250.
+pub const BITMAP_LEN: usize = 251;
+
 /// A set of association identifiers. Contracts see it as a finite set of numbers from 1 to [`MAX_AID`].
 #[derive(Debug, Drop)]
 pub struct Bitmap {
-    // one truth value for each number; there is no identifier 0
+    // one truth value for each number below 8 * BITMAP_LEN; that of 0 stays false
     has: [bool; 2008],
 }
 
@@ -65,4 +69,35 @@ impl Bitmap {
     {
         self.has[usize::from(aid)]
     }
+
+    /// The octets of the virtual bitmap (9.4.2.6): bit n mod 8 of octet n / 8 tells whether the set has n.
+    pub fn virtual_bitmap(&self) -> [u8; 251]
+        ensures { result ≡ virtual_bitmap (set.contains self.now) }
+    {
+        let mut octets = [0; 251];
+        for (place, octet) in octets.iter_mut().enumerate() {
+            *octet = self.octet(place);
+        }
+        octets
+    }
+
+    /// One octet of the virtual bitmap.
+    fn octet(&self, place: usize) -> u8
+        requires { place < BITMAP_LEN }
+        ensures { result ≡ octet_at (set.contains self.now) place }
+    {
+        octet_of(&self.has[8 * place..8 * place + 8])
+    }
+}
+
+/// Eight truth values as an octet, the first of them its lowest bit.
+fn octet_of(bits: &[bool]) -> u8
+    requires { length bits.now ≡ 8 }
+    ensures { result ≡ bits_from (λ k. slice_index_or bits.now k false) 8 0 }
+{
+    let mut octet = 0;
+    for k in (0..8).rev() {
+        octet = 2 * octet + u8::from(bits[k]);
+    }
+    octet
 }

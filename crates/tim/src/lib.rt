@@ -7,5 +7,7 @@
 #![tactic(auto)]
 
 mod bitmap;
+mod element;
 
-pub use bitmap::{Bitmap, MAX_AID};
+pub use bitmap::{BITMAP_LEN, Bitmap, MAX_AID};
+pub use element::{TIM, one_tim, write_tim};
