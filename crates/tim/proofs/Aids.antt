@@ -1,15 +1,17 @@
 -- Sets of association identifiers by the tests that they answer.
-use Rattle.std.proofs.Common.{◌≡◌, ◌==◌, ◌≢◌, ℕ, zero, suc, ◌+◌, ◌<◌, ◌≤◌, Bool, true, false, not, ◌&&◌, ◌||◌, nat_le, nat_eq, filter, List, [], ◌∷◌, length, get_or, set, take, drop, ◌*◌, refl, sym, ap, ◌∙◌, subst, ⊎_elim, inl, inr, arith, tests}
+use Rattle.std.proofs.Common.{◌≡◌, ◌↔◌, IsTrue, ◌==◌, ◌≢◌, ℕ, zero, suc, ◌+◌, ◌<◌, ◌≤◌, Bool, true, false, not, ◌&&◌, ◌||◌, nat_le, nat_eq, filter, List, [], ◌∷◌, length, get_or, set, take, drop, ◌*◌, refl, sym, ap, ◌∙◌, subst, ⊎_elim, inl, inr, arith, tests}
 use Rattle.std.specs.List.{range_with_len, list_any}
 use Rattle.std.specs.Ordering.{nat_cmp, eq_by_cmp}
 use Rattle.std.specs.Cmp.{nat_cmp_total, unsigned_tied}
 use Rattle.std.specs.FinSet.{FinSet, contains, insert, remove, empty, contains-from_list_nat, contains-insert, contains-remove, contains-empty, same_set, nat_cmp-IsAntisymmetric}
-use Rattle.std.proofs.lemmas.Bool.{eqb-true, eq-eqb, ne_eqb, cases_eq, cases_Bool, le-leb, lt-leb, cases_lt, and_from, and_left, and_right, or_parts, or_left, not_from_true}
+use Rattle.std.proofs.lemmas.Bool.{and_parts, leb-true, eqb-true, eq-eqb, ne_eqb, cases_eq, cases_Bool, le-leb, lt-leb, cases_lt, and_from, and_left, and_right, or_parts, or_left, not_from_true}
 use Rattle.std.proofs.lemmas.List.{get_or-set_same, get_or-set_other, get_or-take, get_or-drop}
 use Rattle.std.proofs.lemmas.Map.Views.{any-filter_same}
-use Rattle.tim.specs.Tim.{max_aid, is_shown, bits_from, octet_at}
+use Rattle.tim.specs.Tim.{max_aid, IsAid, HasNumber, is_shown, bits_from, octet_at}
+use Rattle.tim.specs.Spelling.{has_number}
 use Rattle.tim.specs.Bitmap.{aids_where}
 use Rattle.tim.proofs.Octets.{bits_from-same}
+use Rattle.tim.proofs.Reading.{has_number-has, has-has_number, has-aid}
 
 -- a list of numbers in a row has those between its ends
 list_any-range : (q a n : ℕ) → list_any (λ y. nat_eq y q) (range_with_len a n) ≡ (nat_le a q && nat_le (suc q) (a + n))
@@ -129,3 +131,22 @@ octet_at-aids_of has place below first long = bits_from-same (is_shown (contains
     shown_by has (suc n) first long most =
         let least : 1 ≤ suc n = omega arith in
         shown_at (contains (aids_of has)) (suc n) least most ∙ contains-aids_of has (suc n) least most
+
+-- the set has no others
+pub aids_of-aid : (has : List Bool) (n : ℕ) → IsTrue (contains (aids_of has) n) → IsAid n
+aids_of-aid has n member =
+    let parts = and_parts _ _ (sym (contains-aids_where (λ m. get_or has m false) n) ∙ member) in
+    let both = and_parts _ _ parts.0 in
+    (leb-true 1 n both.0, leb-true n max_aid both.1)
+
+-- the set of the numbers that octets have
+pub aids_of-octets : (has : List Bool) (first : ℕ) (octets : List ℕ) → length has ≡ 2008 → first + length octets ≤ 251 → ¬ HasNumber first octets 0 → ((n : ℕ) → n < 2008 → get_or has n false ≡ has_number first octets n) → (n : ℕ) → IsTrue (contains (aids_of has) n) ↔ HasNumber first octets n
+aids_of-octets has first octets long within no_number_0 same n =
+    (λ member.
+        let shown = sym (contains-aids_where (λ m. get_or has m false) n) ∙ member in
+        let parts = and_parts _ _ shown in
+        let both = and_parts _ _ parts.0 in
+        has_number-has first octets n (sym (same n (omega (arith, leb-true n max_aid both.1))) ∙ parts.1),
+     λ here.
+        let aid = has-aid first octets n within no_number_0 here in
+        contains-aids_of has n aid.0 aid.1 ∙ same n (omega (arith, aid.1)) ∙ has-has_number first octets n here)

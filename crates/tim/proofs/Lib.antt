@@ -4,3 +4,4 @@ pub mod Partial
 pub mod Spelling
 pub mod Laws
 pub mod Aids
+pub mod Reading

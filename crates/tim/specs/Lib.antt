@@ -1,2 +1,3 @@
 pub mod Tim
 pub mod Bitmap
+pub mod Spelling

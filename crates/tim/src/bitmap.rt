@@ -1,8 +1,9 @@
 //! A set of association identifiers (IEEE Std 802.11-2016, 9.4.1.8), and its virtual bitmap (9.4.2.6).
 
-ghost use Rattle.std.specs.Prelude.{◌≡◌, ◌<◌, ◌≤◌, false, length, slice_index_or};
+ghost use Rattle.std.specs.Prelude.{◌≡◌, ◌+◌, ◌<◌, ◌≤◌, ◌↔◌, ℕ, false, IsTrue, length, slice_index_or};
 ghost use Rattle.std.specs.FinSet as set;
-ghost use Rattle.tim.specs.Tim.{bits_from, octet_at, virtual_bitmap};
+ghost use Rattle.tim.specs.Tim.{HasNumber, IsAid, bits_from, octet_at, virtual_bitmap};
+ghost use Rattle.tim.specs.Spelling.{has_number};
 
 use std::marker::Model;
 
@@ -10,7 +11,7 @@ use std::marker::Model;
 pub const MAX_AID: u16 = 2007;
 
 /// How many octets the virtual bitmap has: that of the greatest identifier stands at the last place, 250.
-pub const BITMAP_LEN: usize = 251;
+pub(crate) const BITMAP_LEN: usize = 251;
 
 /// A set of association identifiers. Contracts see it as a finite set of numbers from 1 to [`MAX_AID`].
 #[derive(Debug, Drop)]
@@ -70,8 +71,22 @@ impl Bitmap {
         self.has[usize::from(aid)]
     }
 
+    /// The set of which octets that stand from a place of the virtual bitmap on have the bits (9.4.2.6).
+    pub(crate) fn from_octets(first: usize, octets: &[u8]) -> Bitmap
+        requires within { first + length octets.now ≤ BITMAP_LEN }
+        requires no_number_0 { ¬ HasNumber first octets.now 0 }
+        ensures numbers { (n : ℕ) → IsTrue (set.contains result n) ↔ HasNumber first octets.now n }
+        ensures aids { (n : ℕ) → IsTrue (set.contains result n) → IsAid n }
+    {
+        let mut has = [false; 2008];
+        for (n, bit) in has.iter_mut().enumerate() {
+            *bit = has_number(first, octets, n);
+        }
+        Bitmap { has }
+    }
+
     /// The octets of the virtual bitmap (9.4.2.6): bit n mod 8 of octet n / 8 tells whether the set has n.
-    pub fn virtual_bitmap(&self) -> [u8; 251]
+    pub(crate) fn virtual_bitmap(&self) -> [u8; 251]
         ensures { result ≡ virtual_bitmap (set.contains self.now) }
     {
         let mut octets = [0; 251];
@@ -88,6 +103,16 @@ impl Bitmap {
     {
         octet_of(&self.has[8 * place..8 * place + 8])
     }
+}
+
+/// Whether octets that stand from a place of the virtual bitmap on have the bit of a number.
+fn has_number(first: usize, octets: &[u8], n: usize) -> bool
+    ensures { result ≡ has_number first octets.now n }
+{
+    let place = n / 8;
+    place >= first
+        && place - first < octets.len()
+        && octets[place - first] >> (n % 8) & 1 == 1
 }
 
 /// Eight truth values as an octet, the first of them its lowest bit.

@@ -1,10 +1,11 @@
 //! The TIM element (IEEE Std 802.11-2016, 9.4.2.6), read and written.
 
-ghost use Rattle.std.specs.Prelude.{◌≡◌, ◌+◌, ◌*◌, ◌++◌, ◌<◌, ◌≤◌, ◌^◌, ℕ, Bool, List, IsTrue, length, OnOk, OnErr};
+ghost use Rattle.std.specs.Prelude.{◌≡◌, ◌+◌, ◌*◌, ◌++◌, ◌<◌, ◌≤◌, ◌^◌, ◌∷◌, ℕ, Bool, List, IsTrue, IsSome, IsSomeAnd, IfSome, length, OnOk, OnErr};
 ghost use Rattle.std.specs.FinSet as set;
-ghost use Rattle.tim.specs.Tim.{ShowsTim, SameNumbers, up_to_last, from_first_pair, partial_of, tim_octets};
+ghost use Rattle.tim.specs.Tim.{ShowsTim, IsAid, SameNumbers, up_to_last, from_first_pair, partial_of, tim_octets};
+ghost use Rattle.tim.specs.Spelling.{is_placed, is_trimmed, is_spelled};
 
-use crate::bitmap::Bitmap;
+use crate::bitmap::{BITMAP_LEN, Bitmap};
 use mac_frame::{NoMemory, Octets};
 
 /// The element ID of TIM (9.4.2.1).
@@ -13,6 +14,83 @@ pub const TIM: u8 = 5;
 /// How many octets of the Information field stand before the Partial Virtual Bitmap: DTIM Count, DTIM Period and
 /// Bitmap Control.
 const FIELDS_LEN: u8 = 3;
+
+/// What a TIM shows.
+#[derive(Debug, Drop)]
+pub struct Tim {
+    /// DTIM Count: how many beacons come before the next DTIM; 0 in a DTIM.
+    pub count: u8,
+    /// DTIM Period: how many beacons come from one DTIM to the next.
+    pub period: u8,
+    /// The Traffic Indicator: whether the group has units.
+    pub group: bool,
+    /// The stations that have units.
+    pub bits: Bitmap,
+}
+
+/// What a whole element shows: nothing where it is no TIM, and where it is one in another spelling (profile).
+/// It takes no memory.
+pub fn read_tim(element: &[u8]) -> Option<Tim>
+    ensures found { IfSome result (λ tim. ShowsTim element.now tim.count tim.period tim.group (set.contains tim.bits)) }
+    ensures only { (count period : ℕ) (group : Bool) (members : ℕ → Bool) → ShowsTim element.now count period group members → IsSomeAnd result (λ tim. (tim.count ≡ count) × (tim.period ≡ period) × (tim.group ≡ group) × SameNumbers (set.contains tim.bits) members) }
+    ensures aids { IfSome result (λ tim. (n : ℕ) → IsTrue (set.contains tim.bits n) → IsAid n) }
+{
+    let (count, period, control, octets) = fields(element)?;
+    if !is_spelled(count, period, control, octets) {
+        return None;
+    }
+    Some(Tim {
+        count,
+        period,
+        group: control % 2 == 1,
+        bits: Bitmap::from_octets(2 * usize::from(control / 2), octets),
+    })
+}
+
+/// DTIM Count, DTIM Period, Bitmap Control and the Partial Virtual Bitmap of an element whose element ID and Length
+/// are those of a TIM.
+fn fields(element: &[u8]) -> Option<(u8, u8, u8, &[u8])>
+    ensures found { IfSome result (λ f. element.now ≡ TIM ∷ (length f.3.now + 3) ∷ f.0 ∷ f.1 ∷ f.2 ∷ f.3.now) }
+    ensures only { (count period control : ℕ) (octets : List ℕ) → element.now ≡ TIM ∷ (length octets + 3) ∷ count ∷ period ∷ control ∷ octets → IsSome result }
+{
+    let [id, len, count, period, control, octets @ ..] = element else {
+        return None;
+    };
+    if *id != TIM || usize::from(*len) != octets.len() + usize::from(FIELDS_LEN) {
+        return None;
+    }
+    Some((*count, *period, *control, octets))
+}
+
+/// Whether the fields of a TIM go together, and its octets are the one spelling of a set.
+fn is_spelled(count: u8, period: u8, control: u8, octets: &[u8]) -> bool
+    ensures { result ≡ is_spelled count period control octets.now }
+{
+    let first = 2 * usize::from(control / 2);
+    count < period
+        && (control % 2 == 0 || count == 0)
+        && is_placed(first, octets)
+        && is_trimmed(first, octets)
+}
+
+/// Whether there are octets, of which none stands past the last place of the virtual bitmap or has number 0.
+fn is_placed(first: usize, octets: &[u8]) -> bool
+    requires { first < 256 }
+    ensures { result ≡ is_placed first octets.now }
+{
+    !octets.is_empty()
+        && first + octets.len() <= BITMAP_LEN
+        && (first > 0 || octets[0] % 2 == 0)
+}
+
+/// Whether the last octet isn't 0, nor the first two both, or the only one is 0 and stands at place 0.
+fn is_trimmed(first: usize, octets: &[u8]) -> bool
+    requires { 1 ≤ length octets.now }
+    ensures { result ≡ is_trimmed first octets.now }
+{
+    (octets[octets.len() - 1] != 0 || (first == 0 && octets.len() == 1))
+        && !(octets.len() > 1 && octets[0] == 0 && octets[1] == 0)
+}
 
 /// The octets up to the last that isn't 0.
 fn up_to_last(octets: &[u8]) -> &[u8]

@@ -9,5 +9,5 @@
 mod bitmap;
 mod element;
 
-pub use bitmap::{BITMAP_LEN, Bitmap, MAX_AID};
-pub use element::{TIM, one_tim, write_tim};
+pub use bitmap::{Bitmap, MAX_AID};
+pub use element::{TIM, Tim, one_tim, read_tim, write_tim};

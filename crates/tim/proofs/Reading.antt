@@ -1,0 +1,185 @@
+-- The tests by which a TIM is read are met exactly by what shows something.
+use Rattle.std.proofs.Common.{◌≡◌, ◌==◌, ◌↔◌, ◌⊎◌, ℕ, zero, suc, ◌+◌, ◌-◌, ◌*◌, ◌/◌, ◌%◌, ◌<◌, ◌≤◌, Bool, true, false, not, ◌&&◌, ◌||◌, nat_le, nat_lt, IsTrue, List, [], ◌∷◌, length, get_or, take, drop, refl, sym, ap, ◌∙◌, subst, inl, inr, ⊎_elim, arith}
+use Rattle.std.specs.Int.{bit_at, from_bool}
+use Rattle.std.proofs.lemmas.Bool.{cases_lt, cases_eq, le-leb, lt-leb, leb-true, lt-ltb, ltb-true, eqb-true, eq-eqb, ne_eqb, and_parts, and_from, and_left, and_right, or_cases, or_left, or_right, not-true, not_from_true, not_from_false, false_from_ne_true, false≢true}
+use Rattle.std.proofs.lemmas.Nat.Bits.{bit_at_lowest}
+use Rattle.std.proofs.lemmas.List.{take_rest}
+use Rattle.tim.specs.Tim.{IsAid, SameNumbers, first_place, HasNumber, ShowsTim, tim_id}
+use Rattle.tim.specs.Spelling.{has_number, is_placed, is_trimmed, is_spelled}
+use Rattle.tim.proofs.Spelling.{sent_at, sent_at-from, sent_at-has, has-sent_at, IsUsed, IsSpelled, spelled, shows}
+
+-- ---- one number
+
+pub has_number-has : (first : ℕ) (octets : List ℕ) (n : ℕ) → has_number first octets n ≡ true → HasNumber first octets n
+has_number-has first octets n test =
+    let parts = and_parts _ _ test in
+    let from = leb-true first (n / 8) parts.0 in
+    let bit = eqb-true (bit_at (get_or octets (n / 8 - first) 0) (n % 8)) 1 parts.1 in
+    has-sent_at first octets n (ap (λ o. bit_at o (n % 8)) (sent_at-from first octets (n / 8) from) ∙ bit)
+
+pub has-has_number : (first : ℕ) (octets : List ℕ) (n : ℕ) → HasNumber first octets n → has_number first octets n ≡ true
+has-has_number first octets n w = and_from _ _ (le-leb first (n / 8) w.from) (eq-eqb _ 1 w.bit)
+
+-- number 0 is the lowest bit of the octet at place 0
+pub has_0 : (octets : List ℕ) → 1 ≤ length octets → get_or octets 0 0 % 2 ≡ 1 → HasNumber 0 octets 0
+has_0 octets some odd = record { from = omega arith; to = omega arith; bit = bit_at_lowest (get_or octets 0 0) ∙ odd }
+
+pub odd_from_0 : (first : ℕ) (octets : List ℕ) → HasNumber first octets 0 → (first ≡ 0) × (get_or octets 0 0 % 2 ≡ 1)
+odd_from_0 first octets w =
+    let none : first ≡ 0 = omega (arith, w.from) in
+    let here : HasNumber 0 octets 0 = subst (λ f. HasNumber f octets 0) none w in
+    (none, sym (bit_at_lowest (get_or octets 0 0)) ∙ here.bit)
+
+-- ---- where the octets stand
+
+pub placed-no_number_0 : (first : ℕ) (octets : List ℕ) → is_placed first octets ≡ true → ¬ HasNumber first octets 0
+placed-no_number_0 first octets test w =
+    let odd = odd_from_0 first octets w in
+    ⊎_elim
+    (λ later. omega (arith, ltb-true 0 first later, odd.0))
+    (λ even. omega (arith, eqb-true (get_or octets 0 0 % 2) 0 even, odd.1))
+    (or_cases _ _ (and_parts _ _ test).1)
+
+pub placed-from : (first : ℕ) (octets : List ℕ) → 1 ≤ length octets → first + length octets ≤ 251 → ¬ HasNumber first octets 0 → is_placed first octets ≡ true
+placed-from first octets some within no_number_0 =
+    and_from _ _ (and_from _ _ (lt-ltb 0 (length octets) some) (le-leb (first + length octets) 251 within))
+    (⊎_elim
+        (λ none. or_right _ _ (⊎_elim
+            (λ even. let zero_is : get_or octets 0 0 % 2 ≡ 0 = omega arith in eq-eqb (get_or octets 0 0 % 2) 0 zero_is)
+            (λ more.
+                let odd : get_or octets 0 0 % 2 ≡ 1 = omega arith in
+                let first_is : 0 ≡ first = omega arith in
+                absurd (no_number_0 (subst (λ f. HasNumber f octets 0) first_is (has_0 octets some odd))))
+            (cases_lt (get_or octets 0 0 % 2) 1)))
+        (λ more. or_left _ _ (lt-ltb 0 first more))
+        (cases_lt first 1))
+
+-- ---- which octets are sent
+
+-- one octet that is 0
+one_zero : (octets : List ℕ) → length octets ≡ 1 → get_or octets (length octets - 1) 0 ≡ 0 → octets ≡ 0 ∷ []
+one_zero [] one last = absurd (omega arith)
+one_zero (zero ∷ []) one last = refl
+one_zero (suc o ∷ []) one last = absurd (omega arith)
+one_zero (o ∷ p ∷ os) one last = absurd (omega arith)
+
+-- octets that begin with two zeros
+begins_zero : (octets : List ℕ) → (nat_lt 1 (length octets) && get_or octets 0 0 == 0 && get_or octets 1 0 == 0) ≡ false → 2 ≤ length octets → 0 < get_or octets 0 0 + get_or octets 1 0
+begins_zero octets test two = ⊎_elim
+    (λ none.
+        let first : get_or octets 0 0 ≡ 0 = omega arith in
+        let second : get_or octets 1 0 ≡ 0 = omega arith in
+        absurd (false≢true (sym test ∙ and_from _ _ (and_from _ _ (lt-ltb 1 (length octets) two) (eq-eqb _ 0 first)) (eq-eqb _ 0 second))))
+    (λ more. more)
+    (cases_lt (get_or octets 0 0 + get_or octets 1 0) 1)
+
+pub trimmed-used : (first : ℕ) (octets : List ℕ) → 1 ≤ length octets → is_trimmed first octets ≡ true → IsUsed octets ⊎ ((first ≡ 0) × (octets ≡ 0 ∷ []))
+trimmed-used first octets some test =
+    let parts = and_parts _ _ test in
+    ⊎_elim
+    (λ none.
+        let last : get_or octets (length octets - 1) 0 ≡ 0 = omega arith in
+        ⊎_elim
+        (λ other. absurd (false≢true (sym (not_from_true _ (eq-eqb (get_or octets (length octets - 1) 0) 0 last)) ∙ other)))
+        (λ one.
+            let both = and_parts _ _ one in
+            inr (eqb-true first 0 both.0, one_zero octets (eqb-true (length octets) 1 both.1) last))
+        (or_cases _ _ parts.0))
+    (λ more. inl (record { ends = more; begins = begins_zero octets (not-true _ parts.1) }))
+    (cases_lt (get_or octets (length octets - 1) 0) 1)
+
+-- where the first two aren't both 0, they aren't found to be
+not_begins : (octets : List ℕ) → (2 ≤ length octets → 0 < get_or octets 0 0 + get_or octets 1 0) → (nat_lt 1 (length octets) && get_or octets 0 0 == 0 && get_or octets 1 0 == 0) ≡ false
+not_begins octets begins = false_from_ne_true _ (λ all.
+    let parts = and_parts _ _ all in
+    let both = and_parts _ _ parts.0 in
+    omega (arith, begins (ltb-true 1 (length octets) both.0), eqb-true (get_or octets 0 0) 0 both.1, eqb-true (get_or octets 1 0) 0 parts.1))
+
+pub trimmed-from : (first : ℕ) (octets : List ℕ) → IsUsed octets ⊎ ((first ≡ 0) × (octets ≡ 0 ∷ [])) → is_trimmed first octets ≡ true
+trimmed-from first octets used = ⊎_elim
+    (λ u. and_from _ _
+        (or_left _ _ (not_from_false _ (ne_eqb (get_or octets (length octets - 1) 0) 0 (λ none. omega (arith, u.ends, none)))))
+        (not_from_false _ (not_begins octets u.begins)))
+    (λ z. subst (λ f. is_trimmed f octets ≡ true) (sym z.0) (subst (λ os. is_trimmed 0 os ≡ true) (sym z.1) refl))
+    used
+
+-- ---- all of it
+
+pub spelled-from_test : (count period control : ℕ) (octets : List ℕ) → ((place : ℕ) → get_or octets place 0 < 256) → is_spelled count period control octets ≡ true → (count < period) × (bit_at control 0 ≡ 1 → count ≡ 0) × IsSpelled (first_place control) octets
+spelled-from_test count period control octets in_octets test =
+    let trimmed = and_parts _ _ test in
+    let placed = and_parts _ _ trimmed.0 in
+    let at_0 = and_parts _ _ placed.0 in
+    let within = and_parts _ _ (and_parts _ _ placed.1).0 in
+    let some = ltb-true 0 (length octets) within.0 in
+    (ltb-true count period at_0.0,
+     λ bit. ⊎_elim
+        (λ even. absurd (omega (arith, eqb-true (control % 2) 0 even, sym (bit_at_lowest control) ∙ bit)))
+        (λ zero_is. eqb-true count 0 zero_is)
+        (or_cases _ _ at_0.1),
+     record {
+        some = some;
+        within = leb-true (first_place control + length octets) 251 within.1;
+        in_octets = in_octets;
+        no_number_0 = placed-no_number_0 (first_place control) octets placed.1;
+        used = trimmed-used (first_place control) octets some trimmed.1;
+     })
+
+pub test-from_spelled : (count period control : ℕ) (octets : List ℕ) → count < period → (bit_at control 0 ≡ 1 → count ≡ 0) → IsSpelled (first_place control) octets → is_spelled count period control octets ≡ true
+test-from_spelled count period control octets counted at_0 s =
+    and_from _ _
+    (and_from _ _
+        (and_from _ _ (lt-ltb count period counted)
+            (⊎_elim
+                (λ even. let zero_is : control % 2 ≡ 0 = omega arith in or_left _ _ (eq-eqb (control % 2) 0 zero_is))
+                (λ more. let odd : control % 2 ≡ 1 = omega arith in or_right _ _ (eq-eqb count 0 (at_0 (bit_at_lowest control ∙ odd))))
+                (cases_lt (control % 2) 1)))
+        (placed-from (first_place control) octets s.some s.within s.no_number_0))
+    (trimmed-from (first_place control) octets s.used)
+
+-- ---- a whole element
+
+-- the lowest bit, as a truth value
+lowest_bit : (control : ℕ) → bit_at control 0 ≡ from_bool (control % 2 == 1)
+lowest_bit control = bit_at_lowest control ∙ ⊎_elim
+    (λ even. let zero_is : control % 2 ≡ 0 = omega arith in zero_is ∙ sym (ap from_bool (ne_eqb (control % 2) 1 (λ one. omega (arith, one)))))
+    (λ more. let odd : control % 2 ≡ 1 = omega arith in odd ∙ sym (ap from_bool (eq-eqb (control % 2) 1 odd)))
+    (cases_lt (control % 2) 1)
+
+-- what passes the tests shows the numbers that its octets have
+pub read_shows : (t : List ℕ) (count period control half : ℕ) (octets : List ℕ) (members : ℕ → Bool) → t ≡ tim_id ∷ (length octets + 3) ∷ count ∷ period ∷ control ∷ octets → ((place : ℕ) → get_or t place 0 < 256) → is_spelled count period control octets ≡ true → half ≡ control / 2 → ((n : ℕ) → IsTrue (members n) ↔ HasNumber (2 * half) octets n) → ShowsTim t count period (control % 2 == 1) members
+read_shows t count period control half octets members string in_t test half_is numbers =
+    let fields = tim_id ∷ (length octets + 3) ∷ count ∷ period ∷ control ∷ octets in
+    let in_fields : (place : ℕ) → get_or fields place 0 < 256 = subst (λ u. (place : ℕ) → get_or u place 0 < 256) string in_t in
+    let s = spelled-from_test count period control octets (λ place. in_fields (suc (suc (suc (suc (suc place)))))) test in
+    let at_0 : IsTrue (control % 2 == 1) → count ≡ 0 = λ group. s.1 (bit_at_lowest control ∙ eqb-true (control % 2) 1 group) in
+    let in_control : (n : ℕ) → IsTrue (members n) ↔ HasNumber (first_place control) octets n = subst (λ h. (n : ℕ) → IsTrue (members n) ↔ HasNumber (2 * h) octets n) half_is numbers in
+    subst (λ u. ShowsTim u count period (control % 2 == 1) members) (sym string)
+    (shows count period control (control % 2 == 1) octets members s.0 (in_fields 3) (in_fields 4) (lowest_bit control) at_0 s.2 (λ n aid. in_control n))
+
+from_bool_one : (group : Bool) → from_bool group ≡ 1 → group ≡ true
+from_bool_one true e = refl
+from_bool_one false e = absurd (omega (arith, e))
+
+-- what shows something passes the tests
+pub shown_passes : (t : List ℕ) (count period control : ℕ) (octets : List ℕ) → t ≡ tim_id ∷ (length octets + 3) ∷ count ∷ period ∷ control ∷ octets → (count' period' : ℕ) (group : Bool) (members : ℕ → Bool) → ShowsTim t count' period' group members → is_spelled count period control octets ≡ true
+shown_passes t count period control octets string count' period' group members w =
+    let fields = tim_id ∷ (length octets + 3) ∷ count ∷ period ∷ control ∷ octets in
+    let both : fields ≡ tim_id ∷ (length w.octets + 3) ∷ count' ∷ period' ∷ w.control ∷ w.octets = sym string ∙ w.string in
+    let count_is : count ≡ count' = cc in
+    let period_is : period ≡ period' = cc in
+    let control_is : control ≡ w.control = cc in
+    let octets_is : octets ≡ w.octets = cc in
+    (λ i. is_spelled (count_is i) (period_is i) (control_is i) (octets_is i))
+    ∙ test-from_spelled count' period' w.control w.octets w.count_below_period
+        (λ bit. w.group_at_0 (from_bool_one group (sym w.traffic_indicator ∙ bit)))
+        (spelled t count' period' group members w)
+
+-- the numbers that octets have are association identifiers
+pub has-aid : (first : ℕ) (octets : List ℕ) (n : ℕ) → first + length octets ≤ 251 → ¬ HasNumber first octets 0 → HasNumber first octets n → IsAid n
+has-aid first octets n within no_number_0 w =
+    (⊎_elim
+        (λ none. let zero_is : n ≡ 0 = omega arith in absurd (no_number_0 (subst (λ m. HasNumber first octets m) zero_is w)))
+        (λ some. some)
+        (cases_lt n 1),
+     omega (arith, w.to))
