@@ -1,0 +1,6 @@
+pub mod Cells
+pub mod Frames
+pub mod Bodies
+pub mod Samples
+pub mod EthernetRows
+pub mod EncapsulationRows

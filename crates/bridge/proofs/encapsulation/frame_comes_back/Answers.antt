@@ -1,0 +1,8 @@
+use Rattle.bridge.proofs.Bodies.{typed_comes_back, sized_comes_back}
+use Rattle.bridge.proofs.encapsulation.frame_comes_back.Goals as goal
+
+pub returns-clause-typed : goal.returns-clause-typed
+returns-clause-typed c = typed_comes_back
+
+pub returns-clause-sized : goal.returns-clause-sized
+returns-clause-sized c = sized_comes_back
