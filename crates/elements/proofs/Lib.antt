@@ -1,2 +1,3 @@
 pub mod ElementRows
 pub mod Walk
+pub mod RateRows

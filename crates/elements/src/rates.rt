@@ -1,13 +1,46 @@
-//! The rates of a network, in two elements (IEEE Std 802.11-2016, 9.4.2.3 and 9.4.2.13).
+//! Rates, in two elements (IEEE Std 802.11-2016, 9.4.2.3 and 9.4.2.13): whether a body has one, and those of a network.
 
-ghost use Rattle.std.specs.Prelude.{◌≡◌, ◌++◌, ◌≤◌, length, OnOk, OnErr};
-ghost use Rattle.elements.specs.Rates.{supported_rates, extended_rates, rates_of};
+ghost use Rattle.std.specs.Prelude.{◌≡◌, ◌++◌, ◌≤◌, length, option_map, OnOk, OnErr};
+ghost use Rattle.elements.specs.Rates.{is_rate_among, is_in_element, has_rate, supported_rates, extended_rates, rates_of};
 
-use crate::element::{EXTENDED_SUPPORTED_RATES, SUPPORTED_RATES, write_element};
+use crate::element::{EXTENDED_SUPPORTED_RATES, Elements, SUPPORTED_RATES, write_element};
 use mac_frame::{NoMemory, Octets};
+
+/// Bit 7 of a rate, which is 1 for a basic rate; the bits below it are units of 500 kb/s (9.4.2.3).
+pub const BASIC_RATE: u8 = 0x80;
 
 /// How many rates stand in Supported Rates; those after them stand in Extended Supported Rates (9.4.2.3).
 const MAX_SUPPORTED_RATES: usize = 8;
+
+impl Elements<'_> {
+    /// Whether the first Supported Rates or the first Extended Supported Rates has a rate, each basic or not (9.4.2.3,
+    /// 9.4.2.13; which of several elements counts is *profile*).
+    pub fn has_rate(&self, rate: u8) -> bool
+        ensures { result ≡ has_rate rate self.now }
+    {
+        is_in_element(rate, self.first(SUPPORTED_RATES))
+            || is_in_element(rate, self.first(EXTENDED_SUPPORTED_RATES))
+    }
+}
+
+/// Whether a rate is among those of an element, where there is one.
+fn is_in_element(rate: u8, element: Option<&[u8]>) -> bool
+    ensures { result ≡ is_in_element rate (option_map (λ rates. rates.now) element.entry) }
+{
+    match element {
+        Some(rates) => is_rate_among(rate, rates),
+        None => false,
+    }
+}
+
+/// Whether a rate is among these, each basic or not.
+fn is_rate_among(rate: u8, rates: &[u8]) -> bool
+    ensures { result ≡ is_rate_among rate rates.now }
+{
+    rates
+        .iter()
+        .any(|other| other % BASIC_RATE == rate % BASIC_RATE)
+}
 
 /// Appends the first eight rates in Supported Rates (9.4.2.3). After `NoMemory` `out` is as it was.
 pub fn write_supported_rates(out: &mut Octets, rates: &[u8]) -> Result<(), NoMemory>

@@ -63,3 +63,11 @@ fn two_elements_are_read_in_order(rt: HostRuntime) -> Result<(), Fail> {
     assert_eq!(rt; Elements::new(&[0, 2, 97]).err(), Some(Overrun));
     Ok(())
 }
+
+#[test]
+fn rates_of_both_elements_are_there(rt: HostRuntime) -> Result<(), Fail> {
+    let elements = Elements::new(&[1, 3, 0x02, 0x0b, 0x96, 50, 1, 0x04])?;
+    assert!(rt; elements.has_rate(0x82) && elements.has_rate(0x16) && elements.has_rate(0x84));
+    assert!(rt; !elements.has_rate(0x0c) && !elements.has_rate(0x8c));
+    Ok(())
+}
