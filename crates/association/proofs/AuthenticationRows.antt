@@ -1,0 +1,58 @@
+-- What the definitions say of some requests to authenticate, and of their answers.
+use Rattle.std.proofs.Common.{◌≡◌, true, false, [], ◌∷◌, refl}
+use Rattle.mac_frame.proofs.Samples.{network, station}
+use Rattle.association.proofs.Samples.{other_station, frame}
+use Rattle.association.specs.Authentication.{auth_status, authentication}
+
+-- ---- statuses
+
+open_system_is_served : auth_status 0 1 true ≡ 0
+open_system_is_served = refl
+
+shared_key_is_not_supported : auth_status 1 1 true ≡ 13
+shared_key_is_not_supported = refl
+
+a_third_step_is_out_of_order : auth_status 0 3 true ≡ 14
+a_third_step_is_out_of_order = refl
+
+a_second_step_is_out_of_order : auth_status 0 2 true ≡ 14
+a_second_step_is_out_of_order = refl
+
+a_full_network_refuses : auth_status 0 1 false ≡ 1
+a_full_network_refuses = refl
+
+the_algorithm_comes_before_the_step : auth_status 1 3 true ≡ 13
+the_algorithm_comes_before_the_step = refl
+
+the_algorithm_comes_before_the_room : auth_status 3 1 false ≡ 13
+the_algorithm_comes_before_the_room = refl
+
+the_step_comes_before_the_room : auth_status 0 0 false ≡ 14
+the_step_comes_before_the_room = refl
+
+-- ---- answers
+
+a_station_is_authenticated :
+    authentication station network 0 0 0
+    ≡ 0xb0 ∷ 0x00 ∷ 0x00 ∷ 0x00
+    ∷ 0x02 ∷ 0xaa ∷ 0x00 ∷ 0x00 ∷ 0x00 ∷ 0x01
+    ∷ 0x02 ∷ 0x00 ∷ 0x00 ∷ 0x00 ∷ 0x00 ∷ 0x01
+    ∷ 0x02 ∷ 0x00 ∷ 0x00 ∷ 0x00 ∷ 0x00 ∷ 0x01
+    ∷ 0x00 ∷ 0x00
+    ∷ 0x00 ∷ 0x00 ∷ 0x02 ∷ 0x00 ∷ 0x00 ∷ 0x00 ∷ []
+a_station_is_authenticated = refl
+
+the_algorithm_is_repeated : authentication station network 1 1 13 ≡ frame 0xb0 station 0x10 0x00 (0x01 ∷ 0x00 ∷ 0x02 ∷ 0x00 ∷ 0x0d ∷ 0x00 ∷ [])
+the_algorithm_is_repeated = refl
+
+the_step_is_always_2 : authentication station network 0 0 14 ≡ frame 0xb0 station 0x00 0x00 (0x00 ∷ 0x00 ∷ 0x02 ∷ 0x00 ∷ 0x0e ∷ 0x00 ∷ [])
+the_step_is_always_2 = refl
+
+a_station_is_refused : authentication other_station network 1 0 1 ≡ frame 0xb0 other_station 0x10 0x00 (0x00 ∷ 0x00 ∷ 0x02 ∷ 0x00 ∷ 0x01 ∷ 0x00 ∷ [])
+a_station_is_refused = refl
+
+the_third_frame_has_sequence_number_2 : authentication other_station network 2 0 0 ≡ frame 0xb0 other_station 0x20 0x00 (0x00 ∷ 0x00 ∷ 0x02 ∷ 0x00 ∷ 0x00 ∷ 0x00 ∷ [])
+the_third_frame_has_sequence_number_2 = refl
+
+each_number_goes_low_octet_first : authentication station network 4095 0x0201 0x0403 ≡ frame 0xb0 station 0xf0 0xff (0x01 ∷ 0x02 ∷ 0x02 ∷ 0x00 ∷ 0x03 ∷ 0x04 ∷ [])
+each_number_goes_low_octet_first = refl

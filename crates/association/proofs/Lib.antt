@@ -1,0 +1,4 @@
+pub mod Samples
+pub mod AuthenticationRows
+pub mod AssociationRows
+pub mod LeavingRows

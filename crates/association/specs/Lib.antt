@@ -1,0 +1,5 @@
+pub mod Management
+pub mod Status
+pub mod Authentication
+pub mod Association
+pub mod Leaving

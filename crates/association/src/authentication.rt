@@ -1,0 +1,60 @@
+//! Open System authentication (IEEE Std 802.11-2016, 9.3.3.12 and 12.3.3.2): the status of a request, and its answer.
+
+ghost use Rattle.std.specs.Prelude.{◌≡◌, ◌++◌, ◌<◌, OnOk, OnErr};
+ghost use Rattle.association.specs.Authentication.{auth_status, authentication_body, authentication};
+
+use crate::frame::{AUTHENTICATION, write_frame};
+use crate::status::{REFUSED, SUCCESS, TRANSACTION_SEQUENCE_ERROR, UNSUPPORTED_AUTH_ALGORITHM};
+use mac_frame::{MacAddr, NoMemory, Octets};
+
+/// The algorithm number of Open System authentication (9.4.1.1).
+const OPEN_SYSTEM: u16 = 0;
+
+/// The transaction sequence number of a request (9.4.1.2).
+const REQUEST: u16 = 1;
+
+/// The transaction sequence number of an answer (9.4.1.2).
+const ANSWER: u16 = 2;
+
+/// The status of a request to authenticate by this algorithm, at this step, where there is room for the station or not
+/// (9.4.1.9; the statuses, their conditions and their order are *profile*).
+pub fn auth_status(algorithm: u16, step: u16, room: bool) -> u16
+    ensures { result ≡ auth_status algorithm step room }
+{
+    if algorithm != OPEN_SYSTEM {
+        UNSUPPORTED_AUTH_ALGORITHM
+    } else if step != REQUEST {
+        TRANSACTION_SEQUENCE_ERROR
+    } else if !room {
+        REFUSED
+    } else {
+        SUCCESS
+    }
+}
+
+/// Appends the whole answer to a request to authenticate by this algorithm, with this status, to the station `to`, from the
+/// network `bss` (9.3.3.12). After `NoMemory` `out` is as it was.
+pub fn write_auth(
+    out: &mut Octets,
+    to: MacAddr,
+    bss: MacAddr,
+    seq: u16,
+    algorithm: u16,
+    status: u16,
+) -> Result<(), NoMemory>
+    requires { seq < 4096 }
+    ensures ok { OnOk result (out.new ≡ out.old ++ authentication to bss seq algorithm status) }
+    ensures err { OnErr result (out.new ≡ out.old) }
+{
+    write_frame(out, AUTHENTICATION, to, bss, seq, &body(algorithm, status))
+}
+
+/// The body of an answer (9.3.3.12).
+fn body(algorithm: u16, status: u16) -> [u8; 6]
+    ensures { result ≡ authentication_body algorithm status }
+{
+    let [a, b] = algorithm.to_le_bytes();
+    let [c, d] = ANSWER.to_le_bytes();
+    let [e, f] = status.to_le_bytes();
+    [a, b, c, d, e, f]
+}

@@ -1,0 +1,47 @@
+//! Management frames that this crate writes (IEEE Std 802.11-2016, 9.3.3): their subtypes, and one appended whole.
+
+ghost use Rattle.std.specs.Prelude.{◌≡◌, ◌++◌, ◌<◌, ◌≤◌, length, OnOk, OnErr};
+ghost use Rattle.association.specs.Management.{management_frame};
+
+use mac_frame::{HEADER_LEN, MacAddr, NoMemory, Octets, write_mgmt};
+
+/// The subtype of an association response (9.2.4.1.3).
+pub const ASSOCIATION_RESPONSE: u8 = 1;
+
+/// The subtype of a reassociation response (9.2.4.1.3).
+pub const REASSOCIATION_RESPONSE: u8 = 3;
+
+/// The subtype of a disassociation (9.2.4.1.3).
+pub const DISASSOCIATION: u8 = 10;
+
+/// The subtype of an authentication (9.2.4.1.3).
+pub const AUTHENTICATION: u8 = 11;
+
+/// The subtype of a deauthentication (9.2.4.1.3).
+pub const DEAUTHENTICATION: u8 = 12;
+
+/// Capability Information, as it is written: ESS alone (9.4.1.4).
+pub const CAPABILITY: u16 = 1;
+
+/// Appends a management frame of this subtype and body to a receiver, from the network `bss`, with a sequence number.
+/// After `NoMemory` `out` is as it was.
+pub fn write_frame(
+    out: &mut Octets,
+    subtype: u8,
+    to: MacAddr,
+    bss: MacAddr,
+    seq: u16,
+    body: &[u8],
+) -> Result<(), NoMemory>
+    requires subtype { subtype < 16 }
+    requires seq { seq < 4096 }
+    requires body { length body.now ≤ 2304 }
+    ensures ok { OnOk result (out.new ≡ out.old ++ management_frame subtype to bss seq body.now) }
+    ensures err { OnErr result (out.new ≡ out.old) }
+{
+    let len = out.as_slice().len();
+    out.reserve(HEADER_LEN + body.len())?;
+    write_mgmt(out, subtype, to, bss, seq)?;
+    let written = out.append(body);
+    out.roll_back(len, written)
+}

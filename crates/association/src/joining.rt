@@ -1,0 +1,103 @@
+//! Association and reassociation (IEEE Std 802.11-2016, 9.3.3.6 to 9.3.3.9 and 11.3.5): the status of a request, and its
+//! answer.
+
+ghost use Rattle.std.specs.Prelude.{◌≡◌, ◌++◌, ◌+◌, ◌<◌, ◌≤◌, length, OnOk, OnErr};
+ghost use Rattle.association.specs.Association.{names_network, has_basic_rates, assoc_status, aid_field, association_fields, association_response};
+
+use crate::frame::{ASSOCIATION_RESPONSE, CAPABILITY, REASSOCIATION_RESPONSE, write_frame};
+use crate::status::{DENIED_NO_MORE_STAS, REFUSED, REFUSED_BASIC_RATES_MISMATCH, SUCCESS};
+use elements::{BASIC_RATE, Elements, SSID, write_rates};
+use mac_frame::{HEADER_LEN, MacAddr, NoMemory, Octets};
+
+/// The two high bits of an AID field that names an association (9.4.1.8).
+const AID_BITS: u16 = 0xc000;
+
+/// The octets of an answer beside the rates: the header, fixed fields of 6, and the first two octets of two elements
+/// (9.3.3.7).
+const FIXED_LEN: usize = HEADER_LEN + 6 + 2 * 2;
+
+/// The status of a request to associate, by the network's SSID and rates and whether there is room for the station
+/// (9.4.1.9; the statuses, their conditions and their order are *profile*).
+pub fn assoc_status(ssid: &[u8], rates: &[u8], room: bool, elements: &Elements<'_>) -> u16
+    ensures { result ≡ assoc_status ssid.now rates.now room elements.now }
+{
+    if !names_network(ssid, elements) {
+        REFUSED
+    } else if !has_basic_rates(rates, elements) {
+        REFUSED_BASIC_RATES_MISMATCH
+    } else if !room {
+        DENIED_NO_MORE_STAS
+    } else {
+        SUCCESS
+    }
+}
+
+/// Whether the elements name the network with this SSID.
+fn names_network(ssid: &[u8], elements: &Elements<'_>) -> bool
+    ensures { result ≡ names_network ssid.now elements.now }
+{
+    match elements.first(SSID) {
+        Some(named) => named == ssid,
+        None => false,
+    }
+}
+
+/// Whether the elements have each basic rate of these.
+fn has_basic_rates(rates: &[u8], elements: &Elements<'_>) -> bool
+    ensures { result ≡ has_basic_rates rates.now elements.now }
+{
+    rates
+        .iter()
+        .all(|rate| *rate < BASIC_RATE || elements.has_rate(*rate))
+}
+
+/// Appends the whole answer to a request to associate, or `again` to reassociate, with this status, to the station `to`, from
+/// the network `bss` with these rates (9.3.3.7, 9.3.3.9). The identifier counts where the status is `SUCCESS`. After
+/// `NoMemory` `out` is as it was.
+pub fn write_assoc(
+    out: &mut Octets,
+    to: MacAddr,
+    bss: MacAddr,
+    seq: u16,
+    again: bool,
+    status: u16,
+    aid: u16,
+    rates: &[u8],
+) -> Result<(), NoMemory>
+    requires seq { seq < 4096 }
+    requires aid { aid ≤ 2007 }
+    requires some_rates { 1 ≤ length rates.now }
+    requires few_rates { length rates.now ≤ 16 }
+    ensures ok { OnOk result (out.new ≡ out.old ++ association_response to bss seq again status aid rates.now) }
+    ensures err { OnErr result (out.new ≡ out.old) }
+{
+    let len = out.as_slice().len();
+    let subtype = if again {
+        REASSOCIATION_RESPONSE
+    } else {
+        ASSOCIATION_RESPONSE
+    };
+    out.reserve(FIXED_LEN + rates.len())?;
+    write_frame(out, subtype, to, bss, seq, &fixed_fields(status, aid))?;
+    let written = write_rates(out, rates);
+    out.roll_back(len, written)
+}
+
+/// The fields before the elements: Capability Information, Status Code and AID (9.3.3.7).
+fn fixed_fields(status: u16, aid: u16) -> [u8; 6]
+    requires { aid ≤ 2007 }
+    ensures { result ≡ association_fields status aid }
+{
+    let [a, b] = CAPABILITY.to_le_bytes();
+    let [c, d] = status.to_le_bytes();
+    let [e, f] = aid_field(status, aid).to_le_bytes();
+    [a, b, c, d, e, f]
+}
+
+/// The AID field of an answer with this status (9.4.1.8): 0 where the request is refused (*profile*).
+fn aid_field(status: u16, aid: u16) -> u16
+    requires { aid ≤ 2007 }
+    ensures { result ≡ aid_field status aid }
+{
+    if status == SUCCESS { AID_BITS + aid } else { 0 }
+}

@@ -1,0 +1,28 @@
+//! Notices by which a network ends what a station had with it (IEEE Std 802.11-2016, 9.3.3.5 and 9.3.3.13).
+
+ghost use Rattle.std.specs.Prelude.{◌≡◌, ◌++◌, ◌<◌, OnOk, OnErr};
+ghost use Rattle.association.specs.Leaving.{notice_frame};
+
+use crate::frame::{DEAUTHENTICATION, DISASSOCIATION, write_frame};
+use mac_frame::{MacAddr, NoMemory, Octets};
+use station_state::Notice;
+
+/// Appends the whole frame of a notice to the station `to`, from the network `bss`: a deauthentication or a
+/// disassociation with its reason (9.3.3.5, 9.3.3.13). After `NoMemory` `out` is as it was.
+pub fn write_notice(
+    out: &mut Octets,
+    to: MacAddr,
+    bss: MacAddr,
+    seq: u16,
+    notice: Notice,
+) -> Result<(), NoMemory>
+    requires { seq < 4096 }
+    ensures ok { OnOk result (out.new ≡ out.old ++ notice_frame to bss seq notice) }
+    ensures err { OnErr result (out.new ≡ out.old) }
+{
+    let (subtype, reason) = match notice {
+        Notice::Deauthenticate(reason) => (DEAUTHENTICATION, reason),
+        Notice::Disassociate(reason) => (DISASSOCIATION, reason),
+    };
+    write_frame(out, subtype, to, bss, seq, &reason.to_le_bytes())
+}

@@ -1,0 +1,28 @@
+//! How stations come to a network and leave it (IEEE Std 802.11-2016, 9.3.3 and 11.3): authentication, association,
+//! disassociation and deauthentication.
+//!
+//! It promises which status a request is answered with, and that each answer and each notice is appended with exactly the
+//! octets of its frame.
+//!
+//! Whether there is room for a station, which identifier it is given, and when a notice is sent, is left to the network.
+#![tactic(auto)]
+
+mod authentication;
+mod frame;
+mod joining;
+mod leaving;
+mod status;
+#[cfg(test)]
+mod tests;
+
+pub use authentication::{auth_status, write_auth};
+pub use frame::{
+    ASSOCIATION_RESPONSE, AUTHENTICATION, CAPABILITY, DEAUTHENTICATION, DISASSOCIATION,
+    REASSOCIATION_RESPONSE,
+};
+pub use joining::{assoc_status, write_assoc};
+pub use leaving::write_notice;
+pub use status::{
+    DENIED_NO_MORE_STAS, REFUSED, REFUSED_BASIC_RATES_MISMATCH, SUCCESS,
+    TRANSACTION_SEQUENCE_ERROR, UNSUPPORTED_AUTH_ALGORITHM,
+};
