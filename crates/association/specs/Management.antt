@@ -1,7 +1,6 @@
 -- Management frames that are sent (IEEE Std 802.11-2016, 9.3.3): their subtypes, and a whole one.
 use Rattle.std.specs.Prelude.{ℕ, List, ◌++◌}
-use Rattle.std.specs.Int.{w16, to_le_bytes}
-use Rattle.mac_frame.specs.Header.{management_header}
+use Rattle.mac_frame.specs.Management.{management_header}
 
 -- ---- subtypes (9.2.4.1.3)
 
@@ -21,10 +20,6 @@ abbrev pub deauthentication_subtype : ℕ
 deauthentication_subtype = 12
 
 -- ---- octets
-
--- Capability Information (9.4.1.4): ESS alone
-abbrev pub capability : List ℕ
-capability = to_le_bytes w16 1
 
 -- a management frame of this subtype and body to a receiver, from a network
 abbrev pub management_frame : (subtype : ℕ) (to bss : List ℕ) (sequence : ℕ) (body : List ℕ) → List ℕ

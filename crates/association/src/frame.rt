@@ -20,9 +20,6 @@ pub const AUTHENTICATION: u8 = 11;
 /// The subtype of a deauthentication (9.2.4.1.3).
 pub const DEAUTHENTICATION: u8 = 12;
 
-/// Capability Information, as it is written: ESS alone (9.4.1.4).
-pub const CAPABILITY: u16 = 1;
-
 /// Appends a management frame of this subtype and body to a receiver, from the network `bss`, with a sequence number.
 /// After `NoMemory` `out` is as it was.
 pub fn write_frame(

@@ -17,8 +17,7 @@ mod tests;
 
 pub use authentication::{auth_status, write_auth};
 pub use frame::{
-    ASSOCIATION_RESPONSE, AUTHENTICATION, CAPABILITY, DEAUTHENTICATION, DISASSOCIATION,
-    REASSOCIATION_RESPONSE,
+    ASSOCIATION_RESPONSE, AUTHENTICATION, DEAUTHENTICATION, DISASSOCIATION, REASSOCIATION_RESPONSE,
 };
 pub use joining::{assoc_status, write_assoc};
 pub use leaving::write_notice;
