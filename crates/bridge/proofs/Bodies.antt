@@ -30,9 +30,9 @@ number_fits field octets = omega (arith, octets 0, octets 1)
 part_octets : (before part after : List ℕ) → ((place : ℕ) → slice_index (before ++ part ++ after) place < 256) → (place : ℕ) → slice_index part place < 256
 part_octets before part after octets place = ⊎_elim
     (λ within.
-      let string : before ++ part ++ after ≡ before ++ (part ++ after) = append_assoc before part after in
-      let same : slice_index (before ++ part ++ after) (length before + place) ≡ slice_index part place = ap (λ s. slice_index s (length before + place)) string ∙ get_or-append-add before (part ++ after) place 0 ∙ get_or_append_left part after 0 place within in
-      subst (λ octet. octet < 256) same (octets (length before + place)))
+    let string : before ++ part ++ after ≡ before ++ (part ++ after) = append_assoc before part after in
+    let same : slice_index (before ++ part ++ after) (length before + place) ≡ slice_index part place = ap (λ s. slice_index s (length before + place)) string ∙ get_or-append-add before (part ++ after) place 0 ∙ get_or_append_left part after 0 place within in
+    subst (λ octet. octet < 256) same (octets (length before + place)))
     (λ past. subst (λ octet. octet < 256) (sym (get_or_past part place 0 past)) (omega arith))
     (cases_lt place (length part))
 

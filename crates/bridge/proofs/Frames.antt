@@ -139,9 +139,9 @@ is_a_frame y w e =
     ⊎_elim
     (λ typed. typed_is y w long typed.0 typed.1)
     (λ other. ⊎_elim
-      (λ sized. sized_is y w long sized.0 sized.1)
-      (λ none. absurd (cc none.1))
-      (taken (is_length (number_of y)) (sized_of y) (Err Body) w other.1))
+    (λ sized. sized_is y w long sized.0 sized.1)
+    (λ none. absurd (cc none.1))
+    (taken (is_length (number_of y)) (sized_of y) (Err Body) w other.1))
     (taken (is_type (number_of y)) (typed_of y) _ w short.1)
 
 -- ---- what follows

@@ -108,7 +108,14 @@ fn a_body_of_two_octets_has_no_wired_form(rt: HostRuntime) -> Result<(), Fail> {
     assert!(rt; !to_wire(&mut out, MacAddr::new(STATION), MacAddr::new(HOST), &[7, 7])?);
     assert_eq!(rt; out.as_slice(), [0xff].as_slice());
     let mut wired = Octets::new(rt.alloc());
-    assert!(rt; to_wire(&mut wired, MacAddr::new(STATION), MacAddr::new(HOST), &[7, 7, 7])?);
+    assert!(rt;
+        to_wire(
+            &mut wired,
+            MacAddr::new(STATION),
+            MacAddr::new(HOST),
+            &[7, 7, 7]
+        )?
+    );
     let octets = frame(&rt, [0x00, 0x03], 3)?;
     assert_eq!(rt; wired.as_slice(), octets.as_slice());
     Ok(())

@@ -24,18 +24,18 @@ list_any-range q a (suc n) =
     let others = list_any-range q (a + 1) n ∙ ap (λ end. nat_le (a + 1) q && nat_le (suc q) end) more in
     ⊎_elim
     (λ same.
-        let past : suc q ≤ a + suc n = omega arith in
-        ap (λ b. b || list_any (λ y. nat_eq y q) (range_with_len (a + 1) n)) (eq-eqb a q same)
-        ∙ sym (and_from _ _ (le-leb a q (omega arith)) (le-leb (suc q) (a + suc n) past)))
+    let past : suc q ≤ a + suc n = omega arith in
+    ap (λ b. b || list_any (λ y. nat_eq y q) (range_with_len (a + 1) n)) (eq-eqb a q same)
+    ∙ sym (and_from _ _ (le-leb a q (omega arith)) (le-leb (suc q) (a + suc n) past)))
     (λ apart. ap (λ b. b || list_any (λ y. nat_eq y q) (range_with_len (a + 1) n)) (ne_eqb a q apart) ∙ others
-        ∙ ⊎_elim
-            (λ below.
-                let below_next : q < a + 1 = omega arith in
-                and_left _ _ (lt-leb (a + 1) q below_next) ∙ sym (and_left _ _ (lt-leb a q below)))
-            (λ from.
-                let next : a + 1 ≤ q = omega arith in
-                ap (λ b. b && nat_le (suc q) (a + suc n)) (le-leb (a + 1) q next ∙ sym (le-leb a q from)))
-            (cases_lt q a))
+    ∙ ⊎_elim
+    (λ below.
+    let below_next : q < a + 1 = omega arith in
+    and_left _ _ (lt-leb (a + 1) q below_next) ∙ sym (and_left _ _ (lt-leb a q below)))
+    (λ from.
+    let next : a + 1 ≤ q = omega arith in
+    ap (λ b. b && nat_le (suc q) (a + suc n)) (le-leb (a + 1) q next ∙ sym (le-leb a q from)))
+    (cases_lt q a))
     (cases_eq a q)
 
 and_swap : (a b c : Bool) → (c && (a && b)) ≡ (a && b && c)
@@ -98,25 +98,25 @@ remove_at q k s = contains-remove nat_cmp_total s k q ∙ ap (λ b. not b && con
 pub aids_of-insert : (has : List Bool) (aid : ℕ) → 1 ≤ aid → aid ≤ max_aid → aid < length has → aids_of (set has aid true) ≡ insert (aids_of has) aid
 aids_of-insert has aid least greatest within = same_aids (λ n. get_or (set has aid true) n false) (insert (aids_of has) aid) (λ q. ⊎_elim
     (λ here.
-        let P : ℕ → Type 0 = λ n. is_shown (λ m. get_or (set has aid true) m false) n ≡ contains (insert (aids_of has) aid) n in
-        subst P (sym here)
-        (shown_at (λ n. get_or (set has aid true) n false) aid least greatest ∙ get_or-set_same has aid true false within
-        ∙ sym (insert_at aid aid (aids_of has) ∙ or_left (aid == aid) (contains (aids_of has) aid) (eq-eqb aid aid refl))))
+    let P : ℕ → Type 0 = λ n. is_shown (λ m. get_or (set has aid true) m false) n ≡ contains (insert (aids_of has) aid) n in
+    subst P (sym here)
+    (shown_at (λ n. get_or (set has aid true) n false) aid least greatest ∙ get_or-set_same has aid true false within
+    ∙ sym (insert_at aid aid (aids_of has) ∙ or_left (aid == aid) (contains (aids_of has) aid) (eq-eqb aid aid refl))))
     (λ other.
-        ap (λ b. nat_le 1 q && nat_le q max_aid && b) (get_or-set_other has aid q true false other)
-        ∙ sym (insert_at q aid (aids_of has) ∙ ap (λ b. b || contains (aids_of has) q) (ne_eqb q aid other) ∙ contains-aids_where _ q))
+    ap (λ b. nat_le 1 q && nat_le q max_aid && b) (get_or-set_other has aid q true false other)
+    ∙ sym (insert_at q aid (aids_of has) ∙ ap (λ b. b || contains (aids_of has) q) (ne_eqb q aid other) ∙ contains-aids_where _ q))
     (cases_eq q aid))
 
 pub aids_of-remove : (has : List Bool) (aid : ℕ) → 1 ≤ aid → aid ≤ max_aid → aid < length has → aids_of (set has aid false) ≡ remove (aids_of has) aid
 aids_of-remove has aid least greatest within = same_aids (λ n. get_or (set has aid false) n false) (remove (aids_of has) aid) (λ q. ⊎_elim
     (λ here.
-        let P : ℕ → Type 0 = λ n. is_shown (λ m. get_or (set has aid false) m false) n ≡ contains (remove (aids_of has) aid) n in
-        subst P (sym here)
-        (shown_at (λ n. get_or (set has aid false) n false) aid least greatest ∙ get_or-set_same has aid false false within
-        ∙ sym (remove_at aid aid (aids_of has) ∙ and_left (not (aid == aid)) (contains (aids_of has) aid) (not_from_true (aid == aid) (eq-eqb aid aid refl)))))
+    let P : ℕ → Type 0 = λ n. is_shown (λ m. get_or (set has aid false) m false) n ≡ contains (remove (aids_of has) aid) n in
+    subst P (sym here)
+    (shown_at (λ n. get_or (set has aid false) n false) aid least greatest ∙ get_or-set_same has aid false false within
+    ∙ sym (remove_at aid aid (aids_of has) ∙ and_left (not (aid == aid)) (contains (aids_of has) aid) (not_from_true (aid == aid) (eq-eqb aid aid refl)))))
     (λ other.
-        ap (λ b. nat_le 1 q && nat_le q max_aid && b) (get_or-set_other has aid q false false other)
-        ∙ sym (remove_at q aid (aids_of has) ∙ ap (λ b. not b && contains (aids_of has) q) (ne_eqb q aid other) ∙ contains-aids_where _ q))
+    ap (λ b. nat_le 1 q && nat_le q max_aid && b) (get_or-set_other has aid q false false other)
+    ∙ sym (remove_at q aid (aids_of has) ∙ ap (λ b. not b && contains (aids_of has) q) (ne_eqb q aid other) ∙ contains-aids_where _ q))
     (cases_eq q aid))
 
 -- the octet of the virtual bitmap at a place, of the truth values of its eight numbers
@@ -141,12 +141,13 @@ aids_of-aid has n member =
 
 -- the set of the numbers that octets have
 pub aids_of-octets : (has : List Bool) (first : ℕ) (octets : List ℕ) → length has ≡ 2008 → first + length octets ≤ 251 → ¬ HasNumber first octets 0 → ((n : ℕ) → n < 2008 → get_or has n false ≡ has_number first octets n) → (n : ℕ) → IsTrue (contains (aids_of has) n) ↔ HasNumber first octets n
-aids_of-octets has first octets long within no_number_0 same n =
-    (λ member.
-        let shown = sym (contains-aids_where (λ m. get_or has m false) n) ∙ member in
-        let parts = and_parts _ _ shown in
-        let both = and_parts _ _ parts.0 in
-        has_number-has first octets n (sym (same n (omega (arith, leb-true n max_aid both.1))) ∙ parts.1),
-     λ here.
-        let aid = has-aid first octets n within no_number_0 here in
-        contains-aids_of has n aid.0 aid.1 ∙ same n (omega (arith, aid.1)) ∙ has-has_number first octets n here)
+aids_of-octets has first octets long within no_number_0 same n = (
+  λ member.
+      let shown = sym (contains-aids_where (λ m. get_or has m false) n) ∙ member in
+      let parts = and_parts _ _ shown in
+      let both = and_parts _ _ parts.0 in
+      has_number-has first octets n (sym (same n (omega (arith, leb-true n max_aid both.1))) ∙ parts.1),
+  λ here.
+      let aid = has-aid first octets n within no_number_0 here in
+      contains-aids_of has n aid.0 aid.1 ∙ same n (omega (arith, aid.1)) ∙ has-has_number first octets n here,
+)

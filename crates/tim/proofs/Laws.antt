@@ -57,8 +57,8 @@ pub sent-partial : (bitmap : List ℕ) (half : ℕ) (octets : List ℕ) → IsPa
 sent-partial bitmap half octets w place = ⊎_elim
     (λ before. sent_at-before (2 * half) octets place before ∙ sym (w.zeros place before))
     (λ from.
-        let at : 2 * half + (place - 2 * half) ≡ place = omega arith in
-        sent_at-from (2 * half) octets place from ∙ w.others (place - 2 * half) ∙ ap (λ p. get_or bitmap p 0) at)
+    let at : 2 * half + (place - 2 * half) ≡ place = omega arith in
+    sent_at-from (2 * half) octets place from ∙ w.others (place - 2 * half) ∙ ap (λ p. get_or bitmap p 0) at)
     (cases_lt place (2 * half))
 
 has-shown : (members : ℕ → Bool) (half : ℕ) (octets : List ℕ) → IsPartial (virtual_bitmap members) half octets → (n : ℕ) → n ≤ max_aid → HasNumber (2 * half) octets n → is_shown members n ≡ true
@@ -90,9 +90,10 @@ tim_octets_show count period group members counted fits at_0 =
     let w : IsPartial bitmap half octets = partial_of-is bitmap (omega (arith, length-virtual_bitmap members)) in
     let s = spelled-partial members half octets w in
     let first_is : 2 * half ≡ first_place (2 * half + from_bool group) = sym (control_half half group) in
-    let numbers : (n : ℕ) → IsAid n → IsTrue (members n) ↔ HasNumber (2 * half) octets n = λ n aid.
-        (λ member. shown-has members half octets w n aid.1 (shown-aid members n aid ∙ member),
-         λ here. sym (shown-aid members n aid) ∙ has-shown members half octets w n aid.1 here) in
+    let numbers : (n : ℕ) → IsAid n → IsTrue (members n) ↔ HasNumber (2 * half) octets n = λ n aid. (
+      λ member. shown-has members half octets w n aid.1 (shown-aid members n aid ∙ member),
+      λ here. sym (shown-aid members n aid) ∙ has-shown members half octets w n aid.1 here,
+    ) in
     shows count period (2 * half + from_bool group) group octets members counted fits
     (omega (arith, from_bool-le group, s.some, s.within))
     (control_bit half group) at_0
@@ -103,8 +104,8 @@ tim_octets_show count period group members counted fits at_0 =
 pub one_string : (t u : List ℕ) (count period : ℕ) (group : Bool) (members : ℕ → Bool) → ShowsTim t count period group members → ShowsTim u count period group members → t ≡ u
 one_string t u count period group members w v =
     let same = one_spelling (w.control / 2) (v.control / 2) w.octets v.octets (spelled t count period group members w) (spelled u count period group members v)
-        (λ n aid here. (v.numbers n aid).0 ((w.numbers n aid).1 here))
-        (λ n aid here. (w.numbers n aid).0 ((v.numbers n aid).1 here)) in
+    (λ n aid here. (v.numbers n aid).0 ((w.numbers n aid).1 here))
+    (λ n aid here. (w.numbers n aid).0 ((v.numbers n aid).1 here)) in
     let control_is : w.control ≡ v.control = same_control w.control v.control same.0 (w.traffic_indicator ∙ sym v.traffic_indicator) in
     w.string ∙ (λ i. tim_id ∷ (length (same.1 i) + 3) ∷ count ∷ period ∷ control_is i ∷ same.1 i) ∙ sym v.string
 
@@ -124,11 +125,13 @@ pub one_meaning : (t : List ℕ) (count count' period period' : ℕ) (group grou
 one_meaning t count count' period period' group group' members members' w v =
     let both = sym w.string ∙ v.string in
     let control_is : w.control ≡ v.control = cc in
-    let octets_is : w.octets ≡ v.octets = cc in
-    (cc, cc,
-     same_group group group' (sym w.traffic_indicator ∙ ap (λ c. bit_at c 0) control_is ∙ v.traffic_indicator),
-     λ n aid. same_member (members n) (members' n) (HasNumber (first_place w.control) w.octets n) (w.numbers n aid)
-        (subst (λ os. IsTrue (members' n) ↔ HasNumber (first_place w.control) os n) (sym octets_is) (subst (λ c. IsTrue (members' n) ↔ HasNumber (first_place c) v.octets n) (sym control_is) (v.numbers n aid))))
+    let octets_is : w.octets ≡ v.octets = cc in (
+      cc,
+      cc,
+      same_group group group' (sym w.traffic_indicator ∙ ap (λ c. bit_at c 0) control_is ∙ v.traffic_indicator),
+      λ n aid. same_member (members n) (members' n) (HasNumber (first_place w.control) w.octets n) (w.numbers n aid)
+          (subst (λ os. IsTrue (members' n) ↔ HasNumber (first_place w.control) os n) (sym octets_is) (subst (λ c. IsTrue (members' n) ↔ HasNumber (first_place c) v.octets n) (sym control_is) (v.numbers n aid))),
+    )
 
 -- ---- tests that answer alike
 

@@ -50,9 +50,9 @@ bits_from-same bit other (suc count) n m same =
     let there : m + 0 ≡ m = omega arith in
     let first : bit n ≡ other m = ap bit (sym here) ∙ same 0 (omega arith) ∙ ap other there in
     let others : bits_from bit count (suc n) ≡ bits_from other count (suc m) = bits_from-same bit other count (suc n) (suc m) (λ k below.
-        let next : suc n + k ≡ n + suc k = omega arith in
-        let next_other : m + suc k ≡ suc m + k = omega arith in
-        ap bit next ∙ same (suc k) (omega arith) ∙ ap other next_other) in
+    let next : suc n + k ≡ n + suc k = omega arith in
+    let next_other : m + suc k ≡ suc m + k = omega arith in
+    ap bit next ∙ same (suc k) (omega arith) ∙ ap other next_other) in
     λ i. from_bool (first i) + 2 * others i
 
 -- the octet at a place has the bits of its eight numbers

@@ -106,9 +106,9 @@ partial_from : (bitmap last : List ℕ) (pairs : ℕ) (behind : List ℕ) → 1 
 partial_from bitmap last pairs [] some same long ends w =
     let whole = w.whole in
     let none : pairs ≡ 0 = ⊎_elim
-        (λ e. e)
-        (λ more. absurd (omega (arith, ends (omega arith), w.zeros (length last - 1) (omega arith))))
-        (cases_zero pairs) in
+    (λ e. e)
+    (λ more. absurd (omega (arith, ends (omega arith), w.zeros (length last - 1) (omega arith))))
+    (cases_zero pairs) in
     record {
       some = omega arith;
       within = omega arith;
@@ -120,6 +120,7 @@ partial_from bitmap last pairs [] some same long ends w =
     get_or-zero : (place : ℕ) → get_or {A = ℕ} (0 ∷ []) place 0 ≡ 0
     get_or-zero zero = refl
     get_or-zero (suc place) = refl
+
     cases_zero : (n : ℕ) → (n ≡ 0) ⊎ (1 ≤ n)
     cases_zero zero = inl refl
     cases_zero (suc n) = inr (omega arith)
@@ -150,12 +151,12 @@ partial_of-is bitmap some =
 pub same_ends : (xs ys : List ℕ) → Ends xs → Ends ys → ((place : ℕ) → get_or xs place 0 ≡ get_or ys place 0) → xs ≡ ys
 same_ends xs ys ends ends' same =
     let long : length xs ≡ length ys = ⊎_elim
-        (λ shorter. absurd (omega (arith, ends' (omega arith), same (length ys - 1), get_or_past xs (length ys - 1) 0 (omega arith))))
-        (λ rest. ⊎_elim
-            (λ longer. absurd (omega (arith, ends (omega arith), same (length xs - 1), get_or_past ys (length xs - 1) 0 (omega arith))))
-            (λ within. omega arith)
-            (cases_lt (length ys) (length xs)))
-        (cases_lt (length xs) (length ys)) in
+    (λ shorter. absurd (omega (arith, ends' (omega arith), same (length ys - 1), get_or_past xs (length ys - 1) 0 (omega arith))))
+    (λ rest. ⊎_elim
+    (λ longer. absurd (omega (arith, ends (omega arith), same (length xs - 1), get_or_past ys (length xs - 1) 0 (omega arith))))
+    (λ within. omega arith)
+    (cases_lt (length ys) (length xs)))
+    (cases_lt (length xs) (length ys)) in
     ext_get_or 0 xs ys long (λ place below. same place)
 
 -- a last octet that is 0 is dropped
@@ -167,10 +168,10 @@ up_to_last_zero octets some last = same_ends _ _ (Ends-up_to_last (take (length 
     others place = ⊎_elim
         (λ before. get_or-take (length octets - 1) octets place 0 before)
         (λ from. get_or_past (take (length octets - 1) octets) place 0 (omega (arith, length-take (length octets - 1) octets))
-            ∙ ⊎_elim
-                (λ here. sym last ∙ (let at : length octets - 1 ≡ place = omega arith in ap (λ p. get_or octets p 0) at))
-                (λ past. sym (get_or_past octets place 0 past))
-                (cases_lt place (length octets)))
+        ∙ ⊎_elim
+        (λ here. sym last ∙ (let at : length octets - 1 ≡ place = omega arith in ap (λ p. get_or octets p 0) at))
+        (λ past. sym (get_or_past octets place 0 past))
+        (cases_lt place (length octets)))
         (cases_lt place (length octets - 1))
 
 -- octets of which the last isn't 0 stay

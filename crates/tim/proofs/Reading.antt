@@ -44,15 +44,15 @@ pub placed-from : (first : ℕ) (octets : List ℕ) → 1 ≤ length octets → 
 placed-from first octets some within no_number_0 =
     and_from _ _ (and_from _ _ (lt-ltb 0 (length octets) some) (le-leb (first + length octets) 251 within))
     (⊎_elim
-        (λ none. or_right _ _ (⊎_elim
-            (λ even. let zero_is : get_or octets 0 0 % 2 ≡ 0 = omega arith in eq-eqb (get_or octets 0 0 % 2) 0 zero_is)
-            (λ more.
-                let odd : get_or octets 0 0 % 2 ≡ 1 = omega arith in
-                let first_is : 0 ≡ first = omega arith in
-                absurd (no_number_0 (subst (λ f. HasNumber f octets 0) first_is (has_0 octets some odd))))
-            (cases_lt (get_or octets 0 0 % 2) 1)))
-        (λ more. or_left _ _ (lt-ltb 0 first more))
-        (cases_lt first 1))
+    (λ none. or_right _ _ (⊎_elim
+    (λ even. let zero_is : get_or octets 0 0 % 2 ≡ 0 = omega arith in eq-eqb (get_or octets 0 0 % 2) 0 zero_is)
+    (λ more.
+    let odd : get_or octets 0 0 % 2 ≡ 1 = omega arith in
+    let first_is : 0 ≡ first = omega arith in
+    absurd (no_number_0 (subst (λ f. HasNumber f octets 0) first_is (has_0 octets some odd))))
+    (cases_lt (get_or octets 0 0 % 2) 1)))
+    (λ more. or_left _ _ (lt-ltb 0 first more))
+    (cases_lt first 1))
 
 -- ---- which octets are sent
 
@@ -67,9 +67,9 @@ one_zero (o ∷ p ∷ os) one last = absurd (omega arith)
 begins_zero : (octets : List ℕ) → (nat_lt 1 (length octets) && get_or octets 0 0 == 0 && get_or octets 1 0 == 0) ≡ false → 2 ≤ length octets → 0 < get_or octets 0 0 + get_or octets 1 0
 begins_zero octets test two = ⊎_elim
     (λ none.
-        let first : get_or octets 0 0 ≡ 0 = omega arith in
-        let second : get_or octets 1 0 ≡ 0 = omega arith in
-        absurd (false≢true (sym test ∙ and_from _ _ (and_from _ _ (lt-ltb 1 (length octets) two) (eq-eqb _ 0 first)) (eq-eqb _ 0 second))))
+    let first : get_or octets 0 0 ≡ 0 = omega arith in
+    let second : get_or octets 1 0 ≡ 0 = omega arith in
+    absurd (false≢true (sym test ∙ and_from _ _ (and_from _ _ (lt-ltb 1 (length octets) two) (eq-eqb _ 0 first)) (eq-eqb _ 0 second))))
     (λ more. more)
     (cases_lt (get_or octets 0 0 + get_or octets 1 0) 1)
 
@@ -78,13 +78,13 @@ trimmed-used first octets some test =
     let parts = and_parts _ _ test in
     ⊎_elim
     (λ none.
-        let last : get_or octets (length octets - 1) 0 ≡ 0 = omega arith in
-        ⊎_elim
-        (λ other. absurd (false≢true (sym (not_from_true _ (eq-eqb (get_or octets (length octets - 1) 0) 0 last)) ∙ other)))
-        (λ one.
-            let both = and_parts _ _ one in
-            inr (eqb-true first 0 both.0, one_zero octets (eqb-true (length octets) 1 both.1) last))
-        (or_cases _ _ parts.0))
+    let last : get_or octets (length octets - 1) 0 ≡ 0 = omega arith in
+    ⊎_elim
+    (λ other. absurd (false≢true (sym (not_from_true _ (eq-eqb (get_or octets (length octets - 1) 0) 0 last)) ∙ other)))
+    (λ one.
+    let both = and_parts _ _ one in
+    inr (eqb-true first 0 both.0, one_zero octets (eqb-true (length octets) 1 both.1) last))
+    (or_cases _ _ parts.0))
     (λ more. inl (record { ends = more; begins = begins_zero octets (not-true _ parts.1) }))
     (cases_lt (get_or octets (length octets - 1) 0) 1)
 
@@ -98,8 +98,8 @@ not_begins octets begins = false_from_ne_true _ (λ all.
 pub trimmed-from : (first : ℕ) (octets : List ℕ) → IsUsed octets ⊎ ((first ≡ 0) × (octets ≡ 0 ∷ [])) → is_trimmed first octets ≡ true
 trimmed-from first octets used = ⊎_elim
     (λ u. and_from _ _
-        (or_left _ _ (not_from_false _ (ne_eqb (get_or octets (length octets - 1) 0) 0 (λ none. omega (arith, u.ends, none)))))
-        (not_from_false _ (not_begins octets u.begins)))
+    (or_left _ _ (not_from_false _ (ne_eqb (get_or octets (length octets - 1) 0) 0 (λ none. omega (arith, u.ends, none)))))
+    (not_from_false _ (not_begins octets u.begins)))
     (λ z. subst (λ f. is_trimmed f octets ≡ true) (sym z.0) (subst (λ os. is_trimmed 0 os ≡ true) (sym z.1) refl))
     used
 
@@ -111,30 +111,31 @@ spelled-from_test count period control octets in_octets test =
     let placed = and_parts _ _ trimmed.0 in
     let at_0 = and_parts _ _ placed.0 in
     let within = and_parts _ _ (and_parts _ _ placed.1).0 in
-    let some = ltb-true 0 (length octets) within.0 in
-    (ltb-true count period at_0.0,
-     λ bit. ⊎_elim
-        (λ even. absurd (omega (arith, eqb-true (control % 2) 0 even, sym (bit_at_lowest control) ∙ bit)))
-        (λ zero_is. eqb-true count 0 zero_is)
-        (or_cases _ _ at_0.1),
-     record {
+    let some = ltb-true 0 (length octets) within.0 in (
+      ltb-true count period at_0.0,
+      λ bit. ⊎_elim
+          (λ even. absurd (omega (arith, eqb-true (control % 2) 0 even, sym (bit_at_lowest control) ∙ bit)))
+          (λ zero_is. eqb-true count 0 zero_is)
+          (or_cases _ _ at_0.1),
+      record {
         some = some;
         within = leb-true (first_place control + length octets) 251 within.1;
         in_octets = in_octets;
         no_number_0 = placed-no_number_0 (first_place control) octets placed.1;
         used = trimmed-used (first_place control) octets some trimmed.1;
-     })
+      },
+    )
 
 pub test-from_spelled : (count period control : ℕ) (octets : List ℕ) → count < period → (bit_at control 0 ≡ 1 → count ≡ 0) → IsSpelled (first_place control) octets → is_spelled count period control octets ≡ true
 test-from_spelled count period control octets counted at_0 s =
     and_from _ _
     (and_from _ _
-        (and_from _ _ (lt-ltb count period counted)
-            (⊎_elim
-                (λ even. let zero_is : control % 2 ≡ 0 = omega arith in or_left _ _ (eq-eqb (control % 2) 0 zero_is))
-                (λ more. let odd : control % 2 ≡ 1 = omega arith in or_right _ _ (eq-eqb count 0 (at_0 (bit_at_lowest control ∙ odd))))
-                (cases_lt (control % 2) 1)))
-        (placed-from (first_place control) octets s.some s.within s.no_number_0))
+    (and_from _ _ (lt-ltb count period counted)
+    (⊎_elim
+    (λ even. let zero_is : control % 2 ≡ 0 = omega arith in or_left _ _ (eq-eqb (control % 2) 0 zero_is))
+    (λ more. let odd : control % 2 ≡ 1 = omega arith in or_right _ _ (eq-eqb count 0 (at_0 (bit_at_lowest control ∙ odd))))
+    (cases_lt (control % 2) 1)))
+    (placed-from (first_place control) octets s.some s.within s.no_number_0))
     (trimmed-from (first_place control) octets s.used)
 
 -- ---- a whole element
@@ -172,14 +173,15 @@ shown_passes t count period control octets string count' period' group members w
     let octets_is : octets ≡ w.octets = cc in
     (λ i. is_spelled (count_is i) (period_is i) (control_is i) (octets_is i))
     ∙ test-from_spelled count' period' w.control w.octets w.count_below_period
-        (λ bit. w.group_at_0 (from_bool_one group (sym w.traffic_indicator ∙ bit)))
-        (spelled t count' period' group members w)
+    (λ bit. w.group_at_0 (from_bool_one group (sym w.traffic_indicator ∙ bit)))
+    (spelled t count' period' group members w)
 
 -- the numbers that octets have are association identifiers
 pub has-aid : (first : ℕ) (octets : List ℕ) (n : ℕ) → first + length octets ≤ 251 → ¬ HasNumber first octets 0 → HasNumber first octets n → IsAid n
-has-aid first octets n within no_number_0 w =
-    (⊎_elim
-        (λ none. let zero_is : n ≡ 0 = omega arith in absurd (no_number_0 (subst (λ m. HasNumber first octets m) zero_is w)))
-        (λ some. some)
-        (cases_lt n 1),
-     omega (arith, w.to))
+has-aid first octets n within no_number_0 w = (
+  ⊎_elim
+      (λ none. let zero_is : n ≡ 0 = omega arith in absurd (no_number_0 (subst (λ m. HasNumber first octets m) zero_is w)))
+      (λ some. some)
+      (cases_lt n 1),
+  omega (arith, w.to),
+)

@@ -38,9 +38,9 @@ pub has-sent_at : (first : ℕ) (octets : List ℕ) (n : ℕ) → bit_at (sent_a
 has-sent_at first octets n bit = ⊎_elim
     (λ before. absurd (no_bit _ (n % 8) (sent_at-before first octets (n / 8) before) bit))
     (λ from. ⊎_elim
-        (λ to. record { from = from; to = to; bit = sym (ap (λ o. bit_at o (n % 8)) (sent_at-from first octets (n / 8) from)) ∙ bit })
-        (λ past. absurd (no_bit _ (n % 8) (sent_at-past first octets (n / 8) past) bit))
-        (cases_lt (n / 8) (first + length octets)))
+    (λ to. record { from = from; to = to; bit = sym (ap (λ o. bit_at o (n % 8)) (sent_at-from first octets (n / 8) from)) ∙ bit })
+    (λ past. absurd (no_bit _ (n % 8) (sent_at-past first octets (n / 8) past) bit))
+    (cases_lt (n / 8) (first + length octets)))
     (cases_lt (n / 8) first)
 
 -- the same at a number by its place and its bit
@@ -103,11 +103,11 @@ spelled t count period group members w =
       in_octets = in_octets;
       no_number_0 = w.no_number_0;
       used = ⊎_elim
-        (λ none. inr (w.nothing (λ n aid. false_from_ne_true (members n) (λ member. omega (arith, w.ends n aid member)))))
-        (λ more.
-            let there = some_number first octets w.some w.within in_octets w.no_number_0 more in
-            inl (record { ends = more; begins = w.begins there.0 there.1 ((w.numbers there.0 there.1).1 there.2) }))
-        (cases_lt (get_or octets (length octets - 1) 0) 1);
+          (λ none. inr (w.nothing (λ n aid. false_from_ne_true (members n) (λ member. omega (arith, w.ends n aid member)))))
+          (λ more.
+          let there = some_number first octets w.some w.within in_octets w.no_number_0 more in
+          inl (record { ends = more; begins = w.begins there.0 there.1 ((w.numbers there.0 there.1).1 there.2) }))
+          (cases_lt (get_or octets (length octets - 1) 0) 1);
     }
 
 -- spelled octets that have the numbers of a set, behind fields that fit, are a TIM of it
@@ -127,10 +127,10 @@ shows count period control group octets members counted period_fits control_fits
   ends = λ n aid member. (used n aid member).ends;
   begins = λ n aid member. (used n aid member).begins;
   nothing = λ none. ⊎_elim
-    (λ u. let there = some_number (first_place control) octets s.some s.within s.in_octets s.no_number_0 u.ends in
-        absurd (false≢true (sym (none there.0 there.1) ∙ (numbers there.0 there.1).1 there.2)))
-    (λ e. e)
-    s.used;
+      (λ u. let there = some_number (first_place control) octets s.some s.within s.in_octets s.no_number_0 u.ends in
+      absurd (false≢true (sym (none there.0 there.1) ∙ (numbers there.0 there.1).1 there.2)))
+      (λ e. e)
+      s.used;
 } where
   fit : (place : ℕ) → get_or (tim_id ∷ (length octets + 3) ∷ count ∷ period ∷ control ∷ octets) place 0 < 256
   fit zero = omega arith
@@ -142,9 +142,9 @@ shows count period control group octets members counted period_fits control_fits
 
   used : (n : ℕ) → IsAid n → IsTrue (members n) → IsUsed octets
   used n aid member = ⊎_elim
-    (λ u. u)
-    (λ e. absurd (none_in_zero n (subst (λ os. HasNumber 0 os n) e.1 (subst (λ first. HasNumber first octets n) e.0 ((numbers n aid).0 member)))))
-    s.used
+      (λ u. u)
+      (λ e. absurd (none_in_zero n (subst (λ os. HasNumber 0 os n) e.1 (subst (λ first. HasNumber first octets n) e.0 ((numbers n aid).0 member)))))
+      s.used
 
 -- ---- one set has one spelling
 
@@ -179,21 +179,21 @@ same_one_way first first' octets octets' s same place k below_251 below_8 bit =
 pub same_sent : (first first' : ℕ) (octets octets' : List ℕ) → IsSpelled first octets → IsSpelled first' octets' → SameShown first octets first' octets' → SameShown first' octets' first octets → (place : ℕ) → place < 251 → sent_at first octets place ≡ sent_at first' octets' place
 same_sent first first' octets octets' s s' to back place below =
     same_from_bits_below 8 (sent_at first octets place) (sent_at first' octets' place) (sent_at-lt first octets place s) (sent_at-lt first' octets' place s') (λ k k_below.
-        same_bit _ _ (bit_at-lt _ k) (bit_at-lt _ k)
-        (same_one_way first first' octets octets' s to place k below k_below)
-        (same_one_way first' first octets' octets s' back place k below k_below))
+    same_bit _ _ (bit_at-lt _ k) (bit_at-lt _ k)
+    (same_one_way first first' octets octets' s to place k below k_below)
+    (same_one_way first' first octets' octets s' back place k below k_below))
 
 -- no octet is sent past the last of the other spelling
 ends_within : (first first' : ℕ) (octets octets' : List ℕ) → IsSpelled first octets → IsUsed octets → ((place : ℕ) → place < 251 → sent_at first octets place ≡ sent_at first' octets' place) → first + length octets ≤ first' + length octets'
 ends_within first first' octets octets' s u same = ⊎_elim
     (λ past.
-        let last = length octets - 1 in
-        let some = s.some in
-        let at : first + last - first ≡ last = omega arith in
-        let here = sent_at-from first octets (first + last) (omega arith) ∙ ap (λ p. get_or octets p 0) at in
-        let there = sent_at-past first' octets' (first + last) (omega arith) in
-        let both = same (first + last) (omega (arith, s.within)) in
-        absurd (omega (arith, u.ends, here, there, both)))
+    let last = length octets - 1 in
+    let some = s.some in
+    let at : first + last - first ≡ last = omega arith in
+    let here = sent_at-from first octets (first + last) (omega arith) ∙ ap (λ p. get_or octets p 0) at in
+    let there = sent_at-past first' octets' (first + last) (omega arith) in
+    let both = same (first + last) (omega (arith, s.within)) in
+    absurd (omega (arith, u.ends, here, there, both)))
     (λ e. e)
     (cases_lt (first' + length octets') (first + length octets))
 
@@ -201,17 +201,17 @@ ends_within first first' octets octets' s u same = ⊎_elim
 begins_within : (half half' : ℕ) (octets octets' : List ℕ) → IsSpelled (2 * half) octets → IsUsed octets → IsSpelled (2 * half') octets' → 2 * half + length octets ≡ 2 * half' + length octets' → ((place : ℕ) → place < 251 → sent_at (2 * half) octets place ≡ sent_at (2 * half') octets' place) → half' ≤ half
 begins_within half half' octets octets' s u s' same_end same = ⊎_elim
     (λ later.
-        let some = s'.some in
-        let within = s.within in
-        let at_0 : 2 * half - 2 * half ≡ 0 = omega arith in
-        let at_1 : 2 * half + 1 - 2 * half ≡ 1 = omega arith in
-        let here_0 = sent_at-from (2 * half) octets (2 * half) (omega arith) ∙ ap (λ p. get_or octets p 0) at_0 in
-        let here_1 = sent_at-from (2 * half) octets (2 * half + 1) (omega arith) ∙ ap (λ p. get_or octets p 0) at_1 in
-        let there_0 = sent_at-before (2 * half') octets' (2 * half) (omega arith) in
-        let there_1 = sent_at-before (2 * half') octets' (2 * half + 1) (omega arith) in
-        let both_0 = same (2 * half) (omega arith) in
-        let both_1 = same (2 * half + 1) (omega arith) in
-        absurd (omega (arith, u.begins (omega arith), here_0, here_1, there_0, there_1, both_0, both_1)))
+    let some = s'.some in
+    let within = s.within in
+    let at_0 : 2 * half - 2 * half ≡ 0 = omega arith in
+    let at_1 : 2 * half + 1 - 2 * half ≡ 1 = omega arith in
+    let here_0 = sent_at-from (2 * half) octets (2 * half) (omega arith) ∙ ap (λ p. get_or octets p 0) at_0 in
+    let here_1 = sent_at-from (2 * half) octets (2 * half + 1) (omega arith) ∙ ap (λ p. get_or octets p 0) at_1 in
+    let there_0 = sent_at-before (2 * half') octets' (2 * half) (omega arith) in
+    let there_1 = sent_at-before (2 * half') octets' (2 * half + 1) (omega arith) in
+    let both_0 = same (2 * half) (omega arith) in
+    let both_1 = same (2 * half + 1) (omega arith) in
+    absurd (omega (arith, u.begins (omega arith), here_0, here_1, there_0, there_1, both_0, both_1)))
     (λ e. e)
     (cases_lt half half')
 
@@ -242,11 +242,11 @@ used_and_zero first first' octets octets' s u zero_is to =
 pub one_spelling : (half half' : ℕ) (octets octets' : List ℕ) → IsSpelled (2 * half) octets → IsSpelled (2 * half') octets' → SameShown (2 * half) octets (2 * half') octets' → SameShown (2 * half') octets' (2 * half) octets → (half ≡ half') × (octets ≡ octets')
 one_spelling half half' octets octets' s s' to back = ⊎_elim
     (λ u. ⊎_elim
-        (λ u'. both_used half half' octets octets' s s' u u' (same_sent (2 * half) (2 * half') octets octets' s s' to back))
-        (λ z'. absurd (used_and_zero (2 * half) (2 * half') octets octets' s u z' to))
-        s'.used)
+    (λ u'. both_used half half' octets octets' s s' u u' (same_sent (2 * half) (2 * half') octets octets' s s' to back))
+    (λ z'. absurd (used_and_zero (2 * half) (2 * half') octets octets' s u z' to))
+    s'.used)
     (λ z. ⊎_elim
-        (λ u'. absurd (used_and_zero (2 * half') (2 * half) octets' octets s' u' z back))
-        (λ z'. (omega (arith, z.0, z'.0), z.1 ∙ sym z'.1))
-        s'.used)
+    (λ u'. absurd (used_and_zero (2 * half') (2 * half) octets' octets s' u' z back))
+    (λ z'. (omega (arith, z.0, z'.0), z.1 ∙ sym z'.1))
+    s'.used)
     s.used

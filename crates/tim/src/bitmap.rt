@@ -110,9 +110,7 @@ fn has_number(first: usize, octets: &[u8], n: usize) -> bool
     ensures { result ≡ has_number first octets.now n }
 {
     let place = n / 8;
-    place >= first
-        && place - first < octets.len()
-        && octets[place - first] >> (n % 8) & 1 == 1
+    place >= first && place - first < octets.len() && octets[place - first] >> (n % 8) & 1 == 1
 }
 
 /// Eight truth values as an octet, the first of them its lowest bit.

@@ -78,9 +78,7 @@ fn is_placed(first: usize, octets: &[u8]) -> bool
     requires { first < 256 }
     ensures { result ≡ is_placed first octets.now }
 {
-    !octets.is_empty()
-        && first + octets.len() <= BITMAP_LEN
-        && (first > 0 || octets[0] % 2 == 0)
+    !octets.is_empty() && first + octets.len() <= BITMAP_LEN && (first > 0 || octets[0] % 2 == 0)
 }
 
 /// Whether the last octet isn't 0, nor the first two both, or the only one is 0 and stands at place 0.
