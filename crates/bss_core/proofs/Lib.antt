@@ -1,3 +1,4 @@
+pub mod StationTables
 pub mod AloneLaws
 pub mod Requests
 pub mod Checked

@@ -1,5 +1,7 @@
 pub mod Configuration
 pub mod Request
+pub mod Stations
+pub mod StationsKept
 pub mod Network
 pub mod Sound
 pub mod Section

@@ -24,6 +24,7 @@ mod request;
 mod running;
 mod section;
 mod setting;
+mod stations;
 mod step;
 
 pub use bss::{Bss, Refusal};

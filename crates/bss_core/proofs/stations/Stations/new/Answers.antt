@@ -1,0 +1,5 @@
+use Rattle.bss_core.proofs.StationTables.{no-numbers}
+use Rattle.bss_core.proofs.stations.Stations.new.Goals as goal
+
+pub invariant_of-result : goal.invariant_of-result
+invariant_of-result c = rw (c.new-2.ensures, c.new.ensures.empty) (no-numbers c.args.most)

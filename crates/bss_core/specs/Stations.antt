@@ -1,0 +1,94 @@
+-- The stations of a network and how far each has come (IEEE Std 802.11-2016, 11.3.1).
+use Rattle.std.specs.Prelude.{ℕ, ◌≡◌, ◌≤◌, Bool, false, ◌||◌, nat_lt, List, [], ◌∷◌, ◌++◌, length, Option, Some, None, is_some, unwrap_or, if◌then◌else◌}
+use Rattle.std.specs.Map.{lookup, remove_entry}
+use Rattle.std.specs.Str.{bytes_eq}
+use Rattle.aid_pool.specs.LeastFree.{least_free, is_among}
+use Rattle.station_state.specs.declared.Standing.{Standing}
+use Rattle.station_state.specs.declared.Standing.TheVariants as standings
+use Rattle.bss_core.specs.declared.stations.Link.{Link}
+use Rattle.bss_core.specs.declared.stations.Link.TheVariants.{Authenticated, Associated}
+
+-- each known station with its link, in order of first authentication
+abbrev pub Table : Type 0
+Table = List (List ℕ × Link)
+
+-- how far a station has come; one that is not known has no link
+abbrev pub link_of : List ℕ → Table → Option Link
+link_of addr table = lookup (bytes_eq addr) table
+
+-- the state of a station (11.3.1)
+abbrev pub standing_with : Option Link → Standing
+standing_with None = standings.Unknown
+standing_with (Some Authenticated) = standings.Authenticated
+standing_with (Some (Associated aid listen doze)) = standings.Associated
+
+abbrev pub standing_of : List ℕ → Table → Standing
+standing_of addr table = standing_with (link_of addr table)
+
+-- ---- association identifiers (9.4.1.8)
+
+abbrev pub identifier_of : Link → List ℕ
+identifier_of Authenticated = []
+identifier_of (Associated aid listen doze) = aid ∷ []
+
+-- those of the associated stations
+abbrev pub identifiers : Table → List ℕ
+identifiers [] = []
+identifiers (station ∷ stations) = identifier_of station.1 ++ identifiers stations
+
+-- numbers from 1 to 2007, of which no two are the same
+abbrev pub AreIdentifiers : List ℕ → Type 0
+AreIdentifiers [] = Unit {0}
+AreIdentifiers (aid ∷ aids) = (1 ≤ aid) × (aid ≤ 2007) × (is_among aids aid ≡ false) × AreIdentifiers aids
+
+-- the one of a station with this link
+abbrev pub aid_with : Option Link → Option ℕ
+aid_with None = None
+aid_with (Some Authenticated) = None
+aid_with (Some (Associated aid listen doze)) = Some aid
+
+-- the identifier of a station, if it is associated
+abbrev pub aid_of : List ℕ → Table → Option ℕ
+aid_of addr table = aid_with (link_of addr table)
+
+-- where at most so many may associate, there is room for this station: it has its place, or fewer are associated
+abbrev pub may_associate : ℕ → List ℕ → Table → Bool
+may_associate most addr table = is_some (aid_of addr table) || nat_lt (length (identifiers table)) most
+
+-- the identifier that an association of this station gives: the one that it has, or the least that is free
+abbrev pub next_aid : List ℕ → Table → ℕ
+next_aid addr table = unwrap_or (aid_of addr table) (least_free (is_among (identifiers table)))
+
+-- ---- changes of one station
+
+-- a known station keeps its place, and an unknown one goes last
+abbrev pub set_link : List ℕ → Link → Table → Table
+set_link addr link [] = (addr, link) ∷ []
+set_link addr link (station ∷ stations) =
+    if bytes_eq addr station.0 then (station.0, link) ∷ stations else station ∷ set_link addr link stations
+
+-- authentication (11.3.4.3): no longer associated
+abbrev pub authenticate : List ℕ → Table → Table
+authenticate addr table = set_link addr Authenticated table
+
+-- association (11.3.5.3): active
+abbrev pub associate : List ℕ → ℕ → Table → Table
+associate addr listen table = set_link addr (Associated (next_aid addr table) listen false) table
+
+-- disassociation (11.3.5.7): a station that is associated is authenticated only
+abbrev pub disassociate : List ℕ → Table → Table
+disassociate addr table = if is_some (aid_of addr table) then set_link addr Authenticated table else table
+
+-- deauthentication (11.3.4.5): the others keep their order
+abbrev pub forget : List ℕ → Table → Table
+forget addr table = remove_entry (bytes_eq addr) table
+
+-- ---- what contracts see of the stations that are kept
+
+-- how many may be associated at most, and the stations
+pub record StationTable : Type 0 where
+  pub most : ℕ
+  pub table : Table
+
+abbrev pub with_table : StationTable → Table → StationTable
+with_table s table = record s { table = table }
