@@ -9,6 +9,7 @@ use Rattle.std.proofs.Math.Seq.{drop-append_seam}
 use Rattle.bss_core.specs.State.{Keeps, sent_by}
 use Rattle.bss_core.specs.Replies.{after_reply}
 use Rattle.bss_core.specs.Sound.{IsSound}
+use Rattle.bss_core.proofs.StationsSound.{changed-sound}
 use Rattle.beacon.specs.ProbeResponse.{probe_response}
 use Rattle.bss_core.specs.declared.reply.Reply.{Reply}
 use Rattle.bss_core.specs.declared.event.Event.{Event}
@@ -30,21 +31,21 @@ alone-push s es e = after-push s empty_network es e
 -- ---- what holds of every network that can be reached: of the empty one, after each named change
 
 empty-sound : (s : Setting) → IsSound s 0 empty_network
-empty-sound s = record { sequence = omega arith; unread = omega arith }
+empty-sound s = record { stations = record { addresses = tt; aids = tt; associated = omega arith }; known = omega arith; sequence = omega arith; unread = omega arith }
 
 -- an event that changes nothing
 unchanged-sound : (s : Setting) (count : ℕ) (n : Network) → IsSound s count n → IsSound s (count + 1) n
-unchanged-sound s count n h = record { sequence = h.sequence; unread = omega (arith, h.unread) }
+unchanged-sound s count n h = record { stations = h.stations; known = h.known; sequence = h.sequence; unread = omega (arith, h.unread) }
 
 send-sound : (s : Setting) (count : ℕ) (n : Network) (frame : ℕ → List ℕ) → IsSound s count n → IsSound s count (send frame n)
-send-sound s count n frame h = record { sequence = omega arith; unread = h.unread }
+send-sound s count n frame h = record { stations = h.stations; known = h.known; sequence = omega arith; unread = h.unread }
 
 count_unread-sound : (s : Setting) (count : ℕ) (n : Network) → IsSound s count n → IsSound s (count + 1) (count_unread n)
-count_unread-sound s count n h = record { sequence = h.sequence; unread = omega (arith, h.unread) }
+count_unread-sound s count n h = record { stations = h.stations; known = h.known; sequence = h.sequence; unread = omega (arith, h.unread) }
 
 -- which frames were sent is nothing to it
 air-sound : (s : Setting) (count : ℕ) (n : Network) (air : List (List ℕ)) → IsSound s count n → IsSound s count (record n { air = air })
-air-sound s count n air h = record { sequence = h.sequence; unread = h.unread }
+air-sound s count n air h = record { stations = h.stations; known = h.known; sequence = h.sequence; unread = h.unread }
 
 -- ---- and so by each answer, step and history
 

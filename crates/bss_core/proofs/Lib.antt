@@ -1,4 +1,5 @@
 pub mod StationTables
+pub mod StationsSound
 pub mod AloneLaws
 pub mod Requests
 pub mod Checked

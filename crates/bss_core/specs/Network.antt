@@ -1,11 +1,12 @@
 -- A network alone: what it does with its own events. No other network, no queue, no capacity and no thread
 -- stands in it.
-use Rattle.std.specs.Prelude.{ℕ, ◌+◌, ◌%◌, Bool, true, List, [], ◌∷◌, ◌++◌, map, Option, Some, None, Result, Ok, Err, false, if◌then◌else◌}
+use Rattle.std.specs.Prelude.{ℕ, ◌+◌, ◌%◌, Bool, true, List, [], ◌∷◌, ◌++◌, map, Option, Some, None, unwrap_or, Result, Ok, Err, false, if◌then◌else◌}
 use Rattle.std.specs.Str.{bytes_eq}
 use Rattle.mac_frame.specs.declared.frame.Unread.{Unread}
 use Rattle.beacon.specs.ProbeResponse.{Announced, probe_response}
-use Rattle.station_state.specs.declared.Standing.TheVariants.{Authenticated}
 use Rattle.bss_core.specs.Request.{Request, Probe, request_of}
+use Rattle.bss_core.specs.Stations.{Table, standing_with, aid_with, listen_of, dozes}
+use Rattle.bss_core.specs.declared.stations.Link.{Link}
 pub use Rattle.bss_core.specs.declared.setting.Setting.{Setting}
 use Rattle.bss_core.specs.declared.event.Event.{Event}
 use Rattle.bss_core.specs.declared.event.Event.TheVariants.{Air}
@@ -14,8 +15,8 @@ use Rattle.bss_core.specs.declared.section.Counts.{Counts}
 
 -- what a network is at a moment
 pub record Network : Type 0 where
-  -- the addresses of the stations that it knows, in order of their first authentication
-  pub known : List (List ℕ)
+  -- the stations that it knows, in order of first authentication
+  pub stations : Table
   -- the beacon intervals that began
   pub clock : ℕ
   -- the sequence number of its next frame
@@ -29,7 +30,7 @@ pub record Network : Type 0 where
   pub wire : List (List ℕ)
 
 abbrev pub empty_network : Network
-empty_network = record { known = []; clock = 0; sequence = 0; lost = 0; unread = 0; air = []; wire = [] }
+empty_network = record { stations = []; clock = 0; sequence = 0; lost = 0; unread = 0; air = []; wire = [] }
 
 -- ---- small changes, each named
 
@@ -88,13 +89,20 @@ alone s es = after s empty_network es
 
 -- ---- what is shown of a network
 
--- a station that is known and no more
-abbrev pub authenticated_row : List ℕ → StationRow
-authenticated_row addr = record { addr = addr; standing = Authenticated; aid = 0; listen = 0; doze = false; kept = 0 }
+-- a station with its link; one that is not associated has no identifier and no listen interval, and is active
+abbrev pub row_of : List ℕ × Link → StationRow
+row_of station = record {
+  addr = station.0;
+  standing = standing_with (Some station.1);
+  aid = unwrap_or (aid_with (Some station.1)) 0;
+  listen = listen_of station.1;
+  doze = dozes station.1;
+  kept = 0;
+}
 
 -- one row for each known station, in their order
 abbrev pub table_of : Network → List StationRow
-table_of n = map authenticated_row n.known
+table_of n = map row_of n.stations
 
 abbrev pub counts_of : ℕ → Network → Counts
 counts_of events n = record { events = events; clock = n.clock; unread = n.unread; lost = n.lost; kept = 0 }

@@ -1,5 +1,5 @@
 -- The stations of a network and how far each has come (IEEE Std 802.11-2016, 11.3.1).
-use Rattle.std.specs.Prelude.{ℕ, ◌≡◌, ◌≤◌, Bool, false, ◌||◌, nat_lt, List, [], ◌∷◌, ◌++◌, length, Option, Some, None, is_some, unwrap_or, if◌then◌else◌}
+use Rattle.std.specs.Prelude.{ℕ, ◌≡◌, ◌≤◌, Bool, true, false, ◌||◌, nat_lt, List, [], ◌∷◌, ◌++◌, length, Option, Some, None, is_some, unwrap_or, if◌then◌else◌}
 use Rattle.std.specs.Map.{lookup, remove_entry}
 use Rattle.std.specs.Str.{bytes_eq}
 use Rattle.aid_pool.specs.LeastFree.{least_free, is_among}
@@ -7,6 +7,8 @@ use Rattle.station_state.specs.declared.Standing.{Standing}
 use Rattle.station_state.specs.declared.Standing.TheVariants as standings
 use Rattle.bss_core.specs.declared.stations.Link.{Link}
 use Rattle.bss_core.specs.declared.stations.Link.TheVariants.{Authenticated, Associated}
+use Rattle.bss_core.specs.declared.stations.Change.{Change}
+use Rattle.bss_core.specs.declared.stations.Change.TheVariants.{Nothing, Authenticate, Associate, Disassociate, Forget}
 
 -- each known station with its link, in order of first authentication
 abbrev pub Table : Type 0
@@ -51,6 +53,15 @@ aid_with (Some (Associated aid listen doze)) = Some aid
 abbrev pub aid_of : List ℕ → Table → Option ℕ
 aid_of addr table = aid_with (link_of addr table)
 
+-- the listen interval, or 0 where it is not associated (9.4.1.6)
+abbrev pub listen_of : Link → ℕ
+listen_of Authenticated = 0
+listen_of (Associated aid listen doze) = listen
+
+abbrev pub dozes : Link → Bool
+dozes Authenticated = false
+dozes (Associated aid listen doze) = doze
+
 -- where at most so many may associate, there is room for this station: it has its place, or fewer are associated
 abbrev pub may_associate : ℕ → List ℕ → Table → Bool
 may_associate most addr table = is_some (aid_of addr table) || nat_lt (length (identifiers table)) most
@@ -82,6 +93,22 @@ disassociate addr table = if is_some (aid_of addr table) then set_link addr Auth
 -- deauthentication (11.3.4.5): the others keep their order
 abbrev pub forget : List ℕ → Table → Table
 forget addr table = remove_entry (bytes_eq addr) table
+
+-- a change of one station
+abbrev pub changed : Change → Table → Table
+changed Nothing table = table
+changed (Authenticate addr) table = authenticate addr table
+changed (Associate addr listen) table = associate addr listen table
+changed (Disassociate addr) table = disassociate addr table
+changed (Forget addr) table = forget addr table
+
+-- where at most so many may associate: a station that associates is known, and there is room for it
+abbrev pub IsAllowed : ℕ → Change → Table → Type 0
+IsAllowed most Nothing table = Unit {0}
+IsAllowed most (Authenticate addr) table = Unit {0}
+IsAllowed most (Associate addr listen) table = (is_some (link_of addr table) ≡ true) × (may_associate most addr table ≡ true)
+IsAllowed most (Disassociate addr) table = Unit {0}
+IsAllowed most (Forget addr) table = Unit {0}
 
 -- ---- what contracts see of the stations that are kept
 

@@ -1,9 +1,10 @@
 //! A network alone, as it runs.
 
-ghost use Rattle.std.specs.Prelude.{◌≡◌, Err, ◌+◌, ◌++◌, ◌∷◌, [], ◌↔◌, ◌<◌, ◌≤◌, true, false, None, IsTrue, IfOk, OnOk, OnErr, IfNone, length, is_some, option_to_list, if◌then◌else◌};
+ghost use Rattle.std.specs.Prelude.{◌≡◌, Err, ◌+◌, ◌++◌, ◌∷◌, [], ◌↔◌, ◌<◌, ◌≤◌, true, false, None, Some, slice_get, IsTrue, IfOk, OnOk, OnErr, IfNone, length, is_some, option_to_list, if◌then◌else◌};
 ghost use Rattle.bss_core.specs.Configuration.{setting_fault, network_fault};
 ghost use Rattle.bss_core.specs.Network.{step, table_of, counts_of};
 ghost use Rattle.bss_core.specs.Replies.{no_reply, after_reply};
+ghost use Rattle.bss_core.specs.Stations.{IsAllowed};
 ghost use Rattle.bss_core.specs.State.{State, network_of, sent_by};
 ghost use Rattle.bss_core.specs.declared.bss.Refusal.TheVariants as refusals;
 
@@ -11,8 +12,9 @@ use crate::config::NetConfig;
 use crate::event::Event;
 use crate::reply::Reply;
 use crate::request::{Request, read};
-use crate::section::{Counts, Section};
+use crate::section::{Counts, Section, StationRow};
 use crate::setting::Setting;
+use crate::stations::Stations;
 use mac_frame::{List, NoMemory, Octets};
 use std::alloc::{AllocError, Global};
 use std::collections::VecDeque;
@@ -56,6 +58,7 @@ pub struct Bss {
     alloc: Global,
     setting: Setting,
     history: Vec<Event>,
+    stations: Stations,
     waiting: VecDeque<Octets>,
     wired: Vec<Octets>,
     clock: u32,
@@ -66,7 +69,7 @@ pub struct Bss {
 }
 
 impl Model for Bss {
-    ghost use Rattle.std.specs.Prelude.{◌<◌, IsTrue, []};
+    ghost use Rattle.std.specs.Prelude.{◌≡◌, ◌<◌, IsTrue, []};
     ghost use Rattle.std.specs.VecDeque.{deque_len, deque_capacity};
     ghost use Rattle.bss_core.specs.State.{State, Keeps};
 
@@ -81,7 +84,7 @@ impl Model for Bss {
 
     ghost invariant = { λ b.
         Keeps b.setting b.history.items (record {
-          known = [];
+          stations = b.stations.table;
           clock = b.clock;
           sequence = b.sequence;
           lost = b.lost;
@@ -89,6 +92,7 @@ impl Model for Bss {
           air = [];
           wire = b.wired.items;
         })
+        × (b.stations.most ≡ b.setting.network.max_stations)
         × (IsTrue b.has_slot → deque_len b.waiting < deque_capacity b.waiting) };
 }
 
@@ -112,6 +116,7 @@ impl Bss {
     {
         Ok(Bss {
             alloc,
+            stations: Stations::new(alloc, config.max_stations),
             setting: Setting {
                 channel,
                 interval,
@@ -147,9 +152,16 @@ impl Bss {
     pub fn table_len(&self) -> usize
         ensures { result ≡ length (table_of (network_of self.now)) }
     {
-        // No station is kept yet. Naming a field lets the proof see the invariant, which says that none is known.
-        let _history = &self.history;
-        0
+        self.stations.len()
+    }
+
+    /// The station at a place of its table, from 0, in order of first authentication (IEEE Std 802.11-2016, 11.3.1).
+    pub fn row(&self, place: usize) -> StationRow
+        requires { place < length (table_of (network_of self.now)) }
+        ensures { slice_get (table_of (network_of self.now)) place ≡ Some result }
+    {
+        let (addr, link) = self.stations.row(place);
+        StationRow::new(addr, link)
     }
 
     /// Its counts.
@@ -231,6 +243,7 @@ impl Bss {
         let reply = self.reply(&event)?;
         self.history.reserve(1)?;
         reply.frames.reserve_in(&mut self.waiting)?;
+        self.stations.change(reply.change)?;
         // All that may be refused is done.
         let number = self.history.len() as u32;
         self.history.push_reserved(event);
@@ -243,7 +256,8 @@ impl Bss {
 
     /// What it does about an event. It changes nothing.
     fn reply(&self, event: &Event) -> Result<Reply, NoMemory>
-        ensures { IfOk result (λ reply.
+        ensures allowed { IfOk result (λ reply. IsAllowed self.now.setting.network.max_stations reply.change (network_of self.now).stations) }
+        ensures step { IfOk result (λ reply.
             step self.now.setting (network_of self.now) event.now ≡ after_reply reply (network_of self.now)) }
     {
         let Event::Air(frame) = event;
@@ -285,7 +299,8 @@ impl Bss {
         self.alloc
     }
 
-    /// The section of all that it took, with `air` as the frames that left it. It takes no memory today.
+    /// The section of all that it took, with `air` as the frames that left it. `NoMemory` where the
+    /// room for its table was refused.
     pub fn into_section(self, air: List<Octets>) -> Result<Section, NoMemory>
         ensures { IfOk result (λ section. section ≡ record {
           config = self.setting.network;
@@ -297,7 +312,7 @@ impl Bss {
         }) }
     {
         let counts = self.counts();
-        let table = List::from_vec(Vec::new(self.alloc));
+        let table = List::from_vec(self.stations.rows(self.alloc)?);
         Ok(Section {
             config: self.setting.network,
             events: List::from_vec(self.history),

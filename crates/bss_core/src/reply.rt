@@ -5,6 +5,7 @@ ghost use Rattle.bss_core.specs.Network.{next_sequence};
 ghost use Rattle.bss_core.specs.Replies.{no_reply};
 
 use crate::frames::Frames;
+use crate::stations::Change;
 use mac_frame::{NoMemory, Octets};
 use std::alloc::Global;
 
@@ -20,6 +21,8 @@ pub struct Reply {
     pub sequence: u16,
     /// What is added to its count of unread events.
     pub unread: u32,
+    /// What becomes of one of its stations.
+    pub change: Change,
 }
 
 impl Reply {
@@ -31,6 +34,7 @@ impl Reply {
             frames: Frames::new(alloc),
             sequence,
             unread: 0,
+            change: Change::Nothing,
         }
     }
 

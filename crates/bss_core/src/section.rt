@@ -1,7 +1,11 @@
 //! What is known of a network in the end.
 
+ghost use Rattle.std.specs.Prelude.{◌≡◌};
+ghost use Rattle.bss_core.specs.Network.{row_of};
+
 use crate::config::NetConfig;
 use crate::event::Event;
+use crate::stations::Link;
 use mac_frame::{List, MacAddr, Octets};
 use station_state::Standing;
 
@@ -20,6 +24,32 @@ pub struct StationRow {
     pub doze: bool,
     /// How many units are kept for it.
     pub kept: u32,
+}
+
+impl StationRow {
+    /// The row of a station with this link, for which no unit is kept.
+    pub(crate) fn new(addr: MacAddr, link: Link) -> StationRow
+        ensures { result ≡ row_of (addr, link) }
+    {
+        match link {
+            Link::Authenticated => StationRow {
+                addr,
+                standing: Standing::Authenticated,
+                aid: 0,
+                listen: 0,
+                doze: false,
+                kept: 0,
+            },
+            Link::Associated { aid, listen, doze } => StationRow {
+                addr,
+                standing: Standing::Associated,
+                aid,
+                listen,
+                doze,
+                kept: 0,
+            },
+        }
+    }
 }
 
 /// Counts of what happened to a network (*profile*).

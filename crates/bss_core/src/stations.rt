@@ -1,8 +1,10 @@
 //! The stations that a network knows (IEEE Std 802.11-2016, 11.3.1).
 
-ghost use Rattle.std.specs.Prelude.{◌≡◌, ◌<◌, ◌≤◌, [], IsTrue, OnOk, OnErr, IfSome, Some, None, length, slice_get, is_some, if◌then◌else◌};
-ghost use Rattle.bss_core.specs.Stations.{with_table, link_of, standing_of, identifiers, aid_with, may_associate, next_aid, set_link, authenticate, associate, disassociate, forget};
+ghost use Rattle.std.specs.Prelude.{◌≡◌, ◌<◌, ◌≤◌, [], IsTrue, OnOk, OnErr, IfOk, IfSome, map, Some, None, length, slice_get, is_some, if◌then◌else◌};
+ghost use Rattle.bss_core.specs.Stations.{with_table, link_of, standing_of, identifiers, aid_with, may_associate, next_aid, set_link, authenticate, associate, disassociate, forget, changed, IsAllowed};
+ghost use Rattle.bss_core.specs.Network.{row_of};
 
+use crate::section::StationRow;
 use aid_pool::{AidPool, MAX_AID};
 use indexmap::IndexMap;
 use mac_frame::{MacAddr, NoMemory};
@@ -24,6 +26,26 @@ pub enum Link {
         /// Whether it dozes (11.2.3.2).
         doze: bool,
     },
+}
+
+/// What becomes of one station.
+#[derive(Clone, Copy, Debug)]
+pub enum Change {
+    /// Nothing does.
+    Nothing,
+    /// It is authenticated (11.3.4.3).
+    Authenticate(MacAddr),
+    /// It is associated (11.3.5.3).
+    Associate {
+        /// The station.
+        addr: MacAddr,
+        /// Its listen interval in beacon intervals (9.4.1.6).
+        listen: u16,
+    },
+    /// It is no longer associated (11.3.5.7).
+    Disassociate(MacAddr),
+    /// It is not known any more (11.3.4.5).
+    Forget(MacAddr),
 }
 
 /// The stations of a network, in order of first authentication. Contracts see how many may be associated at most, and
@@ -103,6 +125,34 @@ impl Stations {
             Some(aid) => Some(aid),
             None => self.pool.least(),
         }
+    }
+
+    /// A row for each station, in their order. `NoMemory` where the room for them was refused.
+    pub fn rows(&self, alloc: Global) -> Result<Vec<StationRow>, NoMemory>
+        ensures { IfOk result (λ rows. rows.items ≡ map row_of self.now.table) }
+    {
+        let mut rows = Vec::with_capacity(alloc, self.len())?;
+        for place in 0..self.len() {
+            let (addr, link) = self.row(place);
+            rows.push_reserved(StationRow::new(addr, link));
+        }
+        Ok(rows)
+    }
+
+    /// Changes one station. `NoMemory`, and no change, can come where an unknown one is authenticated.
+    pub fn change(&mut self, change: Change) -> Result<(), NoMemory>
+        requires { IsAllowed self.old.most change self.old.table }
+        ensures ok { OnOk result (self.new ≡ with_table self.old (changed change self.old.table)) }
+        ensures err { OnErr result (self.new ≡ self.old) }
+    {
+        match change {
+            Change::Nothing => {}
+            Change::Authenticate(addr) => self.authenticate(addr)?,
+            Change::Associate { addr, listen } => self.associate(addr, listen),
+            Change::Disassociate(addr) => self.disassociate(addr),
+            Change::Forget(addr) => self.forget(addr),
+        }
+        Ok(())
     }
 
     /// Authenticates a station: an unknown one goes last, a known one keeps its place and is no longer associated, so

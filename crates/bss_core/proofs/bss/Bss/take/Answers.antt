@@ -3,6 +3,7 @@ use Rattle.std.proofs.lemmas.List.{length-append}
 use Rattle.bss_core.specs.Network.{Setting, step, alone}
 use Rattle.bss_core.specs.Replies.{after_reply}
 use Rattle.bss_core.specs.State.{State, network_of, sent_by}
+use Rattle.bss_core.specs.Stations.{StationTable}
 use Rattle.bss_core.specs.declared.event.Event.{Event}
 use Rattle.bss_core.specs.declared.reply.Reply.{Reply}
 use Rattle.bss_core.proofs.AloneLaws.{keeps-sound, keeps-push, sent_by-reply, air-push}
@@ -18,7 +19,7 @@ overflow_add-self c =
     let es : List Event = c.self.inside.history.items in
     let len : c.len.result ≡ length es = c.len.ensures ∙ c.self.inside.history.ok.0 in
     let room : length es < s.network.max_events = omega (arith, c.if-len-self.false) in
-    let replied = subst (IsReply c.args.event c.in_ok-reply.reply) (sym c.self.view_is) c.in_ok-reply.ensures in
+    let replied = subst (IsReply c.args.event c.in_ok-reply.reply) (sym c.self.view_is) c.in_ok-reply.ensures.step in
     let kept = keeps-push s es c.args.event c.in_ok-reply.reply _ c.self.invariant.0 room replied in
     let few : c.self.inside.unread + c.in_ok-reply.reply.unread ≤ length (es ++ c.args.event ∷ []) = (keeps-sound _ _ _ kept).unread in
     let small : s.network.max_events < 4294967296 = search (rules, c.self.ranges) in
@@ -31,14 +32,15 @@ invariant_of-self-2 c =
     let len : c.len.result ≡ length es = c.len.ensures ∙ c.self.inside.history.ok.0 in
     let room : length es < s.network.max_events = omega (arith, c.if-len-self.false) in
     let items : c.push_reserved.new.self.items ≡ es ++ c.args.event ∷ [] = c.push_reserved.ensures.items ∙ ap (λ (h : List Event). h ++ c.args.event ∷ []) c.reserve.ensures.items in
-    let replied = subst (IsReply c.args.event c.in_ok-reply.reply) (sym c.self.view_is) c.in_ok-reply.ensures in
+    let replied = subst (IsReply c.args.event c.in_ok-reply.reply) (sym c.self.view_is) c.in_ok-reply.ensures.step in
     let kept = keeps-push s es c.args.event c.in_ok-reply.reply _ c.self.invariant.0 room replied in
-    (rw items kept, λ h. absurd cc)
+    let changed = c.in_ok-change.ensures.ok in
+    (rw (items, changed) kept, ap (λ (k : StationTable). k.most) changed ∙ c.self.invariant.1, λ h. absurd cc)
 
 pub returns-clause-waiting : goal.returns-clause-waiting
 returns-clause-waiting c =
     let s = c.args.self.now in
-    let sent = sent_by-reply s.setting s.history c.args.event c.in_ok-reply.reply c.in_ok-reply.ensures in
+    let sent = sent_by-reply s.setting s.history c.args.event c.in_ok-reply.reply c.in_ok-reply.ensures.step in
     let before : c.self.inside.waiting.items ≡ s.waiting = ap (λ (st : State). st.waiting) c.self.view_is in
     c.append_to.ensures ∙ ap (λ (w : List (List ℕ)). w ++ c.in_ok-reply.reply.frames) (c.reserve_in.ensures.items ∙ before) ∙ ap (λ (f : List (List ℕ)). s.waiting ++ f) (sym sent)
 
@@ -47,6 +49,6 @@ returns-clause-air c =
     let s : Setting = c.self.inside.setting in
     let es : List Event = c.self.inside.history.items in
     let items : c.push_reserved.new.self.items ≡ es ++ c.args.event ∷ [] = c.push_reserved.ensures.items ∙ ap (λ (h : List Event). h ++ c.args.event ∷ []) c.reserve.ensures.items in
-    let replied = subst (IsReply c.args.event c.in_ok-reply.reply) (sym c.self.view_is) c.in_ok-reply.ensures in
+    let replied = subst (IsReply c.args.event c.in_ok-reply.reply) (sym c.self.view_is) c.in_ok-reply.ensures.step in
     ap (λ (h : List Event). (alone s h).air) items ∙ air-push s es c.args.event c.in_ok-reply.reply replied
     ∙ ap (λ (st : State). (network_of st).air ++ sent_by st.setting st.history c.args.event) c.self.view_is
