@@ -3,3 +3,5 @@ pub mod Status
 pub mod Authentication
 pub mod Association
 pub mod Leaving
+pub mod Request
+pub mod Asked

@@ -4,6 +4,12 @@ use Rattle.mac_frame.specs.Management.{management_header}
 
 -- ---- subtypes (9.2.4.1.3)
 
+abbrev pub association_request_subtype : ℕ
+association_request_subtype = 0
+
+abbrev pub reassociation_request_subtype : ℕ
+reassociation_request_subtype = 2
+
 abbrev pub association_response_subtype : ℕ
 association_response_subtype = 1
 

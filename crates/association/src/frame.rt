@@ -5,6 +5,12 @@ ghost use Rattle.association.specs.Management.{management_frame};
 
 use mac_frame::{HEADER_LEN, MacAddr, NoMemory, Octets, write_mgmt};
 
+/// The subtype of an association request (9.2.4.1.3).
+pub const ASSOCIATION_REQUEST: u8 = 0;
+
+/// The subtype of a reassociation request (9.2.4.1.3).
+pub const REASSOCIATION_REQUEST: u8 = 2;
+
 /// The subtype of an association response (9.2.4.1.3).
 pub const ASSOCIATION_RESPONSE: u8 = 1;
 

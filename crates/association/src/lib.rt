@@ -11,6 +11,7 @@ mod authentication;
 mod frame;
 mod joining;
 mod leaving;
+mod request;
 mod status;
 #[cfg(test)]
 mod tests;
@@ -21,6 +22,7 @@ pub use frame::{
 };
 pub use joining::{assoc_status, write_assoc};
 pub use leaving::write_notice;
+pub use request::{Request, class, one_request, read, sender};
 pub use status::{
     DENIED_NO_MORE_STAS, REFUSED, REFUSED_BASIC_RATES_MISMATCH, SUCCESS,
     TRANSACTION_SEQUENCE_ERROR, UNSUPPORTED_AUTH_ALGORITHM,

@@ -1,0 +1,211 @@
+//! The one request of a string of octets (IEEE Std 802.11-2016, 9.3.3).
+
+ghost use Rattle.std.specs.Prelude.{◌≡◌, ◌<◌, ◌+◌, ◌≤◌, List, ℕ, length, slice_index, Ok, Err, IfOk, IsOkAnd, MatchResult};
+ghost use Rattle.elements.specs.Elements.{elements_of};
+ghost use Rattle.mac_frame.specs.Hearing.{Hears};
+ghost use Rattle.association.specs.Asked.{shown, class_of};
+ghost use Rattle.association.specs.Request.{Request as Asking, IsRequest, sender, number_at, probe_of, auth_of, assoc_of, asked_by, request_of};
+
+use crate::frame::{
+    ASSOCIATION_REQUEST, AUTHENTICATION, DEAUTHENTICATION, DISASSOCIATION, REASSOCIATION_REQUEST,
+};
+use elements::{Elements, SSID, one_list};
+use mac_frame::{
+    MacAddr, PROBE_REQUEST, Rx, Unread, body_has_octets, decode, frame_is_addressed, one_frame,
+};
+use station_state::Class;
+
+/// The octets of an authentication before those that are ignored: Algorithm, Sequence Number, Status Code (9.3.3.12).
+const AUTHENTICATION_LEN: usize = 6;
+
+/// The octets before the elements of an association request: Capability Information and Listen Interval (9.3.3.6).
+const ASSOCIATION_LEN: usize = 4;
+
+/// The octets before the elements of a reassociation request: the same, and Current AP Address (9.3.3.8).
+const REASSOCIATION_LEN: usize = 10;
+
+/// The octets of a Reason Code (9.4.1.7).
+const REASON_LEN: usize = 2;
+
+/// What a station asks.
+#[derive(Debug, Drop)]
+pub enum Request<'a> {
+    /// Which networks are here (9.3.3.10).
+    Probe {
+        /// The station.
+        from: MacAddr,
+        /// The SSID that it names, if it names one.
+        ssid: Option<&'a [u8]>,
+    },
+    /// To be authenticated (9.3.3.12).
+    Auth {
+        /// The station.
+        from: MacAddr,
+        /// The algorithm (9.4.1.1).
+        algorithm: u16,
+        /// The transaction sequence number (9.4.1.2).
+        step: u16,
+    },
+    /// To be associated (9.3.3.6, 9.3.3.8).
+    Assoc {
+        /// The station.
+        from: MacAddr,
+        /// Whether it reassociates.
+        again: bool,
+        /// Its listen interval in beacon intervals (9.4.1.6).
+        listen: u16,
+        /// The elements of its body.
+        elements: Elements<'a>,
+    },
+    /// To be associated no longer (9.3.3.5).
+    Disassoc {
+        /// The station.
+        from: MacAddr,
+    },
+    /// To be authenticated no longer (9.3.3.13).
+    Deauth {
+        /// The station.
+        from: MacAddr,
+    },
+}
+
+/// The class of a request's frame (11.3.3).
+pub fn class(request: &Request<'_>) -> Class
+    ensures { result ≡ class_of (shown request.now) }
+{
+    match request {
+        Request::Assoc { .. } | Request::Disassoc { .. } => Class::Two,
+        Request::Probe { .. } | Request::Auth { .. } | Request::Deauth { .. } => Class::One,
+    }
+}
+
+/// The station of a request.
+pub fn sender(request: &Request<'_>) -> MacAddr
+    ensures { result ≡ sender (shown request.now) }
+{
+    match request {
+        Request::Probe { from, .. }
+        | Request::Auth { from, .. }
+        | Request::Assoc { from, .. }
+        | Request::Disassoc { from }
+        | Request::Deauth { from } => *from,
+    }
+}
+
+/// The request of a string of octets for the network `bss` (9.3.3), or its first fault in the order of [`Unread`]
+/// (*profile*). It takes no memory.
+pub fn read(bss: MacAddr, frame: &[u8]) -> Result<Request<'_>, Unread>
+    // What is read is this request; what is this request is read.
+    ensures request { IfOk result (λ request. IsRequest bss frame.now (shown request)) }
+    ensures only { (r : Asking) → IsRequest bss frame.now r → IsOkAnd result (λ request. shown request ≡ r) }
+    // Which fault it is.
+    ensures fault { MatchResult result
+        (λ request. request_of bss frame.now ≡ Ok (shown request))
+        (λ fault. request_of bss frame.now ≡ Err fault) }
+{
+    let rx = match decode(bss, frame) {
+        Ok(rx) => rx,
+        Err(fault) => return Err(fault),
+    };
+    let Rx::Mgmt {
+        subtype,
+        from,
+        body,
+        ..
+    } = rx;
+    ask(subtype, from, body)
+}
+
+/// The request of a management frame, by its subtype, its station and its body.
+fn ask(subtype: u8, from: MacAddr, body: &[u8]) -> Result<Request<'_>, Unread>
+    ensures { MatchResult result
+        (λ request. asked_by subtype from body.now ≡ Ok (shown request))
+        (λ fault. asked_by subtype from body.now ≡ Err fault) }
+{
+    match subtype {
+        ASSOCIATION_REQUEST => association(from, false, ASSOCIATION_LEN, body),
+        REASSOCIATION_REQUEST => association(from, true, REASSOCIATION_LEN, body),
+        PROBE_REQUEST => probe(from, body),
+        DISASSOCIATION if body.len() >= REASON_LEN => Ok(Request::Disassoc { from }),
+        DISASSOCIATION => Err(Unread::Body),
+        AUTHENTICATION => authentication(from, body),
+        DEAUTHENTICATION if body.len() >= REASON_LEN => Ok(Request::Deauth { from }),
+        DEAUTHENTICATION => Err(Unread::Body),
+        _ => Err(Unread::Kind),
+    }
+}
+
+/// The probe request with this body (9.3.3.10).
+fn probe(from: MacAddr, body: &[u8]) -> Result<Request<'_>, Unread>
+    ensures { MatchResult result
+        (λ request. probe_of from (elements_of body.now) ≡ Ok (shown request))
+        (λ fault. probe_of from (elements_of body.now) ≡ Err fault) }
+{
+    match Elements::new(body) {
+        Ok(elements) => Ok(Request::Probe {
+            from,
+            ssid: elements.first(SSID),
+        }),
+        Err(_) => Err(Unread::Body),
+    }
+}
+
+/// The authentication with this body (9.3.3.12).
+fn authentication(from: MacAddr, body: &[u8]) -> Result<Request<'_>, Unread>
+    ensures { MatchResult result
+        (λ request. auth_of from body.now ≡ Ok (shown request))
+        (λ fault. auth_of from body.now ≡ Err fault) }
+{
+    if body.len() < AUTHENTICATION_LEN {
+        return Err(Unread::Body);
+    }
+    Ok(Request::Auth {
+        from,
+        algorithm: number_at(body, 0),
+        step: number_at(body, 2),
+    })
+}
+
+/// The request to associate, or `again` to reassociate, whose elements stand after so many octets (9.3.3.6, 9.3.3.8).
+fn association(from: MacAddr, again: bool, fixed: usize, body: &[u8]) -> Result<Request<'_>, Unread>
+    requires { 4 ≤ fixed }
+    ensures { MatchResult result
+        (λ request. assoc_of fixed from again body.now ≡ Ok (shown request))
+        (λ fault. assoc_of fixed from again body.now ≡ Err fault) }
+{
+    if body.len() < fixed {
+        return Err(Unread::Body);
+    }
+    match Elements::new(&body[fixed..]) {
+        Ok(elements) => Ok(Request::Assoc {
+            from,
+            again,
+            listen: number_at(body, 2),
+            elements,
+        }),
+        Err(_) => Err(Unread::Body),
+    }
+}
+
+/// The number of two octets at a place, the low octet first (9.2.2).
+fn number_at(body: &[u8], place: usize) -> u16
+    requires within { place < 65536 }
+    requires fits { place + 2 ≤ length body.now }
+    ensures { result ≡ number_at body.now place }
+{
+    u16::from_le_bytes([body[place], body[place + 1]])
+}
+
+/// A string of octets is at most one request for a network, which is the one that reading gives; and the network
+/// hears it (9.3.3).
+pub fn one_request()
+    ensures unique { (bss x : List ℕ) (r s : Asking) → IsRequest bss x r → IsRequest bss x s → r ≡ s }
+    ensures read { (bss x : List ℕ) (r : Asking) → IsRequest bss x r → request_of bss x ≡ Ok r }
+    ensures found { (bss x : List ℕ) (r : Asking) → ((place : ℕ) → slice_index x place < 256) → request_of bss x ≡ Ok r → IsRequest bss x r }
+    ensures heard { (bss x : List ℕ) (r : Asking) → IsRequest bss x r → Hears bss x }
+{
+    one_frame();
+    frame_is_addressed();
+    body_has_octets();
+    one_list();
+}
