@@ -1,7 +1,8 @@
 //! How stations come to a network and leave it (IEEE Std 802.11-2016, 9.3.3 and 11.3): authentication, association,
 //! disassociation and deauthentication.
 //!
-//! It promises which status a request is answered with, and that each answer and each notice is appended with exactly the
+//! It promises which request a string of octets is for a network, if it is one, and of which class; which status a request is
+//! answered with; and that each answer and each notice is appended with exactly the
 //! octets of its frame.
 //!
 //! Whether there is room for a station, which identifier it is given, and when a notice is sent, is left to the network.

@@ -1,11 +1,11 @@
 pub mod StationTables
 pub mod StationsSound
+pub mod Statuses
 pub mod AloneLaws
-pub mod Requests
 pub mod Checked
-pub mod ReadRequests
 pub mod Samples
 pub mod NetworkRows
+pub mod AnswerRows
 pub mod RequestRows
 pub mod ConfigurationRows
 pub mod RadioRows

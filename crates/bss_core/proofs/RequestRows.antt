@@ -6,7 +6,7 @@ use Rattle.mac_frame.specs.declared.frame.Unread.TheVariants.{Short, Kind, Body,
 use Rattle.mac_frame.specs.Address.{broadcast}
 use Rattle.elements.specs.Elements.{elements_of, elements_within}
 use Rattle.mac_frame.specs.Hearing.{is_heard}
-use Rattle.bss_core.specs.Request.{Request, Probe, request_of}
+use Rattle.association.specs.Request.{Request, Probe, request_of}
 use Rattle.bss_core.proofs.Samples.{bssid, station, lab, probe, probe_with, probe_for_lab, station_rates}
 
 -- ---- what is heard

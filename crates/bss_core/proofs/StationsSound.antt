@@ -8,7 +8,7 @@ use Rattle.std.proofs.lemmas.Slice.Eq.{bytes_eq-Decides}
 use borrow.Author.Tests.{ltb-true}
 use Rattle.aid_pool.specs.LeastFree.{least_free, is_among}
 use Rattle.aid_pool.proofs.Least.{least_of_list}
-use Rattle.bss_core.specs.Stations.{Table, link_of, aid_of, aid_with, identifier_of, identifiers, AreIdentifiers, may_associate, next_aid, set_link, authenticate, associate, disassociate, forget, changed, IsAllowed}
+use Rattle.bss_core.specs.Stations.{Table, link_of, aid_of, identifiers, AreIdentifiers, may_associate, next_aid, set_link, authenticate, associate, disassociate, forget, changed, IsAllowed}
 use Rattle.bss_core.specs.Sound.{AreApart, AreSound}
 use Rattle.bss_core.specs.declared.stations.Link.{Link}
 use Rattle.bss_core.specs.declared.stations.Link.TheVariants.{Authenticated, Associated}

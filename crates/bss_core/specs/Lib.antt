@@ -1,5 +1,4 @@
 pub mod Configuration
-pub mod Request
 pub mod Stations
 pub mod StationsKept
 pub mod Network
@@ -7,7 +6,6 @@ pub mod Sound
 pub mod Section
 pub mod State
 pub mod Replies
-pub mod Asked
 pub mod Radio
 pub mod RadioView
 pub mod Running

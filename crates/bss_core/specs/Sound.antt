@@ -1,5 +1,5 @@
 -- What holds of every network that events make of an empty one.
-use Rattle.std.specs.Prelude.{ℕ, ◌≡◌, ◌<◌, ◌≤◌, List, [], ◌∷◌, None, length}
+use Rattle.std.specs.Prelude.{ℕ, ◌≡◌, ◌<◌, ◌≤◌, [], ◌∷◌, None, length}
 use Rattle.bss_core.specs.Network.{Setting, Network}
 use Rattle.bss_core.specs.Stations.{Table, link_of, identifiers, AreIdentifiers}
 

@@ -11,11 +11,12 @@ ghost use Rattle.bss_core.specs.declared.bss.Refusal.TheVariants as refusals;
 use crate::config::NetConfig;
 use crate::event::Event;
 use crate::reply::Reply;
-use crate::request::{Request, read};
 use crate::section::{Counts, Section, StationRow};
 use crate::setting::Setting;
 use crate::stations::Stations;
+use association::{Request, class, read, sender};
 use mac_frame::{List, NoMemory, Octets};
+use station_state::fault;
 use std::alloc::{AllocError, Global};
 use std::collections::VecDeque;
 use std::marker::Model;
@@ -266,8 +267,25 @@ impl Bss {
             reply.unread = 1;
             return Ok(reply);
         };
+        let from = sender(&request);
+        if let Some(notice) = fault(self.stations.standing_of(from), class(&request)) {
+            return self.notify(from, notice);
+        }
         match request {
             Request::Probe { from, ssid } => self.answer_probe(from, ssid),
+            Request::Auth {
+                from,
+                algorithm,
+                step,
+            } => self.answer_authentication(from, algorithm, step),
+            Request::Assoc {
+                from,
+                again,
+                listen,
+                elements,
+            } => self.answer_association(from, again, listen, &elements),
+            Request::Disassoc { from } => Ok(self.answer_disassociation(from)),
+            Request::Deauth { from } => Ok(self.answer_deauthentication(from)),
         }
     }
 
@@ -285,6 +303,14 @@ impl Bss {
         ensures sound { network_fault result.now.network ≡ None }
     {
         &self.setting
+    }
+
+    /// Its stations.
+    pub(crate) fn stations(&self) -> &Stations
+        ensures most { result.now.most ≡ self.now.setting.network.max_stations }
+        ensures table { result.now.table ≡ (network_of self.now).stations }
+    {
+        &self.stations
     }
 
     /// How many beacon intervals have begun.

@@ -1,11 +1,10 @@
 //! What follows from the definitions, for whoever stands on them.
 
-ghost use Rattle.std.specs.Prelude.{◌≡◌, ◌<◌, ◌++◌, ℕ, List, [], ◌∷◌, slice_get, slice_index, Ok, None};
+ghost use Rattle.std.specs.Prelude.{◌≡◌, ◌<◌, ◌++◌, ℕ, List, [], ◌∷◌, slice_get, length, None};
 ghost use Rattle.std.specs.List.{AllByRecursion};
-ghost use Rattle.mac_frame.specs.Hearing.{Hears};
 ghost use Rattle.bss_core.specs.Configuration.{fault_of, setting_fault, network_fault};
 ghost use Rattle.bss_core.specs.Network.{Setting, alone, empty_network, step};
-ghost use Rattle.bss_core.specs.Request.{Request, IsRequest, request_of};
+ghost use Rattle.bss_core.specs.Sound.{IsSound};
 ghost use Rattle.bss_core.specs.declared.config.RadioConfig.{RadioConfig};
 ghost use Rattle.bss_core.specs.declared.event.Event.{Event};
 ghost use Rattle.bss_core.specs.declared.step.Step.{Step};
@@ -13,22 +12,10 @@ ghost use Rattle.bss_core.specs.Radio.{after_steps, items_of, sections_of};
 ghost use Rattle.bss_core.specs.State.{sent_by};
 ghost use Rattle.bss_core.specs.Worlds.{AreAlike, AreCutFromOne};
 
-use elements::one_list;
-use mac_frame::{body_has_octets, frame_is_addressed, one_frame};
-
-/// A string of octets is at most one request for a network, which is the one that reading gives; and the network
-/// hears it (IEEE Std 802.11-2016, 9.3.3).
-pub fn one_request()
-    ensures unique { (bss x : List ℕ) (r s : Request) → IsRequest bss x r → IsRequest bss x s → r ≡ s }
-    ensures read { (bss x : List ℕ) (r : Request) → IsRequest bss x r → request_of bss x ≡ Ok r }
-    ensures found { (bss x : List ℕ) (r : Request) → ((place : ℕ) → slice_index x place < 256) → request_of bss x ≡ Ok r → IsRequest bss x r }
-    ensures heard { (bss x : List ℕ) (r : Request) → IsRequest bss x r → Hears bss x }
-{
-    one_frame();
-    frame_is_addressed();
-    body_has_octets();
-    one_list();
-}
+/// What holds of every network that events make of an empty one, where its configuration has no fault.
+pub fn reachable()
+    ensures { (s : Setting) (es : List Event) → network_fault s.network ≡ None → IsSound s (length es) (alone s es) }
+{}
 
 /// A network alone begins empty, and each further event is one further step.
 pub fn one_step()

@@ -20,7 +20,6 @@ mod frames;
 mod laws;
 mod radio;
 mod reply;
-mod request;
 mod running;
 mod section;
 mod setting;
@@ -34,7 +33,7 @@ pub use config::{
     MAX_SSID_LEN, MAX_STATIONS, NetConfig, RadioConfig,
 };
 pub use event::{Event, hears};
-pub use laws::{checked_networks, one_request, one_step, sent_frames, two_worlds};
+pub use laws::{checked_networks, one_step, reachable, sent_frames, two_worlds};
 pub use radio::{OpenFault, Radio};
 pub use running::{RunResult, run};
 pub use section::{Counts, Section, StationRow};

@@ -1,5 +1,4 @@
-use Rattle.std.proofs.Common.{refl, ap, arith}
-use Rattle.bss_core.specs.Stations.{StationTable}
+use Rattle.std.proofs.Common.{refl}
 use Rattle.bss_core.proofs.AloneLaws.{keeps-none}
 use Rattle.bss_core.proofs.Checked.{stations_fit}
 use Rattle.bss_core.proofs.bss.Bss.new.Goals as goal

@@ -1,4 +1,4 @@
-use Rattle.bss_core.specs.Stations.{Table, IsAllowed}
+use Rattle.bss_core.specs.Stations.{IsAllowed}
 use Rattle.bss_core.specs.declared.stations.Change.{Change}
 use Rattle.bss_core.proofs.stations.Stations.change.Goals as goal
 use Rattle.std.proofs.Common.{subst}

@@ -1,4 +1,4 @@
-use Rattle.std.proofs.Common.{◌≡◌, ◌+◌, ◌≤◌, map, take, length, vec_len}
+use Rattle.std.proofs.Common.{◌≡◌, ◌≤◌, map, take, length, vec_len}
 use Rattle.std.specs.Prelude.{vec_capacity}
 use Rattle.bss_core.specs.Network.{row_of}
 use Rattle.bss_core.proofs.stations.Stations.rows.Given as goal

@@ -1,0 +1,55 @@
+//! Requests to associate or reassociate and their answers (IEEE Std 802.11-2016, 11.3.5.3).
+
+ghost use Rattle.std.specs.Prelude.{◌≡◌, IfOk, is_some, true};
+ghost use Rattle.bss_core.specs.Network.{answer_association};
+ghost use Rattle.bss_core.specs.Replies.{after_reply};
+ghost use Rattle.bss_core.specs.State.{network_of};
+ghost use Rattle.bss_core.specs.Stations.{IsAllowed, link_of};
+
+use crate::bss::Bss;
+use crate::reply::Reply;
+use crate::stations::Change;
+use association::{SUCCESS, assoc_status, write_assoc};
+use elements::Elements;
+use mac_frame::{MacAddr, NoMemory, Octets};
+
+impl Bss {
+    /// The reply to the request of a known station to associate, or `again` to reassociate: its answer, and where it
+    /// is served the station is associated.
+    pub(crate) fn answer_association(
+        &self,
+        from: MacAddr,
+        again: bool,
+        listen: u16,
+        elements: &Elements<'_>,
+    ) -> Result<Reply, NoMemory>
+        requires { is_some (link_of from (network_of self.now).stations) ≡ true }
+        ensures allowed { IfOk result (λ reply. IsAllowed self.now.setting.network.max_stations reply.change (network_of self.now).stations) }
+        ensures answer { IfOk result (λ reply.
+            answer_association self.now.setting from again listen elements.now (network_of self.now) ≡ after_reply reply (network_of self.now)) }
+    {
+        let network = &self.setting().network;
+        let rates = network.rates.as_slice();
+        let aid = self.stations().next_aid(from);
+        let status = assoc_status(network.ssid.as_slice(), rates, aid.is_some(), elements);
+        let aid = aid.unwrap_or(0);
+        let mut reply = self.no_reply();
+        let mut frame = Octets::new(self.alloc());
+        let sequence = reply.sequence;
+        write_assoc(
+            &mut frame,
+            from,
+            network.bssid,
+            sequence,
+            again,
+            status,
+            aid,
+            rates,
+        )?;
+        reply.send(frame)?;
+        if status == SUCCESS {
+            reply.change = Change::Associate { addr: from, listen };
+        }
+        Ok(reply)
+    }
+}
