@@ -1,0 +1,52 @@
+-- What the definitions say of some lists.
+use Rattle.std.proofs.Common.{◌≡◌, ℕ, List, [], ◌∷◌, length, Option, Some, None, refl}
+use Rattle.std.specs.List.{slice_get}
+use Rattle.powersave.specs.declared.unit.Whom.{Whom}
+use Rattle.powersave.specs.declared.unit.Whom.TheVariants.{One, Group}
+use Rattle.powersave.specs.Keep.{units_for, without_oldest, without_all, room_beside}
+use Rattle.powersave.proofs.Samples.{station, other_station, broadcast, unit_to, for_station, for_other, for_group, three}
+
+units_for_a_station_are_in_order_of_arrival : units_for (One station) three ≡ unit_to station 1 ∷ unit_to station 3 ∷ []
+units_for_a_station_are_in_order_of_arrival = refl
+
+the_group_has_a_part_of_its_own : units_for Group three ≡ unit_to broadcast 2 ∷ []
+the_group_has_a_part_of_its_own = refl
+
+another_station_has_none : units_for (One other_station) three ≡ []
+another_station_has_none = refl
+
+-- a station is not the group, whatever its address
+an_address_is_not_the_group : units_for (One broadcast) three ≡ []
+an_address_is_not_the_group = refl
+
+the_second_of_a_station_is_the_third_of_all : slice_get (units_for (One station) three) 1 ≡ Some (unit_to station 3)
+the_second_of_a_station_is_the_third_of_all = refl
+
+there_is_no_third_of_a_station : slice_get (units_for (One station) three) 2 ≡ None
+there_is_no_third_of_a_station = refl
+
+the_oldest_leaves_alone : without_oldest (One station) three ≡ for_group 2 ∷ for_station 3 ∷ []
+the_oldest_leaves_alone = refl
+
+the_oldest_of_the_group_may_stand_after_others : without_oldest Group three ≡ for_station 1 ∷ for_station 3 ∷ []
+the_oldest_of_the_group_may_stand_after_others = refl
+
+without_a_unit_nothing_leaves : without_oldest (One other_station) three ≡ three
+without_a_unit_nothing_leaves = refl
+
+all_of_a_station_leave : without_all (One station) three ≡ for_group 2 ∷ []
+all_of_a_station_leave = refl
+
+the_rest_stays_in_its_order : without_all Group (for_station 1 ∷ for_group 2 ∷ for_other 3 ∷ for_group 4 ∷ for_station 5 ∷ []) ≡ for_station 1 ∷ for_other 3 ∷ for_station 5 ∷ []
+the_rest_stays_in_its_order = refl
+
+-- ---- room
+
+room_for_a_station_is_given_up : room_beside (One station) (Some (One station)) ≡ None
+room_for_a_station_is_given_up = refl
+
+room_for_another_stays : room_beside (One station) (Some (One other_station)) ≡ Some (One other_station)
+room_for_another_stays = refl
+
+room_for_the_group_stays : room_beside (One station) (Some Group) ≡ Some Group
+room_for_the_group_stays = refl

@@ -1,0 +1,4 @@
+pub mod Lists
+pub mod Parts
+pub mod Samples
+pub mod KeepRows

@@ -1,0 +1,38 @@
+-- Stations and units of which the rows speak.
+use Rattle.std.proofs.Common.{ℕ, List, [], ◌∷◌}
+use Rattle.powersave.specs.declared.unit.Whom.{Whom}
+use Rattle.powersave.specs.declared.unit.Whom.TheVariants.{One, Group}
+use Rattle.powersave.specs.declared.unit.Unit.{Unit as Msdu}
+use Rattle.powersave.specs.Keep.{Entry}
+
+-- 02:aa:00:00:00:01
+abbrev pub station : List ℕ
+station = 0x02 ∷ 0xaa ∷ 0x00 ∷ 0x00 ∷ 0x00 ∷ 0x01 ∷ []
+
+-- 02:aa:00:00:00:02
+abbrev pub other_station : List ℕ
+other_station = 0x02 ∷ 0xaa ∷ 0x00 ∷ 0x00 ∷ 0x00 ∷ 0x02 ∷ []
+
+-- 02:bb:00:00:00:01
+abbrev pub host : List ℕ
+host = 0x02 ∷ 0xbb ∷ 0x00 ∷ 0x00 ∷ 0x00 ∷ 0x01 ∷ []
+
+abbrev pub broadcast : List ℕ
+broadcast = 0xff ∷ 0xff ∷ 0xff ∷ 0xff ∷ 0xff ∷ 0xff ∷ []
+
+-- a unit from the host with a body of one octet
+abbrev pub unit_to : List ℕ → ℕ → Msdu
+unit_to to octet = record { to = to; source = host; body = octet ∷ [] }
+
+abbrev pub for_station : ℕ → Entry
+for_station octet = (One station, unit_to station octet)
+
+abbrev pub for_other : ℕ → Entry
+for_other octet = (One other_station, unit_to other_station octet)
+
+abbrev pub for_group : ℕ → Entry
+for_group octet = (Group, unit_to broadcast octet)
+
+-- what came for one station, the group, and the same station again
+abbrev pub three : List Entry
+three = for_station 1 ∷ for_group 2 ∷ for_station 3 ∷ []

@@ -1,0 +1,49 @@
+-- The units that a network keeps for stations that doze (IEEE Std 802.11-2016, 11.2.3): one list, of which a part is for each.
+use Rattle.std.specs.Prelude.{ℕ, Bool, true, false, not, List, [], ◌∷◌, map, filter, Option, Some, None, if◌then◌else◌}
+use Rattle.std.specs.Str.{bytes_eq}
+use Rattle.powersave.specs.declared.unit.Whom.{Whom}
+use Rattle.powersave.specs.declared.unit.Whom.TheVariants.{One, Group}
+use Rattle.powersave.specs.declared.unit.Unit.{Unit as Msdu}
+
+-- a unit, and for whom it is kept
+abbrev pub Entry : Type 0
+Entry = Whom × Msdu
+
+-- the quota, the units in order of arrival, and for whom room was made, if for one
+pub record Kept : Type 0 where
+  pub quota : ℕ
+  pub entries : List Entry
+  pub reserved : Option Whom
+
+-- ---- for whom
+
+-- the same station, or the group
+abbrev pub is_same : Whom → Whom → Bool
+is_same (One a) (One b) = bytes_eq a b
+is_same (One a) Group = false
+is_same Group (One b) = false
+is_same Group Group = true
+
+abbrev pub is_for : Whom → Entry → Bool
+is_for whom entry = is_same entry.0 whom
+
+-- ---- the part of the list for one, in order of arrival, and the rest
+
+abbrev pub units_for : Whom → List Entry → List Msdu
+units_for whom entries = map (λ entry. entry.1) (filter (is_for whom) entries)
+
+abbrev pub without_all : Whom → List Entry → List Entry
+without_all whom entries = filter (λ entry. not (is_for whom entry)) entries
+
+-- without the first that passes a test
+abbrev pub without_first : {X : Type 0} → (X → Bool) → List X → List X
+without_first test [] = []
+without_first test (x ∷ xs) = if test x then xs else x ∷ without_first test xs
+
+abbrev pub without_oldest : Whom → List Entry → List Entry
+without_oldest whom entries = without_first (is_for whom) entries
+
+-- the room that was made, but for one
+abbrev pub room_beside : Whom → Option Whom → Option Whom
+room_beside whom None = None
+room_beside whom (Some other) = if is_same other whom then None else Some other

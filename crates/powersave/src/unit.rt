@@ -1,0 +1,23 @@
+//! A unit, and for whom it is kept.
+
+use mac_frame::{MacAddr, Octets};
+
+/// For whom a unit is kept.
+#[derive(Clone, Copy, Debug, PartialEq, Eq)]
+pub enum Whom {
+    /// For the station with this address.
+    One(MacAddr),
+    /// For all stations, where its destination is a group address.
+    Group,
+}
+
+/// One MSDU (IEEE Std 802.11-2016, 3.1) with its addresses.
+#[derive(Debug, Drop)]
+pub struct Unit {
+    /// The destination address.
+    pub to: MacAddr,
+    /// The source address.
+    pub source: MacAddr,
+    /// The body of the frame that carries it.
+    pub body: Octets,
+}
