@@ -1,10 +1,11 @@
--- An address is the network's or the broadcast one exactly where the test says so.
+-- An address is one of these exactly where the test says so.
 use Rattle.std.proofs.Common.{◌≡◌, ◌⊎◌, ℕ, true, List, inl, inr, ⊎_elim}
 use Rattle.std.specs.Cmp.Lexicographic.{bytes_decides}
 use Rattle.std.specs.Str.{bytes_eq}
 use Rattle.std.proofs.lemmas.Bool.{or_cases, or_left, or_right}
 use Rattle.mac_frame.specs.Address.{broadcast, is_bss_or_broadcast}
 
+-- the network's or the broadcast address
 pub tested_where_one : (bss address : List ℕ) → (address ≡ bss) ⊎ (address ≡ broadcast) → is_bss_or_broadcast bss address ≡ true
 tested_where_one bss address h = ⊎_elim
     (λ e. or_left (bytes_eq address bss) (bytes_eq address broadcast) ((bytes_decides address bss).1 e))

@@ -1,20 +1,11 @@
--- Strings of octets on which the function that reads frames is computed.
-use Rattle.std.proofs.Common.{◌≡◌, ℕ, true, false, List, [], ◌∷◌, ◌++◌, take, slice_index, Ok, Err, refl, ap, inr, arith}
+-- Strings of octets on which the function that reads frames is computed: probe requests, and what is not read of any kind.
+use Rattle.std.proofs.Common.{◌≡◌, ℕ, true, false, List, [], ◌∷◌, ◌++◌, take, slice_index, Ok, Err, refl, ap, inl, inr, arith}
 use Rattle.std.specs.Prelude.{replicate}
 use Rattle.mac_frame.specs.Address.{broadcast}
 use Rattle.mac_frame.specs.Header.{addressed_to}
-use Rattle.mac_frame.specs.Frame.{Mgmt, IsFrame, frame_of}
-use Rattle.mac_frame.proofs.Samples.{network, other_network, station, group}
+use Rattle.mac_frame.specs.Frame.{Mgmt, Poll, IsFrame, frame_of}
+use Rattle.mac_frame.proofs.Samples.{network, other_network, station, group, elements, frame}
 use Rattle.mac_frame.specs.declared.frame.Unread.TheVariants.{Short, Version, Kind, Flags, Direction, Address, TooLong}
-
--- an empty SSID and four rates
-abbrev elements : List ℕ
-elements = 0 ∷ 0 ∷ 0x01 ∷ 0x04 ∷ 0x02 ∷ 0x04 ∷ 0x0b ∷ 0x16 ∷ []
-
--- a frame of these parts, with Duration 0 and sequence number 0
-abbrev frame : (control flags : ℕ) (to from third : List ℕ) (fragment : ℕ) (body : List ℕ) → List ℕ
-frame control flags to from third fragment body =
-    (control ∷ flags ∷ 0 ∷ 0 ∷ []) ++ to ++ from ++ third ++ (fragment ∷ 0 ∷ []) ++ body
 
 -- ---- what is read
 
@@ -69,11 +60,9 @@ another_version_is_refused = refl
 pub a_beacon_is_refused : frame_of network (frame 0x80 0 broadcast station broadcast 0 elements) ≡ Err Kind
 a_beacon_is_refused = refl
 
-pub a_data_frame_is_refused : frame_of network (frame 0x48 0 broadcast station broadcast 0 elements) ≡ Err Kind
-a_data_frame_is_refused = refl
-
-pub a_control_frame_of_16_octets_is_refused : frame_of network (take 16 (frame 0xa4 0 network station [] 0 [])) ≡ Err Kind
-a_control_frame_of_16_octets_is_refused = refl
+-- RTS, of 16 octets
+pub another_control_frame_is_refused : frame_of network (take 16 (frame 0xb4 0 network station [] 0 [])) ≡ Err Kind
+another_control_frame_is_refused = refl
 
 pub more_fragments_are_refused : frame_of network (frame 0x40 0x04 broadcast station broadcast 0 elements) ≡ Err Flags
 more_fragments_are_refused = refl
@@ -154,7 +143,7 @@ duration_and_the_sequence_number_are_ignored = refl
 pub twenty_three_octets_of_a_data_frame_are_short : frame_of network (take 23 (frame 0x08 0x01 network station network 0 [])) ≡ Err Short
 twenty_three_octets_of_a_data_frame_are_short = refl
 
-pub twenty_three_octets_of_a_control_frame_are_enough : frame_of network (take 23 (frame 0xa4 0 network station network 0 [])) ≡ Err Kind
+pub twenty_three_octets_of_a_control_frame_are_enough : frame_of network (take 23 (frame 0xa4 0 network station network 0 [])) ≡ Ok (Poll station 0)
 twenty_three_octets_of_a_control_frame_are_enough = refl
 
 pub version_3_is_refused : frame_of network (frame 0x43 0 broadcast station broadcast 0 elements) ≡ Err Version
@@ -163,9 +152,6 @@ version_3_is_refused = refl
 -- type 3, with the subtype of a probe request
 pub the_reserved_type_is_refused : frame_of network (frame 0x4c 0 broadcast station broadcast 0 elements) ≡ Err Kind
 the_reserved_type_is_refused = refl
-
-pub an_authentication_frame_is_not_read_yet : frame_of network (frame 0xb0 0 network station network 0 (0 ∷ 0 ∷ 1 ∷ 0 ∷ 0 ∷ 0 ∷ [])) ≡ Err Kind
-an_authentication_frame_is_not_read_yet = refl
 
 -- ---- the relation, field by field
 
@@ -180,33 +166,29 @@ the_probe_request_is_a_frame = record {
     sequence_control = 0 ∷ 0 ∷ [];
     body = elements;
   };
-  probe_request = record {
-    management = record {
-      headed = record {
-        string = refl;
-        control = refl;
-        duration = refl;
-        address_1 = refl;
-        address_2 = refl;
-        address_3 = refl;
-        sequence_control = refl;
-        version = refl;
-        more_fragments = refl;
-        protected = refl;
-        order = refl;
-        first_fragment = refl;
-        from_station = refl;
-        from_another = λ same. omega (arith, ap (λ address. slice_index address 1) same);
-        body = omega arith;
-      };
-      type = refl;
-      to_ds = refl;
-      from_ds = refl;
+  management = record {
+    headed = record {
+      string = refl;
+      control = refl;
+      duration = refl;
+      address_1 = refl;
+      address_2 = refl;
+      address_3 = refl;
+      sequence_control = refl;
+      version = refl;
+      more_fragments = refl;
+      protected = refl;
+      order = refl;
+      first_fragment = refl;
+      from_station = refl;
+      from_another = λ same. omega (arith, ap (λ address. slice_index address 1) same);
+      body = omega arith;
     };
-    subtype = refl;
-    to_network = inr refl;
-    of_network = inr refl;
+    type = refl;
+    to_ds = refl;
+    from_ds = refl;
   };
+  addressed = inl (record { subtype = refl; to_network = inr refl; of_network = inr refl });
   subtype_is = refl;
   from_is = refl;
   to_all_is = refl;

@@ -1,17 +1,22 @@
 -- A string is a frame, by the concatenation of its fields, exactly where the tests in their order find no fault.
-use Rattle.std.proofs.Common.{◌≡◌, ℕ, ◌+◌, ◌<◌, ◌≤◌, ◌⊎◌, Bool, true, false, not, ◌&&◌, ◌==◌, ltb, List, length, drop, slice_index, Result, Ok, Err, MatchResult, IfOk, IsOkAnd, if◌then◌else◌, refl, sym, ◌∙◌, subst, ⊎_elim, arith}
-use Rattle.std.proofs.lemmas.Bool.{eq-eqb, eqb-true, le-ltb, ltb-false, not_from_true, not-false, or_from, or_parts, and_left, and_parts, and_cases, false≢true}
+use Rattle.std.proofs.Common.{◌≡◌, ℕ, ◌+◌, ◌<◌, ◌≤◌, ◌⊎◌, Bool, true, false, not, ◌&&◌, ◌==◌, ltb, List, length, drop, slice_index, Result, Ok, Err, MatchResult, IfOk, IsOkAnd, if◌then◌else◌, inl, inr, refl, sym, ◌∙◌, ap, subst, ⊎_elim, arith}
+use Rattle.std.proofs.lemmas.Bool.{eq-eqb, eqb-true, le-ltb, ltb-false, not_from_true, not-false, or_from, or_parts, and_left, and_right, and_parts, and_cases, false≢true}
 use Rattle.std.proofs.lemmas.List.{get_or-drop}
 use Rattle.mac_frame.specs.Address.{broadcast}
-use Rattle.mac_frame.specs.FrameControl.{management_type, control_type}
+use Rattle.mac_frame.specs.FrameControl.{management_type, control_type, data_type}
 use Rattle.mac_frame.specs.Header.{control_at, addressed_to}
-use Rattle.mac_frame.specs.Management.{is_management_read, management_of}
-use Rattle.mac_frame.specs.Frame.{Frame, Mgmt, shown, IsFrame, is_short, frame_of}
+use Rattle.mac_frame.specs.Management.{IsProbeRequest, IsIndividual, is_management_read, management_of}
+use Rattle.mac_frame.specs.Data.{is_data_read, data_of}
+use Rattle.mac_frame.specs.PsPoll.{is_ps_poll_read, ps_poll_of}
+use Rattle.mac_frame.specs.Frame.{Frame, Mgmt, Msdu, Null, Poll, shown, IsFrame, is_short, frame_of}
 use Rattle.mac_frame.specs.declared.frame.Rx.{Rx}
+use Rattle.mac_frame.specs.declared.frame_control.FrameControl.{FrameControl}
 use Rattle.mac_frame.specs.declared.frame.Unread.{Unread}
 use Rattle.mac_frame.specs.declared.frame.Unread.TheVariants.{Short, Version, Kind}
 use Rattle.mac_frame.proofs.Headers.{Passes, placed, not_taken}
-use Rattle.mac_frame.proofs.ManagementFrames.{read_where_frame, frame_where_read}
+use Rattle.mac_frame.proofs.ManagementFrames as management
+use Rattle.mac_frame.proofs.DataFrames as data_frames
+use Rattle.mac_frame.proofs.PsPollFrames as polls
 
 -- ---- the first tests
 
@@ -21,46 +26,117 @@ not_short bss x t =
     let long = t.long in
     or_from _ _ (le-ltb (length x) 16 (omega arith)) (and_left _ _ (le-ltb (length x) 24 (omega arith)))
 
-long_enough : (x : List ℕ) → is_short x ≡ false → (control_at x).kind ≡ management_type → 24 ≤ length x
-long_enough x short type =
-    let not_control : not ((control_at x).kind == control_type) ≡ true = subst (λ t. not (t == control_type) ≡ true) (sym type) refl in
+-- a control frame with a header of 16 octets is
+no_short_control : (x : List ℕ) → 16 ≤ length x → (control_at x).kind ≡ control_type → is_short x ≡ false
+no_short_control x long type =
+    or_from _ _ (le-ltb (length x) 16 long) (and_right _ _ (not_from_true _ (eq-eqb (control_at x).kind control_type type)))
+
+sixteen : (x : List ℕ) → is_short x ≡ false → 16 ≤ length x
+sixteen x short =
+    ltb-false (length x) 16 (or_parts (ltb (length x) 16) (ltb (length x) 24 && not ((control_at x).kind == control_type)) short).0
+
+-- a frame that is no control frame has a header of 24 octets
+twenty_four : (x : List ℕ) → is_short x ≡ false → ((control_at x).kind == control_type) ≡ false → 24 ≤ length x
+twenty_four x short other =
     let parts = or_parts (ltb (length x) 16) (ltb (length x) 24 && not ((control_at x).kind == control_type)) short in
+    let not_control : not ((control_at x).kind == control_type) ≡ true = ap not other in
     ltb-false (length x) 24 (⊎_elim (λ e. e) (λ e. absurd (false≢true (sym e ∙ not_control))) (and_cases _ _ parts.1))
 
+-- ---- the kinds
+
+-- a frame of another type is none of these
+no_management : (x : List ℕ) (type : ℕ) → (control_at x).kind ≡ type → (type == management_type) ≡ false → is_management_read (control_at x) ≡ false
+no_management x type is other = and_left _ _ (ap (λ (k : ℕ). k == management_type) is ∙ other)
+
+no_data : (x : List ℕ) (type : ℕ) → (control_at x).kind ≡ type → (type == data_type) ≡ false → is_data_read (control_at x) ≡ false
+no_data x type is other = and_left _ _ (ap (λ (k : ℕ). k == data_type) is ∙ other)
+
 -- the function, by the answers of its tests
-abbrev ladder : Bool → Bool → Bool → Result Frame Unread → Result Frame Unread
-ladder short version management frame =
+abbrev ladder : (short version is_management is_data is_poll : Bool) (m d p : Result Frame Unread) → Result Frame Unread
+ladder short version is_management is_data is_poll m d p =
     if short then Err Short
     else if version then Err Version
-    else if management then frame
+    else if is_management then m
+    else if is_data then d
+    else if is_poll then p
     else Err Kind
 
--- a step that is taken
-taken : (b : Bool) (r : Result Frame Unread) (f : Frame) → (if b then r else Err Kind) ≡ Ok f → (b ≡ true) × (r ≡ Ok f)
-taken true r f e = (refl, e)
-taken false r f e = cc
+-- one of two steps is taken
+taken : (b : Bool) (r s : Result Frame Unread) (f : Frame) → (if b then r else s) ≡ Ok f → ((b ≡ true) × (r ≡ Ok f)) ⊎ ((b ≡ false) × (s ≡ Ok f))
+taken true r s f e = inl (refl, e)
+taken false r s f e = inr (refl, e)
+
+-- a PS-Poll frame is read as no other kind
+pub read_as_poll : (bss x : List ℕ) (c : FrameControl) → c ≡ control_at x → 16 ≤ length x → c.version ≡ 0 → is_ps_poll_read c ≡ true → frame_of bss x ≡ ps_poll_of bss x
+read_as_poll bss x c same long zero_version poll =
+    let version_is : (control_at x).version ≡ 0 = ap (λ (d : FrameControl). d.version) (sym same) ∙ zero_version in
+    let poll_is : is_ps_poll_read (control_at x) ≡ true = ap is_ps_poll_read (sym same) ∙ poll in
+    let type = eqb-true (control_at x).kind control_type (and_parts _ _ poll_is).0 in
+    let short = no_short_control x long type in
+    let version = not_from_true _ (eq-eqb (control_at x).version 0 version_is) in
+    let other = no_management x control_type type refl in
+    let another = no_data x control_type type refl in
+    λ i. ladder (short i) (version i) (other i) (another i) (poll_is i) (management_of bss x) (data_of bss x) (ps_poll_of bss x)
 
 -- ---- a frame is what the function gives
 
+-- each kind, once it was read by the function of its kind
+module _ (bss x : List ℕ) (f : Frame) where
+  management_is_read : management.IsRead bss x f → frame_of bss x ≡ Ok f
+  management_is_read r =
+      let short = not_short bss x r.passes in
+      let version = not_from_true _ (eq-eqb (control_at x).version 0 r.passes.version) in
+      let here : frame_of bss x ≡ management_of bss x =
+      λ i. ladder (short i) (version i) (r.kind i) (is_data_read (control_at x)) (is_ps_poll_read (control_at x)) (management_of bss x) (data_of bss x) (ps_poll_of bss x) in
+      here ∙ r.frame
+
+  data_is_read : data_frames.IsRead bss x f → frame_of bss x ≡ Ok f
+  data_is_read r =
+      let short = not_short bss x r.passes in
+      let version = not_from_true _ (eq-eqb (control_at x).version 0 r.passes.version) in
+      let other = no_management x data_type r.type refl in
+      let here : frame_of bss x ≡ data_of bss x =
+      λ i. ladder (short i) (version i) (other i) (r.kind i) (is_ps_poll_read (control_at x)) (management_of bss x) (data_of bss x) (ps_poll_of bss x) in
+      here ∙ r.frame
+
+  poll_is_read : polls.IsRead bss x f → frame_of bss x ≡ Ok f
+  poll_is_read r = read_as_poll bss x (control_at x) refl r.long r.version r.kind ∙ r.frame
+
 pub is_read : (bss x : List ℕ) (f : Frame) → IsFrame bss x f → frame_of bss x ≡ Ok f
 is_read bss x (Mgmt subtype from to_all body) w =
-    let r = read_where_frame bss x subtype from to_all body w in
-    let short = not_short bss x r.passes in
-    let version = not_from_true _ (eq-eqb (control_at x).version 0 r.passes.version) in
-    let here : frame_of bss x ≡ management_of bss x = λ i. ladder (short i) (version i) (r.kind i) (management_of bss x) in
-    here ∙ r.frame
+    management_is_read bss x (Mgmt subtype from to_all body) (management.read_where_frame bss x subtype from to_all body w)
+is_read bss x (Msdu from doze to body) w =
+    data_is_read bss x (Msdu from doze to body) (data_frames.read_where_msdu bss x from doze to body w)
+is_read bss x (Null from doze) w =
+    data_is_read bss x (Null from doze) (data_frames.read_where_null bss x from doze w)
+is_read bss x (Poll from aid) w =
+    poll_is_read bss x (Poll from aid) (polls.read_where_frame bss x from aid w)
 
 -- ---- what the function gives is a frame
+
+-- by the type, no control frame
+no_control : (x : List ℕ) (type : ℕ) → ((control_at x).kind == type) ≡ true → (type == control_type) ≡ false → ((control_at x).kind == control_type) ≡ false
+no_control x type is other = ap (λ (k : ℕ). k == control_type) (eqb-true (control_at x).kind type is) ∙ other
 
 pub is_a_frame : (bss x : List ℕ) (f : Frame) → frame_of bss x ≡ Ok f → IsFrame bss x f
 is_a_frame bss x f e =
     let short = not_taken (is_short x) Short _ f e in
     let version = not_taken (not ((control_at x).version == 0)) Version _ f short.1 in
-    let read = taken (is_management_read (control_at x)) (management_of bss x) f version.1 in
-    let type = eqb-true (control_at x).kind management_type (and_parts _ _ read.0).0 in
-    let long = long_enough x short.0 type in
-    let frame = frame_where_read bss x long (eqb-true (control_at x).version 0 (not-false _ version.0)) read.0 f read.1 in
-    subst (λ g. IsFrame bss x g) frame.1 frame.0
+    let zero_version = eqb-true (control_at x).version 0 (not-false _ version.0) in
+    elim (taken (is_management_read (control_at x)) (management_of bss x) _ f version.1) [
+      | inl m ↦
+          let long = twenty_four x short.0 (no_control x management_type (and_parts _ _ m.0).0 refl) in
+          management.frame_where_read bss x long zero_version m.0 f m.1
+      | inr m ↦ elim (taken (is_data_read (control_at x)) (data_of bss x) _ f m.1) [
+        | inl d ↦
+            let long = twenty_four x short.0 (no_control x data_type (and_parts _ _ d.0).0 refl) in
+            data_frames.frame_where_read bss x long zero_version d.0 f d.1
+        | inr d ↦ elim (taken (is_ps_poll_read (control_at x)) (ps_poll_of bss x) (Err Kind) f d.1) [
+          | inl p ↦ polls.frame_where_read bss x (sixteen x short.0) zero_version p.0 f p.1
+          | inr p ↦ let none : Err Kind ≡ Ok f = p.1 in absurd (cc)
+        ]
+      ]
+    ]
 
 -- ---- what follows
 
@@ -70,19 +146,41 @@ is_one bss x f g v w =
     let read_too = is_read bss x g w in
     cc
 
-pub is_addressed : (bss x : List ℕ) (f : Frame) → IsFrame bss x f → (10 ≤ length x) × ((addressed_to x ≡ bss) ⊎ (addressed_to x ≡ broadcast))
+-- whom a frame is sent to
+abbrev IsAddressed : List ℕ → List ℕ → Type 0
+IsAddressed bss x = (10 ≤ length x) × ((addressed_to x ≡ bss) ⊎ (addressed_to x ≡ broadcast))
+
+pub is_addressed : (bss x : List ℕ) (f : Frame) → IsFrame bss x f → IsAddressed bss x
 is_addressed bss x (Mgmt subtype from to_all body) w =
-    let r = w.probe_request in
-    let p = placed bss x w.fields r.management.headed in
+    let p = placed bss x w.fields w.management.headed in
     let long = p.long in
-    (omega arith, subst (λ a. (a ≡ bss) ⊎ (a ≡ broadcast)) (sym p.address_1) r.to_network)
+    let receiver : (w.fields.address_1 ≡ bss) ⊎ (w.fields.address_1 ≡ broadcast) = ⊎_elim (λ (r : IsProbeRequest bss w.fields). r.to_network) (λ (r : IsIndividual bss w.fields). inl r.to_network) w.addressed in
+    (omega arith, subst (λ a. (a ≡ bss) ⊎ (a ≡ broadcast)) (sym p.address_1) receiver)
+is_addressed bss x (Msdu from doze to body) w =
+    let p = placed bss x w.fields w.data_frame.headed in
+    let long = p.long in
+    (omega arith, inl (p.address_1 ∙ w.data_frame.to_network))
+is_addressed bss x (Null from doze) w =
+    let p = placed bss x w.fields w.data_frame.headed in
+    let long = p.long in
+    (omega arith, inl (p.address_1 ∙ w.data_frame.to_network))
+is_addressed bss x (Poll from aid) w =
+    let p = polls.placed bss x w.fields w.polled in
+    let long = p.long in
+    (omega arith, inl (p.bssid ∙ w.polled.to_network))
 
 -- the body of a frame has octets where the string has
-pub body_octets : (bss x : List ℕ) (subtype : ℕ) (from : List ℕ) (to_all : Bool) (body : List ℕ) → IsFrame bss x (Mgmt subtype from to_all body) → ((place : ℕ) → slice_index x place < 256) → (place : ℕ) → slice_index body place < 256
-body_octets bss x subtype from to_all body w octets place =
-    let p = placed bss x w.fields w.probe_request.management.headed in
-    let body_is : drop 24 x ≡ body = p.body ∙ sym w.body_is in
+octets_after : (x body : List ℕ) → drop 24 x ≡ body → ((place : ℕ) → slice_index x place < 256) → (place : ℕ) → slice_index body place < 256
+octets_after x body body_is octets place =
     subst (λ (b : List ℕ). slice_index b place < 256) body_is (subst (λ octet. octet < 256) (sym (get_or-drop 24 x place 0)) (octets (24 + place)))
+
+pub body_octets : (bss x : List ℕ) (subtype : ℕ) (from : List ℕ) (to_all : Bool) (body : List ℕ) → IsFrame bss x (Mgmt subtype from to_all body) → ((place : ℕ) → slice_index x place < 256) → (place : ℕ) → slice_index body place < 256
+body_octets bss x subtype from to_all body w =
+    octets_after x body ((placed bss x w.fields w.management.headed).body ∙ sym w.body_is)
+
+pub unit_octets : (bss x from : List ℕ) (doze : Bool) (to body : List ℕ) → IsFrame bss x (Msdu from doze to body) → ((place : ℕ) → slice_index x place < 256) → (place : ℕ) → slice_index body place < 256
+unit_octets bss x from doze to body w =
+    octets_after x body ((placed bss x w.fields w.data_frame.headed).body ∙ sym w.body_is)
 
 -- no frame where the function gives a fault
 pub none_at_fault : (bss x : List ℕ) (f : Frame) (u : Unread) → frame_of bss x ≡ Err u → IsFrame bss x f → ⊥

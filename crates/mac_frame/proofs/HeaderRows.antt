@@ -2,8 +2,8 @@
 use Rattle.std.proofs.Common.{◌≡◌, ℕ, List, [], ◌∷◌, take, refl}
 use Rattle.mac_frame.specs.Header.{sequence_control}
 use Rattle.std.specs.Int.{w16, to_le_bytes}
-use Rattle.mac_frame.specs.Management.{probe_request_subtype, probe_response_subtype, management_header, capability}
-use Rattle.mac_frame.specs.declared.management.TheConstants.{CAPABILITY, PROBE_REQUEST, PROBE_RESPONSE}
+use Rattle.mac_frame.specs.Management.{association_request_subtype, association_response_subtype, reassociation_request_subtype, reassociation_response_subtype, probe_request_subtype, probe_response_subtype, disassociation_subtype, authentication_subtype, deauthentication_subtype, management_header, capability}
+use Rattle.mac_frame.specs.declared.management.TheConstants.{ASSOCIATION_REQUEST, ASSOCIATION_RESPONSE, AUTHENTICATION, CAPABILITY, DEAUTHENTICATION, DISASSOCIATION, PROBE_REQUEST, PROBE_RESPONSE, REASSOCIATION_REQUEST, REASSOCIATION_RESPONSE}
 use Rattle.mac_frame.proofs.Samples.{network, station}
 
 abbrev probe_response : List ℕ
@@ -39,3 +39,24 @@ the_probe_request_is_the_standards = refl
 
 pub the_probe_response_is_the_standards : PROBE_RESPONSE ≡ probe_response_subtype
 the_probe_response_is_the_standards = refl
+
+pub the_association_request_is_the_standards : ASSOCIATION_REQUEST ≡ association_request_subtype
+the_association_request_is_the_standards = refl
+
+pub the_association_response_is_the_standards : ASSOCIATION_RESPONSE ≡ association_response_subtype
+the_association_response_is_the_standards = refl
+
+pub the_reassociation_request_is_the_standards : REASSOCIATION_REQUEST ≡ reassociation_request_subtype
+the_reassociation_request_is_the_standards = refl
+
+pub the_reassociation_response_is_the_standards : REASSOCIATION_RESPONSE ≡ reassociation_response_subtype
+the_reassociation_response_is_the_standards = refl
+
+pub the_disassociation_is_the_standards : DISASSOCIATION ≡ disassociation_subtype
+the_disassociation_is_the_standards = refl
+
+pub the_authentication_is_the_standards : AUTHENTICATION ≡ authentication_subtype
+the_authentication_is_the_standards = refl
+
+pub the_deauthentication_is_the_standards : DEAUTHENTICATION ≡ deauthentication_subtype
+the_deauthentication_is_the_standards = refl

@@ -83,7 +83,7 @@ spelled_at_places x long =
     let P : List ℕ → Type 0 = λ y. y ≡ spelled (fields_at y) in
     subst P (sym split) refl
 
-part_length : (x : List ℕ) (n place : ℕ) → place + n ≤ length x → length (take n (drop place x)) ≡ n
+pub part_length : (x : List ℕ) (n place : ℕ) → place + n ≤ length x → length (take n (drop place x)) ≡ n
 part_length x n place h = length-take-le n (drop place x) (omega (arith, length-drop place x))
 
 -- ---- the tests of a header
@@ -96,9 +96,14 @@ pub record Passes (bss x : List ℕ) : Type 0 where
   pub station : is_from_station bss x ≡ true
   pub fits : is_too_long x ≡ false
 
-is_station_where : (bss address : List ℕ) → is_group address ≡ false → address ≢ bss → is_station bss address ≡ true
+pub is_station_where : (bss address : List ℕ) → is_group address ≡ false → address ≢ bss → is_station bss address ≡ true
 is_station_where bss address single other =
     ap not (or_from (is_group address) (bytes_eq address bss) single (false_from_ne_true (bytes_eq address bss) (λ e. other ((bytes_decides address bss).0 e))))
+
+pub where_is_station : (bss address : List ℕ) → is_station bss address ≡ true → (is_group address ≡ false) × (address ≢ bss)
+where_is_station bss address h =
+    let parts = or_parts (is_group address) (bytes_eq address bss) (not-true _ h) in
+    (parts.0, λ e. false≢true (sym parts.1 ∙ (bytes_decides address bss).1 e))
 
 pub passes : (bss x : List ℕ) (f : Fields) → IsHeaded bss x f → Passes bss x
 passes bss x f h =
@@ -120,7 +125,7 @@ headed bss x p =
     let refused = or_parts _ _ p.refused in
     let order = or_parts _ _ refused.0 in
     let protected = or_parts _ _ order.0 in
-    let station = or_parts (is_group (address_at x 10)) (bytes_eq (address_at x 10) bss) (not-true _ p.station) in
+    let station = where_is_station bss (address_at x 10) p.station in
     record {
       string = spelled_at_places x long;
       control = length-take-le 2 x (omega arith);
@@ -135,7 +140,7 @@ headed bss x p =
       order = order.1;
       first_fragment = eqb-true (fragment_at x) 0 (not-false _ refused.1);
       from_station = station.0;
-      from_another = λ e. false≢true (sym station.1 ∙ (bytes_decides (address_at x 10) bss).1 e);
+      from_another = station.1;
       body = ltb-false 2304 (length (drop 24 x)) p.fits;
     }
 

@@ -4,9 +4,14 @@ pub mod FrameControls
 pub mod Headers
 pub mod Written
 pub mod ManagementFrames
+pub mod DataFrames
+pub mod PsPollFrames
 pub mod Frames
 pub mod Samples
 pub mod AddressRows
 pub mod FrameControlRows
 pub mod HeaderRows
 pub mod FrameRows
+pub mod ManagementFrameRows
+pub mod DataFrameRows
+pub mod PsPollFrameRows

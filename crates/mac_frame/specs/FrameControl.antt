@@ -1,6 +1,6 @@
 -- Frame Control (IEEE Std 802.11-2016, 9.2.4.1), the first field of every frame: its two octets as one number, of
 -- which the first octet is the low one, and the fields that stand in it.
-use Rattle.std.specs.Prelude.{ℕ, ◌+◌, ◌*◌, ◌/◌, ◌%◌, ◌^◌, Bool, false, ◌==◌, ◌||◌, List}
+use Rattle.std.specs.Prelude.{ℕ, ◌+◌, ◌*◌, ◌/◌, ◌%◌, ◌^◌, Bool, false, not, ◌==◌, ◌&&◌, ◌||◌, List}
 use Rattle.std.specs.Int.{w16, from_bool, from_le_bytes, to_le_bytes}
 use Rattle.mac_frame.specs.declared.frame_control.FrameControl.{FrameControl}
 
@@ -11,6 +11,9 @@ management_type = 0
 
 abbrev pub control_type : ℕ
 control_type = 1
+
+abbrev pub data_type : ℕ
+data_type = 2
 
 -- ---- the table: the lowest bit of each field, and how many it has where that is not one (9.2.4.1.1)
 
@@ -89,6 +92,14 @@ control_of octets = control_in (from_le_bytes w16 octets)
 -- a fragment that others follow, a protected frame, or one with an HT Control field
 abbrev pub has_refused_flags : FrameControl → Bool
 has_refused_flags c = c.more_fragments || c.protected || c.order
+
+-- to the distribution system, or from it (9.2.4.1.4)
+abbrev pub has_direction : FrameControl → Bool
+has_direction c = c.to_ds || c.from_ds
+
+-- to the distribution system, and not from it
+abbrev pub is_to_ds : FrameControl → Bool
+is_to_ds c = c.to_ds && not c.from_ds
 
 -- ---- written
 

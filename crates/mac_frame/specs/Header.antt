@@ -2,6 +2,7 @@
 -- octets of one that is sent.
 use Rattle.std.specs.Prelude.{ℕ, ◌*◌, ◌≤◌, ◌≡◌, ◌≢◌, Bool, false, not, nat_lt, ◌==◌, ◌||◌, List, [], ◌∷◌, ◌++◌, length, take, drop, Result, Ok, Err, if◌then◌else◌}
 use Rattle.std.specs.Int.{w16, from_le_bytes, to_le_bytes}
+use Rattle.std.specs.Str.{bytes_eq}
 use Rattle.mac_frame.specs.Address.{is_group, is_station}
 use Rattle.mac_frame.specs.FrameControl.{bits, control_of, has_refused_flags, octets_of}
 use Rattle.mac_frame.specs.declared.frame_control.FrameControl.{FrameControl}
@@ -73,6 +74,10 @@ is_refused x = has_refused_flags (control_at x) || not (fragment_at x == 0)
 -- Address 2 is that of a station
 abbrev pub is_from_station : List ℕ → List ℕ → Bool
 is_from_station bss x = is_station bss (address_at x 10)
+
+-- Address 1 is the network's
+abbrev pub is_to_network : List ℕ → List ℕ → Bool
+is_to_network bss x = bytes_eq (addressed_to x) bss
 
 -- more octets after the header than a frame has
 abbrev pub is_too_long : List ℕ → Bool

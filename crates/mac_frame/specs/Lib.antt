@@ -4,4 +4,6 @@ pub mod Header
 pub mod Hearing
 pub mod Rx
 pub mod Management
+pub mod Data
+pub mod PsPoll
 pub mod Frame

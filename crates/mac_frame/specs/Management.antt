@@ -1,21 +1,49 @@
 -- Management frames (IEEE Std 802.11-2016, 9.3.3): which of them are read, and the octets of one that is sent.
-use Rattle.std.specs.Prelude.{ℕ, ◌≡◌, ◌⊎◌, Bool, false, not, ◌==◌, ◌&&◌, ◌||◌, List, drop, Result}
+use Rattle.std.specs.Prelude.{ℕ, ◌≡◌, ◌⊎◌, Bool, true, false, not, ◌==◌, ◌&&◌, ◌||◌, List, drop, Result, if◌then◌else◌}
 use Rattle.std.specs.Int.{w16, to_le_bytes}
 use Rattle.std.specs.Str.{bytes_eq}
 use Rattle.mac_frame.specs.Address.{broadcast, is_bss_or_broadcast}
-use Rattle.mac_frame.specs.FrameControl.{management_type, control_of, plain}
-use Rattle.mac_frame.specs.Header.{Fields, IsHeaded, control_at, address_at, is_refused, is_from_station, is_too_long, unless_faulty, header}
+use Rattle.mac_frame.specs.FrameControl.{management_type, control_of, has_direction, plain}
+use Rattle.mac_frame.specs.Header.{Fields, IsHeaded, control_at, address_at, addressed_to, is_refused, is_from_station, is_to_network, is_too_long, unless_faulty, header}
 use Rattle.mac_frame.specs.Rx.{Frame, Mgmt}
 use Rattle.mac_frame.specs.declared.frame.Unread.{Unread}
 use Rattle.mac_frame.specs.declared.frame_control.FrameControl.{FrameControl}
 
 -- ---- subtypes (9.2.4.1.3)
 
+abbrev pub association_request_subtype : ℕ
+association_request_subtype = 0
+
+abbrev pub association_response_subtype : ℕ
+association_response_subtype = 1
+
+abbrev pub reassociation_request_subtype : ℕ
+reassociation_request_subtype = 2
+
+abbrev pub reassociation_response_subtype : ℕ
+reassociation_response_subtype = 3
+
 abbrev pub probe_request_subtype : ℕ
 probe_request_subtype = 4
 
 abbrev pub probe_response_subtype : ℕ
 probe_response_subtype = 5
+
+abbrev pub disassociation_subtype : ℕ
+disassociation_subtype = 10
+
+abbrev pub authentication_subtype : ℕ
+authentication_subtype = 11
+
+abbrev pub deauthentication_subtype : ℕ
+deauthentication_subtype = 12
+
+-- a frame that is read, and that a station sends to its network alone
+abbrev pub is_individual_subtype : ℕ → Bool
+is_individual_subtype subtype =
+    subtype == association_request_subtype || subtype == reassociation_request_subtype || subtype == disassociation_subtype
+    || subtype == authentication_subtype
+    || subtype == deauthentication_subtype
 
 -- ---- heard, as a relation
 
@@ -28,17 +56,23 @@ pub record IsManagement (bss x : List ℕ) (f : Fields) : Type 0 where
   pub from_ds : (control_of f.control).from_ds ≡ false
 
 -- it is a probe request: sent to the network or to all, and for it or for any (9.3.3.10, 11.1.4.3)
-pub record IsProbeRequest (bss x : List ℕ) (f : Fields) : Type 0 where
-  pub management : IsManagement bss x f
+pub record IsProbeRequest (bss : List ℕ) (f : Fields) : Type 0 where
   pub subtype : (control_of f.control).subtype ≡ probe_request_subtype
   pub to_network : (f.address_1 ≡ bss) ⊎ (f.address_1 ≡ broadcast)
   pub of_network : (f.address_3 ≡ bss) ⊎ (f.address_3 ≡ broadcast)
 
+-- it is one that is sent to the network alone, and for it (9.3.3.5 to 9.3.3.8, 9.3.3.12, 9.3.3.13)
+pub record IsIndividual (bss : List ℕ) (f : Fields) : Type 0 where
+  pub subtype : is_individual_subtype (control_of f.control).subtype ≡ true
+  pub to_network : f.address_1 ≡ bss
+  pub of_network : f.address_3 ≡ bss
+
 -- what is told of a management frame, by its fields
 pub record IsMgmt (bss x : List ℕ) (subtype : ℕ) (from : List ℕ) (to_all : Bool) (body : List ℕ) : Type 0 where
   pub fields : Fields
-  pub probe_request : IsProbeRequest bss x fields
-  pub subtype_is : subtype ≡ probe_request_subtype
+  pub management : IsManagement bss x fields
+  pub addressed : IsProbeRequest bss fields ⊎ IsIndividual bss fields
+  pub subtype_is : subtype ≡ (control_of fields.control).subtype
   pub from_is : from ≡ fields.address_2
   pub to_all_is : to_all ≡ bytes_eq fields.address_1 broadcast
   pub body_is : body ≡ fields.body
@@ -47,24 +81,30 @@ pub record IsMgmt (bss x : List ℕ) (subtype : ℕ) (from : List ℕ) (to_all :
 
 -- a management frame that is read
 abbrev pub is_management_read : FrameControl → Bool
-is_management_read c = c.kind == management_type && c.subtype == probe_request_subtype
-
--- to the distribution system, or from it
-abbrev pub has_direction : List ℕ → Bool
-has_direction x = (control_at x).to_ds || (control_at x).from_ds
+is_management_read c = c.kind == management_type && (c.subtype == probe_request_subtype || is_individual_subtype c.subtype)
 
 -- Address 1 and Address 3 of a probe request
 abbrev pub is_probe_addressed : List ℕ → List ℕ → Bool
-is_probe_addressed bss x = is_bss_or_broadcast bss (address_at x 4) && is_bss_or_broadcast bss (address_at x 16)
+is_probe_addressed bss x = is_bss_or_broadcast bss (addressed_to x) && is_bss_or_broadcast bss (address_at x 16)
+
+-- Address 1 and Address 3 of a frame to the network alone
+abbrev pub is_individually_addressed : List ℕ → List ℕ → Bool
+is_individually_addressed bss x = is_to_network bss x && bytes_eq (address_at x 16) bss
+
+-- Address 1 and Address 3 of a management frame, by its subtype
+abbrev pub is_management_addressed : List ℕ → List ℕ → Bool
+is_management_addressed bss x =
+    if (control_at x).subtype == probe_request_subtype then is_probe_addressed bss x
+    else is_individually_addressed bss x
 
 -- what the octets tell at their places
 abbrev pub mgmt_at : List ℕ → Frame
-mgmt_at x = Mgmt (control_at x).subtype (address_at x 10) (bytes_eq (address_at x 4) broadcast) (drop 24 x)
+mgmt_at x = Mgmt (control_at x).subtype (address_at x 10) (bytes_eq (addressed_to x) broadcast) (drop 24 x)
 
 -- the management frame that a string is for the network, or its first fault after that of its kind
 abbrev pub management_of : List ℕ → List ℕ → Result Frame Unread
 management_of bss x =
-    unless_faulty (is_refused x) (has_direction x) (not (is_from_station bss x && is_probe_addressed bss x))
+    unless_faulty (is_refused x) (has_direction (control_at x)) (not (is_from_station bss x && is_management_addressed bss x))
     (is_too_long x) (mgmt_at x)
 
 -- ---- sent

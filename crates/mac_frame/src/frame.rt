@@ -4,11 +4,13 @@ ghost use Rattle.std.specs.Prelude.{◌≡◌, ◌<◌, ◌≤◌, length, Ok, E
 ghost use Rattle.mac_frame.specs.Frame.{Frame, IsFrame, shown, frame_of};
 
 use crate::address::MacAddr;
+use crate::data::{data_of, is_data_read};
 use crate::frame_control::CONTROL;
 use crate::header::{CONTROL_HEADER_LEN, HEADER_LEN, control_at};
 use crate::management::{is_management_read, management_of};
+use crate::ps_poll::{is_ps_poll_read, ps_poll_of};
 
-/// A frame that was heard. Its body is a part of the string that it was read from.
+/// A frame that was heard from a station. Its body is a part of the string that it was read from.
 #[derive(Clone, Copy, Debug)]
 pub enum Rx<'a> {
     /// A management frame (9.3.3).
@@ -21,6 +23,31 @@ pub enum Rx<'a> {
         to_all: bool,
         /// What follows the header.
         body: &'a [u8],
+    },
+    /// A Data frame (9.3.2.1), with a unit that the network is to pass on.
+    Msdu {
+        /// Address 2, the station that sent it.
+        from: MacAddr,
+        /// Power Management: whether the station dozes from now on (9.2.4.1.7).
+        doze: bool,
+        /// Address 3, for whom the unit is.
+        to: MacAddr,
+        /// What follows the header.
+        body: &'a [u8],
+    },
+    /// A Null frame (9.3.2.1), which tells the mode of its station alone.
+    Null {
+        /// Address 2, the station that sent it.
+        from: MacAddr,
+        /// Power Management: whether the station dozes from now on (9.2.4.1.7).
+        doze: bool,
+    },
+    /// A PS-Poll frame (9.3.1.5).
+    Poll {
+        /// Its transmitter, the station that sent it.
+        from: MacAddr,
+        /// The identifier that it names, below 16384 (9.4.1.8).
+        aid: u16,
     },
 }
 
@@ -67,8 +94,13 @@ pub fn decode(bss: MacAddr, frame: &[u8]) -> Result<Rx<'_>, Unread>
     if control.version != 0 {
         return Err(Unread::Version);
     }
-    if !is_management_read(control) {
-        return Err(Unread::Kind);
+    if is_management_read(control) {
+        management_of(bss, control, frame)
+    } else if is_data_read(control) {
+        data_of(bss, control, frame)
+    } else if is_ps_poll_read(control) {
+        ps_poll_of(bss, control, frame)
+    } else {
+        Err(Unread::Kind)
     }
-    management_of(bss, control, frame)
 }

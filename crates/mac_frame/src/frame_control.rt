@@ -2,13 +2,16 @@
 //! its bits.
 
 ghost use Rattle.std.specs.Prelude.{◌≡◌, ◌*◌, ◌^◌, ◌<◌, ◌≤◌};
-ghost use Rattle.mac_frame.specs.FrameControl.{bits, has_bit, control_of, has_refused_flags, octets_of, plain};
+ghost use Rattle.mac_frame.specs.FrameControl.{bits, has_bit, control_of, has_refused_flags, has_direction, is_to_ds, octets_of, plain};
 
 /// The type of a management frame (9.2.4.1.3).
 pub const MANAGEMENT: u8 = 0;
 
 /// The type of a control frame (9.2.4.1.3).
 pub const CONTROL: u8 = 1;
+
+/// The type of a data frame (9.2.4.1.3).
+pub const DATA: u8 = 2;
 
 // Where each field stands in the number of the two octets, the first of which is the low one (9.2.4.1.1).
 
@@ -130,6 +133,20 @@ impl FrameControl {
         ensures { result ≡ has_refused_flags self }
     {
         self.more_fragments || self.protected || self.order
+    }
+
+    /// Whether it goes to the distribution system or comes from it, as no management or control frame does (9.2.4.1.4).
+    pub fn has_direction(self) -> bool
+        ensures { result ≡ has_direction self }
+    {
+        self.to_ds || self.from_ds
+    }
+
+    /// Whether it goes to the distribution system, and doesn't come from it (9.2.4.1.4).
+    pub fn is_to_ds(self) -> bool
+        ensures { result ≡ is_to_ds self }
+    {
+        self.to_ds && !self.from_ds
     }
 }
 

@@ -1,10 +1,10 @@
 //! Headers (IEEE Std 802.11-2016, 9.2.3): where the fields of one stand, what is read of them, and one that is sent.
 //!
-//! No other file of the code knows where a field of a header stands.
+//! No other file of the code knows where a field stands that more than one kind of frame has.
 
 ghost use Rattle.std.specs.Prelude.{◌≡◌, ◌+◌, ◌++◌, ◌<◌, ◌≤◌, length, take, drop, OnOk, OnErr};
 ghost use Rattle.std.specs.Option.{SomeIff};
-ghost use Rattle.mac_frame.specs.Header.{control_at, address_at, addressed_to, fragment_at, is_refused, is_from_station, is_too_long, header};
+ghost use Rattle.mac_frame.specs.Header.{control_at, address_at, addressed_to, fragment_at, is_refused, is_from_station, is_to_network, is_too_long, header};
 
 use crate::address::MacAddr;
 use crate::frame_control::{FrameControl, bits};
@@ -110,6 +110,14 @@ pub fn is_from_station(bss: MacAddr, frame: &[u8]) -> bool
 {
     let transmitter = address_2(frame);
     !(transmitter.is_group() || transmitter == bss)
+}
+
+/// Whether Address 1 is that of the network `bss`.
+pub fn is_to_network(bss: MacAddr, frame: &[u8]) -> bool
+    requires { 10 ≤ length frame.now }
+    ensures { result ≡ is_to_network bss frame.now }
+{
+    address_1(frame) == bss
 }
 
 /// Whether more octets follow the header of 24 octets than a frame has (9.2.4.7.1).

@@ -25,6 +25,8 @@ pub fn frame_is_addressed()
 
 /// The body of a frame has octets, numbers below 256, where the string has (9.2.3).
 pub fn body_has_octets()
-    ensures { (bss x : List ℕ) (subtype : ℕ) (from : List ℕ) (to_all : Bool) (body : List ℕ) → IsFrame bss x (Frame.Mgmt subtype from to_all body)
+    ensures management { (bss x : List ℕ) (subtype : ℕ) (from : List ℕ) (to_all : Bool) (body : List ℕ) → IsFrame bss x (Frame.Mgmt subtype from to_all body)
+        → ((place : ℕ) → slice_index x place < 256) → (place : ℕ) → slice_index body place < 256 }
+    ensures msdu { (bss x from : List ℕ) (doze : Bool) (to body : List ℕ) → IsFrame bss x (Frame.Msdu from doze to body)
         → ((place : ℕ) → slice_index x place < 256) → (place : ℕ) → slice_index body place < 256 }
 {}

@@ -1,13 +1,14 @@
 //! The frames of a wireless access point, as octets (IEEE Std 802.11-2016, clause 9).
 //!
 //! It promises which strings of octets are which frame: [`decode`] reads a frame exactly where a string is
-//! one, and names the first fault elsewhere, and [`write_mgmt`] appends exact headers. [`MacAddr`],
-//! [`Octets`] and [`List`] are the values that every crate above passes on.
+//! one, and names the first fault elsewhere, and [`write_mgmt`] and [`write_msdu`] append exact headers.
+//! [`MacAddr`], [`Octets`] and [`List`] are the values that every crate above passes on.
 //!
 //! It knows no network and no station: what a body holds, and what an answer is, is left to the crates above.
 #![tactic(auto)]
 
 mod address;
+mod data;
 mod frame;
 mod frame_control;
 mod header;
@@ -16,13 +17,19 @@ mod laws;
 mod management;
 mod memory;
 mod octet_string;
+mod ps_poll;
 
 pub use address::MacAddr;
+pub use data::write_msdu;
 pub use frame::{Rx, Unread, decode};
 pub use header::{HEADER_LEN, addressed};
 pub use item_list::List;
 pub use laws::{body_has_octets, frame_is_addressed, hearing, one_frame};
-pub use management::{CAPABILITY, PROBE_REQUEST, PROBE_RESPONSE, write_mgmt};
+pub use management::{
+    ASSOCIATION_REQUEST, ASSOCIATION_RESPONSE, AUTHENTICATION, CAPABILITY, DEAUTHENTICATION,
+    DISASSOCIATION, PROBE_REQUEST, PROBE_RESPONSE, REASSOCIATION_REQUEST, REASSOCIATION_RESPONSE,
+    write_mgmt,
+};
 pub use memory::NoMemory;
 pub use octet_string::Octets;
 

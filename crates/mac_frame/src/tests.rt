@@ -5,6 +5,8 @@ const NETWORK: [u8; 6] = [0x02, 0, 0, 0, 0, 0x01];
 
 const STATION: [u8; 6] = [0x02, 0xaa, 0, 0, 0, 0x01];
 
+const HOST: [u8; 6] = [0x02, 0xbb, 0, 0, 0, 0x01];
+
 #[test]
 fn octets_are_copied_appended_and_cut(rt: HostRuntime) -> Result<(), Fail> {
     let mut octets = Octets::from_slice(rt.alloc(), &[1, 2])?;
@@ -40,6 +42,29 @@ fn a_probe_response_has_this_header(rt: HostRuntime) -> Result<(), Fail> {
 }
 
 #[test]
+fn a_unit_has_this_header(rt: HostRuntime) -> Result<(), Fail> {
+    let mut out = Octets::from_slice(rt.alloc(), &[0xff])?;
+    write_msdu(
+        &mut out,
+        MacAddr::new(STATION),
+        MacAddr::new(NETWORK),
+        MacAddr::new(HOST),
+        3,
+        true,
+    )?;
+    let header = [
+        0xff, // what was there
+        0x08, 0x22, 0x00, 0x00, // Frame Control, with more behind it, and Duration
+        0x02, 0xaa, 0x00, 0x00, 0x00, 0x01, // the station
+        0x02, 0x00, 0x00, 0x00, 0x00, 0x01, // the network
+        0x02, 0xbb, 0x00, 0x00, 0x00, 0x01, // the host
+        0x30, 0x00, // sequence number 3
+    ];
+    assert_eq!(rt; out.as_slice(), header.as_slice());
+    Ok(())
+}
+
+#[test]
 fn a_probe_request_is_read(rt: HostRuntime) -> Result<(), Fail> {
     let frame = [
         0x40, 0x00, 0x00, 0x00, // Frame Control and Duration
@@ -60,11 +85,86 @@ fn a_probe_request_is_read(rt: HostRuntime) -> Result<(), Fail> {
         from,
         to_all,
         body,
-    } = rx;
-    assert_eq!(rt; subtype, 4);
+    } = rx
+    else {
+        panic!(rt; "no management frame");
+    };
+    assert_eq!(rt; subtype, PROBE_REQUEST);
     assert_eq!(rt; from, MacAddr::new(STATION));
     assert!(rt; to_all);
     assert_eq!(rt; body, [0, 0].as_slice());
+    Ok(())
+}
+
+#[test]
+fn a_unit_is_read(rt: HostRuntime) -> Result<(), Fail> {
+    let frame = [
+        0x08, 0x11, 0x00, 0x00, // Frame Control, of a station that dozes, and Duration
+        0x02, 0x00, 0x00, 0x00, 0x00, 0x01, // the network
+        0x02, 0xaa, 0x00, 0x00, 0x00, 0x01, // the station
+        0x02, 0xbb, 0x00, 0x00, 0x00, 0x01, // the host
+        0x00, 0x00, // sequence number 0
+        0xaa, 0xaa, 0x03, // the body
+    ];
+    let rx = match decode(MacAddr::new(NETWORK), &frame) {
+        Ok(rx) => rx,
+        Err(fault) => panic!(rt; "{fault:?}"),
+    };
+    let Rx::Msdu {
+        from,
+        doze,
+        to,
+        body,
+    } = rx
+    else {
+        panic!(rt; "no Data frame");
+    };
+    assert_eq!(rt; from, MacAddr::new(STATION));
+    assert!(rt; doze);
+    assert_eq!(rt; to, MacAddr::new(HOST));
+    assert_eq!(rt; body, [0xaa, 0xaa, 0x03].as_slice());
+    Ok(())
+}
+
+#[test]
+fn a_mode_is_read(rt: HostRuntime) -> Result<(), Fail> {
+    let frame = [
+        0x48, 0x11, 0x00, 0x00, // Frame Control, of a station that dozes, and Duration
+        0x02, 0x00, 0x00, 0x00, 0x00, 0x01, // the network
+        0x02, 0xaa, 0x00, 0x00, 0x00, 0x01, // the station
+        0x02, 0x00, 0x00, 0x00, 0x00, 0x01, // the network
+        0x00, 0x00, // sequence number 0
+    ];
+    let rx = match decode(MacAddr::new(NETWORK), &frame) {
+        Ok(rx) => rx,
+        Err(fault) => panic!(rt; "{fault:?}"),
+    };
+    let Rx::Null { from, doze } = rx else {
+        panic!(rt; "no Null frame");
+    };
+    assert_eq!(rt; from, MacAddr::new(STATION));
+    assert!(rt; doze);
+    Ok(())
+}
+
+#[test]
+fn a_poll_is_read(rt: HostRuntime) -> Result<(), Fail> {
+    let frame = [
+        0xa4, 0x00, // Frame Control
+        0x01, 0xc0, // AID
+        0x02, 0x00, 0x00, 0x00, 0x00, 0x01, // the network
+        0x02, 0xaa, 0x00, 0x00, 0x00, 0x01, // the station
+    ];
+    let rx = match decode(MacAddr::new(NETWORK), &frame) {
+        Ok(rx) => rx,
+        Err(fault) => panic!(rt; "{fault:?}"),
+    };
+    let Rx::Poll { from, aid } = rx else {
+        panic!(rt; "no PS-Poll frame");
+    };
+    assert_eq!(rt; from, MacAddr::new(STATION));
+    assert_eq!(rt; aid, 1);
+    assert!(rt; decode(MacAddr::new(NETWORK), &frame[..15]).is_err());
     Ok(())
 }
 
