@@ -1,21 +1,46 @@
--- A request, by the frame and the body that it stands on.
-use Rattle.std.proofs.Common.{◌≡◌, ℕ, ◌+◌, ◌<◌, ◌≤◌, Bool, true, false, eqb, ltb, get_or, List, [], ◌∷◌, ◌++◌, length, take, drop, Option, Some, None, Result, Ok, Err, inl, inr, refl, sym, ap, subst, ◌∙◌, arith, append_assoc, length-append, length-drop}
-use Rattle.std.specs.Prelude.{◌⊎◌, if◌then◌else◌, IfOk, IsOkAnd, MatchResult}
+-- A request of a management frame, by the frame and the body that it stands on.
+use Rattle.std.proofs.Common.{◌≡◌, ℕ, ◌+◌, ◌<◌, ◌≤◌, Bool, true, false, eqb, ltb, get_or, List, [], ◌++◌, length, take, drop, Option, Some, None, Result, Ok, Err, inl, inr, refl, sym, ap, subst, ◌∙◌, arith, append_assoc, length-append, length-drop}
+use Rattle.std.specs.Prelude.{◌⊎◌, if◌then◌else◌}
 use Rattle.std.specs.Int.{w16, from_le_bytes}
 use Rattle.std.proofs.lemmas.Bool.{lt-ltb, le-ltb, both_ways, cases_lt}
 use Rattle.std.proofs.lemmas.List.{take-append-drop, drop-drop, get_or-drop, length-take-le}
 use Rattle.std.proofs.Math.Seq.{drop-append_seam, take-append_seam}
-use borrow.Author.Tests.{eqb-true, ltb-true}
+use borrow.Author.Tests.{eqb-true}
 use Rattle.mac_frame.specs.declared.frame.Unread.{Unread}
 use Rattle.mac_frame.specs.declared.frame.Unread.TheVariants.{Kind, Body}
-use Rattle.mac_frame.specs.Management.{probe_request_subtype}
-use Rattle.elements.specs.Elements.{Pair, IsElements, first_of, elements_of, ssid_id}
+use Rattle.mac_frame.specs.Management.{association_request_subtype, reassociation_request_subtype, probe_request_subtype, disassociation_subtype, authentication_subtype, deauthentication_subtype}
+use Rattle.elements.specs.Elements.{Pair, first_of, elements_of, ssid_id}
 use Rattle.elements.proofs.Walk.{IsElements-from_read, elements_of_elements}
-use Rattle.association.specs.Management.{association_request_subtype, reassociation_request_subtype, disassociation_subtype, authentication_subtype, deauthentication_subtype}
-use Rattle.association.specs.Request.{Request, Probe, Auth, Assoc, Disassoc, Deauth, sender, subtype_of, Says, number_at, with_fixed, probe_of, auth_of, assoc_with, assoc_of, asked_by}
+use Rattle.association.specs.Request.{Request, Probe, Auth, Assoc, Disassoc, Deauth, Msdu, Null, Poll, sender, IsProbeBody, IsAuthenticationBody, IsAssociationBody, IsReassociationBody, IsReasonBody, number_at, with_fixed, probe_of, auth_of, assoc_with, asked_by}
 
 abbrev pub AreOctets : List ℕ → Type 0
 AreOctets body = (place : ℕ) → get_or body place 0 < 256
+
+-- ---- all management frames alike
+
+-- the subtype of a request's frame, where that is a management frame
+abbrev pub subtype_of : Request → ℕ
+subtype_of (Probe from ssid) = probe_request_subtype
+subtype_of (Auth from algorithm step) = authentication_subtype
+subtype_of (Assoc from true listen elements) = reassociation_request_subtype
+subtype_of (Assoc from false listen elements) = association_request_subtype
+subtype_of (Disassoc from) = disassociation_subtype
+subtype_of (Deauth from) = deauthentication_subtype
+subtype_of (Msdu from doze to body) = 0
+subtype_of (Null from doze) = 0
+subtype_of (Poll from aid) = 0
+
+-- the body of its management frame says it
+abbrev pub Says : List ℕ → Request → Type 0
+Says body (Probe from ssid) = IsProbeBody body ssid
+Says body (Auth from algorithm step) = IsAuthenticationBody body algorithm step
+Says body (Assoc from true listen elements) = IsReassociationBody body listen elements
+Says body (Assoc from false listen elements) = IsAssociationBody body listen elements
+Says body (Disassoc from) = IsReasonBody body
+Says body (Deauth from) = IsReasonBody body
+Says body (Msdu from doze to unit) = ⊥
+Says body (Null from doze) = ⊥
+Says body (Poll from aid) = ⊥
 
 -- ---- the fields of a body
 
@@ -69,6 +94,9 @@ says-read body (Disassoc from) w =
     enough 2 body (Ok (Disassoc from)) (omega (arith, ap length w.whole, length-append w.reason_field w.rest, w.reason_length))
 says-read body (Deauth from) w =
     enough 2 body (Ok (Deauth from)) (omega (arith, ap length w.whole, length-append w.reason_field w.rest, w.reason_length))
+says-read body (Msdu from doze to unit) w = absurd w
+says-read body (Null from doze) w = absurd w
+says-read body (Poll from aid) w = absurd w
 
 -- ---- what is read of a body is what it says
 

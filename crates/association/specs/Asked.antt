@@ -1,8 +1,8 @@
 -- A request that was read, without where its octets lie in memory, and its class.
 use Rattle.std.specs.Prelude.{option_map}
 use Rattle.station_state.specs.declared.class.Class.{Class}
-use Rattle.station_state.specs.declared.class.Class.TheVariants.{One, Two}
-use Rattle.association.specs.Request.{Request, Probe, Auth, Assoc, Disassoc, Deauth}
+use Rattle.station_state.specs.declared.class.Class.TheVariants.{One, Two, Three}
+use Rattle.association.specs.Request.{Request, Probe, Auth, Assoc, Disassoc, Deauth, Msdu, Null, Poll}
 use Rattle.association.specs.declared.request.Request.{Request as Asked}
 use Rattle.association.specs.declared.request.Request.TheVariants as asked
 
@@ -12,6 +12,9 @@ shown (asked.Auth from algorithm step) = Auth from algorithm step
 shown (asked.Assoc from again listen elements) = Assoc from again listen elements
 shown (asked.Disassoc from) = Disassoc from
 shown (asked.Deauth from) = Deauth from
+shown (asked.Msdu from doze to body) = Msdu from doze to body.now
+shown (asked.Null from doze) = Null from doze
+shown (asked.Poll from aid) = Poll from aid
 
 -- the class of its frame (IEEE Std 802.11-2016, 11.3.3)
 abbrev pub class_of : Request → Class
@@ -20,3 +23,6 @@ class_of (Auth from algorithm step) = One
 class_of (Assoc from again listen elements) = Two
 class_of (Disassoc from) = Two
 class_of (Deauth from) = One
+class_of (Msdu from doze to body) = Three
+class_of (Null from doze) = Three
+class_of (Poll from aid) = Three

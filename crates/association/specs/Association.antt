@@ -6,8 +6,8 @@ use Rattle.std.specs.List.{list_all}
 use Rattle.std.specs.Str.{bytes_eq}
 use Rattle.elements.specs.Elements.{Pair, first_of, ssid_id}
 use Rattle.elements.specs.Rates.{is_basic, has_rate, rates_of}
-use Rattle.mac_frame.specs.Management.{capability}
-use Rattle.association.specs.Management.{association_response_subtype, reassociation_response_subtype, management_frame}
+use Rattle.mac_frame.specs.Management.{association_response_subtype, reassociation_response_subtype, capability}
+use Rattle.association.specs.Management.{management_frame}
 use Rattle.association.specs.Status.{success, refused, denied_no_more_stas, refused_basic_rates_mismatch}
 
 -- ---- the status of a request

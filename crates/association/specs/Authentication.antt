@@ -1,7 +1,8 @@
 -- Open System authentication (IEEE Std 802.11-2016, 9.3.3.12 and 12.3.3.2): the status of a request, and its answer.
 use Rattle.std.specs.Prelude.{ℕ, Bool, not, ◌==◌, List, ◌++◌, if◌then◌else◌}
 use Rattle.std.specs.Int.{w16, to_le_bytes}
-use Rattle.association.specs.Management.{authentication_subtype, management_frame}
+use Rattle.mac_frame.specs.Management.{authentication_subtype}
+use Rattle.association.specs.Management.{management_frame}
 use Rattle.association.specs.Status.{success, refused, unsupported_auth_algorithm, transaction_sequence_error}
 
 -- Authentication Algorithm Number of Open System (9.4.1.1)

@@ -4,7 +4,8 @@ use Rattle.std.specs.Prelude.{ℕ, List}
 use Rattle.std.specs.Int.{w16, to_le_bytes}
 use Rattle.station_state.specs.declared.class.Notice.{Notice}
 use Rattle.station_state.specs.declared.class.Notice.TheVariants.{Deauthenticate, Disassociate}
-use Rattle.association.specs.Management.{disassociation_subtype, deauthentication_subtype, management_frame}
+use Rattle.mac_frame.specs.Management.{disassociation_subtype, deauthentication_subtype}
+use Rattle.association.specs.Management.{management_frame}
 
 -- the frame of a notice to a station
 abbrev pub notice_frame : (to bss : List ℕ) (sequence : ℕ) → Notice → List ℕ

@@ -1,13 +1,13 @@
--- What a station asks (IEEE Std 802.11-2016, 9.3.3): the one request of a string of octets, and the first fault of a
--- string that holds none.
+-- What a station asks (IEEE Std 802.11-2016, 9.3): the one request of a string of octets, and the first fault of a string
+-- that holds none.
 use Rattle.std.specs.Prelude.{ℕ, ◌≡◌, nat_lt, ◌==◌, Bool, true, false, List, ◌++◌, length, take, drop, Option, Some, None, Result, Ok, Err, if◌then◌else◌}
 use Rattle.std.specs.Int.{w16, from_le_bytes}
-use Rattle.mac_frame.specs.Management.{probe_request_subtype}
-use Rattle.mac_frame.specs.Frame.{Frame, Mgmt, IsFrame, frame_of}
+use Rattle.mac_frame.specs.Management.{association_request_subtype, reassociation_request_subtype, probe_request_subtype, disassociation_subtype, authentication_subtype, deauthentication_subtype}
+use Rattle.mac_frame.specs.Frame.{Frame, IsFrame, frame_of}
+use Rattle.mac_frame.specs.Rx as heard
 use Rattle.mac_frame.specs.declared.frame.Unread.{Unread}
 use Rattle.mac_frame.specs.declared.frame.Unread.TheVariants.{Kind, Body}
 use Rattle.elements.specs.Elements.{Pair, IsElements, first_of, elements_of, ssid_id}
-use Rattle.association.specs.Management.{association_request_subtype, reassociation_request_subtype, disassociation_subtype, authentication_subtype, deauthentication_subtype}
 
 -- a request of a station
 pub data Request : Type 0 where
@@ -21,6 +21,12 @@ pub data Request : Type 0 where
   Disassoc : (from : List ℕ) → Request
   -- the end of an authentication (9.3.3.13)
   Deauth : (from : List ℕ) → Request
+  -- a unit to be passed on (9.3.2.1): whether the station dozes from now on, for whom it is, and its body
+  Msdu : (from : List ℕ) (doze : Bool) (to body : List ℕ) → Request
+  -- the mode of the station alone (9.3.2.1): whether it dozes from now on
+  Null : (from : List ℕ) (doze : Bool) → Request
+  -- a poll for what is kept (9.3.1.5), with the identifier that it names
+  Poll : (from : List ℕ) (aid : ℕ) → Request
 
 -- the station
 abbrev pub sender : Request → List ℕ
@@ -29,15 +35,9 @@ sender (Auth from algorithm step) = from
 sender (Assoc from again listen elements) = from
 sender (Disassoc from) = from
 sender (Deauth from) = from
-
--- the subtype of its frame (9.2.4.1.3)
-abbrev pub subtype_of : Request → ℕ
-subtype_of (Probe from ssid) = probe_request_subtype
-subtype_of (Auth from algorithm step) = authentication_subtype
-subtype_of (Assoc from true listen elements) = reassociation_request_subtype
-subtype_of (Assoc from false listen elements) = association_request_subtype
-subtype_of (Disassoc from) = disassociation_subtype
-subtype_of (Deauth from) = deauthentication_subtype
+sender (Msdu from doze to body) = from
+sender (Null from doze) = from
+sender (Poll from aid) = from
 
 -- ---- as a relation: what a body says
 
@@ -91,21 +91,25 @@ pub record IsReasonBody (body : List ℕ) : Type 0 where
   pub whole : body ≡ reason_field ++ rest
   pub reason_length : length reason_field ≡ 2
 
--- the body says this of a request
-abbrev pub Says : List ℕ → Request → Type 0
-Says body (Probe from ssid) = IsProbeBody body ssid
-Says body (Auth from algorithm step) = IsAuthenticationBody body algorithm step
-Says body (Assoc from true listen elements) = IsReassociationBody body listen elements
-Says body (Assoc from false listen elements) = IsAssociationBody body listen elements
-Says body (Disassoc from) = IsReasonBody body
-Says body (Deauth from) = IsReasonBody body
-
--- the string is this request for the network: a frame of its subtype, from its station, whose body says it
-pub record IsRequest (bss x : List ℕ) (r : Request) : Type 0 where
+-- the string is a management frame of this subtype, from this station, with such a body
+pub record IsAsked (bss x : List ℕ) (subtype : ℕ) (from : List ℕ) (Says : List ℕ → Type 0) : Type 0 where
   pub to_all : Bool
   pub body : List ℕ
-  pub frame : IsFrame bss x (Mgmt (subtype_of r) (sender r) to_all body)
-  pub says : Says body r
+  pub frame : IsFrame bss x (heard.Mgmt subtype from to_all body)
+  pub says : Says body
+
+-- the string is this request for the network
+abbrev pub IsRequest : List ℕ → List ℕ → Request → Type 0
+IsRequest bss x (Probe from ssid) = IsAsked bss x probe_request_subtype from (λ body. IsProbeBody body ssid)
+IsRequest bss x (Auth from algorithm step) = IsAsked bss x authentication_subtype from (λ body. IsAuthenticationBody body algorithm step)
+IsRequest bss x (Assoc from true listen elements) =
+    IsAsked bss x reassociation_request_subtype from (λ body. IsReassociationBody body listen elements)
+IsRequest bss x (Assoc from false listen elements) = IsAsked bss x association_request_subtype from (λ body. IsAssociationBody body listen elements)
+IsRequest bss x (Disassoc from) = IsAsked bss x disassociation_subtype from IsReasonBody
+IsRequest bss x (Deauth from) = IsAsked bss x deauthentication_subtype from IsReasonBody
+IsRequest bss x (Msdu from doze to body) = IsFrame bss x (heard.Msdu from doze to body)
+IsRequest bss x (Null from doze) = IsFrame bss x (heard.Null from doze)
+IsRequest bss x (Poll from aid) = IsFrame bss x (heard.Poll from aid)
 
 -- ---- as a function
 
@@ -145,10 +149,18 @@ asked_by subtype from body =
     else if subtype == deauthentication_subtype then with_fixed 2 body (Ok (Deauth from))
     else Err Kind
 
-abbrev pub request_in : Result Frame Unread → Result Request Unread
-request_in (Ok (Mgmt subtype from to_all body)) = asked_by subtype from body
-request_in (Err fault) = Err fault
+-- the request of a frame: of a management frame by its body, of any other as it stands
+abbrev pub request_in : Frame → Result Request Unread
+request_in (heard.Mgmt subtype from to_all body) = asked_by subtype from body
+request_in (heard.Msdu from doze to body) = Ok (Msdu from doze to body)
+request_in (heard.Null from doze) = Ok (Null from doze)
+request_in (heard.Poll from aid) = Ok (Poll from aid)
+
+-- the request of what was read
+abbrev pub request_read : Result Frame Unread → Result Request Unread
+request_read (Ok f) = request_in f
+request_read (Err fault) = Err fault
 
 -- the request of a string for the network, or its first fault
 abbrev pub request_of : List ℕ → List ℕ → Result Request Unread
-request_of bss x = request_in (frame_of bss x)
+request_of bss x = request_read (frame_of bss x)

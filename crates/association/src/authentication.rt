@@ -3,9 +3,9 @@
 ghost use Rattle.std.specs.Prelude.{◌≡◌, ◌++◌, ◌<◌, OnOk, OnErr};
 ghost use Rattle.association.specs.Authentication.{auth_status, authentication_body, authentication};
 
-use crate::frame::{AUTHENTICATION, write_frame};
+use crate::frame::write_frame;
 use crate::status::{REFUSED, SUCCESS, TRANSACTION_SEQUENCE_ERROR, UNSUPPORTED_AUTH_ALGORITHM};
-use mac_frame::{MacAddr, NoMemory, Octets};
+use mac_frame::{AUTHENTICATION, MacAddr, NoMemory, Octets};
 
 /// The algorithm number of Open System authentication (9.4.1.1).
 const OPEN_SYSTEM: u16 = 0;

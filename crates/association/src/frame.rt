@@ -1,30 +1,9 @@
-//! Management frames that this crate writes (IEEE Std 802.11-2016, 9.3.3): their subtypes, and one appended whole.
+//! Management frames that this crate writes (IEEE Std 802.11-2016, 9.3.3): one appended whole.
 
 ghost use Rattle.std.specs.Prelude.{◌≡◌, ◌++◌, ◌<◌, ◌≤◌, length, OnOk, OnErr};
 ghost use Rattle.association.specs.Management.{management_frame};
 
 use mac_frame::{HEADER_LEN, MacAddr, NoMemory, Octets, write_mgmt};
-
-/// The subtype of an association request (9.2.4.1.3).
-pub const ASSOCIATION_REQUEST: u8 = 0;
-
-/// The subtype of a reassociation request (9.2.4.1.3).
-pub const REASSOCIATION_REQUEST: u8 = 2;
-
-/// The subtype of an association response (9.2.4.1.3).
-pub const ASSOCIATION_RESPONSE: u8 = 1;
-
-/// The subtype of a reassociation response (9.2.4.1.3).
-pub const REASSOCIATION_RESPONSE: u8 = 3;
-
-/// The subtype of a disassociation (9.2.4.1.3).
-pub const DISASSOCIATION: u8 = 10;
-
-/// The subtype of an authentication (9.2.4.1.3).
-pub const AUTHENTICATION: u8 = 11;
-
-/// The subtype of a deauthentication (9.2.4.1.3).
-pub const DEAUTHENTICATION: u8 = 12;
 
 /// Appends a management frame of this subtype and body to a receiver, from the network `bss`, with a sequence number.
 /// After `NoMemory` `out` is as it was.

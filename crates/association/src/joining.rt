@@ -4,10 +4,12 @@
 ghost use Rattle.std.specs.Prelude.{◌≡◌, ◌++◌, ◌+◌, ◌<◌, ◌≤◌, length, OnOk, OnErr};
 ghost use Rattle.association.specs.Association.{names_network, has_basic_rates, assoc_status, aid_field, association_fields, association_response};
 
-use crate::frame::{ASSOCIATION_RESPONSE, REASSOCIATION_RESPONSE, write_frame};
+use crate::frame::write_frame;
 use crate::status::{DENIED_NO_MORE_STAS, REFUSED, REFUSED_BASIC_RATES_MISMATCH, SUCCESS};
 use elements::{BASIC_RATE, Elements, SSID, write_rates};
-use mac_frame::{CAPABILITY, HEADER_LEN, MacAddr, NoMemory, Octets};
+use mac_frame::{
+    ASSOCIATION_RESPONSE, CAPABILITY, HEADER_LEN, MacAddr, NoMemory, Octets, REASSOCIATION_RESPONSE,
+};
 
 /// The two high bits of an AID field that names an association (9.4.1.8).
 const AID_BITS: u16 = 0xc000;

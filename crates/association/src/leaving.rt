@@ -3,8 +3,8 @@
 ghost use Rattle.std.specs.Prelude.{◌≡◌, ◌++◌, ◌<◌, OnOk, OnErr};
 ghost use Rattle.association.specs.Leaving.{notice_frame};
 
-use crate::frame::{DEAUTHENTICATION, DISASSOCIATION, write_frame};
-use mac_frame::{MacAddr, NoMemory, Octets};
+use crate::frame::write_frame;
+use mac_frame::{DEAUTHENTICATION, DISASSOCIATION, MacAddr, NoMemory, Octets};
 use station_state::Notice;
 
 /// Appends the whole frame of a notice to the station `to`, from the network `bss`: a deauthentication or a

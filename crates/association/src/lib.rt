@@ -1,11 +1,12 @@
-//! How stations come to a network and leave it (IEEE Std 802.11-2016, 9.3.3 and 11.3): authentication, association,
-//! disassociation and deauthentication.
+//! What stations ask of a network (IEEE Std 802.11-2016, 9.3 and 11.3), and how they come to it and leave it:
+//! authentication, association, disassociation and deauthentication.
 //!
 //! It promises which request a string of octets is for a network, if it is one, and of which class; which status a request is
 //! answered with; and that each answer and each notice is appended with exactly the
 //! octets of its frame.
 //!
-//! Whether there is room for a station, which identifier it is given, and when a notice is sent, is left to the network.
+//! Whether there is room for a station, which identifier it is given, when a notice is sent, and what becomes of a unit or a
+//! poll, is left to the network.
 #![tactic(auto)]
 
 mod authentication;
@@ -18,9 +19,6 @@ mod status;
 mod tests;
 
 pub use authentication::{auth_status, write_auth};
-pub use frame::{
-    ASSOCIATION_RESPONSE, AUTHENTICATION, DEAUTHENTICATION, DISASSOCIATION, REASSOCIATION_RESPONSE,
-};
 pub use joining::{assoc_status, write_assoc};
 pub use leaving::write_notice;
 pub use request::{Request, class, one_request, read, sender};

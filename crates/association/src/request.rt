@@ -1,17 +1,16 @@
-//! The one request of a string of octets (IEEE Std 802.11-2016, 9.3.3).
+//! The one request of a string of octets (IEEE Std 802.11-2016, 9.3).
 
 ghost use Rattle.std.specs.Prelude.{◌≡◌, ◌<◌, ◌+◌, ◌≤◌, List, ℕ, length, slice_index, Ok, Err, IfOk, IsOkAnd, MatchResult};
 ghost use Rattle.elements.specs.Elements.{elements_of};
 ghost use Rattle.mac_frame.specs.Hearing.{Hears};
 ghost use Rattle.association.specs.Asked.{shown, class_of};
-ghost use Rattle.association.specs.Request.{Request as Asking, IsRequest, sender, number_at, probe_of, auth_of, assoc_of, asked_by, request_of};
+ghost use Rattle.mac_frame.specs.Rx.{shown as told};
+ghost use Rattle.association.specs.Request.{Request as Asking, IsRequest, sender, number_at, probe_of, auth_of, assoc_of, asked_by, request_in, request_of};
 
-use crate::frame::{
-    ASSOCIATION_REQUEST, AUTHENTICATION, DEAUTHENTICATION, DISASSOCIATION, REASSOCIATION_REQUEST,
-};
 use elements::{Elements, SSID, one_list};
 use mac_frame::{
-    MacAddr, PROBE_REQUEST, Rx, Unread, body_has_octets, decode, frame_is_addressed, one_frame,
+    ASSOCIATION_REQUEST, AUTHENTICATION, DEAUTHENTICATION, DISASSOCIATION, MacAddr, PROBE_REQUEST,
+    REASSOCIATION_REQUEST, Rx, Unread, body_has_octets, decode, frame_is_addressed, one_frame,
 };
 use station_state::Class;
 
@@ -67,6 +66,31 @@ pub enum Request<'a> {
         /// The station.
         from: MacAddr,
     },
+    /// That a unit be passed on (9.3.2.1).
+    Msdu {
+        /// The station.
+        from: MacAddr,
+        /// Whether it dozes from now on (9.2.4.1.7).
+        doze: bool,
+        /// For whom the unit is: any address.
+        to: MacAddr,
+        /// The body, of at most 2304 octets.
+        body: &'a [u8],
+    },
+    /// Nothing: it tells its mode (9.3.2.1).
+    Null {
+        /// The station.
+        from: MacAddr,
+        /// Whether it dozes from now on (9.2.4.1.7).
+        doze: bool,
+    },
+    /// What is kept for it (9.3.1.5).
+    Poll {
+        /// The station.
+        from: MacAddr,
+        /// The identifier that it names, below 16384 (9.4.1.8).
+        aid: u16,
+    },
 }
 
 /// The class of a request's frame (11.3.3).
@@ -76,6 +100,7 @@ pub fn class(request: &Request<'_>) -> Class
     match request {
         Request::Assoc { .. } | Request::Disassoc { .. } => Class::Two,
         Request::Probe { .. } | Request::Auth { .. } | Request::Deauth { .. } => Class::One,
+        Request::Msdu { .. } | Request::Null { .. } | Request::Poll { .. } => Class::Three,
     }
 }
 
@@ -88,11 +113,14 @@ pub fn sender(request: &Request<'_>) -> MacAddr
         | Request::Auth { from, .. }
         | Request::Assoc { from, .. }
         | Request::Disassoc { from }
-        | Request::Deauth { from } => *from,
+        | Request::Deauth { from }
+        | Request::Msdu { from, .. }
+        | Request::Null { from, .. }
+        | Request::Poll { from, .. } => *from,
     }
 }
 
-/// The request of a string of octets for the network `bss` (9.3.3), or its first fault in the order of [`Unread`]
+/// The request of a string of octets for the network `bss` (9.3), or its first fault in the order of [`Unread`]
 /// (*profile*). It takes no memory.
 pub fn read(bss: MacAddr, frame: &[u8]) -> Result<Request<'_>, Unread>
     // What is read is this request; what is this request is read.
@@ -103,20 +131,42 @@ pub fn read(bss: MacAddr, frame: &[u8]) -> Result<Request<'_>, Unread>
         (λ request. request_of bss frame.now ≡ Ok (shown request))
         (λ fault. request_of bss frame.now ≡ Err fault) }
 {
-    let rx = match decode(bss, frame) {
-        Ok(rx) => rx,
-        Err(fault) => return Err(fault),
-    };
-    let Rx::Mgmt {
-        subtype,
-        from,
-        body,
-        ..
-    } = rx;
-    ask(subtype, from, body)
+    match decode(bss, frame) {
+        Ok(rx) => request_in(rx),
+        Err(fault) => Err(fault),
+    }
 }
 
-/// The request of a management frame, by its subtype, its station and its body.
+/// The request of a frame: of a management frame by its body, of any other as it stands.
+fn request_in(rx: Rx<'_>) -> Result<Request<'_>, Unread>
+    ensures { MatchResult result
+        (λ request. request_in (told rx.entry) ≡ Ok (shown request))
+        (λ fault. request_in (told rx.entry) ≡ Err fault) }
+{
+    match rx {
+        Rx::Mgmt {
+            subtype,
+            from,
+            body,
+            ..
+        } => ask(subtype, from, body),
+        Rx::Msdu {
+            from,
+            doze,
+            to,
+            body,
+        } => Ok(Request::Msdu {
+            from,
+            doze,
+            to,
+            body,
+        }),
+        Rx::Null { from, doze } => Ok(Request::Null { from, doze }),
+        Rx::Poll { from, aid } => Ok(Request::Poll { from, aid }),
+    }
+}
+
+/// The request of a management frame, by its subtype, its station and its body (9.3.3).
 fn ask(subtype: u8, from: MacAddr, body: &[u8]) -> Result<Request<'_>, Unread>
     ensures { MatchResult result
         (λ request. asked_by subtype from body.now ≡ Ok (shown request))
@@ -197,7 +247,7 @@ fn number_at(body: &[u8], place: usize) -> u16
 }
 
 /// A string of octets is at most one request for a network, which is the one that reading gives; and the network
-/// hears it (9.3.3).
+/// hears it (9.3).
 pub fn one_request()
     ensures unique { (bss x : List ℕ) (r s : Asking) → IsRequest bss x r → IsRequest bss x s → r ≡ s }
     ensures read { (bss x : List ℕ) (r : Asking) → IsRequest bss x r → request_of bss x ≡ Ok r }

@@ -1,9 +1,11 @@
 //! Calls with ample memory.
 
-use crate::{assoc_status, auth_status, write_assoc, write_auth, write_notice};
+use crate::{
+    Request, assoc_status, auth_status, class, read, sender, write_assoc, write_auth, write_notice,
+};
 use elements::Elements;
 use mac_frame::{MacAddr, Octets};
-use station_state::Notice;
+use station_state::{Class, Notice};
 use std::test::Fail;
 
 const NETWORK: [u8; 6] = [0x02, 0, 0, 0, 0, 0x01];
@@ -121,5 +123,51 @@ fn a_station_is_told_to_leave(rt: HostRuntime) -> Result<(), Fail> {
     assert_eq!(rt; out.as_slice().len(), 53);
     assert_eq!(rt; out.as_slice()[27], 0xa0);
     assert_eq!(rt; &out.as_slice()[49..], [0x10, 0x00, 0x07, 0x00].as_slice());
+    Ok(())
+}
+
+#[test]
+fn a_unit_is_read(rt: HostRuntime) -> Result<(), Fail> {
+    let frame = [
+        0x08, 0x11, 0x00, 0x00, // Frame Control, of a station that dozes, and Duration
+        0x02, 0x00, 0x00, 0x00, 0x00, 0x01, // the network
+        0x02, 0xaa, 0x00, 0x00, 0x00, 0x01, // the station
+        0xff, 0xff, 0xff, 0xff, 0xff, 0xff, // all
+        0x00, 0x00, // sequence number 0
+        0xaa, 0xaa, 0x03, // the body
+    ];
+    let request = match read(MacAddr::new(NETWORK), &frame) {
+        Ok(request) => request,
+        Err(fault) => panic!(rt; "{fault:?}"),
+    };
+    assert_eq!(rt; class(&request), Class::Three);
+    assert_eq!(rt; sender(&request), MacAddr::new(STATION));
+    let Request::Msdu { doze, to, body, .. } = request else {
+        panic!(rt; "no unit");
+    };
+    assert!(rt; doze);
+    assert!(rt; to.is_broadcast());
+    assert_eq!(rt; body, [0xaa, 0xaa, 0x03].as_slice());
+    Ok(())
+}
+
+#[test]
+fn a_poll_is_read(rt: HostRuntime) -> Result<(), Fail> {
+    let frame = [
+        0xa4, 0x00, // Frame Control
+        0x01, 0xc0, // AID
+        0x02, 0x00, 0x00, 0x00, 0x00, 0x01, // the network
+        0x02, 0xaa, 0x00, 0x00, 0x00, 0x01, // the station
+    ];
+    let request = match read(MacAddr::new(NETWORK), &frame) {
+        Ok(request) => request,
+        Err(fault) => panic!(rt; "{fault:?}"),
+    };
+    assert_eq!(rt; class(&request), Class::Three);
+    assert_eq!(rt; sender(&request), MacAddr::new(STATION));
+    let Request::Poll { aid, .. } = request else {
+        panic!(rt; "no poll");
+    };
+    assert_eq!(rt; aid, 1);
     Ok(())
 }

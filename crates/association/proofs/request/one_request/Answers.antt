@@ -1,5 +1,4 @@
-use Rattle.std.proofs.Common.{Ok}
-use Rattle.association.proofs.RequestFrames.{frame_with, request-read, request-found}
+use Rattle.association.proofs.RequestFrames.{request-read, request-found, stands-on}
 use Rattle.association.proofs.request.one_request.Goals as goal
 
 pub returns-clause-read : goal.returns-clause-read
@@ -12,10 +11,12 @@ returns-clause-unique c bss x r s v w =
     cc
 
 pub returns-clause-found : goal.returns-clause-found
-returns-clause-found c bss x r octets h = request-found (λ bss x f. (c.one_frame.ensures.reading bss x f).0) c.body_has_octets.ensures bss x r octets h
+returns-clause-found c bss x r octets h = request-found (λ bss x f. (c.one_frame.ensures.reading bss x f).0) c.body_has_octets.ensures.management bss x r octets h
 
 pub returns-clause-heard : goal.returns-clause-heard
-returns-clause-heard c bss x r w = record {
-  long = c.frame_is_addressed.ensures.long bss x (frame_with r w.to_all w.body) w.frame;
-  address = c.frame_is_addressed.ensures.receiver bss x (frame_with r w.to_all w.body) w.frame;
-}
+returns-clause-heard c bss x r w =
+    let on = stands-on bss x r w in
+    record {
+      long = c.frame_is_addressed.ensures.long bss x on.heard_frame on.frame;
+      address = c.frame_is_addressed.ensures.receiver bss x on.heard_frame on.frame;
+    }

@@ -1,13 +1,19 @@
-use Rattle.std.proofs.Common.{◌<◌, arith, rules}
+use Rattle.std.proofs.Common.{arith}
+use Rattle.mac_frame.specs.Rx.{shown as told}
 use Rattle.mac_frame.proofs.Frames.{is_read, is_a_frame, body_octets}
-use Rattle.association.proofs.RequestFrames.{frame_with, reads-request, reads-only}
+use Rattle.association.proofs.RequestFrames.{of-frame, reads-request, reads-only, stands-on}
 use Rattle.association.proofs.request.read.Goals as goal
 
 pub returns-in-Err-clause-only : goal.returns-in-Err-clause-only
-returns-in-Err-clause-only c r w = c.in-Err.ensures.only (frame_with r w.to_all w.body) w.frame
+returns-in-Err-clause-only c r w =
+    let on = stands-on c.args.bss c.args.frame.now r w in
+    c.in-Err.ensures.only on.heard_frame on.frame
 
-pub returns-clause-request : goal.returns-clause-request
-returns-clause-request c = reads-request is_a_frame body_octets c.args.bss c.args.frame.now c.ask.result (λ place. omega (arith, c.type_inv.frame place)) (search rules)
+pub returns-in-Ok-clause-fault : goal.returns-in-Ok-clause-fault
+returns-in-Ok-clause-fault c = of-frame c.args.bss c.args.frame.now (told c.in-Ok.rx) c.request_in.result c.in-Ok.ensures.fault c.request_in.ensures
 
-pub returns-clause-only : goal.returns-clause-only
-returns-clause-only c r w = reads-only is_read c.args.bss c.args.frame.now c.ask.result (search rules) r w
+pub returns-in-Ok-clause-request : goal.returns-in-Ok-clause-request
+returns-in-Ok-clause-request c = reads-request is_a_frame body_octets c.args.bss c.args.frame.now c.request_in.result (λ place. omega (arith, c.type_inv.frame place)) (returns-in-Ok-clause-fault c)
+
+pub returns-in-Ok-clause-only : goal.returns-in-Ok-clause-only
+returns-in-Ok-clause-only c r w = reads-only is_read c.args.bss c.args.frame.now c.request_in.result (returns-in-Ok-clause-fault c) r w
