@@ -1,19 +1,10 @@
 -- What the definitions say of some probe responses.
-use Rattle.std.proofs.Common.{◌≡◌, ℕ, List, [], ◌∷◌, ◌++◌, refl}
+use Rattle.std.proofs.Common.{◌≡◌, [], ◌∷◌, ◌++◌, refl}
 use Rattle.std.specs.Int.{w64, to_le_bytes}
-use Rattle.mac_frame.proofs.Samples.{network, station}
-use Rattle.beacon.specs.ProbeResponse.{Announced, timestamp, fixed_fields, network_elements, probe_response_body, probe_response}
-
--- a network 02:00:00:00:00:01 named lab on channel 6, with a beacon interval of 100 time units
-abbrev lab : List ℕ → Announced
-lab rates = record { bss = network; ssid = 108 ∷ 97 ∷ 98 ∷ []; rates = rates; channel = 6; interval = 100; clock = 0 }
-
--- 1 and 2 Mb/s as basic rates, 5.5 and 11 Mb/s
-abbrev four_rates : List ℕ
-four_rates = 0x82 ∷ 0x84 ∷ 0x0b ∷ 0x16 ∷ []
-
-abbrev nine_rates : List ℕ
-nine_rates = 0x82 ∷ 0x84 ∷ 0x8b ∷ 0x96 ∷ 0x0c ∷ 0x12 ∷ 0x18 ∷ 0x24 ∷ 0x30 ∷ []
+use Rattle.mac_frame.proofs.Samples.{station}
+use Rattle.beacon.specs.Advert.{timestamp, fixed_fields, network_elements}
+use Rattle.beacon.specs.ProbeResponse.{probe_response_body, probe_response}
+use Rattle.beacon.proofs.Samples.{lab, four_rates, nine_rates}
 
 body_with_four_rates :
     probe_response_body (lab four_rates)

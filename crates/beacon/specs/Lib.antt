@@ -1,1 +1,3 @@
+pub mod Advert
 pub mod ProbeResponse
+pub mod Beacon

@@ -1,6 +1,18 @@
-//! What a network announces.
+//! What a network announces, and the fields that its beacons and probe responses share (IEEE Std 802.11-2016, 9.3.3.3 and
+//! 9.3.3.11).
 
-use mac_frame::MacAddr;
+ghost use Rattle.std.specs.Prelude.{◌≡◌, ◌++◌, ◌≤◌, length, take, OnOk, OnErr};
+ghost use Rattle.beacon.specs.Advert.{announced, timestamp, fixed_fields, network_elements};
+
+use elements::{DSSS_PARAMETER_SET, SSID, write_element, write_supported_rates};
+use mac_frame::{CAPABILITY, HEADER_LEN, MacAddr, NoMemory, Octets};
+
+/// The microseconds of a time unit (3.1).
+const TIME_UNIT: u64 = 1024;
+
+/// The octets of a probe response without the SSID and the rates: the header, fixed fields of 12, the DSSS Parameter
+/// Set of 3, and the first two octets of three elements (9.3.3.11). A beacon has a TIM beside them.
+pub(crate) const FIXED_LEN: usize = HEADER_LEN + 12 + 3 + 3 * 2;
 
 /// A network at one moment, as its beacons and probe responses announce it.
 #[derive(Clone, Copy, Debug)]
@@ -19,4 +31,37 @@ pub struct Advert<'a> {
     pub clock: u32,
     /// The sequence number of the frame, below 4096 (9.2.4.4.2).
     pub seq: u16,
+}
+
+/// Appends the fields before the elements: Timestamp, Beacon Interval and Capability Information. After `NoMemory` some may
+/// follow what was there.
+#[tactic(auto, unfolding(crate::specs::Advert::fixed_fields))]
+pub(crate) fn append_fixed_fields(out: &mut Octets, advert: &Advert<'_>) -> Result<(), NoMemory>
+    ensures ok { OnOk result (out.new ≡ out.old ++ fixed_fields (announced advert.now)) }
+    ensures err { OnErr result (take (length out.old) out.new ≡ out.old) }
+{
+    out.append(&timestamp(advert.clock, advert.interval))?;
+    out.append(&advert.interval.to_le_bytes())?;
+    out.append(&CAPABILITY.to_le_bytes())
+}
+
+/// Timestamp (9.4.1.10): the beginning of the beacon interval, in microseconds (*profile*).
+#[tactic(auto, unfolding(crate::specs::Advert::timestamp))]
+fn timestamp(clock: u32, interval: u16) -> [u8; 8]
+    ensures { result ≡ timestamp clock interval }
+{
+    (u64::from(clock) * u64::from(interval) * TIME_UNIT).to_le_bytes()
+}
+
+/// Appends the elements that stand first: SSID, Supported Rates and DSSS Parameter Set. After `NoMemory` some may follow what
+/// was there.
+#[tactic(auto, unfolding(crate::specs::Advert::network_elements))]
+pub(crate) fn append_network_elements(out: &mut Octets, advert: &Advert<'_>) -> Result<(), NoMemory>
+    requires { length advert.now.ssid.now ≤ 32 }
+    ensures ok { OnOk result (out.new ≡ out.old ++ network_elements (announced advert.now)) }
+    ensures err { OnErr result (take (length out.old) out.new ≡ out.old) }
+{
+    write_element(out, SSID, advert.ssid)?;
+    write_supported_rates(out, advert.rates)?;
+    write_element(out, DSSS_PARAMETER_SET, &[advert.channel])
 }
