@@ -1,10 +1,10 @@
 -- Sets of association identifiers by the tests that they answer.
-use Rattle.std.proofs.Common.{◌≡◌, ◌↔◌, IsTrue, ◌==◌, ◌≢◌, ℕ, zero, suc, ◌+◌, ◌<◌, ◌≤◌, Bool, true, false, not, ◌&&◌, ◌||◌, nat_le, nat_eq, filter, List, [], ◌∷◌, length, get_or, set, take, drop, ◌*◌, refl, sym, ap, ◌∙◌, subst, ⊎_elim, inl, inr, arith, tests}
+use Rattle.std.proofs.Common.{◌≡◌, ◌↔◌, IsTrue, ◌==◌, ℕ, zero, suc, ◌+◌, ◌<◌, ◌≤◌, Bool, true, false, not, ◌&&◌, ◌||◌, nat_le, nat_eq, filter, List, [], ◌∷◌, length, get_or, set, take, drop, ◌*◌, refl, sym, ap, ◌∙◌, subst, ⊎_elim, arith}
 use Rattle.std.specs.List.{range_with_len, list_any}
-use Rattle.std.specs.Ordering.{nat_cmp, eq_by_cmp}
+use Rattle.std.specs.Ordering.{nat_cmp}
 use Rattle.std.specs.Cmp.{nat_cmp_total, unsigned_tied}
 use Rattle.std.specs.FinSet.{FinSet, contains, insert, remove, empty, contains-from_list_nat, contains-insert, contains-remove, contains-empty, same_set, nat_cmp-IsAntisymmetric}
-use Rattle.std.proofs.lemmas.Bool.{and_parts, leb-true, eqb-true, eq-eqb, ne_eqb, cases_eq, cases_Bool, le-leb, lt-leb, cases_lt, and_from, and_left, and_right, or_parts, or_left, not_from_true}
+use Rattle.std.proofs.lemmas.Bool.{and_parts, leb-true, eqb-true, eq-eqb, ne_eqb, cases_eq, le-leb, lt-leb, cases_lt, and_from, and_left, and_right, or_parts, or_left, not_from_true}
 use Rattle.std.proofs.lemmas.List.{get_or-set_same, get_or-set_other, get_or-take, get_or-drop}
 use Rattle.std.proofs.lemmas.Map.Views.{any-filter_same}
 use Rattle.tim.specs.Tim.{max_aid, IsAid, HasNumber, is_shown, bits_from, octet_at}

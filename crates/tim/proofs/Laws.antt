@@ -1,14 +1,13 @@
 -- A set is shown by exactly one string, and a string shows one thing at most.
-use Rattle.std.proofs.Common.{◌≡◌, ◌↔◌, ℕ, zero, suc, ◌+◌, ◌-◌, ◌*◌, ◌/◌, ◌%◌, ◌<◌, ◌≤◌, Bool, true, false, ◌&&◌, nat_le, IsTrue, List, [], ◌∷◌, ◌++◌, append_assoc, length, get_or, map, refl, sym, ap, ◌∙◌, subst, ⊎_elim, arith}
+use Rattle.std.proofs.Common.{◌≡◌, ◌↔◌, ℕ, ◌+◌, ◌-◌, ◌*◌, ◌/◌, ◌%◌, ◌<◌, ◌≤◌, Bool, true, false, ◌&&◌, nat_le, IsTrue, List, [], ◌∷◌, ◌++◌, append_assoc, length, get_or, map, refl, sym, ap, ◌∙◌, subst, ⊎_elim, arith}
 use Rattle.std.specs.Int.{bit_at, from_bool}
 use Rattle.std.specs.List.{range_with_len}
-use Rattle.std.proofs.lemmas.Bool.{cases_lt, le-leb, leb-true, and_parts, and_from, cases_Bool, false≢true, false_from_ne_true}
-use Rattle.std.proofs.lemmas.List.{get_or_past}
+use Rattle.std.proofs.lemmas.Bool.{cases_lt, le-leb, leb-true, and_parts, cases_Bool}
 use Rattle.std.proofs.lemmas.Nat.Bits.{bit_at_lowest}
 use Rattle.tim.specs.Tim.{IsAid, SameNumbers, max_aid, tim_id, first_place, HasNumber, ShowsTim, is_shown, bits_from, octet_at, virtual_bitmap, partial_of, element_of, tim_octets}
 use Rattle.tim.proofs.Octets.{from_bool-le, bit_at-octet_at, length-virtual_bitmap, get_or-virtual_bitmap, virtual_bitmap-lt}
 use Rattle.tim.proofs.Partial.{IsPartial, partial_of-is}
-use Rattle.tim.proofs.Spelling.{sent_at, sent_at-from, sent_at-before, sent_at-has, has-sent_at, no_bit, IsUsed, IsSpelled, spelled, shows, one_spelling}
+use Rattle.tim.proofs.Spelling.{sent_at, sent_at-from, sent_at-before, sent_at-has, has-sent_at, IsSpelled, spelled, shows, one_spelling}
 
 -- ---- Bitmap Control
 

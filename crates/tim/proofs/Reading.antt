@@ -1,12 +1,11 @@
 -- The tests by which a TIM is read are met exactly by what shows something.
-use Rattle.std.proofs.Common.{◌≡◌, ◌==◌, ◌↔◌, ◌⊎◌, ℕ, zero, suc, ◌+◌, ◌-◌, ◌*◌, ◌/◌, ◌%◌, ◌<◌, ◌≤◌, Bool, true, false, not, ◌&&◌, ◌||◌, nat_le, nat_lt, IsTrue, List, [], ◌∷◌, length, get_or, take, drop, refl, sym, ap, ◌∙◌, subst, inl, inr, ⊎_elim, arith}
+use Rattle.std.proofs.Common.{◌≡◌, ◌==◌, ◌↔◌, ◌⊎◌, ℕ, zero, suc, ◌+◌, ◌-◌, ◌*◌, ◌/◌, ◌%◌, ◌<◌, ◌≤◌, Bool, true, false, ◌&&◌, nat_lt, IsTrue, List, [], ◌∷◌, length, get_or, refl, sym, ap, ◌∙◌, subst, inl, inr, ⊎_elim, arith}
 use Rattle.std.specs.Int.{bit_at, from_bool}
-use Rattle.std.proofs.lemmas.Bool.{cases_lt, cases_eq, le-leb, lt-leb, leb-true, lt-ltb, ltb-true, eqb-true, eq-eqb, ne_eqb, and_parts, and_from, and_left, and_right, or_cases, or_left, or_right, not-true, not_from_true, not_from_false, false_from_ne_true, false≢true}
+use Rattle.std.proofs.lemmas.Bool.{cases_lt, le-leb, leb-true, lt-ltb, ltb-true, eqb-true, eq-eqb, ne_eqb, and_parts, and_from, or_cases, or_left, or_right, not-true, not_from_true, not_from_false, false_from_ne_true, false≢true}
 use Rattle.std.proofs.lemmas.Nat.Bits.{bit_at_lowest}
-use Rattle.std.proofs.lemmas.List.{take_rest}
-use Rattle.tim.specs.Tim.{IsAid, SameNumbers, first_place, HasNumber, ShowsTim, tim_id}
+use Rattle.tim.specs.Tim.{IsAid, first_place, HasNumber, ShowsTim, tim_id}
 use Rattle.tim.specs.Spelling.{has_number, is_placed, is_trimmed, is_spelled}
-use Rattle.tim.proofs.Spelling.{sent_at, sent_at-from, sent_at-has, has-sent_at, IsUsed, IsSpelled, spelled, shows}
+use Rattle.tim.proofs.Spelling.{sent_at-from, has-sent_at, IsUsed, IsSpelled, spelled, shows}
 
 -- ---- one number
 

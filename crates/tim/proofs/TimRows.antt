@@ -1,7 +1,8 @@
 -- TIMs on which the definitions are computed.
-use Rattle.std.proofs.Common.{◌≡◌, ◌==◌, ◌||◌, ℕ, Bool, true, false, List, [], ◌∷◌, ◌++◌, refl}
+use Rattle.std.proofs.Common.{◌≡◌, ◌==◌, ◌||◌, true, false, [], ◌∷◌, ◌++◌, refl}
 use Rattle.std.specs.Prelude.{replicate}
 use Rattle.tim.specs.Tim.{tim_octets, partial_of, from_first_pair, up_to_last, virtual_bitmap, octet_at, bits_from}
+use Rattle.tim.specs.Spelling.{is_spelled}
 
 the_last_number_stands_at_place_250 : tim_octets 0 1 false (λ n. n == 2007) ≡ 5 ∷ 4 ∷ 0 ∷ 1 ∷ 0xfa ∷ 0x80 ∷ []
 unfolding tim_octets partial_of from_first_pair up_to_last virtual_bitmap octet_at bits_from
@@ -50,3 +51,26 @@ eight_numbers_fill_the_last_octet = refl
 zero_octets_between_are_sent : tim_octets 0 1 false (λ n. n == 17 || n == 47) ≡ 5 ∷ 7 ∷ 0 ∷ 1 ∷ 0x02 ∷ 0x02 ∷ 0 ∷ 0 ∷ 0x80 ∷ []
 unfolding tim_octets partial_of from_first_pair up_to_last virtual_bitmap octet_at bits_from
 zero_octets_between_are_sent = refl
+
+-- ---- which spellings are read
+
+the_spelling_of_number_8_is_read : is_spelled 0 1 0x00 (0x00 ∷ 0x01 ∷ []) ≡ true
+the_spelling_of_number_8_is_read = refl
+
+a_last_octet_of_0_is_refused : is_spelled 0 1 0x00 (0x00 ∷ 0x00 ∷ []) ≡ false
+a_last_octet_of_0_is_refused = refl
+
+an_octet_past_number_2007_is_refused : is_spelled 0 1 0xfa (0x80 ∷ 0x01 ∷ []) ≡ false
+an_octet_past_number_2007_is_refused = refl
+
+a_first_pair_of_0_is_refused : is_spelled 0 1 0x00 (0x00 ∷ 0x00 ∷ 0x01 ∷ []) ≡ false
+a_first_pair_of_0_is_refused = refl
+
+number_0_is_refused : is_spelled 0 1 0x00 (0x01 ∷ []) ≡ false
+number_0_is_refused = refl
+
+no_number_at_another_offset_is_refused : is_spelled 0 1 0x02 (0x00 ∷ []) ≡ false
+no_number_at_another_offset_is_refused = refl
+
+the_group_at_another_count_is_refused : is_spelled 1 2 0x01 (0x00 ∷ []) ≡ false
+the_group_at_another_count_is_refused = refl

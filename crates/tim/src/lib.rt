@@ -8,6 +8,8 @@
 
 mod bitmap;
 mod element;
+#[cfg(test)]
+mod tests;
 
 pub use bitmap::{Bitmap, MAX_AID};
 pub use element::{TIM, Tim, one_tim, read_tim, write_tim};

@@ -1,4 +1,4 @@
-use Rattle.std.proofs.Common.{◌≡◌, ◌<◌, ◌≤◌, ◌+◌, ◌*◌, ◌-◌, get_or, false, ℕ, sym, ap, ◌∙◌, arith}
+use Rattle.std.proofs.Common.{◌+◌, ◌*◌, get_or, false, ℕ, sym, ap, ◌∙◌, arith}
 use Rattle.tim.proofs.Octets.{bits_from-none, octet_more, octet_fits}
 use Rattle.tim.proofs.bitmap.octet_of.Goals as goal
 

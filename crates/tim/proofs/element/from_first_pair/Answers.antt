@@ -1,6 +1,5 @@
-use Rattle.std.proofs.Common.{◌≡◌, ◌∙◌, ap, sym, arith, rules, length-drop}
+use Rattle.std.proofs.Common.{◌∙◌, arith, rules, length-drop}
 use Rattle.std.proofs.lemmas.List.{length-take}
-use Rattle.tim.specs.Tim.{from_first_pair}
 use Rattle.tim.proofs.Partial.{from_first_pair_zero, from_first_pair_other}
 use Rattle.tim.proofs.element.from_first_pair.Goals as goal
 use Rattle.tim.proofs.element.from_first_pair.Goals.{in_default, in_default-2, in_default-3}

@@ -1,5 +1,5 @@
-use Rattle.std.proofs.Common.{◌≡◌, ◌∙◌, sym, arith, rules}
-use Rattle.tim.proofs.Reading.{read_shows, shown_passes, has-aid}
+use Rattle.std.proofs.Common.{sym, arith}
+use Rattle.tim.proofs.Reading.{read_shows}
 use Rattle.tim.proofs.Laws.{one_meaning}
 use Rattle.tim.proofs.element.read_tim.Goals as goal
 

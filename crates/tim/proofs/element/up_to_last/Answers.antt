@@ -1,6 +1,5 @@
-use Rattle.std.proofs.Common.{◌≡◌, ◌∙◌, ap, sym, arith, rules}
+use Rattle.std.proofs.Common.{◌∙◌, arith, rules}
 use Rattle.std.proofs.lemmas.List.{length-take}
-use Rattle.tim.specs.Tim.{up_to_last}
 use Rattle.tim.proofs.Partial.{up_to_last_zero, up_to_last_other}
 use Rattle.tim.proofs.element.up_to_last.Goals as goal
 

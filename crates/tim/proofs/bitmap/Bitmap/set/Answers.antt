@@ -1,4 +1,4 @@
-use Rattle.std.proofs.Common.{◌≡◌, ◌<◌, length, ap, ◌∙◌, true, rules}
+use Rattle.std.proofs.Common.{◌<◌, length, ap, ◌∙◌, true, rules}
 use Rattle.std.specs.FinSet as set
 use Rattle.std.proofs.Math.ListN.{set as write}
 use Rattle.tim.proofs.Aids.{aids_of, aids_of-insert}

@@ -1,4 +1,4 @@
-use Rattle.std.proofs.Common.{◌≡◌, ◌<◌, ◌≤◌, length, arith}
+use Rattle.std.proofs.Common.{◌≡◌, length, arith}
 use Rattle.tim.proofs.Octets.{virtual_bitmap-from}
 use Rattle.tim.proofs.bitmap.Bitmap.virtual_bitmap.Goals as goal
 
