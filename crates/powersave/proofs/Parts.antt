@@ -9,7 +9,7 @@ use Rattle.std.proofs.lemmas.Option.{slice_get-map, slice_get-get_or}
 use Rattle.powersave.specs.declared.unit.Whom.{Whom}
 use Rattle.powersave.specs.declared.unit.Whom.TheVariants.{One, Group}
 use Rattle.powersave.specs.declared.unit.Unit.{Unit as Msdu}
-use Rattle.powersave.specs.Keep.{Entry, is_same, is_for, units_for, without_all, without_first, without_oldest}
+use Rattle.powersave.specs.Keep.{Entry, is_same, is_for, units_for, without_all, without_first, without_oldest, room_beside}
 use Rattle.powersave.proofs.Lists.{IsFirst, first_is, none_is}
 
 -- ---- for whom
@@ -29,6 +29,13 @@ is_same-refl Group = refl
 
 other_whom : (whom other : Whom) → whom ≢ other → is_same whom other ≡ false
 other_whom whom other differ = false_from_ne_true (is_same whom other) (λ e. differ (same_whom whom other e))
+
+-- ---- room
+
+pub room_for_others : (whom other : Whom) → whom ≢ other → room_beside whom (Some other) ≡ Some other
+room_for_others whom other differ =
+    let room : Bool → Option Whom = λ b. cond b None (Some other) in
+    ap room (other_whom other whom (λ same. differ (sym same)))
 
 -- ---- the first for one
 

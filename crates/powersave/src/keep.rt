@@ -172,7 +172,7 @@ fn first_of(entries: &[(Whom, Unit)], whom: Whom) -> Option<usize>
 }
 
 /// The parts for different ones stand side by side: what is taken out for one is its first, or all of its part, and the part of
-/// another stays as it was (*profile*).
+/// another stays as it was, and so does room that was made for another (*profile*).
 pub fn parts_stay()
     ensures put { (whom : Whom) (unit : Msdu) (es : List Entry) → units_for whom (es ++ (whom, unit) ∷ []) ≡ units_for whom es ++ unit ∷ [] }
     ensures oldest { (whom : Whom) (es : List Entry) → units_for whom (without_oldest whom es) ≡ drop 1 (units_for whom es) }
@@ -180,4 +180,5 @@ pub fn parts_stay()
     ensures others_put { (whom other : Whom) (unit : Msdu) (es : List Entry) → whom ≢ other → units_for other (es ++ (whom, unit) ∷ []) ≡ units_for other es }
     ensures others_oldest { (whom other : Whom) (es : List Entry) → whom ≢ other → units_for other (without_oldest whom es) ≡ units_for other es }
     ensures others_dropped { (whom other : Whom) (es : List Entry) → whom ≢ other → units_for other (without_all whom es) ≡ units_for other es }
+    ensures others_room { (whom other : Whom) → whom ≢ other → room_beside whom (Some other) ≡ Some other }
 {}

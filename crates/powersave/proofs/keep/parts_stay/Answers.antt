@@ -1,4 +1,4 @@
-use Rattle.powersave.proofs.Parts.{put_for_one, put_for_others, oldest_for_one, oldest_for_others, dropped_for_one, dropped_for_others}
+use Rattle.powersave.proofs.Parts.{put_for_one, put_for_others, oldest_for_one, oldest_for_others, dropped_for_one, dropped_for_others, room_for_others}
 use Rattle.powersave.proofs.keep.parts_stay.Goals as goal
 
 pub returns-clause-put : goal.returns-clause-put
@@ -18,3 +18,6 @@ returns-clause-others_oldest c = oldest_for_others
 
 pub returns-clause-others_dropped : goal.returns-clause-others_dropped
 returns-clause-others_dropped c = dropped_for_others
+
+pub returns-clause-others_room : goal.returns-clause-others_room
+returns-clause-others_room c = room_for_others
