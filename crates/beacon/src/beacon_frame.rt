@@ -81,8 +81,9 @@ fn append_tim(
 }
 
 /// DTIM Count (9.4.2.6): how many beacons come before the next DTIM, 0 in a DTIM. The beacon at clock 1 is one (*profile*).
+/// Takes a clock and a period of at least 1, and no memory.
 #[tactic(auto, unfolding(crate::specs::Beacon::dtim_count))]
-fn dtim_count(clock: u32, period: u8) -> u8
+pub fn dtim_count(clock: u32, period: u8) -> u8
     requires clock { 1 ≤ clock }
     requires period { 1 ≤ period }
     ensures count { result ≡ dtim_count clock period }

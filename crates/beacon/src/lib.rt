@@ -13,5 +13,5 @@ mod probe_response;
 mod tests;
 
 pub use advert::Advert;
-pub use beacon_frame::write_beacon;
+pub use beacon_frame::{dtim_count, write_beacon};
 pub use probe_response::write_probe_response;

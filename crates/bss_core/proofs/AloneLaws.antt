@@ -1,10 +1,10 @@
 -- A network alone, event by event.
-use Rattle.std.proofs.Common.{◌≡◌, ℕ, ◌+◌, ◌<◌, ◌≤◌, ◌||◌, is_some, Some, inl, inr, Bool, true, false, List, [], ◌∷◌, ◌++◌, length, Option, None, Result, Ok, Err, refl, sym, ap, subst, ◌∙◌, arith, drop}
+use Rattle.std.proofs.Common.{◌≡◌, ℕ, ◌+◌, ◌*◌, ◌<◌, ◌≤◌, ◌||◌, ◌&&◌, is_some, Some, inl, inr, Bool, true, false, not, List, [], ◌∷◌, ◌++◌, length, Option, None, Result, Ok, Err, refl, sym, ap, subst, ◌∙◌, arith, drop}
 use Rattle.std.proofs.lemmas.List.{length-append}
 use Rattle.mac_frame.specs.declared.frame.Unread.{Unread as Fault}
 use Rattle.std.specs.Prelude.{◌⊎◌, nat_lt, ◌==◌, if◌then◌else◌}
 use borrow.Author.Tests.{eqb-true, ltb-true}
-use Rattle.association.specs.Request.{Request, Probe, Auth, Assoc, Disassoc, Deauth, sender, request_of}
+use Rattle.association.specs.Request.{Request, Probe, Auth, Assoc, Disassoc, Deauth, Msdu, Null, Poll, sender, request_of}
 use Rattle.association.specs.Asked.{class_of}
 use Rattle.association.specs.Status.{success}
 use Rattle.association.specs.Authentication.{authentication}
@@ -13,22 +13,37 @@ use Rattle.association.specs.Leaving.{notice_frame}
 use Rattle.station_state.specs.ClassFault.{class_fault}
 use Rattle.station_state.specs.declared.class.Notice.{Notice}
 use Rattle.elements.specs.Elements.{Pair}
-use Rattle.bss_core.specs.Stations.{Table, link_of, aid_of, standing_of, may_associate, next_aid, authenticate, associate, disassociate, forget}
+use Rattle.std.specs.Str.{bytes_eq}
+use Rattle.bridge.specs.Ethernet.{Ethernet, ethernet_of}
+use Rattle.powersave.specs.Keep.{Entry, is_for}
+use Rattle.powersave.specs.declared.unit.Whom.{Whom}
+use Rattle.powersave.specs.declared.unit.Whom.TheVariants.{One, Group}
+use Rattle.powersave.specs.declared.unit.Unit.{Unit as DataUnit}
+use Rattle.mac_frame.specs.Address.{is_group}
+use Rattle.bss_core.specs.Stations.{Table, link_of, aid_of, standing_of, dozes_with, is_dozing, set_mode, some_station_dozes, may_associate, next_aid, authenticate, associate, disassociate, forget}
+use Rattle.bss_core.specs.Units.{unit, unit_of, unit_frame, are_left, delivery_of, delivery_with, goes_on_wire, may_poll, group_is_kept}
+use Rattle.bridge.specs.Encapsulation.{on_wire}
+use Rattle.beacon.specs.Beacon.{dtim_count}
+use Rattle.powersave.specs.Keep.{units_for, without_all, without_oldest}
+use Rattle.bss_core.specs.declared.stations.Link.{Link}
+use Rattle.bss_core.specs.declared.unit.Delivery.{Delivery}
+use Rattle.bss_core.specs.declared.unit.Delivery.TheVariants.{Now, Kept, Nowhere}
+use Rattle.bss_core.proofs.UnitsKept.{kept-elsewhere, kept-where, kept-filtered, kept-without_first, kept-push, length-filtered, length-without_first, link_of-set, link_of-forgotten, link_of-moded, dozing-stays, mode-stays}
 use Rattle.bss_core.specs.declared.stations.Link.TheVariants.{Authenticated, Associated}
-use Rattle.bss_core.specs.Sound.{AreSound}
+use Rattle.bss_core.specs.Sound.{AreSound, IsKeptFor, AreKeptFor}
 use Rattle.bss_core.proofs.Checked.{stations_fit}
 use Rattle.bss_core.proofs.Statuses.{room-authenticated, room-associated, known-where_taken, known-where_associated}
-use Rattle.bss_core.specs.Network.{Setting, Network, empty_network, send, count_unread, change_stations, change_where_served, may_be_known, authentication_status, answer_authentication, association_status, answer_association, serve, notify_or_serve, announced_at, asks_for, answer, answer_probe, step, after, alone}
+use Rattle.bss_core.specs.Network.{Setting, Network, empty_network, send, count_unread, change_state, change_where_served, lose, keep_or_lose, deliver, answer_wired, change_stations, drop_units, send_unit, send_each, put_on_wire, forward, set_power_mode, serve_poll, answer_poll, beacon_frame, release, tick, may_be_known, authentication_status, answer_authentication, association_status, answer_association, serve, notify_or_serve, announced_at, asks_for, answer, answer_probe, step, after, alone}
 use Rattle.bss_core.specs.Configuration.{network_fault}
 use Rattle.std.proofs.Math.Seq.{drop-append_seam}
 use Rattle.bss_core.specs.State.{Keeps, sent_by}
 use Rattle.bss_core.specs.Replies.{after_reply}
 use Rattle.bss_core.specs.Sound.{IsSound}
-use Rattle.bss_core.proofs.StationsSound.{length-set_link, length-forgotten, authenticate-sound, associate-sound, disassociate-sound, forget-sound}
+use Rattle.bss_core.proofs.StationsSound.{length-set_link, length-forgotten, length-moded, mode-sound, authenticate-sound, associate-sound, disassociate-sound, forget-sound}
 use Rattle.beacon.specs.ProbeResponse.{probe_response}
 use Rattle.bss_core.specs.declared.reply.Reply.{Reply}
 use Rattle.bss_core.specs.declared.event.Event.{Event}
-use Rattle.bss_core.specs.declared.event.Event.TheVariants.{Air}
+use Rattle.bss_core.specs.declared.event.Event.TheVariants.{Air, Wire, Tick}
 
 pub alone-none : (s : Setting) → alone s [] ≡ empty_network
 unfolding alone
@@ -45,35 +60,257 @@ alone-push s es e = after-push s empty_network es e
 
 -- ---- what holds of every network that can be reached: of the empty one, after each named change
 
-empty-sound : (s : Setting) → IsSound s 0 empty_network
-empty-sound s = record { stations = record { addresses = tt; aids = tt; associated = omega arith }; known = omega arith; sequence = omega arith; unread = omega arith }
+empty-sound : (s : Setting) → IsSound s 0 0 empty_network
+empty-sound s = record {
+  stations = record { addresses = tt; aids = tt; associated = omega arith };
+  known = omega arith;
+  kept = tt;
+  quota = omega arith;
+  sequence = omega arith;
+  unread = omega arith;
+  clock = omega arith;
+  lost = omega arith;
+}
 
--- an event that changes nothing
-unchanged-sound : (s : Setting) (count : ℕ) (n : Network) → IsSound s count n → IsSound s (count + 1) n
-unchanged-sound s count n h = record { stations = h.stations; known = h.known; sequence = h.sequence; unread = omega (arith, h.unread) }
+-- more events and units are no less
+more-sound : (s : Setting) (events units more most : ℕ) (n : Network) → events ≤ more → units ≤ most → IsSound s events units n → IsSound s more most n
+more-sound s events units more most n e u h = record {
+  stations = h.stations;
+  known = h.known;
+  kept = h.kept;
+  quota = h.quota;
+  sequence = h.sequence;
+  unread = omega (arith, e, h.unread);
+  clock = omega (arith, e, h.clock);
+  lost = omega (arith, u, h.lost);
+}
 
-send-sound : (s : Setting) (count : ℕ) (n : Network) (frame : ℕ → List ℕ) → IsSound s count n → IsSound s count (send frame n)
-send-sound s count n frame h = record { stations = h.stations; known = h.known; sequence = omega arith; unread = h.unread }
+send-sound : (s : Setting) (events units : ℕ) (n : Network) (frame : ℕ → List ℕ) → IsSound s events units n → IsSound s events units (send frame n)
+send-sound s events units n frame h = record {
+  stations = h.stations;
+  known = h.known;
+  kept = h.kept;
+  quota = h.quota;
+  sequence = omega arith;
+  unread = h.unread;
+  clock = h.clock;
+  lost = h.lost;
+}
 
-count_unread-sound : (s : Setting) (count : ℕ) (n : Network) → IsSound s count n → IsSound s (count + 1) (count_unread n)
-count_unread-sound s count n h = record { stations = h.stations; known = h.known; sequence = h.sequence; unread = omega (arith, h.unread) }
+count_unread-sound : (s : Setting) (events units : ℕ) (n : Network) → IsSound s events units n → IsSound s (events + 1) units (count_unread n)
+count_unread-sound s events units n h = record {
+  stations = h.stations;
+  known = h.known;
+  kept = h.kept;
+  quota = h.quota;
+  sequence = h.sequence;
+  unread = omega (arith, h.unread);
+  clock = omega (arith, h.clock);
+  lost = h.lost;
+}
+
+lose-sound : (s : Setting) (events units : ℕ) (n : Network) → IsSound s events units n → IsSound s events (units + 1) (lose n)
+lose-sound s events units n h = record {
+  stations = h.stations;
+  known = h.known;
+  kept = h.kept;
+  quota = h.quota;
+  sequence = h.sequence;
+  unread = h.unread;
+  clock = h.clock;
+  lost = omega (arith, h.lost);
+}
 
 -- which frames were sent is nothing to it
-air-sound : (s : Setting) (count : ℕ) (n : Network) (air : List (List ℕ)) → IsSound s count n → IsSound s count (record n { air = air })
-air-sound s count n air h = record { stations = h.stations; known = h.known; sequence = h.sequence; unread = h.unread }
+air-sound : (s : Setting) (events units : ℕ) (n : Network) (air : List (List ℕ)) → IsSound s events units n → IsSound s events units (record n { air = air })
+air-sound s events units n air h = record {
+  stations = h.stations;
+  known = h.known;
+  kept = h.kept;
+  quota = h.quota;
+  sequence = h.sequence;
+  unread = h.unread;
+  clock = h.clock;
+  lost = h.lost;
+}
+
+wire-sound : (s : Setting) (events units : ℕ) (n : Network) (wire : List (List ℕ)) → IsSound s events units n → IsSound s events units (record n { wire = wire })
+wire-sound s events units n wire h = record {
+  stations = h.stations;
+  known = h.known;
+  kept = h.kept;
+  quota = h.quota;
+  sequence = h.sequence;
+  unread = h.unread;
+  clock = h.clock;
+  lost = h.lost;
+}
+
+-- some units leave
+kept-sound : (s : Setting) (events units : ℕ) (n : Network) (kept : List Entry) → AreKeptFor n.stations kept → length kept ≤ length n.kept → IsSound s events units n → IsSound s events units (record n { kept = kept })
+kept-sound s events units n kept for fewer h = record {
+  stations = h.stations;
+  known = h.known;
+  kept = for;
+  quota = omega (arith, fewer, h.quota);
+  sequence = h.sequence;
+  unread = h.unread;
+  clock = h.clock;
+  lost = omega (arith, fewer, h.lost);
+}
+
+-- the stations change, and stay sound, and whoever units are kept for dozes
+stations-sound : (s : Setting) (events units : ℕ) (n : Network) (table : Table) → AreSound s.network.max_stations table → length table ≤ s.network.max_known → AreKeptFor table n.kept → IsSound s events units n → IsSound s events units (record n { stations = table })
+stations-sound s events units n table sound few for h = record {
+  stations = sound;
+  known = few;
+  kept = for;
+  quota = h.quota;
+  sequence = h.sequence;
+  unread = h.unread;
+  clock = h.clock;
+  lost = h.lost;
+}
+
+-- one of them changes, and the units for it leave
+state-sound : (s : Setting) (addr : List ℕ) (change : Table → Table) (events units : ℕ) (n : Network) → AreSound s.network.max_stations (change n.stations) → length (change n.stations) ≤ s.network.max_known → ((b : List ℕ) → bytes_eq b addr ≡ false → link_of b (change n.stations) ≡ link_of b n.stations) → IsSound s events units n → IsSound s events units (change_state addr change n)
+state-sound s addr change events units n sound few elsewhere h = record {
+  stations = sound;
+  known = few;
+  kept = kept-elsewhere addr n.stations (change n.stations) elsewhere n.kept h.kept;
+  quota = omega (arith, length-filtered (λ entry. not (is_for (One addr) entry)) n.kept, h.quota);
+  sequence = h.sequence;
+  unread = h.unread;
+  clock = h.clock;
+  lost = omega (arith, length-filtered (λ entry. not (is_for (One addr) entry)) n.kept, h.lost);
+}
+
+-- ---- units
+
+keep-sound : (s : Setting) (whom : Whom) (u : DataUnit) (events units : ℕ) (n : Network) → IsKeptFor n.stations whom → IsSound s events units n → IsSound s events (units + 1) (keep_or_lose s whom u n)
+keep-sound s whom u events units n for h = by (nat_lt (length n.kept) s.network.quota) refl
+  where
+    by : (b : Bool) → nat_lt (length n.kept) s.network.quota ≡ b → IsSound s events (units + 1) (keep_or_lose s whom u n)
+    by false is = rw is (lose-sound s events units n h)
+    by true is =
+        let room : length n.kept < s.network.quota = ltb-true (length n.kept) s.network.quota is in
+        let len : length (n.kept ++ (whom, u) ∷ []) ≡ length n.kept + 1 = length-append n.kept ((whom, u) ∷ []) in
+        rw is (record {
+          stations = h.stations;
+          known = h.known;
+          kept = kept-push n.stations whom u n.kept h.kept for;
+          quota = omega (arith, room, len);
+          sequence = h.sequence;
+          unread = h.unread;
+          clock = h.clock;
+          lost = omega (arith, len, h.lost);
+        })
+
+-- who a unit is kept for dozes
+pub delivery-for : (to : List ℕ) (t : Table) (kept : List Entry) (whom : Whom) → delivery_of to t kept ≡ Kept whom → IsKeptFor t whom
+delivery-for to t kept whom h = by (is_group to) refl
+  where
+    to_group : (b : Bool) → (if b then Kept Group else Now) ≡ Kept whom → IsKeptFor t whom
+    to_group true e = let is : Group ≡ whom = cc in subst (IsKeptFor t) is tt
+    to_group false e = absurd (cc)
+
+    to_one : (l : Option Link) → link_of to t ≡ l → delivery_with l to ≡ Kept whom → IsKeptFor t whom
+    to_one None is e = absurd (cc)
+    to_one (Some Authenticated) is e = absurd (cc)
+    to_one (Some (Associated aid listen true)) is e = let one : One to ≡ whom = cc in subst (IsKeptFor t) one (ap dozes_with is)
+    to_one (Some (Associated aid listen false)) is e = absurd (cc)
+
+    by : (b : Bool) → is_group to ≡ b → IsKeptFor t whom
+    by true is = to_group (some_station_dozes t || group_is_kept kept) (sym (rw is refl) ∙ h)
+    by false is = to_one (link_of to t) refl (sym (rw is refl) ∙ h)
+
+deliver-sound : (s : Setting) (u : DataUnit) (events units : ℕ) (n : Network) → IsSound s events units n → IsSound s events (units + 1) (deliver s u n)
+deliver-sound s u events units n h = by (delivery_of u.to n.stations n.kept) refl
+  where
+    by : (d : Delivery) → delivery_of u.to n.stations n.kept ≡ d → IsSound s events (units + 1) (deliver s u n)
+    by Now is = rw is (more-sound s events units events (units + 1) _ (omega arith) (omega arith) (send-sound s events units n (unit_frame s.network.bssid false u) h))
+    by (Kept whom) is = rw is (keep-sound s whom u events units n (delivery-for u.to n.stations n.kept whom is) h)
+    by Nowhere is = rw is (more-sound s events units events (units + 1) n (omega arith) (omega arith) h)
+
+send_each-sound : (s : Setting) (telling : Bool) (us : List DataUnit) (events units : ℕ) (n : Network) → IsSound s events units n → IsSound s events units (send_each s telling us n)
+send_each-sound s telling [] events units n h = h
+send_each-sound s telling (u ∷ us) events units n h =
+    send_each-sound s telling us events units (send_unit s (telling && are_left us) u n) (send-sound s events units n (unit_frame s.network.bssid (telling && are_left us) u) h)
+
+put_on_wire-sound : (s : Setting) (wired : Option (List ℕ)) (events units : ℕ) (n : Network) → IsSound s events units n → IsSound s events (units + 1) (put_on_wire wired n)
+put_on_wire-sound s (Some octets) events units n h = more-sound s events units events (units + 1) _ (omega arith) (omega arith) (wire-sound s events units n (n.wire ++ octets ∷ []) h)
+put_on_wire-sound s None events units n h = lose-sound s events units n h
+
+forward-sound : (s : Setting) (u : DataUnit) (events units : ℕ) (n : Network) → IsSound s events units n → IsSound s events (units + 2) (forward s u n)
+forward-sound s u events units n h = by (goes_on_wire u.to n.stations) refl
+  where
+    by : (b : Bool) → goes_on_wire u.to n.stations ≡ b → IsSound s events (units + 2) (forward s u n)
+    by true is =
+        rw is (more-sound s events (units + 1 + 1) events (units + 2) _ (omega arith) (omega arith)
+        (put_on_wire-sound s (on_wire u.to u.source u.body) events (units + 1) (deliver s u n) (deliver-sound s u events units n h)))
+    by false is = rw is (more-sound s events (units + 1) events (units + 2) _ (omega arith) (omega arith) (deliver-sound s u events units n h))
+
+mode_set-sound : (s : Setting) (from : List ℕ) (doze : Bool) (events units : ℕ) (n : Network) → IsSound s events units n → IsSound s events units (set_power_mode s from doze n)
+mode_set-sound s from doze events units n h = by (is_dozing from n.stations && not doze) refl
+  where
+    few : length (set_mode from doze n.stations) ≤ s.network.max_known
+    few = omega (arith, length-moded from doze n.stations, h.known)
+
+    by : (b : Bool) → (is_dozing from n.stations && not doze) ≡ b → IsSound s events units (set_power_mode s from doze n)
+    by true is =
+        rw is (send_each-sound s false (units_for (One from) n.kept) events units (change_state from (set_mode from doze) n)
+        (state-sound s from (set_mode from doze) events units n (mode-sound s.network.max_stations from doze n.stations h.stations) few (λ b other. link_of-moded from b doze n.stations other) h))
+    by false is =
+        rw is (stations-sound s events units n (set_mode from doze n.stations) (mode-sound s.network.max_stations from doze n.stations h.stations) few
+        (kept-where n.stations (set_mode from doze n.stations) (λ b dozes. mode-stays from b doze n.stations is dozes) n.kept h.kept) h)
+
+poll-sound : (s : Setting) (from : List ℕ) (us : List DataUnit) (events units : ℕ) (n : Network) → IsSound s events units n → IsSound s events units (serve_poll s from us n)
+poll-sound s from [] events units n h = h
+poll-sound s from (u ∷ us) events units n h =
+    send-sound s events units _ (unit_frame s.network.bssid (are_left us) u)
+    (kept-sound s events units n (without_oldest (One from) n.kept) (kept-without_first n.stations (is_for (One from)) n.kept h.kept) (length-without_first (is_for (One from)) n.kept) h)
+
+polled-sound : (s : Setting) (from : List ℕ) (aid events units : ℕ) (n : Network) → IsSound s events units n → IsSound s events units (answer_poll s from aid n)
+polled-sound s from aid events units n h = by (may_poll aid (link_of from n.stations)) refl
+  where
+    by : (b : Bool) → may_poll aid (link_of from n.stations) ≡ b → IsSound s events units (answer_poll s from aid n)
+    by true is = rw is (poll-sound s from (units_for (One from) n.kept) events units n h)
+    by false is = rw is h
+
+clock-sound : (s : Setting) (events units : ℕ) (n : Network) → IsSound s events units n → IsSound s (events + 1) units (record n { clock = n.clock + 1 })
+clock-sound s events units n h = record {
+  stations = h.stations;
+  known = h.known;
+  kept = h.kept;
+  quota = h.quota;
+  sequence = h.sequence;
+  unread = omega (arith, h.unread);
+  clock = omega (arith, h.clock);
+  lost = h.lost;
+}
+
+release-sound : (s : Setting) (events units : ℕ) (n : Network) → IsSound s events units n → IsSound s events units (release s n)
+release-sound s events units n h = by (dtim_count n.clock s.network.dtim == 0) refl
+  where
+    by : (b : Bool) → (dtim_count n.clock s.network.dtim == 0) ≡ b → IsSound s events units (release s n)
+    by true is =
+        rw is (send_each-sound s true (units_for Group n.kept) events units (drop_units Group n)
+        (kept-sound s events units n (without_all Group n.kept) (kept-filtered n.stations (λ entry. not (is_for Group entry)) n.kept h.kept) (length-filtered (λ entry. not (is_for Group entry)) n.kept) h))
+    by false is = rw is h
+
+tick-sound : (s : Setting) (events units : ℕ) (n : Network) → IsSound s events units n → IsSound s (events + 1) units (tick s n)
+tick-sound s events units n h =
+    release-sound s (events + 1) units _
+    (send-sound s (events + 1) units (record n { clock = n.clock + 1 }) (beacon_frame s (n.clock + 1) n.stations n.kept) (clock-sound s events units n h))
 
 -- ---- and so by each answer, step and history
 
-probe-sound : (s : Setting) (from : List ℕ) (ssid : Option (List ℕ)) (count : ℕ) (n : Network) → IsSound s count n → IsSound s count (answer_probe s from ssid n)
-probe-sound s from ssid count n h = cases (asks_for s.network.ssid ssid) refl
+probe-sound : (s : Setting) (from : List ℕ) (ssid : Option (List ℕ)) (events units : ℕ) (n : Network) → IsSound s events units n → IsSound s events units (answer_probe s from ssid n)
+probe-sound s from ssid events units n h = cases (asks_for s.network.ssid ssid) refl
   where
-    cases : (b : Bool) → asks_for s.network.ssid ssid ≡ b → IsSound s count (answer_probe s from ssid n)
-    cases true e = rw e (send-sound s count n (probe_response (announced_at s n.clock) from) h)
+    cases : (b : Bool) → asks_for s.network.ssid ssid ≡ b → IsSound s events units (answer_probe s from ssid n)
+    cases true e = rw e (send-sound s events units n (probe_response (announced_at s n.clock) from) h)
     cases false e = rw e h
-
--- the stations change, and stay sound
-stations-sound : (s : Setting) (count : ℕ) (n : Network) (change : Table → Table) → AreSound s.network.max_stations (change n.stations) → length (change n.stations) ≤ s.network.max_known → IsSound s count n → IsSound s count (change_stations change n)
-stations-sound s count n change sound few h = record { stations = sound; known = few; sequence = h.sequence; unread = h.unread }
 
 either : (a b : Bool) → (a || b) ≡ true → (a ≡ true) ⊎ (b ≡ true)
 either true b h = inl refl
@@ -91,66 +328,88 @@ authenticated-few s from n room few =
     at_most_one true = omega arith
     at_most_one false = omega arith
 
-served-sound : (s : Setting) (count status : ℕ) (n : Network) (change : Table → Table) → (status ≡ success → AreSound s.network.max_stations (change n.stations)) → (status ≡ success → length (change n.stations) ≤ s.network.max_known) → IsSound s count n → IsSound s count (change_where_served status change n)
-served-sound s count status n change sound few h = by (status == success) refl
+served-sound : (s : Setting) (status : ℕ) (addr : List ℕ) (change : Table → Table) (events units : ℕ) (n : Network) → (status ≡ success → IsSound s events units (change_state addr change n)) → IsSound s events units n → IsSound s events units (change_where_served status addr change n)
+served-sound s status addr change events units n served h = by (status == success) refl
   where
-    by : (b : Bool) → (status == success) ≡ b → IsSound s count (change_where_served status change n)
-    by true is = let served : status ≡ success = eqb-true status success is in rw is (stations-sound s count n change (sound served) (few served) h)
+    by : (b : Bool) → (status == success) ≡ b → IsSound s events units (change_where_served status addr change n)
+    by true is = let yes : status ≡ success = eqb-true status success is in rw is (served yes)
     by false is = rw is h
 
-authentication-sound : (s : Setting) (from : List ℕ) (algorithm step count : ℕ) (n : Network) → IsSound s count n → IsSound s count (answer_authentication s from algorithm step n)
-authentication-sound s from algorithm step count n h =
-    send-sound s count _ (λ sequence. authentication from s.network.bssid sequence algorithm (authentication_status s from algorithm step n))
-    (served-sound s count (authentication_status s from algorithm step n) n (authenticate from)
-    (λ served. authenticate-sound s.network.max_stations from n.stations h.stations)
-    (λ served. authenticated-few s from n (room-authenticated algorithm step (may_be_known s from n) served) h.known) h)
+authentication-sound : (s : Setting) (from : List ℕ) (algorithm step events units : ℕ) (n : Network) → IsSound s events units n → IsSound s events units (answer_authentication s from algorithm step n)
+authentication-sound s from algorithm step events units n h =
+    send-sound s events units _ (λ sequence. authentication from s.network.bssid sequence algorithm (authentication_status s from algorithm step n))
+    (served-sound s (authentication_status s from algorithm step n) from (authenticate from) events units n
+    (λ served. state-sound s from (authenticate from) events units n (authenticate-sound s.network.max_stations from n.stations h.stations)
+    (authenticated-few s from n (room-authenticated algorithm step (may_be_known s from n) served) h.known)
+    (λ b other. link_of-set from b Authenticated n.stations other) h) h)
 
-association-sound : (s : Setting) (from : List ℕ) (again : Bool) (listen : ℕ) (es : List Pair) (count : ℕ) (n : Network) → s.network.max_stations ≤ 2007 → is_some (link_of from n.stations) ≡ true → IsSound s count n → IsSound s count (answer_association s from again listen es n)
-association-sound s from again listen es count n limit known h =
-    send-sound s count _ (λ sequence. association_response from s.network.bssid sequence again (association_status s from es n) (next_aid from n.stations) s.network.rates)
-    (served-sound s count (association_status s from es n) n (associate from listen)
-    (λ served. associate-sound s.network.max_stations from listen n.stations limit known (room-associated s.network.ssid s.network.rates (may_associate s.network.max_stations from n.stations) es served) h.stations)
-    (λ served. let len = length-set_link from (Associated (next_aid from n.stations) listen false) n.stations in let same = rw known at len in omega (arith, same, h.known)) h)
+association-sound : (s : Setting) (from : List ℕ) (again : Bool) (listen : ℕ) (es : List Pair) (events units : ℕ) (n : Network) → s.network.max_stations ≤ 2007 → is_some (link_of from n.stations) ≡ true → IsSound s events units n → IsSound s events units (answer_association s from again listen es n)
+association-sound s from again listen es events units n limit known h =
+    send-sound s events units _ (λ sequence. association_response from s.network.bssid sequence again (association_status s from es n) (next_aid from n.stations) s.network.rates)
+    (served-sound s (association_status s from es n) from (associate from listen) events units n
+    (λ served. state-sound s from (associate from listen) events units n
+    (associate-sound s.network.max_stations from listen n.stations limit known (room-associated s.network.ssid s.network.rates (may_associate s.network.max_stations from n.stations) es served) h.stations)
+    (let len = length-set_link from (Associated (next_aid from n.stations) listen false) n.stations in let same = rw known at len in omega (arith, same, h.known))
+    (λ b other. link_of-set from b (Associated (next_aid from n.stations) listen false) n.stations other) h) h)
 
-serve-sound : (s : Setting) (r : Request) (count : ℕ) (n : Network) → s.network.max_stations ≤ 2007 → class_fault (standing_of (sender r) n.stations) (class_of r) ≡ None → IsSound s count n → IsSound s count (serve s r n)
-serve-sound s (Probe from ssid) count n limit taken h = probe-sound s from ssid count n h
-serve-sound s (Auth from algorithm step) count n limit taken h = authentication-sound s from algorithm step count n h
-serve-sound s (Assoc from again listen es) count n limit taken h = association-sound s from again listen es count n limit (known-where_taken (link_of from n.stations) taken) h
-serve-sound s (Disassoc from) count n limit taken h =
-    stations-sound s count n (disassociate from) (disassociate-sound s.network.max_stations from n.stations h.stations) (by (is_some (aid_of from n.stations)) refl) h
+disassociation-sound : (s : Setting) (from : List ℕ) (events units : ℕ) (n : Network) → IsSound s events units n → IsSound s events units (change_state from (disassociate from) n)
+disassociation-sound s from events units n h =
+    state-sound s from (disassociate from) events units n (disassociate-sound s.network.max_stations from n.stations h.stations) (few (is_some (aid_of from n.stations)) refl)
+    (λ b other. elsewhere b other (is_some (aid_of from n.stations)) refl) h
   where
-    by : (b : Bool) → is_some (aid_of from n.stations) ≡ b → length (disassociate from n.stations) ≤ s.network.max_known
-    by true is =
+    few : (b : Bool) → is_some (aid_of from n.stations) ≡ b → length (disassociate from n.stations) ≤ s.network.max_known
+    few true is =
         let known = known-where_associated (link_of from n.stations) is in
         let len = length-set_link from Authenticated n.stations in
         let same = rw known at len in
         rw is (omega (arith, same, h.known))
-    by false is = rw is h.known
-serve-sound s (Deauth from) count n limit taken h =
-    stations-sound s count n (forget from) (forget-sound s.network.max_stations from n.stations h.stations) (omega (arith, length-forgotten from n.stations, h.known)) h
+    few false is = rw is h.known
 
-notified-sound : (s : Setting) (r : Request) (fault : Option Notice) (count : ℕ) (n : Network) → s.network.max_stations ≤ 2007 → class_fault (standing_of (sender r) n.stations) (class_of r) ≡ fault → IsSound s count n → IsSound s count (notify_or_serve fault s r n)
-notified-sound s r (Some notice) count n limit is h = send-sound s count n (λ sequence. notice_frame (sender r) s.network.bssid sequence notice) h
-notified-sound s r None count n limit is h = serve-sound s r count n limit is h
+    elsewhere : (b : List ℕ) → bytes_eq b from ≡ false → (r : Bool) → is_some (aid_of from n.stations) ≡ r → link_of b (disassociate from n.stations) ≡ link_of b n.stations
+    elsewhere b other true is = rw is (link_of-set from b Authenticated n.stations other)
+    elsewhere b other false is = rw is refl
 
-answer-sound : (s : Setting) (asked : Result Request Fault) (count : ℕ) (n : Network) → s.network.max_stations ≤ 2007 → IsSound s count n → IsSound s (count + 1) (answer s asked n)
-answer-sound s (Ok r) count n limit h = unchanged-sound s count _ (notified-sound s r (class_fault (standing_of (sender r) n.stations) (class_of r)) count n limit refl h)
-answer-sound s (Err fault) count n limit h = count_unread-sound s count n h
+serve-sound : (s : Setting) (r : Request) (events units : ℕ) (n : Network) → s.network.max_stations ≤ 2007 → class_fault (standing_of (sender r) n.stations) (class_of r) ≡ None → IsSound s events units n → IsSound s events (units + 2) (serve s r n)
+serve-sound s (Probe from ssid) events units n limit taken h = more-sound s events units events (units + 2) _ (omega arith) (omega arith) (probe-sound s from ssid events units n h)
+serve-sound s (Auth from algorithm step) events units n limit taken h = more-sound s events units events (units + 2) _ (omega arith) (omega arith) (authentication-sound s from algorithm step events units n h)
+serve-sound s (Assoc from again listen es) events units n limit taken h = more-sound s events units events (units + 2) _ (omega arith) (omega arith) (association-sound s from again listen es events units n limit (known-where_taken (link_of from n.stations) taken) h)
+serve-sound s (Disassoc from) events units n limit taken h = more-sound s events units events (units + 2) _ (omega arith) (omega arith) (disassociation-sound s from events units n h)
+serve-sound s (Deauth from) events units n limit taken h =
+    more-sound s events units events (units + 2) _ (omega arith) (omega arith)
+    (state-sound s from (forget from) events units n (forget-sound s.network.max_stations from n.stations h.stations) (omega (arith, length-forgotten from n.stations, h.known))
+    (λ b other. link_of-forgotten from b n.stations other) h)
+serve-sound s (Msdu from doze to body) events units n limit taken h =
+    forward-sound s (unit to from body) events units (set_power_mode s from doze n) (mode_set-sound s from doze events units n h)
+serve-sound s (Null from doze) events units n limit taken h = more-sound s events units events (units + 2) _ (omega arith) (omega arith) (mode_set-sound s from doze events units n h)
+serve-sound s (Poll from aid) events units n limit taken h = more-sound s events units events (units + 2) _ (omega arith) (omega arith) (polled-sound s from aid events units n h)
 
-step-sound : (s : Setting) (count : ℕ) (n : Network) (e : Event) → s.network.max_stations ≤ 2007 → IsSound s count n → IsSound s (count + 1) (step s n e)
-step-sound s count n (Air x) limit h = answer-sound s (request_of s.network.bssid x) count n limit h
+notified-sound : (s : Setting) (r : Request) (fault : Option Notice) (events units : ℕ) (n : Network) → s.network.max_stations ≤ 2007 → class_fault (standing_of (sender r) n.stations) (class_of r) ≡ fault → IsSound s events units n → IsSound s events (units + 2) (notify_or_serve fault s r n)
+notified-sound s r (Some notice) events units n limit is h = more-sound s events units events (units + 2) _ (omega arith) (omega arith) (send-sound s events units n (λ sequence. notice_frame (sender r) s.network.bssid sequence notice) h)
+notified-sound s r None events units n limit is h = serve-sound s r events units n limit is h
 
-after-sound : (s : Setting) (count : ℕ) (n : Network) (es : List Event) → s.network.max_stations ≤ 2007 → IsSound s count n → IsSound s (count + length es) (after s n es)
-after-sound s count n [] limit h = subst (λ m. IsSound s m n) (omega arith) h
-after-sound s count n (e ∷ es) limit h =
-    let sum : (count + 1) + length es ≡ count + length (e ∷ es) = omega arith in
-    subst (λ m. IsSound s m (after s (step s n e) es)) sum (after-sound s (count + 1) (step s n e) es limit (step-sound s count n e limit h))
+answer-sound : (s : Setting) (asked : Result Request Fault) (events units : ℕ) (n : Network) → s.network.max_stations ≤ 2007 → IsSound s events units n → IsSound s (events + 1) (units + 2) (answer s asked n)
+answer-sound s (Ok r) events units n limit h = more-sound s events (units + 2) (events + 1) (units + 2) _ (omega arith) (omega arith) (notified-sound s r (class_fault (standing_of (sender r) n.stations) (class_of r)) events units n limit refl h)
+answer-sound s (Err fault) events units n limit h = more-sound s (events + 1) units (events + 1) (units + 2) _ (omega arith) (omega arith) (count_unread-sound s events units n h)
 
-pub alone-sound : (s : Setting) (es : List Event) → network_fault s.network ≡ None → IsSound s (length es) (alone s es)
+wired-sound : (s : Setting) (read : Result Ethernet Fault) (events units : ℕ) (n : Network) → IsSound s events units n → IsSound s (events + 1) (units + 2) (answer_wired s read n)
+wired-sound s (Ok w) events units n h = more-sound s events (units + 1) (events + 1) (units + 2) _ (omega arith) (omega arith) (deliver-sound s (unit_of w) events units n h)
+wired-sound s (Err fault) events units n h = more-sound s (events + 1) units (events + 1) (units + 2) _ (omega arith) (omega arith) (count_unread-sound s events units n h)
+
+step-sound : (s : Setting) (events units : ℕ) (n : Network) (e : Event) → s.network.max_stations ≤ 2007 → IsSound s events units n → IsSound s (events + 1) (units + 2) (step s n e)
+step-sound s events units n (Air x) limit h = answer-sound s (request_of s.network.bssid x) events units n limit h
+step-sound s events units n (Wire y) limit h = wired-sound s (ethernet_of y) events units n h
+step-sound s events units n Tick limit h = more-sound s (events + 1) units (events + 1) (units + 2) _ (omega arith) (omega arith) (tick-sound s events units n h)
+
+after-sound : (s : Setting) (events units : ℕ) (n : Network) (es : List Event) → s.network.max_stations ≤ 2007 → IsSound s events units n → IsSound s (events + length es) (units + 2 * length es) (after s n es)
+after-sound s events units n [] limit h = more-sound s events units _ _ n (omega arith) (omega arith) h
+after-sound s events units n (e ∷ es) limit h =
+    more-sound s _ _ _ _ (after s (step s n e) es) (omega arith) (omega arith)
+    (after-sound s (events + 1) (units + 2) (step s n e) es limit (step-sound s events units n e limit h))
+
+pub alone-sound : (s : Setting) (es : List Event) → network_fault s.network ≡ None → IsSound s (length es) (2 * length es) (alone s es)
 unfolding alone
 alone-sound s es h =
-    let sum : 0 + length es ≡ length es = omega arith in
-    subst (λ m. IsSound s m (after s empty_network es)) sum (after-sound s 0 empty_network es (stations_fit s.network h).1 (empty-sound s))
+    more-sound s _ _ _ _ (after s empty_network es) (omega arith) (omega arith) (after-sound s 0 0 empty_network es (stations_fit s.network h).1 (empty-sound s))
 
 -- ---- what a network keeps of itself
 
@@ -158,8 +417,8 @@ pub keeps-none : (s : Setting) → network_fault s.network ≡ None → Keeps s 
 unfolding alone
 keeps-none s h = record { bounded = omega arith; sound = h; same = refl }
 
-pub keeps-sound : (s : Setting) (es : List Event) (kept : Network) → Keeps s es kept → IsSound s (length es) kept
-keeps-sound s es kept k = subst (IsSound s (length es)) k.same (air-sound s (length es) (alone s es) [] (alone-sound s es k.sound))
+pub keeps-sound : (s : Setting) (es : List Event) (kept : Network) → Keeps s es kept → IsSound s (length es) (2 * length es) kept
+keeps-sound s es kept k = subst (IsSound s (length es) (2 * length es)) k.same (air-sound s (length es) (2 * length es) (alone s es) [] (alone-sound s es k.sound))
 
 -- ---- one more event, by the reply to it
 

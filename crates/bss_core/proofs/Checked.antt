@@ -45,8 +45,16 @@ tested : {A : Type 0} (b : Bool) (fault : A) (rest : Option A) → (if b then So
 tested true fault rest h = absurd (cc)
 tested false fault rest h = refl
 
-pub stations_fit : (n : NetConfig) → network_fault n ≡ None → (1 ≤ n.max_stations) × (n.max_stations ≤ 2007)
-stations_fit n h =
+-- the bounds of its numbers
+pub record AreBounded (n : NetConfig) : Type 0 where
+  pub dtim : 1 ≤ n.dtim
+  pub some_stations : 1 ≤ n.max_stations
+  pub stations : n.max_stations ≤ 2007
+  pub quota : n.quota ≤ 100000
+  pub events : n.max_events ≤ 1000000
+
+pub numbers_bounded : (n : NetConfig) → network_fault n ≡ None → AreBounded n
+numbers_bounded n h =
     let address = rest_is_none (is_group n.bssid) 8 _ h in
     let ssid = rest_is_none (not (ssid_fits n.ssid)) 9 _ address in
     let rates = rest_is_none (not (rates_fit n.rates)) 10 _ ssid in
@@ -55,5 +63,17 @@ stations_fit n h =
     let four = and_holds (dtim_fits n.dtim && is_between 1 2007 n.max_stations && max_known_fits n.max_known) (quota_fits n.quota) all.0 in
     let three = and_holds (dtim_fits n.dtim && is_between 1 2007 n.max_stations) (max_known_fits n.max_known) four.0 in
     let most = and_holds (dtim_fits n.dtim) (is_between 1 2007 n.max_stations) three.0 in
-    let both = and_holds (leb 1 n.max_stations) (leb n.max_stations 2007) most.1 in
-    (leb-true 1 n.max_stations both.0, leb-true n.max_stations 2007 both.1)
+    let dtim = and_holds (leb 1 n.dtim) (leb n.dtim 255) most.0 in
+    let stations = and_holds (leb 1 n.max_stations) (leb n.max_stations 2007) most.1 in
+    let quota = (and_holds (leb 0 n.quota) (leb n.quota 100000) four.1).1 in
+    let events = and_holds (leb 1 n.max_events) (leb n.max_events 1000000) all.1 in
+    record {
+      dtim = leb-true 1 n.dtim dtim.0;
+      some_stations = leb-true 1 n.max_stations stations.0;
+      stations = leb-true n.max_stations 2007 stations.1;
+      quota = leb-true n.quota 100000 quota;
+      events = leb-true n.max_events 1000000 events.1;
+    }
+
+pub stations_fit : (n : NetConfig) → network_fault n ≡ None → (1 ≤ n.max_stations) × (n.max_stations ≤ 2007)
+stations_fit n h = let b = numbers_bounded n h in (b.some_stations, b.stations)

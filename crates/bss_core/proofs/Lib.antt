@@ -1,5 +1,8 @@
 pub mod StationTables
 pub mod StationsSound
+pub mod UnitsKept
+pub mod UnitDelivery
+pub mod WaitedFor
 pub mod Statuses
 pub mod AloneLaws
 pub mod Checked

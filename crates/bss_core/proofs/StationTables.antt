@@ -1,5 +1,5 @@
 -- One station of a table is changed: what becomes of the identifiers.
-use Rattle.std.proofs.Common.{◌≡◌, ℕ, ◌+◌, ◌-◌, ◌<◌, ◌≤◌, Bool, true, false, not, ◌&&◌, ◌||◌, cond, nat_eq, List, [], ◌∷◌, ◌++◌, length, Option, Some, None, ◌≢◌, ◌↔◌, refl, sym, ap, subst, ◌∙◌, arith, is_some, inl, inr}
+use Rattle.std.proofs.Common.{◌≡◌, ℕ, zero, suc, ◌+◌, ◌-◌, ◌<◌, ◌≤◌, Bool, true, false, not, ◌&&◌, ◌||◌, cond, nat_eq, List, [], ◌∷◌, ◌++◌, length, slice_get, Option, Some, None, ◌≢◌, ◌↔◌, refl, sym, ap, subst, ◌∙◌, arith, is_some, inl, inr}
 use Rattle.std.specs.Prelude.{nat_lt, IsNone}
 use Rattle.std.proofs.lemmas.Bool.{lt-ltb, le-ltb, eq-eqb, ne_eqb, cases_eq, both_ways}
 use Rattle.std.proofs.lemmas.List.{length-append, append-nil}
@@ -10,11 +10,15 @@ use Rattle.std.specs.FinSet as set
 use Rattle.std.specs.FinSet.{FinSet, contains-empty, len-empty, contains-insert, contains-remove, len-insert, len-remove}
 use borrow.Author.Tests.{eqb-true}
 use Rattle.indexmap.specs.IndexMap.{insert_entry}
-use Rattle.bss_core.specs.StationsKept.{AreOut}
+use Rattle.bss_core.specs.StationsKept.{AreOut, dozing_count}
+use Rattle.std.specs.Int.{from_bool}
+use Rattle.std.specs.List.{list_any}
 use Rattle.std.specs.Map.{lookup, set_value}
 use Rattle.std.specs.Str.{bytes_eq}
 use Rattle.aid_pool.specs.LeastFree.{is_among, least_free, IsLeastFree}
-use Rattle.bss_core.specs.Stations.{Table, link_of, identifier_of, identifiers, aid_with, aid_of, AreIdentifiers, set_link, forget, StationTable, with_table}
+use Rattle.bss_core.specs.Stations.{Table, link_of, identifier_of, identifiers, aid_with, aid_of, AreIdentifiers, set_link, forget, set_mode, with_mode, dozes, dozes_with, is_dozing, some_station_dozes, changed, IsModeAlone, StationTable, with_table}
+use Rattle.bss_core.specs.declared.stations.Change.{Change}
+use Rattle.bss_core.specs.declared.stations.Change.TheVariants.{Nothing, Authenticate, Associate, Disassociate, Forget, SetMode}
 use Rattle.bss_core.specs.declared.stations.Link.{Link}
 use Rattle.bss_core.specs.declared.stations.Link.TheVariants.{Authenticated, Associated}
 
@@ -159,7 +163,7 @@ numbers-kept addr t h = by (link_of addr t) refl
 -- ---- the pool
 
 -- the numbers of a set, one at a time
-contains_inserted : (s : Numbers) (k n : ℕ) → set.contains (set.insert s k) n ≡ (nat_eq n k || set.contains s n)
+pub contains_inserted : (s : Numbers) (k n : ℕ) → set.contains (set.insert s k) n ≡ (nat_eq n k || set.contains s n)
 contains_inserted s k n = contains-insert nat_cmp_total s k n ∙ ap (λ b. b || set.contains s n) (unsigned_tied n k)
 
 contains_removed : (s : Numbers) (k n : ℕ) → set.contains (set.remove s k) n ≡ (not (nat_eq n k) && set.contains s n)
@@ -282,3 +286,123 @@ room-where most out ns None h o =
 room-where most out ns (Some aid) h o =
     let some : set.len out ≢ most = λ e. both_ways true (h.1 e) refl in
     sym (lt-ltb (length ns) most (omega (arith, some, o.count, o.few)))
+
+-- ---- how many doze
+
+-- of a station's link
+abbrev pub dozing_at : List ℕ → Table → ℕ
+dozing_at addr t = from_bool (is_dozing addr t)
+
+pub dozing-set : (addr : List ℕ) (link : Link) (t : Table) → dozing_count (set_link addr link t) + dozing_at addr t ≡ dozing_count t + from_bool (dozes link)
+dozing-set addr link [] = omega arith
+dozing-set addr link (e ∷ t) = by (bytes_eq addr e.0) refl (dozing-set addr link t)
+  where
+    by : (b : Bool) → bytes_eq addr e.0 ≡ b → dozing_count (set_link addr link t) + dozing_at addr t ≡ dozing_count t + from_bool (dozes link) → dozing_count (set_link addr link (e ∷ t)) + dozing_at addr (e ∷ t) ≡ dozing_count (e ∷ t) + from_bool (dozes link)
+    by true same later = rw same (omega arith)
+    by false other later = rw other (omega (arith, later))
+
+-- a station that dozes is counted
+pub dozing-at_most : (addr : List ℕ) (t : Table) → dozing_at addr t ≤ dozing_count t
+dozing-at_most addr t = omega (arith, dozing-set addr Authenticated t)
+
+pub dozing-forgotten : (addr : List ℕ) (t : Table) → dozing_count (forget addr t) + dozing_at addr t ≡ dozing_count t
+dozing-forgotten addr [] = refl
+dozing-forgotten addr (e ∷ t) = by (bytes_eq addr e.0) refl (dozing-forgotten addr t)
+  where
+    by : (b : Bool) → bytes_eq addr e.0 ≡ b → dozing_count (forget addr t) + dozing_at addr t ≡ dozing_count t → dozing_count (forget addr (e ∷ t)) + dozing_at addr (e ∷ t) ≡ dozing_count (e ∷ t)
+    by true same later = rw same (omega arith)
+    by false other later = rw other (omega (arith, later))
+
+-- the mode of a known station is set by its link
+pub set_mode-is_set_link : (addr : List ℕ) (doze : Bool) (link : Link) (t : Table) → link_of addr t ≡ Some link → set_mode addr doze t ≡ set_link addr (with_mode doze link) t
+set_mode-is_set_link addr doze link [] h = absurd (cc)
+set_mode-is_set_link addr doze link (e ∷ t) h = by (bytes_eq addr e.0) refl (set_mode-is_set_link addr doze link t)
+  where
+    by : (b : Bool) → bytes_eq addr e.0 ≡ b → (link_of addr t ≡ Some link → set_mode addr doze t ≡ set_link addr (with_mode doze link) t) → set_mode addr doze (e ∷ t) ≡ set_link addr (with_mode doze link) (e ∷ t)
+    by true same later = let is = found-here _ link e.1 _ same h in rw (same, is) refl
+    by false other later = let rest = later (found-later _ link e.1 _ other h) in rw (other, rest) refl
+
+pub set_mode-unknown : (addr : List ℕ) (doze : Bool) (t : Table) → link_of addr t ≡ None → set_mode addr doze t ≡ t
+set_mode-unknown addr doze [] h = refl
+set_mode-unknown addr doze (e ∷ t) h = by (bytes_eq addr e.0) refl (set_mode-unknown addr doze t)
+  where
+    by : (b : Bool) → bytes_eq addr e.0 ≡ b → (link_of addr t ≡ None → set_mode addr doze t ≡ t) → set_mode addr doze (e ∷ t) ≡ e ∷ t
+    by true same later = let found : Some e.1 ≡ None = sym (rw same refl) ∙ h in absurd (cc)
+    by false other later = let none : lookup (bytes_eq addr) t ≡ None = sym (rw other refl) ∙ h in rw other (ap (λ (s : Table). e ∷ s) (later none))
+
+-- some station dozes exactly where the count isn't 0
+pub some-dozes : (t : Table) → some_station_dozes t ≡ nat_lt 0 (dozing_count t)
+some-dozes [] = refl
+some-dozes (e ∷ t) = by (dozes e.1) refl (some-dozes t)
+  where
+    by : (b : Bool) → dozes e.1 ≡ b → some_station_dozes t ≡ nat_lt 0 (dozing_count t) → some_station_dozes (e ∷ t) ≡ nat_lt 0 (dozing_count (e ∷ t))
+    by true is later = rw is (sym (lt-ltb 0 (1 + dozing_count t) (omega arith)))
+    by false is later = let count : dozing_count t ≡ 0 + dozing_count t = omega arith in rw is (later ∙ ap (nat_lt 0) count)
+
+-- whoever dozes is associated
+pub dozing-few : (t : Table) → dozing_count t ≤ length (identifiers t)
+dozing-few [] = omega arith
+dozing-few (e ∷ t) = by e.1 (dozing-few t)
+  where
+    by : (l : Link) → dozing_count t ≤ length (identifiers t) → from_bool (dozes l) + dozing_count t ≤ length (identifier_of l ++ identifiers t)
+    by Authenticated later = omega (arith, later)
+    by (Associated aid listen true) later = omega (arith, later)
+    by (Associated aid listen false) later = omega (arith, later)
+
+pub dozing-moded : (addr : List ℕ) (doze : Bool) (t : Table) → dozing_count (set_mode addr doze t) + dozing_at addr t ≡ dozing_count t + dozing_at addr (set_mode addr doze t)
+dozing-moded addr doze [] = refl
+dozing-moded addr doze (e ∷ t) = by (bytes_eq addr e.0) refl (dozing-moded addr doze t)
+  where
+    by : (b : Bool) → bytes_eq addr e.0 ≡ b → dozing_count (set_mode addr doze t) + dozing_at addr t ≡ dozing_count t + dozing_at addr (set_mode addr doze t) → dozing_count (set_mode addr doze (e ∷ t)) + dozing_at addr (e ∷ t) ≡ dozing_count (e ∷ t) + dozing_at addr (set_mode addr doze (e ∷ t))
+    by true same later =
+        let set : set_mode addr doze (e ∷ t) ≡ (e.0, with_mode doze e.1) ∷ t = rw same refl in
+        let after : dozing_at addr ((e.0, with_mode doze e.1) ∷ t) ≡ from_bool (dozes (with_mode doze e.1)) = rw same refl in
+        let before : dozing_at addr (e ∷ t) ≡ from_bool (dozes e.1) = rw same refl in
+        omega (arith, before, ap dozing_count set, after, ap (dozing_at addr) set)
+    by false other later =
+        let set : set_mode addr doze (e ∷ t) ≡ e ∷ set_mode addr doze t = rw other refl in
+        let after : dozing_at addr (e ∷ set_mode addr doze t) ≡ dozing_at addr (set_mode addr doze t) = rw other refl in
+        let before : dozing_at addr (e ∷ t) ≡ dozing_at addr t = rw other refl in
+        omega (arith, later, before, ap dozing_count set, after, ap (dozing_at addr) set)
+
+-- a change that sets no mode, where no other change is allowed
+pub nothing-changes : (change : Change) (t : Table) → IsModeAlone change → ((a : List ℕ) (doze : Bool) → change ≡ SetMode a doze → ⊥) → changed change t ≡ t
+nothing-changes Nothing t alone other = refl
+nothing-changes (Authenticate a) t alone other = absurd alone
+nothing-changes (Associate a listen) t alone other = absurd alone
+nothing-changes (Disassociate a) t alone other = absurd alone
+nothing-changes (Forget a) t alone other = absurd alone
+nothing-changes (SetMode a doze) t alone other = absurd (other a doze refl)
+
+-- one that dozes is among those that doze
+pub dozes-some : (addr : List ℕ) (t : Table) → is_dozing addr t ≡ true → some_station_dozes t ≡ true
+dozes-some addr t h =
+    let one : dozing_at addr t ≡ 1 = ap from_bool h in
+    some-dozes t ∙ lt-ltb 0 (dozing_count t) (omega (arith, one, dozing-at_most addr t))
+
+-- once one is active, another dozes exactly where more dozed than it
+pub other-dozes : (addr : List ℕ) (doze : Bool) (t : Table) → is_dozing addr (set_mode addr doze t) ≡ false → nat_lt (dozing_at addr t) (dozing_count t) ≡ some_station_dozes (set_mode addr doze t)
+other-dozes addr doze t h =
+    let none : dozing_at addr (set_mode addr doze t) ≡ 0 = ap from_bool h in
+    shifted (dozing_at addr t) (dozing_count t) (dozing_count (set_mode addr doze t)) (omega (arith, none, dozing-moded addr doze t)) ∙ sym (some-dozes (set_mode addr doze t))
+  where
+    shifted : (at count rest : ℕ) → rest + at ≡ count → nat_lt at count ≡ nat_lt 0 rest
+    shifted at count zero sum = le-ltb at count (omega (arith, sum))
+    shifted at count (suc rest) sum = lt-ltb at count (omega (arith, sum)) ∙ sym (lt-ltb 0 (suc rest) (omega arith))
+
+-- ---- the identifier of the station at a place
+
+rest-sound : (l : Link) (ns : List ℕ) → AreIdentifiers (identifier_of l ++ ns) → AreIdentifiers ns
+rest-sound Authenticated ns h = h
+rest-sound (Associated aid listen doze) ns h = h.3
+
+pub aid-range : (t : Table) (place : ℕ) (station : List ℕ × Link) (aid : ℕ) → slice_get t place ≡ Some station → aid_with (Some station.1) ≡ Some aid → AreIdentifiers (identifiers t) → (1 ≤ aid) × (aid ≤ 2007)
+aid-range [] place station aid here is h = absurd (cc)
+aid-range (e ∷ t) zero station aid here is h =
+    let same : e ≡ station = cc in
+    of e.1 (ap (λ (k : List ℕ × Link). aid_with (Some k.1)) same ∙ is) h
+  where
+    of : (l : Link) → aid_with (Some l) ≡ Some aid → AreIdentifiers (identifier_of l ++ identifiers t) → (1 ≤ aid) × (aid ≤ 2007)
+    of Authenticated k sound = absurd (cc)
+    of (Associated n listen doze) k sound = let number : n ≡ aid = cc in subst (λ m. (1 ≤ m) × (m ≤ 2007)) number (sound.0, sound.1)
+aid-range (e ∷ t) (suc place) station aid here is h = aid-range t place station aid here is (rest-sound e.1 (identifiers t) h)

@@ -8,7 +8,7 @@ use Rattle.std.proofs.lemmas.Slice.Eq.{bytes_eq-Decides}
 use borrow.Author.Tests.{ltb-true}
 use Rattle.aid_pool.specs.LeastFree.{least_free, is_among}
 use Rattle.aid_pool.proofs.Least.{least_of_list}
-use Rattle.bss_core.specs.Stations.{Table, link_of, aid_of, identifiers, AreIdentifiers, may_associate, next_aid, set_link, authenticate, associate, disassociate, forget, changed, IsAllowed}
+use Rattle.bss_core.specs.Stations.{Table, link_of, aid_of, identifiers, AreIdentifiers, may_associate, next_aid, set_link, authenticate, associate, disassociate, forget, set_mode, with_mode, identifier_of, changed, IsAllowed}
 use Rattle.bss_core.specs.Sound.{AreApart, AreSound}
 use Rattle.bss_core.specs.declared.stations.Link.{Link}
 use Rattle.bss_core.specs.declared.stations.Link.TheVariants.{Authenticated, Associated}
@@ -64,7 +64,31 @@ apart-forgotten a (e ∷ t) h = by (bytes_eq a e.0) refl (apart-forgotten a t)
     by true same later = rw same h.1
     by false apart later = rw apart (unknown-stays_forgotten e.0 a t h.0, later h.1)
 
+unknown-stays_moded : (k a : List ℕ) (doze : Bool) (t : Table) → link_of k t ≡ None → link_of k (set_mode a doze t) ≡ None
+unknown-stays_moded k a doze [] h = refl
+unknown-stays_moded k a doze (e ∷ t) h = by (bytes_eq a e.0) refl (not-here (bytes_eq k e.0) e.1 (link_of k t) h) (unknown-stays_moded k a doze t)
+  where
+    by : (b : Bool) → bytes_eq a e.0 ≡ b → (bytes_eq k e.0 ≡ false) × (link_of k t ≡ None) → (link_of k t ≡ None → link_of k (set_mode a doze t) ≡ None) → link_of k (set_mode a doze (e ∷ t)) ≡ None
+    by true same parts later = let away = parts.0 in rw (same, away) parts.1
+    by false apart parts later = let away = parts.0 in rw (apart, away) (later parts.1)
+
+apart-moded : (a : List ℕ) (doze : Bool) (t : Table) → AreApart t → AreApart (set_mode a doze t)
+apart-moded a doze [] h = tt
+apart-moded a doze (e ∷ t) h = by (bytes_eq a e.0) refl (apart-moded a doze t)
+  where
+    by : (b : Bool) → bytes_eq a e.0 ≡ b → (AreApart t → AreApart (set_mode a doze t)) → AreApart (set_mode a doze (e ∷ t))
+    by true same later = rw same h
+    by false apart later = rw apart (unknown-stays_moded e.0 a doze t h.0, later h.1)
+
 -- ---- how many there are
+
+pub length-moded : (a : List ℕ) (doze : Bool) (t : Table) → length (set_mode a doze t) ≡ length t
+length-moded a doze [] = refl
+length-moded a doze (e ∷ t) = by (bytes_eq a e.0) refl (length-moded a doze t)
+  where
+    by : (b : Bool) → bytes_eq a e.0 ≡ b → length (set_mode a doze t) ≡ length t → length (set_mode a doze (e ∷ t)) ≡ length (e ∷ t)
+    by true same later = rw same refl
+    by false apart later = rw (apart, later) refl
 
 pub length-set_link : (a : List ℕ) (l : Link) (t : Table) → length (set_link a l t) ≡ length t + (if is_some (link_of a t) then 0 else 1)
 length-set_link a l [] = refl
@@ -129,7 +153,25 @@ few-associated most a listen t limit known room h = by (aid_of a t) refl
         subst (λ (m : ℕ). AreFew most (identifiers (set_link a (Associated m listen false) t))) (sym same)
         (subst (AreFew most) (sym (parts.2.changed (Associated (least_free (is_among (identifiers t))) listen false))) more)
 
+-- a mode is none of an identifier's business
+same-identifier : (doze : Bool) (l : Link) → identifier_of (with_mode doze l) ≡ identifier_of l
+same-identifier doze Authenticated = refl
+same-identifier doze (Associated aid listen before) = refl
+
+pub identifiers-moded : (a : List ℕ) (doze : Bool) (t : Table) → identifiers (set_mode a doze t) ≡ identifiers t
+identifiers-moded a doze [] = refl
+identifiers-moded a doze (e ∷ t) = by (bytes_eq a e.0) refl (identifiers-moded a doze t)
+  where
+    by : (b : Bool) → bytes_eq a e.0 ≡ b → identifiers (set_mode a doze t) ≡ identifiers t → identifiers (set_mode a doze (e ∷ t)) ≡ identifiers (e ∷ t)
+    by true same later = rw same (ap (λ ns. ns ++ identifiers t) (same-identifier doze e.1))
+    by false apart later = rw apart (ap (λ ns. identifier_of e.1 ++ ns) later)
+
 -- ---- each change
+
+pub mode-sound : (most : ℕ) (a : List ℕ) (doze : Bool) (t : Table) → AreSound most t → AreSound most (set_mode a doze t)
+mode-sound most a doze t h =
+    let same = identifiers-moded a doze t in
+    record { addresses = apart-moded a doze t h.addresses; aids = subst AreIdentifiers (sym same) h.aids; associated = subst (λ (ns : List ℕ). length ns ≤ most) (sym same) h.associated }
 
 pub authenticate-sound : (most : ℕ) (a : List ℕ) (t : Table) → AreSound most t → AreSound most (authenticate a t)
 authenticate-sound most a t h =
@@ -159,3 +201,4 @@ changed-sound most (changes.Authenticate a) t limit allowed h = authenticate-sou
 changed-sound most (changes.Associate a listen) t limit allowed h = associate-sound most a listen t limit allowed.0 allowed.1 h
 changed-sound most (changes.Disassociate a) t limit allowed h = disassociate-sound most a t h
 changed-sound most (changes.Forget a) t limit allowed h = forget-sound most a t h
+changed-sound most (changes.SetMode a doze) t limit allowed h = mode-sound most a doze t h

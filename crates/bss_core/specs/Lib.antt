@@ -1,6 +1,8 @@
 pub mod Configuration
 pub mod Stations
 pub mod StationsKept
+pub mod Units
+pub mod Arrivals
 pub mod Network
 pub mod Sound
 pub mod Section

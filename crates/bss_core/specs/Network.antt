@@ -1,10 +1,17 @@
 -- A network alone: what it does with its own events. No other network, no queue, no capacity and no thread
 -- stands in it.
-use Rattle.std.specs.Prelude.{ℕ, ◌+◌, ◌%◌, Bool, true, ◌||◌, ◌==◌, nat_lt, is_some, length, List, [], ◌∷◌, ◌++◌, map, Option, Some, None, unwrap_or, Result, Ok, Err, false, if◌then◌else◌}
+use Rattle.std.specs.Prelude.{ℕ, ◌+◌, ◌%◌, Bool, true, false, not, ◌||◌, ◌&&◌, ◌==◌, nat_lt, is_some, length, List, [], ◌∷◌, ◌++◌, map, Option, Some, None, unwrap_or, Result, Ok, Err, if◌then◌else◌}
 use Rattle.std.specs.Str.{bytes_eq}
 use Rattle.mac_frame.specs.declared.frame.Unread.{Unread}
 use Rattle.beacon.specs.ProbeResponse.{Announced, probe_response}
-use Rattle.association.specs.Request.{Request, Probe, Auth, Assoc, Disassoc, Deauth, sender, request_of}
+use Rattle.beacon.specs.Beacon.{beacon, dtim_count}
+use Rattle.bridge.specs.Ethernet.{Ethernet, ethernet_of}
+use Rattle.bridge.specs.Encapsulation.{on_wire}
+use Rattle.powersave.specs.Keep.{Entry, units_for, without_all, without_oldest}
+use Rattle.powersave.specs.declared.unit.Whom.{Whom}
+use Rattle.powersave.specs.declared.unit.Whom.TheVariants.{One, Group}
+use Rattle.powersave.specs.declared.unit.Unit.{Unit as DataUnit}
+use Rattle.association.specs.Request.{Request, Probe, Auth, Assoc, Disassoc, Deauth, Msdu, Null, Poll, sender, request_of}
 use Rattle.association.specs.Asked.{class_of}
 use Rattle.association.specs.Status.{success}
 use Rattle.association.specs.Authentication.{auth_status, authentication}
@@ -13,11 +20,14 @@ use Rattle.association.specs.Leaving.{notice_frame}
 use Rattle.station_state.specs.ClassFault.{class_fault}
 use Rattle.station_state.specs.declared.class.Notice.{Notice}
 use Rattle.elements.specs.Elements.{Pair}
-use Rattle.bss_core.specs.Stations.{Table, link_of, standing_with, standing_of, may_associate, next_aid, authenticate, associate, disassociate, forget, aid_with, listen_of, dozes}
+use Rattle.bss_core.specs.Stations.{Table, link_of, standing_with, standing_of, may_associate, next_aid, authenticate, associate, disassociate, forget, set_mode, is_dozing, aid_with, listen_of, dozes}
+use Rattle.bss_core.specs.Units.{unit, unit_of, unit_frame, are_left, delivery_of, goes_on_wire, may_poll, group_is_kept, is_waited_for}
 use Rattle.bss_core.specs.declared.stations.Link.{Link}
+use Rattle.bss_core.specs.declared.unit.Delivery.{Delivery}
+use Rattle.bss_core.specs.declared.unit.Delivery.TheVariants.{Now, Kept, Nowhere}
 pub use Rattle.bss_core.specs.declared.setting.Setting.{Setting}
 use Rattle.bss_core.specs.declared.event.Event.{Event}
-use Rattle.bss_core.specs.declared.event.Event.TheVariants.{Air}
+use Rattle.bss_core.specs.declared.event.Event.TheVariants.{Air, Wire, Tick}
 use Rattle.bss_core.specs.declared.section.StationRow.{StationRow}
 use Rattle.bss_core.specs.declared.section.Counts.{Counts}
 
@@ -25,6 +35,8 @@ use Rattle.bss_core.specs.declared.section.Counts.{Counts}
 pub record Network : Type 0 where
   -- the stations that it knows, in order of first authentication
   pub stations : Table
+  -- the units that it keeps, each with whom it is for, in order of arrival
+  pub kept : List Entry
   -- the beacon intervals that began
   pub clock : ℕ
   -- the sequence number of its next frame
@@ -38,7 +50,7 @@ pub record Network : Type 0 where
   pub wire : List (List ℕ)
 
 abbrev pub empty_network : Network
-empty_network = record { stations = []; clock = 0; sequence = 0; lost = 0; unread = 0; air = []; wire = [] }
+empty_network = record { stations = []; kept = []; clock = 0; sequence = 0; lost = 0; unread = 0; air = []; wire = [] }
 
 -- ---- small changes, each named
 
@@ -57,9 +69,39 @@ count_unread n = record n { unread = n.unread + 1 }
 abbrev pub change_stations : (Table → Table) → Network → Network
 change_stations change n = record n { stations = change n.stations }
 
--- they change where a request is served
-abbrev pub change_where_served : ℕ → (Table → Table) → Network → Network
-change_where_served status change n = if status == success then change_stations change n else n
+-- all units for one leave
+abbrev pub drop_units : Whom → Network → Network
+drop_units whom n = record n { kept = without_all whom n.kept }
+
+-- a station's state changes, and no unit is kept for it any more
+abbrev pub change_state : List ℕ → (Table → Table) → Network → Network
+change_state addr change n = drop_units (One addr) (change_stations change n)
+
+-- where its request is served
+abbrev pub change_where_served : ℕ → List ℕ → (Table → Table) → Network → Network
+change_where_served status addr change n = if status == success then change_state addr change n else n
+
+abbrev pub lose : Network → Network
+lose n = record n { lost = n.lost + 1 }
+
+-- a unit is kept for one, or lost where as many are kept as may be, whoever they are for (profile)
+abbrev pub keep_or_lose : Setting → Whom → DataUnit → Network → Network
+keep_or_lose s whom u n =
+    if nat_lt (length n.kept) s.network.quota then record n { kept = n.kept ++ (whom, u) ∷ [] } else lose n
+
+-- a unit is sent, with More Data or without
+abbrev pub send_unit : Setting → Bool → DataUnit → Network → Network
+send_unit s more u n = send (unit_frame s.network.bssid more u) n
+
+-- units are sent in order; where so asked, More Data tells of all but the last that others follow
+abbrev pub send_each : Setting → Bool → List DataUnit → Network → Network
+send_each s telling [] n = n
+send_each s telling (u ∷ us) n = send_each s telling us (send_unit s (telling && are_left us) u n)
+
+-- a unit goes on the wire, or is lost where it has no wired form
+abbrev pub put_on_wire : Option (List ℕ) → Network → Network
+put_on_wire (Some octets) n = record n { wire = n.wire ++ octets ∷ [] }
+put_on_wire None n = lose n
 
 -- ---- answers
 
@@ -95,7 +137,7 @@ authentication_status s from algorithm step n = auth_status algorithm step (may_
 abbrev pub answer_authentication : Setting → List ℕ → ℕ → ℕ → Network → Network
 answer_authentication s from algorithm step n =
     send (λ sequence. authentication from s.network.bssid sequence algorithm (authentication_status s from algorithm step n))
-    (change_where_served (authentication_status s from algorithm step n) (authenticate from) n)
+    (change_where_served (authentication_status s from algorithm step n) from (authenticate from) n)
 
 -- a request to associate is answered with its status, and where it is served with the identifier (11.3.5.3)
 abbrev pub association_status : Setting → List ℕ → List Pair → Network → ℕ
@@ -105,15 +147,59 @@ association_status s from elements n =
 abbrev pub answer_association : Setting → List ℕ → Bool → ℕ → List Pair → Network → Network
 answer_association s from again listen elements n =
     send (λ sequence. association_response from s.network.bssid sequence again (association_status s from elements n) (next_aid from n.stations) s.network.rates)
-    (change_where_served (association_status s from elements n) (associate from listen) n)
+    (change_where_served (association_status s from elements n) from (associate from listen) n)
+
+-- ---- units
+
+-- a unit is delivered on the air (11.2.3.2)
+abbrev pub deliver_by : Delivery → Setting → DataUnit → Network → Network
+deliver_by Now s u n = send_unit s false u n
+deliver_by (Kept whom) s u n = keep_or_lose s whom u n
+deliver_by Nowhere s u n = n
+
+abbrev pub deliver : Setting → DataUnit → Network → Network
+deliver s u n = deliver_by (delivery_of u.to n.stations n.kept) s u n
+
+-- a station's unit is delivered on the air, and goes on the wire but where it is for one associated station (5.1.4)
+abbrev pub forward_by : Bool → Setting → DataUnit → Network → Network
+forward_by true s u n = put_on_wire (on_wire u.to u.source u.body) (deliver s u n)
+forward_by false s u n = deliver s u n
+
+abbrev pub forward : Setting → DataUnit → Network → Network
+forward s u n = forward_by (goes_on_wire u.to n.stations) s u n
+
+-- The mode of a station is set (11.2.3.2). One that dozed and is active now is sent all units that were kept for it.
+abbrev pub set_power_mode : Setting → List ℕ → Bool → Network → Network
+set_power_mode s from doze n =
+    if is_dozing from n.stations && not doze
+    then send_each s false (units_for (One from) n.kept) (change_state from (set_mode from doze) n)
+    else change_stations (set_mode from doze) n
+
+-- the first of these units, which are kept for a station, is sent
+abbrev pub serve_poll : Setting → List ℕ → List DataUnit → Network → Network
+serve_poll s from [] n = n
+serve_poll s from (u ∷ us) n = send_unit s (are_left us) u (record n { kept = without_oldest (One from) n.kept })
+
+-- a poll of a station that dozes and names its association identifier (11.2.3.6)
+abbrev pub answer_poll : Setting → List ℕ → ℕ → Network → Network
+answer_poll s from aid n =
+    if may_poll aid (link_of from n.stations) then serve_poll s from (units_for (One from) n.kept) n else n
+
+-- a frame of the wire, which goes to the group, to an associated station or nowhere
+abbrev pub answer_wired : Setting → Result Ethernet Unread → Network → Network
+answer_wired s (Ok w) n = deliver s (unit_of w) n
+answer_wired s (Err fault) n = count_unread n
 
 -- the request of a station in a state in which its class is taken
 abbrev pub serve : Setting → Request → Network → Network
 serve s (Probe from ssid) n = answer_probe s from ssid n
 serve s (Auth from algorithm step) n = answer_authentication s from algorithm step n
 serve s (Assoc from again listen elements) n = answer_association s from again listen elements n
-serve s (Disassoc from) n = change_stations (disassociate from) n
-serve s (Deauth from) n = change_stations (forget from) n
+serve s (Disassoc from) n = change_state from (disassociate from) n
+serve s (Deauth from) n = change_state from (forget from) n
+serve s (Msdu from doze to body) n = forward s (unit to from body) (set_power_mode s from doze n)
+serve s (Null from doze) n = set_power_mode s from doze n
+serve s (Poll from aid) n = answer_poll s from aid n
 
 -- a notice is sent, and nothing else is done (11.3.3)
 abbrev pub notify_or_serve : Option Notice → Setting → Request → Network → Network
@@ -124,11 +210,30 @@ abbrev pub answer : Setting → Result Request Unread → Network → Network
 answer s (Ok r) n = notify_or_serve (class_fault (standing_of (sender r) n.stations) (class_of r)) s r n
 answer s (Err fault) n = count_unread n
 
+-- ---- beacons (11.1.3.2, 11.2.3.3)
+
+-- the beacon of a network, by its configuration, its clock, its stations and the units that it keeps
+abbrev pub beacon_frame : Setting → ℕ → Table → List Entry → ℕ → List ℕ
+beacon_frame s clock table kept sequence =
+    beacon (announced_at s clock) sequence s.network.dtim (group_is_kept kept) (is_waited_for table kept)
+
+-- at a DTIM all units for the group follow the beacon, and leave
+abbrev pub release : Setting → Network → Network
+release s n =
+    if dtim_count n.clock s.network.dtim == 0 then send_each s true (units_for Group n.kept) (drop_units Group n) else n
+
+-- a beacon interval begins
+abbrev pub tick : Setting → Network → Network
+tick s n =
+    release s (send (beacon_frame s (n.clock + 1) n.stations n.kept) (record n { clock = n.clock + 1 }))
+
 -- ---- events
 
 -- the network after an event
 abbrev pub step : Setting → Network → Event → Network
 step s n (Air x) = answer s (request_of s.network.bssid x) n
+step s n (Wire y) = answer_wired s (ethernet_of y) n
+step s n Tick = tick s n
 
 -- the network after events, the first of them first
 abbrev pub after : Setting → Network → List Event → Network
@@ -142,19 +247,19 @@ alone s es = after s empty_network es
 -- ---- what is shown of a network
 
 -- a station with its link; one that is not associated has no identifier and no listen interval, and is active
-abbrev pub row_of : List ℕ × Link → StationRow
-row_of station = record {
+abbrev pub row_of : List Entry → List ℕ × Link → StationRow
+row_of kept station = record {
   addr = station.0;
   standing = standing_with (Some station.1);
   aid = unwrap_or (aid_with (Some station.1)) 0;
   listen = listen_of station.1;
   doze = dozes station.1;
-  kept = 0;
+  kept = length (units_for (One station.0) kept);
 }
 
 -- one row for each known station, in their order
 abbrev pub table_of : Network → List StationRow
-table_of n = map row_of n.stations
+table_of n = map (row_of n.kept) n.stations
 
 abbrev pub counts_of : ℕ → Network → Counts
-counts_of events n = record { events = events; clock = n.clock; unread = n.unread; lost = n.lost; kept = 0 }
+counts_of events n = record { events = events; clock = n.clock; unread = n.unread; lost = n.lost; kept = length n.kept }

@@ -1,7 +1,10 @@
 -- What holds of every network that events make of an empty one.
-use Rattle.std.specs.Prelude.{ℕ, ◌≡◌, ◌<◌, ◌≤◌, [], ◌∷◌, None, length}
+use Rattle.std.specs.Prelude.{ℕ, ◌≡◌, ◌+◌, ◌<◌, ◌≤◌, true, List, [], ◌∷◌, None, length}
+use Rattle.powersave.specs.Keep.{Entry}
+use Rattle.powersave.specs.declared.unit.Whom.{Whom}
+use Rattle.powersave.specs.declared.unit.Whom.TheVariants.{One, Group}
 use Rattle.bss_core.specs.Network.{Setting, Network}
-use Rattle.bss_core.specs.Stations.{Table, link_of, identifiers, AreIdentifiers}
+use Rattle.bss_core.specs.Stations.{Table, link_of, is_dozing, identifiers, AreIdentifiers}
 
 -- no station stands twice
 abbrev pub AreApart : Table → Type 0
@@ -15,11 +18,24 @@ pub record AreSound (most : ℕ) (stations : Table) : Type 0 where
   pub aids : AreIdentifiers (identifiers stations)
   pub associated : length (identifiers stations) ≤ most
 
--- a network that took so many events
-pub record IsSound (s : Setting) (events : ℕ) (n : Network) : Type 0 where
+-- a station that units are kept for dozes; those for the group stay until the next DTIM, whoever dozes
+abbrev pub IsKeptFor : Table → Whom → Type 0
+IsKeptFor stations (One addr) = is_dozing addr stations ≡ true
+IsKeptFor stations Group = Unit {0}
+
+abbrev pub AreKeptFor : Table → List Entry → Type 0
+AreKeptFor stations [] = Unit {0}
+AreKeptFor stations (entry ∷ entries) = IsKeptFor stations entry.0 × AreKeptFor stations entries
+
+-- a network that took so many events, which brought it at most so many units that are kept or lost
+pub record IsSound (s : Setting) (events units : ℕ) (n : Network) : Type 0 where
   pub stations : AreSound s.network.max_stations n.stations
   pub known : length n.stations ≤ s.network.max_known
+  pub kept : AreKeptFor n.stations n.kept
+  pub quota : length n.kept ≤ s.network.quota
   -- twelve bits (9.2.4.4.2)
   pub sequence : n.sequence < 4096
   -- no event is counted twice
   pub unread : n.unread ≤ events
+  pub clock : n.clock ≤ events
+  pub lost : n.lost + length n.kept ≤ units

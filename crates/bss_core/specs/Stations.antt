@@ -1,5 +1,6 @@
 -- The stations of a network and how far each has come (IEEE Std 802.11-2016, 11.3.1).
-use Rattle.std.specs.Prelude.{ℕ, ◌≡◌, ◌≤◌, Bool, true, false, ◌||◌, nat_lt, List, [], ◌∷◌, ◌++◌, length, Option, Some, None, is_some, unwrap_or, if◌then◌else◌}
+use Rattle.std.specs.Prelude.{ℕ, ◌≡◌, ◌≤◌, Bool, true, false, not, ◌||◌, ◌&&◌, ◌==◌, nat_lt, List, [], ◌∷◌, ◌++◌, length, Option, Some, None, is_some, unwrap_or, if◌then◌else◌}
+use Rattle.std.specs.List.{list_any}
 use Rattle.std.specs.Map.{lookup, remove_entry}
 use Rattle.std.specs.Str.{bytes_eq}
 use Rattle.aid_pool.specs.LeastFree.{least_free, is_among}
@@ -8,7 +9,7 @@ use Rattle.station_state.specs.declared.Standing.TheVariants as standings
 use Rattle.bss_core.specs.declared.stations.Link.{Link}
 use Rattle.bss_core.specs.declared.stations.Link.TheVariants.{Authenticated, Associated}
 use Rattle.bss_core.specs.declared.stations.Change.{Change}
-use Rattle.bss_core.specs.declared.stations.Change.TheVariants.{Nothing, Authenticate, Associate, Disassociate, Forget}
+use Rattle.bss_core.specs.declared.stations.Change.TheVariants.{Nothing, Authenticate, Associate, Disassociate, Forget, SetMode}
 
 -- each known station with its link, in order of first authentication
 abbrev pub Table : Type 0
@@ -62,6 +63,26 @@ abbrev pub dozes : Link → Bool
 dozes Authenticated = false
 dozes (Associated aid listen doze) = doze
 
+-- ---- power management (11.2.3.2)
+
+-- a station that is known dozes
+abbrev pub dozes_with : Option Link → Bool
+dozes_with None = false
+dozes_with (Some link) = dozes link
+
+abbrev pub is_dozing : List ℕ → Table → Bool
+is_dozing addr table = dozes_with (link_of addr table)
+
+abbrev pub some_station_dozes : Table → Bool
+some_station_dozes table = list_any (λ station. dozes station.1) table
+
+-- the link of a station in another mode; one that is not associated has none
+abbrev pub with_mode : Bool → Link → Link
+with_mode doze Authenticated = Authenticated
+with_mode doze (Associated aid listen before) = Associated aid listen doze
+
+-- ---- room
+
 -- where at most so many may associate, there is room for this station: it has its place, or fewer are associated
 abbrev pub may_associate : ℕ → List ℕ → Table → Bool
 may_associate most addr table = is_some (aid_of addr table) || nat_lt (length (identifiers table)) most
@@ -94,6 +115,12 @@ disassociate addr table = if is_some (aid_of addr table) then set_link addr Auth
 abbrev pub forget : List ℕ → Table → Table
 forget addr table = remove_entry (bytes_eq addr) table
 
+-- the mode of a station: it dozes, or is active (11.2.3.2)
+abbrev pub set_mode : List ℕ → Bool → Table → Table
+set_mode addr doze [] = []
+set_mode addr doze (station ∷ stations) =
+    if bytes_eq addr station.0 then (station.0, with_mode doze station.1) ∷ stations else station ∷ set_mode addr doze stations
+
 -- a change of one station
 abbrev pub changed : Change → Table → Table
 changed Nothing table = table
@@ -101,6 +128,7 @@ changed (Authenticate addr) table = authenticate addr table
 changed (Associate addr listen) table = associate addr listen table
 changed (Disassociate addr) table = disassociate addr table
 changed (Forget addr) table = forget addr table
+changed (SetMode addr doze) table = set_mode addr doze table
 
 -- where at most so many may associate: a station that associates is known, and there is room for it
 abbrev pub IsAllowed : ℕ → Change → Table → Type 0
@@ -109,6 +137,16 @@ IsAllowed most (Authenticate addr) table = Unit {0}
 IsAllowed most (Associate addr listen) table = (is_some (link_of addr table) ≡ true) × (may_associate most addr table ≡ true)
 IsAllowed most (Disassociate addr) table = Unit {0}
 IsAllowed most (Forget addr) table = Unit {0}
+IsAllowed most (SetMode addr doze) table = Unit {0}
+
+-- it sets the mode of one at most
+abbrev pub IsModeAlone : Change → Type 0
+IsModeAlone Nothing = Unit {0}
+IsModeAlone (Authenticate addr) = ⊥
+IsModeAlone (Associate addr listen) = ⊥
+IsModeAlone (Disassociate addr) = ⊥
+IsModeAlone (Forget addr) = ⊥
+IsModeAlone (SetMode addr doze) = Unit {0}
 
 -- ---- what contracts see of the stations that are kept
 

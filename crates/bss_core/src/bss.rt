@@ -1,11 +1,14 @@
 //! A network alone, as it runs.
 
-ghost use Rattle.std.specs.Prelude.{◌≡◌, Err, ◌+◌, ◌++◌, ◌∷◌, [], ◌↔◌, ◌<◌, ◌≤◌, true, false, None, Some, slice_get, IsTrue, IfOk, OnOk, OnErr, IfNone, length, is_some, option_to_list, if◌then◌else◌};
+ghost use Rattle.std.specs.Prelude.{◌≡◌, Err, ◌+◌, ◌++◌, ◌∷◌, [], ◌↔◌, ◌<◌, ◌≤◌, true, false, None, Some, slice_get, IsTrue, IfOk, OnOk, OnErr, IfNone, vec_len, vec_capacity, length, is_some, option_to_list, if◌then◌else◌};
 ghost use Rattle.bss_core.specs.Configuration.{setting_fault, network_fault};
-ghost use Rattle.bss_core.specs.Network.{step, table_of, counts_of};
-ghost use Rattle.bss_core.specs.Replies.{no_reply, after_reply};
+ghost use Rattle.bss_core.specs.Network.{step, answer, row_of, table_of, counts_of};
+ghost use Rattle.powersave.specs.Keep.{units_for};
+ghost use Rattle.powersave.specs.declared.unit.Whom.TheVariants as whoms;
+ghost use Rattle.bss_core.specs.Replies.{no_reply, after_reply, IsWithin};
 ghost use Rattle.bss_core.specs.Stations.{IsAllowed};
 ghost use Rattle.bss_core.specs.State.{State, network_of, sent_by};
+ghost use Rattle.association.specs.Request.{request_of};
 ghost use Rattle.bss_core.specs.declared.bss.Refusal.TheVariants as refusals;
 
 use crate::config::NetConfig;
@@ -15,7 +18,8 @@ use crate::section::{Counts, Section, StationRow};
 use crate::setting::Setting;
 use crate::stations::Stations;
 use association::{Request, class, read, sender};
-use mac_frame::{List, NoMemory, Octets};
+use mac_frame::{List, MacAddr, NoMemory, Octets};
+use powersave::{Keep, Whom};
 use station_state::fault;
 use std::alloc::{AllocError, Global};
 use std::collections::VecDeque;
@@ -60,6 +64,7 @@ pub struct Bss {
     setting: Setting,
     history: Vec<Event>,
     stations: Stations,
+    kept: Keep,
     waiting: VecDeque<Octets>,
     wired: Vec<Octets>,
     clock: u32,
@@ -86,6 +91,7 @@ impl Model for Bss {
     ghost invariant = { λ b.
         Keeps b.setting b.history.items (record {
           stations = b.stations.table;
+          kept = b.kept.entries;
           clock = b.clock;
           sequence = b.sequence;
           lost = b.lost;
@@ -94,6 +100,7 @@ impl Model for Bss {
           wire = b.wired.items;
         })
         × (b.stations.most ≡ b.setting.network.max_stations)
+        × (b.kept.quota ≡ b.setting.network.quota)
         × (IsTrue b.has_slot → deque_len b.waiting < deque_capacity b.waiting) };
 }
 
@@ -118,6 +125,7 @@ impl Bss {
         Ok(Bss {
             alloc,
             stations: Stations::new(alloc, config.max_stations),
+            kept: Keep::new(alloc, config.quota),
             setting: Setting {
                 channel,
                 interval,
@@ -162,7 +170,14 @@ impl Bss {
         ensures { slice_get (table_of (network_of self.now)) place ≡ Some result }
     {
         let (addr, link) = self.stations.row(place);
-        StationRow::new(addr, link)
+        StationRow::new(addr, link, self.kept_for(addr))
+    }
+
+    /// How many units are kept for a station.
+    fn kept_for(&self, addr: MacAddr) -> u32
+        ensures { result ≡ length (units_for (whoms.One addr) (network_of self.now).kept) }
+    {
+        self.kept.count_for(Whom::One(addr)) as u32
     }
 
     /// Its counts.
@@ -174,7 +189,7 @@ impl Bss {
             clock: self.clock,
             unread: self.unread,
             lost: self.lost,
-            kept: 0,
+            kept: self.kept.len() as u32,
         }
     }
 
@@ -244,13 +259,19 @@ impl Bss {
         let reply = self.reply(&event)?;
         self.history.reserve(1)?;
         reply.frames.reserve_in(&mut self.waiting)?;
+        self.wired.reserve(1)?;
+        reply.keeping.reserve_in(&mut self.kept)?;
         self.stations.change(reply.change)?;
         // All that may be refused is done.
         let number = self.history.len() as u32;
         self.history.push_reserved(event);
+        reply.keeping.change(&mut self.kept);
         reply.frames.append_to(&mut self.waiting);
+        put_last(&mut self.wired, reply.wired);
         self.sequence = reply.sequence;
+        self.lost += reply.lost;
         self.unread += reply.unread;
+        self.clock += reply.clock;
         self.has_slot = false;
         Ok(number)
     }
@@ -258,11 +279,25 @@ impl Bss {
     /// What it does about an event. It changes nothing.
     fn reply(&self, event: &Event) -> Result<Reply, NoMemory>
         ensures allowed { IfOk result (λ reply. IsAllowed self.now.setting.network.max_stations reply.change (network_of self.now).stations) }
+        ensures within { IfOk result (λ reply. IsWithin self.now.setting.network.quota reply.keeping.leaving (network_of self.now).kept reply.keeping.arriving) }
         ensures step { IfOk result (λ reply.
             step self.now.setting (network_of self.now) event.now ≡ after_reply reply (network_of self.now)) }
     {
-        let Event::Air(frame) = event;
-        let Ok(request) = read(self.setting.network.bssid, frame.as_slice()) else {
+        match event {
+            Event::Air(frame) => self.answer(frame.as_slice()),
+            Event::Wire(frame) => self.answer_wired(frame.as_slice()),
+            Event::Tick => self.tick(),
+        }
+    }
+
+    /// What it does about a string of octets that was heard on the air.
+    fn answer(&self, frame: &[u8]) -> Result<Reply, NoMemory>
+        ensures allowed { IfOk result (λ reply. IsAllowed self.now.setting.network.max_stations reply.change (network_of self.now).stations) }
+        ensures within { IfOk result (λ reply. IsWithin self.now.setting.network.quota reply.keeping.leaving (network_of self.now).kept reply.keeping.arriving) }
+        ensures answer { IfOk result (λ reply.
+            answer self.now.setting (request_of self.now.setting.network.bssid frame.now) (network_of self.now) ≡ after_reply reply (network_of self.now)) }
+    {
+        let Ok(request) = read(self.setting.network.bssid, frame) else {
             let mut reply = self.no_reply();
             reply.unread = 1;
             return Ok(reply);
@@ -286,6 +321,14 @@ impl Bss {
             } => self.answer_association(from, again, listen, &elements),
             Request::Disassoc { from } => Ok(self.answer_disassociation(from)),
             Request::Deauth { from } => Ok(self.answer_deauthentication(from)),
+            Request::Msdu {
+                from,
+                doze,
+                to,
+                body,
+            } => self.answer_unit(from, doze, to, body),
+            Request::Null { from, doze } => self.set_power_mode(from, doze),
+            Request::Poll { from, aid } => self.answer_poll(from, aid),
         }
     }
 
@@ -313,9 +356,18 @@ impl Bss {
         &self.stations
     }
 
+    /// The units that it keeps.
+    pub(crate) fn kept(&self) -> &Keep
+        ensures entries { result.now.entries ≡ (network_of self.now).kept }
+        ensures quota { result.now.quota ≡ self.now.setting.network.quota }
+    {
+        &self.kept
+    }
+
     /// How many beacon intervals have begun.
     pub(crate) fn clock(&self) -> u32
-        ensures { result ≡ (network_of self.now).clock }
+        ensures clock { result ≡ (network_of self.now).clock }
+        ensures bounded { result ≤ 1000000 }
     {
         self.clock
     }
@@ -323,6 +375,17 @@ impl Bss {
     /// Where its memory comes from.
     pub(crate) fn alloc(&self) -> Global {
         self.alloc
+    }
+
+    /// A row for each station, in their order. `NoMemory` where the room for them was refused.
+    fn rows(&self) -> Result<Vec<StationRow>, NoMemory>
+        ensures { IfOk result (λ rows. rows.items ≡ table_of (network_of self.now)) }
+    {
+        let mut rows = Vec::with_capacity(self.alloc, self.table_len())?;
+        for place in 0..self.table_len() {
+            rows.push_reserved(self.row(place));
+        }
+        Ok(rows)
     }
 
     /// The section of all that it took, with `air` as the frames that left it. `NoMemory` where the
@@ -338,7 +401,7 @@ impl Bss {
         }) }
     {
         let counts = self.counts();
-        let table = List::from_vec(self.stations.rows(self.alloc)?);
+        let table = List::from_vec(self.rows()?);
         Ok(Section {
             config: self.setting.network,
             events: List::from_vec(self.history),
@@ -347,5 +410,15 @@ impl Bss {
             air,
             wire: List::from_vec(self.wired),
         })
+    }
+}
+
+/// Puts a frame, if there is one, after those on the wire, for which there is room.
+fn put_last(wired: &mut Vec<Octets>, frame: Option<Octets>)
+    requires { vec_len wired.old < vec_capacity wired.old }
+    ensures { wired.new.items ≡ wired.old.items ++ option_to_list frame }
+{
+    if let Some(frame) = frame {
+        wired.push_reserved(frame);
     }
 }

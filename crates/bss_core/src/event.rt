@@ -10,6 +10,10 @@ use mac_frame::{MacAddr, Octets, addressed};
 pub enum Event {
     /// A string of octets was heard on the air.
     Air(Octets),
+    /// An Ethernet frame came from the wired port of the network.
+    Wire(Octets),
+    /// A beacon interval began.
+    Tick,
 }
 
 /// Whether the network `bss` hears a string of octets on the air: it has at least 10 octets, and Address 1,

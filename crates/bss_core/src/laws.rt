@@ -1,6 +1,6 @@
 //! What follows from the definitions, for whoever stands on them.
 
-ghost use Rattle.std.specs.Prelude.{◌≡◌, ◌<◌, ◌++◌, ℕ, List, [], ◌∷◌, slice_get, length, None};
+ghost use Rattle.std.specs.Prelude.{◌≡◌, ◌<◌, ◌*◌, ◌++◌, ℕ, List, [], ◌∷◌, slice_get, length, None};
 ghost use Rattle.std.specs.List.{AllByRecursion};
 ghost use Rattle.bss_core.specs.Configuration.{fault_of, setting_fault, network_fault};
 ghost use Rattle.bss_core.specs.Network.{Setting, alone, empty_network, step};
@@ -12,9 +12,10 @@ ghost use Rattle.bss_core.specs.Radio.{after_steps, items_of, sections_of};
 ghost use Rattle.bss_core.specs.State.{sent_by};
 ghost use Rattle.bss_core.specs.Worlds.{AreAlike, AreCutFromOne};
 
-/// What holds of every network that events make of an empty one, where its configuration has no fault.
+/// What holds of every network that events make of an empty one, where its configuration has no fault; each event keeps or
+/// loses two units at most.
 pub fn reachable()
-    ensures { (s : Setting) (es : List Event) → network_fault s.network ≡ None → IsSound s (length es) (alone s es) }
+    ensures { (s : Setting) (es : List Event) → network_fault s.network ≡ None → IsSound s (length es) (2 * length es) (alone s es) }
 {}
 
 /// A network alone begins empty, and each further event is one further step.

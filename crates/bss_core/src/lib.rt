@@ -17,6 +17,7 @@ mod checking;
 mod config;
 mod event;
 mod frames;
+mod keeping;
 mod laws;
 mod radio;
 mod reply;
@@ -25,6 +26,7 @@ mod section;
 mod setting;
 mod stations;
 mod step;
+mod unit;
 
 pub use bss::{Bss, Refusal};
 pub use checking::{is_taken, rates_fit};

@@ -1,12 +1,17 @@
 //! What a network does about one event: built aside, and committed once.
 
 ghost use Rattle.std.specs.Prelude.{◌≡◌, ◌<◌, ◌++◌, ◌∷◌, [], OnOk, OnErr};
+ghost use Rattle.bss_core.specs.Arrivals.{unit_shown};
 ghost use Rattle.bss_core.specs.Network.{next_sequence};
 ghost use Rattle.bss_core.specs.Replies.{no_reply};
+ghost use Rattle.bss_core.specs.Units.{unit_frame};
 
 use crate::frames::Frames;
+use crate::keeping::Keeping;
 use crate::stations::Change;
-use mac_frame::{NoMemory, Octets};
+use crate::unit::Arrival;
+use mac_frame::{HEADER_LEN, MacAddr, NoMemory, Octets, write_msdu};
+use powersave::Unit;
 use std::alloc::Global;
 
 /// How many sequence numbers there are (IEEE Std 802.11-2016, 9.2.4.4.2).
@@ -15,14 +20,22 @@ const SEQUENCE_NUMBERS: u16 = 4096;
 /// What a network does about one event. Each field is one effect.
 #[derive(Debug, Drop)]
 pub struct Reply {
-    /// The frames that it sends, the first of them first.
+    /// What becomes of one of its stations.
+    pub change: Change,
+    /// What becomes of the units that it keeps.
+    pub keeping: Keeping,
+    /// The frames that it sends on the air, the first of them first.
     pub frames: Frames,
     /// The sequence number of its next frame after these (9.2.4.4.2).
     pub sequence: u16,
+    /// The frame that it sends on the wire.
+    pub wired: Option<Octets>,
+    /// What is added to its count of lost units.
+    pub lost: u32,
     /// What is added to its count of unread events.
     pub unread: u32,
-    /// What becomes of one of its stations.
-    pub change: Change,
+    /// How many beacon intervals begin.
+    pub clock: u32,
 }
 
 impl Reply {
@@ -31,10 +44,14 @@ impl Reply {
         ensures { result ≡ no_reply sequence }
     {
         Reply {
+            change: Change::Nothing,
+            keeping: Keeping::nothing(),
             frames: Frames::new(alloc),
             sequence,
+            wired: None,
+            lost: 0,
             unread: 0,
-            change: Change::Nothing,
+            clock: 0,
         }
     }
 
@@ -51,5 +68,51 @@ impl Reply {
         self.frames.push(frame)?;
         self.sequence = (self.sequence + 1) % SEQUENCE_NUMBERS;
         Ok(())
+    }
+
+    /// Sends a unit too, with More Data or without, in a frame from the network `bssid`. After `NoMemory` the reply is as
+    /// it was.
+    pub fn send_unit(
+        &mut self,
+        alloc: Global,
+        bssid: MacAddr,
+        more: bool,
+        unit: &Arrival<'_>,
+    ) -> Result<(), NoMemory>
+        requires { self.old.sequence < 4096 }
+        ensures ok { OnOk result (self.new ≡ record self.old {
+          frames = self.old.frames ++ unit_frame bssid more (unit_shown unit.now) self.old.sequence ∷ [];
+          sequence = next_sequence self.old.sequence;
+        }) }
+        ensures err { OnErr result (self.new ≡ self.old) }
+    {
+        let mut frame = Octets::new(alloc);
+        frame.reserve(HEADER_LEN + unit.body.len())?;
+        write_msdu(&mut frame, unit.to, bssid, unit.source, self.sequence, more)?;
+        unit.body.append_to(&mut frame)?;
+        self.send(frame)
+    }
+
+    /// Sends a unit that was kept too, as [`Reply::send_unit`] does.
+    pub fn send_kept(
+        &mut self,
+        alloc: Global,
+        bssid: MacAddr,
+        more: bool,
+        unit: &Unit,
+    ) -> Result<(), NoMemory>
+        requires { self.old.sequence < 4096 }
+        ensures ok { OnOk result (self.new ≡ record self.old {
+          frames = self.old.frames ++ unit_frame bssid more unit.now self.old.sequence ∷ [];
+          sequence = next_sequence self.old.sequence;
+        }) }
+        ensures err { OnErr result (self.new ≡ self.old) }
+    {
+        let mut frame = Octets::new(alloc);
+        let body = unit.body.as_slice();
+        frame.reserve(HEADER_LEN + body.len())?;
+        write_msdu(&mut frame, unit.to, bssid, unit.source, self.sequence, more)?;
+        frame.append(body)?;
+        self.send(frame)
     }
 }

@@ -113,8 +113,11 @@ fn take(alloc: Global, radio: &mut Radio, place: usize, event: &Event) -> Result
 fn copy_of(alloc: Global, event: &Event) -> Result<Event, NoMemory>
     ensures { IfOk result (λ copy. copy ≡ event.now) }
 {
-    let Event::Air(frame) = event;
-    Ok(Event::Air(frame.copy(alloc)?))
+    match event {
+        Event::Air(frame) => Ok(Event::Air(frame.copy(alloc)?)),
+        Event::Wire(frame) => Ok(Event::Wire(frame.copy(alloc)?)),
+        Event::Tick => Ok(Event::Tick),
+    }
 }
 
 /// The section of each network, in order of place, with its frames among those that left and those that are queued.

@@ -1,6 +1,8 @@
 //! What is known of a network in the end.
 
-ghost use Rattle.std.specs.Prelude.{◌≡◌};
+ghost use Rattle.std.specs.Prelude.{◌≡◌, List, length};
+ghost use Rattle.powersave.specs.Keep.{Entry, units_for};
+ghost use Rattle.powersave.specs.declared.unit.Whom.TheVariants as whoms;
 ghost use Rattle.bss_core.specs.Network.{row_of};
 
 use crate::config::NetConfig;
@@ -27,9 +29,9 @@ pub struct StationRow {
 }
 
 impl StationRow {
-    /// The row of a station with this link, for which no unit is kept.
-    pub(crate) fn new(addr: MacAddr, link: Link) -> StationRow
-        ensures { result ≡ row_of (addr, link) }
+    /// The row of a station with this link, for which so many units are kept.
+    pub(crate) fn new(addr: MacAddr, link: Link, kept: u32) -> StationRow
+        ensures { (entries : List Entry) → kept ≡ length (units_for (whoms.One addr) entries) → result ≡ row_of entries (addr, link) }
     {
         match link {
             Link::Authenticated => StationRow {
@@ -38,7 +40,7 @@ impl StationRow {
                 aid: 0,
                 listen: 0,
                 doze: false,
-                kept: 0,
+                kept,
             },
             Link::Associated { aid, listen, doze } => StationRow {
                 addr,
@@ -46,7 +48,7 @@ impl StationRow {
                 aid,
                 listen,
                 doze,
-                kept: 0,
+                kept,
             },
         }
     }

@@ -1,10 +1,10 @@
 //! The stations that a network knows (IEEE Std 802.11-2016, 11.3.1).
 
-ghost use Rattle.std.specs.Prelude.{◌≡◌, ◌<◌, ◌≤◌, [], IsTrue, OnOk, OnErr, IfOk, IfSome, map, Some, None, length, slice_get, is_some, if◌then◌else◌};
-ghost use Rattle.bss_core.specs.Stations.{with_table, link_of, standing_of, identifiers, aid_with, may_associate, next_aid, set_link, authenticate, associate, disassociate, forget, changed, IsAllowed};
-ghost use Rattle.bss_core.specs.Network.{row_of};
+ghost use Rattle.std.specs.Prelude.{◌≡◌, ◌<◌, ◌≤◌, ℕ, List, [], IsTrue, OnOk, OnErr, IfOk, IfSome, map, Some, None, option_map, length, slice_get, is_some, if◌then◌else◌};
+ghost use Rattle.bss_core.specs.Units.{is_associated};
+ghost use Rattle.bss_core.specs.declared.stations.Link.{Link as Linked};
+ghost use Rattle.bss_core.specs.Stations.{with_table, link_of, standing_of, identifiers, aid_with, dozes_with, some_station_dozes, may_associate, next_aid, set_link, authenticate, associate, disassociate, forget, set_mode, with_mode, changed, IsAllowed, IsModeAlone};
 
-use crate::section::StationRow;
 use aid_pool::{AidPool, MAX_AID};
 use indexmap::IndexMap;
 use mac_frame::{MacAddr, NoMemory};
@@ -46,6 +46,13 @@ pub enum Change {
     Disassociate(MacAddr),
     /// It is not known any more (11.3.4.5).
     Forget(MacAddr),
+    /// It dozes or is active, if it is associated (11.2.3.2).
+    SetMode {
+        /// The station.
+        addr: MacAddr,
+        /// Whether it dozes.
+        doze: bool,
+    },
 }
 
 /// The stations of a network, in order of first authentication. Contracts see how many may be associated at most, and
@@ -54,17 +61,19 @@ pub enum Change {
 pub struct Stations {
     links: IndexMap<MacAddr, Link>,
     pool: AidPool,
+    // how many doze
+    dozing: usize,
 }
 
 impl Model for Stations {
-    ghost use Rattle.bss_core.specs.Stations.{StationTable, identifiers};
-    ghost use Rattle.bss_core.specs.StationsKept.{AreOut};
+    ghost use Rattle.bss_core.specs.Stations.{StationTable};
+    ghost use Rattle.bss_core.specs.StationsKept.{AreCounted};
 
     ghost Value = { StationTable };
 
     ghost view = { λ s. record { most = s.pool.most; table = s.links.entries } };
 
-    ghost invariant = { λ s. AreOut s.pool.most s.pool.out (identifiers s.links.entries) };
+    ghost invariant = { λ s. AreCounted s.pool.most s.pool.out s.dozing s.links.entries };
 }
 
 impl Stations {
@@ -77,6 +86,7 @@ impl Stations {
         Stations {
             links: IndexMap::new(alloc),
             pool: AidPool::new(most),
+            dozing: 0,
         }
     }
 
@@ -94,6 +104,19 @@ impl Stations {
     {
         let (addr, link) = self.links.get_index(place).unwrap();
         (*addr, *link)
+    }
+
+    /// The association identifier of the station at a place, from 0, if it is associated.
+    pub fn aid_at(&self, place: usize) -> Option<u16>
+        requires { place < length self.now.table }
+        ensures aid { (station : List ℕ × Linked) → slice_get self.now.table place ≡ Some station → result ≡ aid_with (Some station.1) }
+        ensures least { IfSome result (λ aid. 1 ≤ aid) }
+        ensures greatest { IfSome result (λ aid. aid ≤ MAX_AID) }
+    {
+        // what is kept says that it is one
+        let _ = &self.pool;
+        let (_, link) = self.row(place);
+        aid_with(Some(link))
     }
 
     /// How far a station has come, or `None` where it is not known.
@@ -114,6 +137,35 @@ impl Stations {
         }
     }
 
+    /// How far a station has come once the mode of one is set.
+    pub fn link_after(&self, change: Change, addr: MacAddr) -> Option<Link>
+        requires { IsModeAlone change }
+        ensures { result ≡ link_of addr (changed change self.now.table) }
+    {
+        let link = self.link_of(addr);
+        let Change::SetMode { addr: set, doze } = change else {
+            return link;
+        };
+        if set == addr {
+            link_with_mode(link, doze)
+        } else {
+            link
+        }
+    }
+
+    /// Whether a station dozes once the mode of one is set (11.2.3.2).
+    pub fn some_dozes_after(&self, change: Change) -> bool
+        requires { IsModeAlone change }
+        ensures { result ≡ some_station_dozes (changed change self.now.table) }
+    {
+        let Change::SetMode { addr, .. } = change else {
+            return self.dozing > 0;
+        };
+        let before = dozes_with(self.link_of(addr));
+        let after = dozes_with(self.link_after(change, addr));
+        after || self.dozing > usize::from(before)
+    }
+
     /// The identifier that an association of this station gives: the one that it has, or the least that is free.
     /// `None` exactly where as many others are associated as may be.
     pub fn next_aid(&self, addr: MacAddr) -> Option<u16>
@@ -125,18 +177,6 @@ impl Stations {
             Some(aid) => Some(aid),
             None => self.pool.least(),
         }
-    }
-
-    /// A row for each station, in their order. `NoMemory` where the room for them was refused.
-    pub fn rows(&self, alloc: Global) -> Result<Vec<StationRow>, NoMemory>
-        ensures { IfOk result (λ rows. rows.items ≡ map row_of self.now.table) }
-    {
-        let mut rows = Vec::with_capacity(alloc, self.len())?;
-        for place in 0..self.len() {
-            let (addr, link) = self.row(place);
-            rows.push_reserved(StationRow::new(addr, link));
-        }
-        Ok(rows)
     }
 
     /// Changes one station. `NoMemory`, and no change, can come where an unknown one is authenticated.
@@ -151,6 +191,7 @@ impl Stations {
             Change::Associate { addr, listen } => self.associate(addr, listen),
             Change::Disassociate(addr) => self.disassociate(addr),
             Change::Forget(addr) => self.forget(addr),
+            Change::SetMode { addr, doze } => self.set_mode(addr, doze),
         }
         Ok(())
     }
@@ -163,6 +204,7 @@ impl Stations {
         ensures unknown { OnErr result (link_of addr self.old.table ≡ None) }
     {
         let before = self.links.insert(addr, Link::Authenticated)?;
+        self.dozing -= usize::from(dozes_with(before));
         if let Some(aid) = aid_with(before) {
             self.pool.give(aid);
         }
@@ -175,7 +217,9 @@ impl Stations {
         requires room { IsTrue (may_associate self.old.most addr self.old.table) }
         ensures { self.new ≡ with_table self.old (associate addr listen self.old.table) }
     {
-        let aid = match aid_with(self.link_of(addr)) {
+        let before = self.link_of(addr);
+        self.dozing -= usize::from(dozes_with(before));
+        let aid = match aid_with(before) {
             Some(aid) => aid,
             None => self.pool.take().unwrap(),
         };
@@ -192,10 +236,12 @@ impl Stations {
     pub fn disassociate(&mut self, addr: MacAddr)
         ensures { self.new ≡ with_table self.old (disassociate addr self.old.table) }
     {
-        let Some(aid) = aid_with(self.link_of(addr)) else {
+        let before = self.link_of(addr);
+        let Some(aid) = aid_with(before) else {
             return;
         };
         self.pool.give(aid);
+        self.dozing -= usize::from(dozes_with(before));
         set_known(&mut self.links, addr, Link::Authenticated);
     }
 
@@ -204,9 +250,58 @@ impl Stations {
     pub fn forget(&mut self, addr: MacAddr)
         ensures { self.new ≡ with_table self.old (forget addr self.old.table) }
     {
-        if let Some(aid) = aid_with(self.links.shift_remove(&addr)) {
+        let before = self.links.shift_remove(&addr);
+        self.dozing -= usize::from(dozes_with(before));
+        if let Some(aid) = aid_with(before) {
             self.pool.give(aid);
         }
+    }
+
+    /// Sets the mode of a station. Nothing changes where it is not associated.
+    pub fn set_mode(&mut self, addr: MacAddr, doze: bool)
+        ensures { self.new ≡ with_table self.old (set_mode addr doze self.old.table) }
+    {
+        let Some(before) = self.link_of(addr) else {
+            return;
+        };
+        let link = with_mode(before, doze);
+        self.dozing -= usize::from(dozes_with(Some(before)));
+        self.dozing += usize::from(dozes_with(Some(link)));
+        set_known(&mut self.links, addr, link);
+    }
+}
+
+/// Whether a station with this link dozes.
+pub fn dozes_with(link: Option<Link>) -> bool
+    ensures { result ≡ dozes_with link }
+{
+    matches!(link, Some(Link::Associated { doze: true, .. }))
+}
+
+/// Whether a station with this link is associated.
+pub fn is_associated(link: Option<Link>) -> bool
+    ensures { result ≡ is_associated link }
+{
+    matches!(link, Some(Link::Associated { .. }))
+}
+
+/// The link of a station, if it is known, in another mode.
+fn link_with_mode(link: Option<Link>, doze: bool) -> Option<Link>
+    ensures { result ≡ option_map (with_mode doze) link }
+{
+    match link {
+        Some(link) => Some(with_mode(link, doze)),
+        None => None,
+    }
+}
+
+/// The link of a station in another mode; one that is not associated has none.
+fn with_mode(link: Link, doze: bool) -> Link
+    ensures { result ≡ with_mode doze link }
+{
+    match link {
+        Link::Authenticated => Link::Authenticated,
+        Link::Associated { aid, listen, .. } => Link::Associated { aid, listen, doze },
     }
 }
 

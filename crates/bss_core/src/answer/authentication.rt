@@ -2,15 +2,17 @@
 
 ghost use Rattle.std.specs.Prelude.{◌≡◌, IfOk};
 ghost use Rattle.bss_core.specs.Network.{may_be_known, answer_authentication};
-ghost use Rattle.bss_core.specs.Replies.{after_reply};
+ghost use Rattle.bss_core.specs.Replies.{after_reply, IsWithin};
 ghost use Rattle.bss_core.specs.State.{network_of};
 ghost use Rattle.bss_core.specs.Stations.{IsAllowed};
 
 use crate::bss::Bss;
+use crate::keeping::Leaving;
 use crate::reply::Reply;
 use crate::stations::Change;
 use association::{SUCCESS, auth_status, write_auth};
 use mac_frame::{MacAddr, NoMemory, Octets};
+use powersave::Whom;
 
 impl Bss {
     /// The reply to a request to authenticate: its answer, and where it is served the station is authenticated.
@@ -21,6 +23,7 @@ impl Bss {
         step: u16,
     ) -> Result<Reply, NoMemory>
         ensures allowed { IfOk result (λ reply. IsAllowed self.now.setting.network.max_stations reply.change (network_of self.now).stations) }
+        ensures within { IfOk result (λ reply. IsWithin self.now.setting.network.quota reply.keeping.leaving (network_of self.now).kept reply.keeping.arriving) }
         ensures answer { IfOk result (λ reply.
             answer_authentication self.now.setting from algorithm step (network_of self.now) ≡ after_reply reply (network_of self.now)) }
     {
@@ -32,6 +35,7 @@ impl Bss {
         reply.send(frame)?;
         if status == SUCCESS {
             reply.change = Change::Authenticate(from);
+            reply.keeping.leaving = Leaving::All(Whom::One(from));
         }
         Ok(reply)
     }

@@ -2,16 +2,18 @@
 
 ghost use Rattle.std.specs.Prelude.{◌≡◌, IfOk, is_some, true};
 ghost use Rattle.bss_core.specs.Network.{answer_association};
-ghost use Rattle.bss_core.specs.Replies.{after_reply};
+ghost use Rattle.bss_core.specs.Replies.{after_reply, IsWithin};
 ghost use Rattle.bss_core.specs.State.{network_of};
 ghost use Rattle.bss_core.specs.Stations.{IsAllowed, link_of};
 
 use crate::bss::Bss;
+use crate::keeping::Leaving;
 use crate::reply::Reply;
 use crate::stations::Change;
 use association::{SUCCESS, assoc_status, write_assoc};
 use elements::Elements;
 use mac_frame::{MacAddr, NoMemory, Octets};
+use powersave::Whom;
 
 impl Bss {
     /// The reply to the request of a known station to associate, or `again` to reassociate: its answer, and where it
@@ -25,6 +27,7 @@ impl Bss {
     ) -> Result<Reply, NoMemory>
         requires { is_some (link_of from (network_of self.now).stations) ≡ true }
         ensures allowed { IfOk result (λ reply. IsAllowed self.now.setting.network.max_stations reply.change (network_of self.now).stations) }
+        ensures within { IfOk result (λ reply. IsWithin self.now.setting.network.quota reply.keeping.leaving (network_of self.now).kept reply.keeping.arriving) }
         ensures answer { IfOk result (λ reply.
             answer_association self.now.setting from again listen elements.now (network_of self.now) ≡ after_reply reply (network_of self.now)) }
     {
@@ -49,6 +52,7 @@ impl Bss {
         reply.send(frame)?;
         if status == SUCCESS {
             reply.change = Change::Associate { addr: from, listen };
+            reply.keeping.leaving = Leaving::All(Whom::One(from));
         }
         Ok(reply)
     }

@@ -3,42 +3,49 @@
 
 ghost use Rattle.std.specs.Prelude.{◌≡◌, IfOk};
 ghost use Rattle.association.specs.Leaving.{notice_frame};
-ghost use Rattle.bss_core.specs.Network.{change_stations, send};
-ghost use Rattle.bss_core.specs.Replies.{after_reply};
+ghost use Rattle.bss_core.specs.Network.{change_state, send};
+ghost use Rattle.bss_core.specs.Replies.{after_reply, IsWithin};
 ghost use Rattle.bss_core.specs.State.{network_of};
 ghost use Rattle.bss_core.specs.Stations.{IsAllowed, disassociate, forget};
 
 use crate::bss::Bss;
+use crate::keeping::Leaving;
 use crate::reply::Reply;
 use crate::stations::Change;
 use association::write_notice;
 use mac_frame::{MacAddr, NoMemory, Octets};
+use powersave::Whom;
 use station_state::Notice;
 
 impl Bss {
     /// The reply to a disassociation, which is not answered: the station is no longer associated.
     pub(crate) fn answer_disassociation(&self, from: MacAddr) -> Reply
         ensures allowed { IsAllowed self.now.setting.network.max_stations result.change (network_of self.now).stations }
-        ensures answer { change_stations (disassociate from) (network_of self.now) ≡ after_reply result (network_of self.now) }
+        ensures within { IsWithin self.now.setting.network.quota result.keeping.leaving (network_of self.now).kept result.keeping.arriving }
+        ensures answer { change_state from (disassociate from) (network_of self.now) ≡ after_reply result (network_of self.now) }
     {
         let mut reply = self.no_reply();
         reply.change = Change::Disassociate(from);
+        reply.keeping.leaving = Leaving::All(Whom::One(from));
         reply
     }
 
     /// The reply to a deauthentication, which is not answered: the station is not known any more.
     pub(crate) fn answer_deauthentication(&self, from: MacAddr) -> Reply
         ensures allowed { IsAllowed self.now.setting.network.max_stations result.change (network_of self.now).stations }
-        ensures answer { change_stations (forget from) (network_of self.now) ≡ after_reply result (network_of self.now) }
+        ensures within { IsWithin self.now.setting.network.quota result.keeping.leaving (network_of self.now).kept result.keeping.arriving }
+        ensures answer { change_state from (forget from) (network_of self.now) ≡ after_reply result (network_of self.now) }
     {
         let mut reply = self.no_reply();
         reply.change = Change::Forget(from);
+        reply.keeping.leaving = Leaving::All(Whom::One(from));
         reply
     }
 
     /// The reply to a frame whose class is not taken from its station: a notice, and nothing else (11.3.3).
     pub(crate) fn notify(&self, from: MacAddr, notice: Notice) -> Result<Reply, NoMemory>
         ensures allowed { IfOk result (λ reply. IsAllowed self.now.setting.network.max_stations reply.change (network_of self.now).stations) }
+        ensures within { IfOk result (λ reply. IsWithin self.now.setting.network.quota reply.keeping.leaving (network_of self.now).kept reply.keeping.arriving) }
         ensures answer { IfOk result (λ reply.
             send (λ sequence. notice_frame from self.now.setting.network.bssid sequence notice) (network_of self.now) ≡ after_reply reply (network_of self.now)) }
     {

@@ -1,12 +1,13 @@
-use Rattle.std.proofs.Common.{◌≡◌, ℕ, ◌+◌, ◌<◌, ◌≤◌, ◌++◌, ◌∷◌, [], List, length, subst, sym, ap, ◌∙◌, arith, rules}
+use Rattle.std.proofs.Common.{◌≡◌, ℕ, ◌+◌, ◌*◌, ◌<◌, ◌≤◌, ◌++◌, ◌∷◌, [], List, length, option_to_list, subst, sym, ap, ◌∙◌, arith, rules}
 use Rattle.std.proofs.lemmas.List.{length-append}
 use Rattle.bss_core.specs.Network.{Setting, step, alone}
-use Rattle.bss_core.specs.Replies.{after_reply}
+use Rattle.bss_core.specs.Replies.{after_reply, kept_after}
 use Rattle.bss_core.specs.State.{State, network_of, sent_by}
 use Rattle.bss_core.specs.Stations.{StationTable}
 use Rattle.bss_core.specs.declared.event.Event.{Event}
 use Rattle.bss_core.specs.declared.reply.Reply.{Reply}
 use Rattle.bss_core.proofs.AloneLaws.{keeps-sound, keeps-push, sent_by-reply, air-push}
+use Rattle.bss_core.proofs.Checked.{numbers_bounded}
 use Rattle.bss_core.proofs.bss.Bss.take.Goals as goal
 
 -- the reply makes of the network what the event makes of it
@@ -20,22 +21,50 @@ overflow_add-self c =
     let len : c.len.result ≡ length es = c.len.ensures ∙ c.self.inside.history.ok.0 in
     let room : length es < s.network.max_events = omega (arith, c.if-len-self.false) in
     let replied = subst (IsReply c.args.event c.in_ok-reply.reply) (sym c.self.view_is) c.in_ok-reply.ensures.step in
-    let kept = keeps-push s es c.args.event c.in_ok-reply.reply _ c.self.invariant.0 room replied in
-    let few : c.self.inside.unread + c.in_ok-reply.reply.unread ≤ length (es ++ c.args.event ∷ []) = (keeps-sound _ _ _ kept).unread in
-    let small : s.network.max_events < 4294967296 = search (rules, c.self.ranges) in
-    omega (arith, few, length-append es (c.args.event ∷ []))
+    let sound = keeps-sound _ _ _ (keeps-push s es c.args.event c.in_ok-reply.reply _ c.self.invariant.0 room replied) in
+    let few : c.self.inside.lost + c.in_ok-reply.reply.lost ≤ 2 * length (es ++ c.args.event ∷ []) = omega (arith, sound.lost) in
+    omega (arith, few, length-append es (c.args.event ∷ []), (numbers_bounded s.network c.self.invariant.0.sound).events)
+
+pub overflow_add-self-2 : goal.overflow_add-self-2
+overflow_add-self-2 c =
+    let s : Setting = c.self.inside.setting in
+    let es : List Event = c.self.inside.history.items in
+    let len : c.len.result ≡ length es = c.len.ensures ∙ c.self.inside.history.ok.0 in
+    let room : length es < s.network.max_events = omega (arith, c.if-len-self.false) in
+    let replied = subst (IsReply c.args.event c.in_ok-reply.reply) (sym c.self.view_is) c.in_ok-reply.ensures.step in
+    let sound = keeps-sound _ _ _ (keeps-push s es c.args.event c.in_ok-reply.reply _ c.self.invariant.0 room replied) in
+    let few : c.self.inside.unread + c.in_ok-reply.reply.unread ≤ length (es ++ c.args.event ∷ []) = sound.unread in
+    omega (arith, few, length-append es (c.args.event ∷ []), (numbers_bounded s.network c.self.invariant.0.sound).events)
+
+pub overflow_add-self-3 : goal.overflow_add-self-3
+overflow_add-self-3 c =
+    let s : Setting = c.self.inside.setting in
+    let es : List Event = c.self.inside.history.items in
+    let len : c.len.result ≡ length es = c.len.ensures ∙ c.self.inside.history.ok.0 in
+    let room : length es < s.network.max_events = omega (arith, c.if-len-self.false) in
+    let replied = subst (IsReply c.args.event c.in_ok-reply.reply) (sym c.self.view_is) c.in_ok-reply.ensures.step in
+    let sound = keeps-sound _ _ _ (keeps-push s es c.args.event c.in_ok-reply.reply _ c.self.invariant.0 room replied) in
+    let few : c.self.inside.clock + c.in_ok-reply.reply.clock ≤ length (es ++ c.args.event ∷ []) = sound.clock in
+    omega (arith, few, length-append es (c.args.event ∷ []), (numbers_bounded s.network c.self.invariant.0.sound).events)
 
 pub invariant_of-self-2 : goal.invariant_of-self-2
 invariant_of-self-2 c =
     let s : Setting = c.self.inside.setting in
     let es : List Event = c.self.inside.history.items in
+    let r : Reply = c.in_ok-reply.reply in
     let len : c.len.result ≡ length es = c.len.ensures ∙ c.self.inside.history.ok.0 in
     let room : length es < s.network.max_events = omega (arith, c.if-len-self.false) in
     let items : c.push_reserved.new.self.items ≡ es ++ c.args.event ∷ [] = c.push_reserved.ensures.items ∙ ap (λ (h : List Event). h ++ c.args.event ∷ []) c.reserve.ensures.items in
-    let replied = subst (IsReply c.args.event c.in_ok-reply.reply) (sym c.self.view_is) c.in_ok-reply.ensures.step in
-    let kept = keeps-push s es c.args.event c.in_ok-reply.reply _ c.self.invariant.0 room replied in
+    let replied = subst (IsReply c.args.event r) (sym c.self.view_is) c.in_ok-reply.ensures.step in
+    let kept = keeps-push s es c.args.event r _ c.self.invariant.0 room replied in
     let changed = c.in_ok-change.ensures.ok in
-    (rw (items, changed) kept, ap (λ (k : StationTable). k.most) changed ∙ c.self.invariant.1, λ h. absurd cc)
+    let units : c.change-2.new.keep.entries ≡ kept_after r.keeping c.self.inside.kept.entries = c.change-2.ensures.entries ∙ ap (kept_after r.keeping) c.in_ok-reserve_in-2.ensures.entries in
+    let wire : c.put_last.new.wired.items ≡ c.self.inside.wired.items ++ option_to_list r.wired = c.put_last.ensures ∙ ap (λ (w : List (List ℕ)). w ++ option_to_list r.wired) c.in_ok-reserve-2.ensures.items in (
+      rw (items, changed, units, wire) kept,
+      ap (λ (k : StationTable). k.most) changed ∙ c.self.invariant.1,
+      c.change-2.ensures.quota ∙ c.in_ok-reserve_in-2.ensures.quota ∙ c.self.invariant.2,
+      λ h. absurd cc,
+    )
 
 pub returns-clause-waiting : goal.returns-clause-waiting
 returns-clause-waiting c =

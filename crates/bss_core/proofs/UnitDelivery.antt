@@ -1,0 +1,114 @@
+-- How a reply goes on: a frame is sent, a unit is delivered.
+use Rattle.std.proofs.Common.{◌≡◌, ℕ, zero, suc, ◌+◌, ◌<◌, ◌≤◌, Bool, true, false, ◌||◌, ◌&&◌, List, [], ◌∷◌, ◌++◌, length, drop, slice_get, get_or, Option, Some, None, option_to_list, refl, sym, ap, subst, ◌∙◌, arith}
+use Rattle.std.specs.Prelude.{nat_lt, if◌then◌else◌}
+use Rattle.std.specs.Str.{bytes_eq}
+use Rattle.std.proofs.lemmas.Bool.{both_ways, lt-ltb, le-ltb}
+use Rattle.std.proofs.lemmas.List.{append-nil, append_assoc, drop_more}
+use Rattle.std.proofs.lemmas.Option.{slice_get_within, get_or_from_slice_get}
+use Rattle.std.proofs.lemmas.Slice.Eq.{bytes_eq-Decides}
+use borrow.Author.Tests.{ltb-true, ltb-false}
+use Rattle.mac_frame.specs.Address.{is_group}
+use Rattle.powersave.specs.Keep.{Entry, is_same, without_all, without_oldest}
+use Rattle.powersave.specs.declared.unit.Whom.{Whom}
+use Rattle.powersave.specs.declared.unit.Whom.TheVariants.{One, Group}
+use Rattle.powersave.specs.declared.unit.Unit.{Unit as Msdu}
+use Rattle.bss_core.specs.Network.{Setting, Network, send, next_sequence, send_unit, send_each, serve_poll, deliver_by, deliver}
+use Rattle.bss_core.specs.Replies.{after_reply, sending, without, kept_after, is_left, IsAwake}
+use Rattle.bss_core.specs.Sound.{IsKeptFor}
+use Rattle.bss_core.specs.Stations.{Table, link_of, is_dozing, some_station_dozes, changed}
+use Rattle.bss_core.specs.Units.{are_left, delivery_of, delivery_with, group_is_kept, unit_frame}
+use Rattle.bss_core.specs.declared.keeping.Leaving.{Leaving}
+use Rattle.bss_core.specs.declared.keeping.Leaving.TheVariants as leavings
+use Rattle.bss_core.specs.declared.reply.Reply.{Reply}
+use Rattle.bss_core.specs.declared.unit.Delivery.{Delivery}
+use Rattle.bss_core.specs.declared.unit.Delivery.TheVariants.{Now, Kept}
+use Rattle.bss_core.proofs.UnitsKept.{group-stays}
+
+-- ---- a frame is sent
+
+pub after-sent : (r : Reply) (n : Network) (frame : ℕ → List ℕ) → send frame (after_reply r n) ≡ after_reply (sending r frame) n
+after-sent r n frame =
+    ap (λ (air : List (List ℕ)). record (send frame (after_reply r n)) { air = air }) (append_assoc n.air r.frames (frame r.sequence ∷ []))
+
+-- ---- where a unit goes
+
+-- to one that dozes, while the units of another leave
+pub left-apart : (leaving : Leaving) (t : Table) (whom : Whom) → IsAwake leaving t → IsKeptFor t whom → is_left leaving whom ≡ false
+left-apart leavings.Nothing t whom awake for = refl
+left-apart (leavings.All (One a)) t Group awake for = refl
+left-apart (leavings.All (One a)) t (One b) awake for = by (bytes_eq b a) refl
+  where
+    by : (r : Bool) → bytes_eq b a ≡ r → bytes_eq b a ≡ false
+    by false is = is
+    by true is =
+        let same : b ≡ a = (bytes_eq-Decides b a).0 is in
+        let dozes : is_dozing a t ≡ true = ap (λ k. is_dozing k t) (sym same) ∙ for in
+        absurd (both_ways (is_dozing a t) awake dozes)
+left-apart (leavings.All Group) t whom awake for = absurd awake
+left-apart (leavings.Oldest other) t whom awake for = absurd awake
+
+-- the units of a station that leave are nothing to where another goes
+delivery-left : (leaving : Leaving) (t : Table) (kept : List Entry) (to : List ℕ) → IsAwake leaving t → delivery_of to t (without leaving kept ++ []) ≡ delivery_of to t kept
+delivery-left leavings.Nothing t kept to awake = ap (delivery_of to t) (append-nil kept)
+delivery-left (leavings.All (One a)) t kept to awake =
+    let same : group_is_kept (without_all (One a) kept ++ []) ≡ group_is_kept kept = ap group_is_kept (append-nil (without_all (One a) kept)) ∙ group-stays a kept in
+    ap (λ b. if is_group to then (if some_station_dozes t || b then Kept Group else Now) else delivery_with (link_of to t) to) same
+delivery-left (leavings.All Group) t kept to awake = absurd awake
+delivery-left (leavings.Oldest other) t kept to awake = absurd awake
+
+pub delivery-after : (r : Reply) (n : Network) (to : List ℕ) → IsAwake r.keeping.leaving (changed r.change n.stations) → r.keeping.arriving ≡ None → delivery_of to (after_reply r n).stations (after_reply r n).kept ≡ delivery_of to (changed r.change n.stations) n.kept
+delivery-after r n to awake none =
+    ap (λ (a : Option Entry). delivery_of to (changed r.change n.stations) (without r.keeping.leaving n.kept ++ option_to_list a)) none
+    ∙ delivery-left r.keeping.leaving (changed r.change n.stations) n.kept to awake
+
+-- a unit is delivered so
+pub delivered : (s : Setting) (u : Msdu) (r : Reply) (n : Network) (d : Delivery) → IsAwake r.keeping.leaving (changed r.change n.stations) → r.keeping.arriving ≡ None → d ≡ delivery_of u.to (changed r.change n.stations) n.kept → deliver s u (after_reply r n) ≡ deliver_by d s u (after_reply r n)
+delivered s u r n d awake none is =
+    ap (λ (e : Delivery). deliver_by e s u (after_reply r n)) (delivery-after r n u.to awake none ∙ sym is)
+
+-- ---- units in order
+
+pub are_left-after : (us : List Msdu) (k : ℕ) → are_left (drop k us) ≡ nat_lt k (length us)
+are_left-after [] zero = refl
+are_left-after [] (suc k) = sym (le-ltb (suc k) 0 (omega arith))
+are_left-after (u ∷ us) zero = sym (lt-ltb 0 (length (u ∷ us)) (omega arith))
+are_left-after (u ∷ us) (suc k) = are_left-after us k ∙ shifted (nat_lt k (length us)) refl
+  where
+    shifted : (b : Bool) → nat_lt k (length us) ≡ b → nat_lt k (length us) ≡ nat_lt (suc k) (suc (length us))
+    shifted true is = is ∙ sym (lt-ltb (suc k) (suc (length us)) (omega (arith, ltb-true k (length us) is)))
+    shifted false is = is ∙ sym (le-ltb (suc k) (suc (length us)) (omega (arith, ltb-false k (length us) is)))
+
+-- one more of them is sent
+pub one-more : (s : Setting) (telling : Bool) (us : List Msdu) (k : ℕ) (u : Msdu) (r : Reply) (n : Network) → slice_get us k ≡ Some u
+    → send_each s telling (drop k us) (after_reply r n) ≡ send_each s telling (drop (k + 1) us) (after_reply (sending r (unit_frame s.network.bssid (telling && nat_lt (k + 1) (length us)) u)) n)
+one-more s telling us k u r n here =
+    let rest : List Msdu = drop (k + 1) us in
+    let first : drop k us ≡ u ∷ rest = drop_more us k u (slice_get_within us k u here) ∙ ap (λ (x : Msdu). x ∷ rest) (get_or_from_slice_get us k u u here) in
+    let more : are_left rest ≡ nat_lt (k + 1) (length us) = are_left-after us (k + 1) in
+    ap (λ (vs : List Msdu). send_each s telling vs (after_reply r n)) first
+    ∙ ap (λ (b : Bool). send_each s telling rest (send_unit s (telling && b) u (after_reply r n))) more
+    ∙ ap (send_each s telling rest) (after-sent r n (unit_frame s.network.bssid (telling && nat_lt (k + 1) (length us)) u))
+
+-- none is left
+pub all-sent : (us : List Msdu) (k : ℕ) → length us ≤ k → drop k us ≡ []
+all-sent [] zero h = refl
+all-sent [] (suc k) h = refl
+all-sent (u ∷ us) zero h = absurd (omega (arith, h))
+all-sent (u ∷ us) (suc k) h = all-sent us k (omega (arith, h))
+
+-- one stands at each place
+pub some-at : (us : List Msdu) (k : ℕ) → k < length us → (u : Msdu) × (slice_get us k ≡ Some u)
+some-at [] k h = absurd (omega (arith, h))
+some-at (u ∷ us) zero h = (u, refl)
+some-at (u ∷ us) (suc k) h = some-at us k (omega (arith, h))
+
+-- ---- a poll
+
+-- the first of the units that are kept is sent
+pub first-served : (s : Setting) (from : List ℕ) (us : List Msdu) (u : Msdu) (n : Network) → slice_get us 0 ≡ Some u
+    → serve_poll s from us n ≡ send_unit s (nat_lt 1 (length us)) u (record n { kept = without_oldest (One from) n.kept })
+first-served s from [] u n h = absurd (cc)
+first-served s from (v ∷ vs) u n h =
+    let same : v ≡ u = cc in
+    ap (λ (b : Bool). send_unit s b v (record n { kept = without_oldest (One from) n.kept })) (are_left-after (v ∷ vs) 1)
+    ∙ ap (λ (w : Msdu). send_unit s (nat_lt 1 (length (v ∷ vs))) w (record n { kept = without_oldest (One from) n.kept })) same

@@ -1,0 +1,89 @@
+-- Units and where they go (IEEE Std 802.11-2016, 5.1.4 and 11.2.3): the frame that carries one, and how it is delivered.
+use Rattle.std.specs.Prelude.{ℕ, ◌==◌, Bool, true, false, not, ◌||◌, ◌&&◌, List, [], ◌∷◌, ◌++◌, Option, Some, None, if◌then◌else◌}
+use Rattle.std.specs.List.{list_any}
+use Rattle.mac_frame.specs.Address.{is_group}
+use Rattle.mac_frame.specs.Data.{data_header}
+use Rattle.bridge.specs.Ethernet.{Ethernet}
+use Rattle.bridge.specs.Encapsulation.{on_air}
+use Rattle.powersave.specs.Keep.{Entry, is_for}
+use Rattle.powersave.specs.declared.unit.Whom.{Whom}
+use Rattle.powersave.specs.declared.unit.Whom.TheVariants.{One, Group}
+use Rattle.powersave.specs.declared.unit.Unit.{Unit as Msdu}
+use Rattle.bss_core.specs.Stations.{Table, link_of, some_station_dozes}
+use Rattle.bss_core.specs.declared.stations.Link.{Link}
+use Rattle.bss_core.specs.declared.stations.Link.TheVariants.{Authenticated, Associated}
+use Rattle.bss_core.specs.declared.unit.Delivery.{Delivery}
+use Rattle.bss_core.specs.declared.unit.Delivery.TheVariants.{Now, Kept, Nowhere}
+
+-- ---- a unit and its frame
+
+abbrev pub unit : (to source body : List ℕ) → Msdu
+unit to source body = record { to = to; source = source; body = body }
+
+-- the unit that an Ethernet frame carries
+abbrev pub unit_of : Ethernet → Msdu
+unit_of w = unit w.to w.source (on_air w)
+
+-- the frame that carries a unit from the network (9.3.2.1), with More Data (9.2.4.1.8) or without
+abbrev pub unit_frame : (bss : List ℕ) → Bool → Msdu → (sequence : ℕ) → List ℕ
+unit_frame bss more u sequence = data_header u.to bss u.source sequence more ++ u.body
+
+-- More Data where units follow
+abbrev pub are_left : List Msdu → Bool
+are_left [] = false
+are_left (u ∷ us) = true
+
+-- ---- where a unit goes on the air (11.2.3.2)
+
+-- units for the group are kept, in order, until the next DTIM
+abbrev pub group_is_kept : List Entry → Bool
+group_is_kept kept = list_any (is_for Group) kept
+
+abbrev pub group_waits : Table → List Entry → Bool
+group_waits table kept = some_station_dozes table || group_is_kept kept
+
+-- to a station with this link: at once where it is active, kept where it dozes, and nowhere where it is not associated
+abbrev pub delivery_with : Option Link → List ℕ → Delivery
+delivery_with None to = Nowhere
+delivery_with (Some Authenticated) to = Nowhere
+delivery_with (Some (Associated aid listen true)) to = Kept (One to)
+delivery_with (Some (Associated aid listen false)) to = Now
+
+-- to the group: kept where a station dozes or others are kept for it, and else at once
+abbrev pub delivery_of : List ℕ → Table → List Entry → Delivery
+delivery_of to table kept =
+    if is_group to then (if group_waits table kept then Kept Group else Now)
+    else delivery_with (link_of to table) to
+
+-- ---- where a station's unit goes besides (5.1.4)
+
+abbrev pub is_associated : Option Link → Bool
+is_associated None = false
+is_associated (Some Authenticated) = false
+is_associated (Some (Associated aid listen doze)) = true
+
+-- to the wire, but for a unit to one associated station
+abbrev pub goes_on_wire : List ℕ → Table → Bool
+goes_on_wire to table = is_group to || not (is_associated (link_of to table))
+
+-- ---- polls (11.2.3.6)
+
+-- a station with this link dozes and has this association identifier
+abbrev pub may_poll : ℕ → Option Link → Bool
+may_poll number None = false
+may_poll number (Some Authenticated) = false
+may_poll number (Some (Associated aid listen doze)) = doze && number == aid
+
+-- ---- who has units waiting, for the beacon (11.2.3.3)
+
+abbrev pub has_unit : List ℕ → List Entry → Bool
+has_unit addr kept = list_any (is_for (One addr)) kept
+
+-- it has this association identifier
+abbrev pub has_number : ℕ → Link → Bool
+has_number number Authenticated = false
+has_number number (Associated aid listen doze) = number == aid
+
+-- a station with this association identifier has units waiting
+abbrev pub is_waited_for : Table → List Entry → ℕ → Bool
+is_waited_for table kept number = list_any (λ station. has_number number station.1 && has_unit station.0 kept) table

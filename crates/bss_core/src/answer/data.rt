@@ -1,0 +1,127 @@
+//! Data frames: the mode of a station, and its units (IEEE Std 802.11-2016, 5.1.4 and 11.2.3.2).
+
+ghost use Rattle.std.specs.Prelude.{◌≡◌, ◌<◌, ◌≤◌, false, None, IfOk, OnOk, option_map};
+ghost use Rattle.bridge.specs.Encapsulation.{on_wire};
+ghost use Rattle.powersave.specs.Keep.{units_for};
+ghost use Rattle.powersave.specs.declared.unit.Whom.TheVariants as whoms;
+ghost use Rattle.bss_core.specs.Network.{forward, set_power_mode, put_on_wire, send_each, change_state};
+ghost use Rattle.bss_core.specs.Replies.{after_reply, IsAwake, IsWithin};
+ghost use Rattle.bss_core.specs.State.{network_of};
+ghost use Rattle.bss_core.specs.Stations.{IsAllowed, IsModeAlone, changed, set_mode};
+ghost use Rattle.bss_core.specs.Units.{unit, goes_on_wire};
+
+use crate::bss::Bss;
+use crate::keeping::Leaving;
+use crate::reply::Reply;
+use crate::stations::{Change, dozes_with, is_associated};
+use crate::unit::{Arrival, Body};
+use bridge::to_wire;
+use mac_frame::{MacAddr, NoMemory, Octets};
+use powersave::Whom;
+
+impl Bss {
+    /// The reply to a unit of an associated station: its mode is set, and then the unit is delivered on the air, put on
+    /// the wire, or both.
+    pub(crate) fn answer_unit(
+        &self,
+        from: MacAddr,
+        doze: bool,
+        to: MacAddr,
+        body: &[u8],
+    ) -> Result<Reply, NoMemory>
+        ensures allowed { IfOk result (λ reply. IsAllowed self.now.setting.network.max_stations reply.change (network_of self.now).stations) }
+        ensures within { IfOk result (λ reply. IsWithin self.now.setting.network.quota reply.keeping.leaving (network_of self.now).kept reply.keeping.arriving) }
+        ensures answer { IfOk result (λ reply.
+            forward self.now.setting (unit to from body.now) (set_power_mode self.now.setting from doze (network_of self.now)) ≡ after_reply reply (network_of self.now)) }
+    {
+        let mut reply = self.set_power_mode(from, doze)?;
+        let goes_on_wire = self.goes_on_wire(reply.change, to);
+        let unit = Arrival {
+            to,
+            source: from,
+            body: Body::Heard(body),
+        };
+        self.deliver(&mut reply, &unit)?;
+        if goes_on_wire {
+            self.put_on_wire(&mut reply, to, from, body)?;
+        }
+        Ok(reply)
+    }
+
+    /// The reply to what tells the mode of an associated station. One that dozed and is active now is sent all units that
+    /// were kept for it.
+    pub(crate) fn set_power_mode(&self, from: MacAddr, doze: bool) -> Result<Reply, NoMemory>
+        ensures allowed { IfOk result (λ reply. IsAllowed self.now.setting.network.max_stations reply.change (network_of self.now).stations) }
+        ensures within { IfOk result (λ reply. IsWithin self.now.setting.network.quota reply.keeping.leaving (network_of self.now).kept reply.keeping.arriving) }
+        ensures answer { IfOk result (λ reply.
+            set_power_mode self.now.setting from doze (network_of self.now) ≡ after_reply reply (network_of self.now)) }
+        ensures mode { IfOk result (λ reply. IsModeAlone reply.change) }
+        ensures awake { IfOk result (λ reply. IsAwake reply.keeping.leaving (changed reply.change (network_of self.now).stations)) }
+        ensures none_arrives { IfOk result (λ reply. reply.keeping.arriving ≡ None) }
+        ensures sequence { IfOk result (λ reply. reply.sequence < 4096) }
+        ensures lost { IfOk result (λ reply. reply.lost ≡ 0) }
+        ensures wired { IfOk result (λ reply. reply.wired ≡ None) }
+    {
+        if !doze && dozes_with(self.stations().link_of(from)) {
+            return self.wake(from);
+        }
+        let mut reply = self.no_reply();
+        reply.change = Change::SetMode { addr: from, doze };
+        Ok(reply)
+    }
+
+    /// The reply to a station that dozed and is active now: it is sent all units that were kept for it.
+    fn wake(&self, from: MacAddr) -> Result<Reply, NoMemory>
+        ensures allowed { IfOk result (λ reply. IsAllowed self.now.setting.network.max_stations reply.change (network_of self.now).stations) }
+        ensures within { IfOk result (λ reply. IsWithin self.now.setting.network.quota reply.keeping.leaving (network_of self.now).kept reply.keeping.arriving) }
+        ensures answer { IfOk result (λ reply.
+            send_each self.now.setting false (units_for (whoms.One from) (network_of self.now).kept) (change_state from (set_mode from false) (network_of self.now)) ≡ after_reply reply (network_of self.now)) }
+        ensures mode { IfOk result (λ reply. IsModeAlone reply.change) }
+        ensures awake { IfOk result (λ reply. IsAwake reply.keeping.leaving (changed reply.change (network_of self.now).stations)) }
+        ensures none_arrives { IfOk result (λ reply. reply.keeping.arriving ≡ None) }
+        ensures sequence { IfOk result (λ reply. reply.sequence < 4096) }
+        ensures lost { IfOk result (λ reply. reply.lost ≡ 0) }
+        ensures wired { IfOk result (λ reply. reply.wired ≡ None) }
+    {
+        let mut reply = self.no_reply();
+        reply.change = Change::SetMode {
+            addr: from,
+            doze: false,
+        };
+        reply.keeping.leaving = Leaving::All(Whom::One(from));
+        self.send_kept(&mut reply, &Whom::One(from), false)?;
+        Ok(reply)
+    }
+
+    /// Whether a unit of a station goes on the wire, once the mode of the station is set: but for a unit to one associated
+    /// station.
+    fn goes_on_wire(&self, change: Change, to: MacAddr) -> bool
+        requires { IsModeAlone change }
+        ensures { result ≡ goes_on_wire to (changed change (network_of self.now).stations) }
+    {
+        to.is_group() || !is_associated(self.stations().link_after(change, to))
+    }
+
+    /// Goes on with a reply: puts a unit on the wire, or counts it as lost where it has no wired form.
+    fn put_on_wire(
+        &self,
+        reply: &mut Reply,
+        to: MacAddr,
+        source: MacAddr,
+        body: &[u8],
+    ) -> Result<(), NoMemory>
+        requires wired { reply.old.wired ≡ None }
+        requires lost { reply.old.lost ≤ 1 }
+        ensures ok { OnOk result (put_on_wire (on_wire to source body.now) (after_reply reply.old (network_of self.now)) ≡ after_reply reply.new (network_of self.now)) }
+        ensures change { reply.new.change ≡ reply.old.change }
+        ensures keeping { reply.new.keeping ≡ reply.old.keeping }
+    {
+        let mut frame = Octets::new(self.alloc());
+        if to_wire(&mut frame, to, source, body)? {
+            reply.wired = Some(frame);
+        } else {
+            reply.lost += 1;
+        }
+        Ok(())
+    }
+}

@@ -1,0 +1,155 @@
+//! Units and how they are delivered on the air (IEEE Std 802.11-2016, 11.2.3.2).
+
+ghost use Rattle.std.specs.Prelude.{◌≡◌, ◌≤◌, ◌<◌, ◌+◌, ◌&&◌, nat_lt, false, None, length, OnOk, OnErr, Some, slice_get};
+ghost use Rattle.powersave.specs.Keep.{units_for};
+ghost use Rattle.powersave.specs.declared.unit.Unit.{Unit as Msdu};
+ghost use Rattle.bss_core.specs.Arrivals.{unit_shown};
+ghost use Rattle.bss_core.specs.Network.{deliver, keep_or_lose, send_each};
+ghost use Rattle.bss_core.specs.Replies.{after_reply, sending, is_left, IsAwake, IsWithin};
+ghost use Rattle.bss_core.specs.State.{network_of};
+ghost use Rattle.bss_core.specs.Stations.{IsModeAlone, changed};
+ghost use Rattle.bss_core.specs.Units.{delivery_of, delivery_with, group_waits, unit_frame};
+
+use crate::bss::Bss;
+use crate::reply::Reply;
+use crate::stations::{Change, Link};
+use crate::unit::{Arrival, Delivery};
+use mac_frame::{MacAddr, NoMemory};
+use powersave::Whom;
+
+impl Bss {
+    /// Goes on with a reply, which sets the mode of one station at most: delivers a unit on the air as the network does
+    /// once the reply is carried out. After `NoMemory` the reply is of no use.
+    pub(crate) fn deliver(&self, reply: &mut Reply, unit: &Arrival<'_>) -> Result<(), NoMemory>
+        requires mode { IsModeAlone reply.old.change }
+        requires awake { IsAwake reply.old.keeping.leaving (changed reply.old.change (network_of self.now).stations) }
+        requires none_arrives { reply.old.keeping.arriving ≡ None }
+        requires sequence { reply.old.sequence < 4096 }
+        requires lost { reply.old.lost ≡ 0 }
+        ensures ok { OnOk result (deliver self.now.setting (unit_shown unit.now) (after_reply reply.old (network_of self.now)) ≡ after_reply reply.new (network_of self.now)) }
+        ensures within { OnOk result (IsWithin self.now.setting.network.quota reply.new.keeping.leaving (network_of self.now).kept reply.new.keeping.arriving) }
+        ensures change { reply.new.change ≡ reply.old.change }
+        ensures wired { reply.new.wired ≡ reply.old.wired }
+        ensures lost { reply.new.lost ≤ 1 }
+    {
+        match self.delivery_of(reply.change, unit.to) {
+            Delivery::Now => {
+                let bssid = self.setting().network.bssid;
+                reply.send_unit(self.alloc(), bssid, false, unit)?;
+                Ok(())
+            }
+            Delivery::Kept(whom) => {
+                self.keep_or_lose(reply, whom, unit)?;
+                Ok(())
+            }
+            Delivery::Nowhere => Ok(()),
+        }
+    }
+
+    /// How a unit to this address is delivered on the air once the mode of a station is set.
+    fn delivery_of(&self, change: Change, to: MacAddr) -> Delivery
+        requires { IsModeAlone change }
+        ensures { result ≡ delivery_of to (changed change (network_of self.now).stations) (network_of self.now).kept }
+    {
+        if !to.is_group() {
+            delivery_with(self.stations().link_after(change, to), to)
+        } else if self.group_waits(change) {
+            Delivery::Kept(Whom::Group)
+        } else {
+            Delivery::Now
+        }
+    }
+
+    /// Whether a unit for the group waits once the mode of a station is set: a station dozes, or others are kept.
+    fn group_waits(&self, change: Change) -> bool
+        requires { IsModeAlone change }
+        ensures { result ≡ group_waits (changed change (network_of self.now).stations) (network_of self.now).kept }
+    {
+        let dozes = self.stations().some_dozes_after(change);
+        let kept = self.kept().count_for(Whom::Group) > 0;
+        dozes | kept
+    }
+
+    /// Goes on with a reply: keeps a unit for one, or counts it as lost.
+    fn keep_or_lose(
+        &self,
+        reply: &mut Reply,
+        whom: Whom,
+        unit: &Arrival<'_>,
+    ) -> Result<(), NoMemory>
+        requires apart { is_left reply.old.keeping.leaving whom ≡ false }
+        requires none_arrives { reply.old.keeping.arriving ≡ None }
+        requires lost { reply.old.lost ≡ 0 }
+        ensures ok { OnOk result (keep_or_lose self.now.setting whom (unit_shown unit.now) (after_reply reply.old (network_of self.now)) ≡ after_reply reply.new (network_of self.now)) }
+        ensures within { OnOk result (IsWithin self.now.setting.network.quota reply.new.keeping.leaving (network_of self.now).kept reply.new.keeping.arriving) }
+        ensures change { reply.new.change ≡ reply.old.change }
+        ensures wired { reply.new.wired ≡ reply.old.wired }
+        ensures lost { reply.new.lost ≤ 1 }
+    {
+        let quota = self.setting().network.quota as usize;
+        if reply.keeping.leaving.len_after(self.kept()) < quota {
+            reply.keeping.arriving = Some((whom, unit.copy(self.alloc())?));
+        } else {
+            reply.lost += 1;
+        }
+        Ok(())
+    }
+
+    /// Goes on with a reply: sends all units that are kept for one, and where so asked tells of all but the last that
+    /// others follow.
+    pub(crate) fn send_kept(
+        &self,
+        reply: &mut Reply,
+        whom: &Whom,
+        telling: bool,
+    ) -> Result<(), NoMemory>
+        requires { reply.old.sequence < 4096 }
+        ensures ok { OnOk result (send_each self.now.setting telling (units_for whom.now (network_of self.now).kept) (after_reply reply.old (network_of self.now)) ≡ after_reply reply.new (network_of self.now)) }
+        ensures same { reply.new ≡ record reply.old { frames = reply.new.frames; sequence = reply.new.sequence } }
+        ensures sequence { reply.new.sequence < 4096 }
+    {
+        let count = self.kept().count_for(*whom);
+        for n in 0..count {
+            self.send_nth(reply, whom, n, is_told(telling, n, count))?;
+        }
+        Ok(())
+    }
+
+    /// Goes on with a reply: sends the unit for one that so many others for it came before, with More Data or without.
+    pub(crate) fn send_nth(
+        &self,
+        reply: &mut Reply,
+        whom: &Whom,
+        place: usize,
+        more: bool,
+    ) -> Result<(), NoMemory>
+        requires sequence { reply.old.sequence < 4096 }
+        requires kept { place < length (units_for whom.now (network_of self.now).kept) }
+        ensures ok { OnOk result ((unit : Msdu) → slice_get (units_for whom.now (network_of self.now).kept) place ≡ Some unit →
+            reply.new ≡ sending reply.old (unit_frame self.now.setting.network.bssid more unit)) }
+        ensures same { reply.new ≡ record reply.old { frames = reply.new.frames; sequence = reply.new.sequence } }
+        ensures err { OnErr result (reply.new ≡ reply.old) }
+    {
+        let unit = self.kept().nth(*whom, place).unwrap();
+        reply.send_kept(self.alloc(), self.setting().network.bssid, more, unit)
+    }
+}
+
+/// Whether it is told of the unit at a place, from 0, that others of so many follow, where that is asked.
+fn is_told(telling: bool, place: usize, count: usize) -> bool
+    requires { place < count }
+    ensures { result ≡ (telling && nat_lt (place + 1) count) }
+{
+    telling && place + 1 < count
+}
+
+/// How a unit is delivered to the station with this link.
+fn delivery_with(link: Option<Link>, to: MacAddr) -> Delivery
+    ensures { result ≡ delivery_with link to }
+{
+    match link {
+        Some(Link::Associated { doze: true, .. }) => Delivery::Kept(Whom::One(to)),
+        Some(Link::Associated { doze: false, .. }) => Delivery::Now,
+        _ => Delivery::Nowhere,
+    }
+}

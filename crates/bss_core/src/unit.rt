@@ -1,0 +1,82 @@
+//! Units that arrive, and where they go (IEEE Std 802.11-2016, 5.1.4 and 11.2.3).
+
+ghost use Rattle.std.specs.Prelude.{◌≡◌, ◌+◌, ◌++◌, ◌^◌, ◌<◌, IfOk, OnOk, OnErr};
+ghost use Rattle.bridge.specs.Encapsulation.{on_air};
+ghost use Rattle.bss_core.specs.Arrivals.{body_octets, unit_shown};
+
+use bridge::{Ether, to_air};
+use mac_frame::{MacAddr, NoMemory, Octets};
+use powersave::{Unit, Whom};
+use std::alloc::Global;
+
+/// How many octets stand before the payload of a frame that names a type: the RFC 1042 header and the type.
+const RFC1042_LEN: usize = 8;
+
+/// How a unit is delivered on the air (11.2.3.2).
+#[derive(Clone, Copy, Debug)]
+pub enum Delivery {
+    /// It is sent at once.
+    Now,
+    /// It is kept for a station that dozes, or for the group.
+    Kept(Whom),
+    /// No station of this network is its destination.
+    Nowhere,
+}
+
+/// The body of a unit that arrived, where it lies.
+#[derive(Clone, Copy, Debug)]
+pub enum Body<'a> {
+    /// That of a frame that a station sent.
+    Heard(&'a [u8]),
+    /// That by which an Ethernet frame is carried on the air.
+    Wired(Ether<'a>),
+}
+
+/// A unit that arrived and isn't copied yet.
+#[derive(Clone, Copy, Debug)]
+pub struct Arrival<'a> {
+    /// The destination address.
+    pub to: MacAddr,
+    /// The source address.
+    pub source: MacAddr,
+    /// Its body.
+    pub body: Body<'a>,
+}
+
+impl Arrival<'_> {
+    /// The unit by itself, for which its body is copied. `NoMemory` where the growth was refused.
+    pub fn copy(&self, alloc: Global) -> Result<Unit, NoMemory>
+        ensures { IfOk result (λ unit. unit ≡ unit_shown self.now) }
+    {
+        let mut body = Octets::new(alloc);
+        self.body.append_to(&mut body)?;
+        Ok(Unit {
+            to: self.to,
+            source: self.source,
+            body,
+        })
+    }
+}
+
+impl Body<'_> {
+    /// How many octets it has at most; the header of a wired frame's type takes eight.
+    pub fn len(&self) -> usize
+        ensures { result < 2 ^ 63 + 8 }
+    {
+        match self {
+            Body::Heard(octets) => octets.len(),
+            Body::Wired(ether) => ether.payload.len() + RFC1042_LEN,
+        }
+    }
+
+    /// Appends the body. After `NoMemory` `out` is as it was.
+    pub fn append_to(&self, out: &mut Octets) -> Result<(), NoMemory>
+        ensures ok { OnOk result (out.new ≡ out.old ++ body_octets self.now) }
+        ensures err { OnErr result (out.new ≡ out.old) }
+    {
+        match self {
+            Body::Heard(octets) => out.append(octets),
+            Body::Wired(ether) => to_air(out, ether),
+        }
+    }
+}
