@@ -1,0 +1,4 @@
+pub mod Items
+pub mod Entries
+pub mod RuleSteps
+pub mod Counts

@@ -1,0 +1,5 @@
+use Rattle.air_queue.proofs.RuleSteps.{pops, learns}
+use Rattle.air_queue.proofs.queue.pop_into.Goals as goal
+
+pub pop_as-requires-clause-rule : goal.pop_as-requires-clause-rule
+pop_as-requires-clause-rule g c = (pops _ _ _ c.requires.radio, learns _ _ _ c.requires.radio)

@@ -1,0 +1,110 @@
+//! The passes to a queue: by one a network pushes, by the other the radio pops.
+
+ghost use Rattle.std.specs.Prelude.{◌≡◌, ◌≤◌, [], OnOk, OnErr};
+ghost use Rattle.crossbeam_queue.specs.Passes.{view as known_by};
+ghost use Rattle.air_queue.specs.Passes.{fresh_pass};
+ghost use Rattle.air_queue.specs.Rule.{IsNetworkAt, pushed_by};
+
+use crate::rule::Ticket;
+use bss_core::AirItem;
+use mac_frame::NoMemory;
+use std::marker::Model;
+
+/// A network's right to push its frames to a queue. Contracts see which queue it is, the network's place, and the
+/// frames that were pushed with it, in order. It has no bytes for these but the place.
+#[derive(Drop)]
+pub struct NetPass {
+    pub(crate) place: usize,
+    pub(crate) ticket: Ticket,
+}
+
+impl Model for NetPass {
+    ghost use Rattle.std.specs.Prelude.{◌≡◌, []};
+    ghost use Rattle.crossbeam_queue.specs.Passes.{view as known_by};
+    ghost use Rattle.air_queue.specs.Passes.{NetPassView};
+    ghost use Rattle.air_queue.specs.Rule.{IsNetworkAt, pushed_by};
+
+    ghost Value = { NetPassView };
+
+    ghost view = { λ p. record { name = p.ticket.table_id; place = p.place; pushed = pushed_by (known_by p.ticket) } };
+
+    ghost invariant = { λ p. (p.ticket.me.1 ≡ []) × IsNetworkAt p.place (known_by p.ticket) };
+}
+
+impl NetPass {
+    /// The pass of the network at a place.
+    pub(crate) fn new(place: usize, ticket: Ticket) -> NetPass
+        requires free { ticket.me.1 ≡ [] }
+        requires network { IsNetworkAt place (known_by ticket) }
+        ensures { result ≡ record { name = ticket.table_id; place = place; pushed = pushed_by (known_by ticket) } }
+    {
+        NetPass { place, ticket }
+    }
+
+    /// The network's place in the configuration, from 0.
+    pub fn place(&self) -> usize
+        ensures { result ≡ self.now.place }
+    {
+        self.place
+    }
+}
+
+/// The radio's right to pop frames from a queue, with the list of what left. Contracts see which queue it is, that
+/// list, how many networks were given a pass, what was taken in of them, and for how many frames more there is room.
+#[derive(Drop)]
+pub struct RadioPass {
+    pub(crate) left: Vec<AirItem>,
+    pub(crate) ticket: Ticket,
+}
+
+impl Model for RadioPass {
+    ghost use Rattle.std.specs.Prelude.{◌≡◌, ◌-◌, []};
+    ghost use Rattle.std.specs.Vec.{vec_len, vec_capacity};
+    ghost use Rattle.crossbeam_queue.specs.Passes.{view as known_by};
+    ghost use Rattle.air_queue.specs.Passes.{RadioPassView, radio_pass_code};
+    ghost use Rattle.air_queue.specs.Rule.{IsRadioWith, next_of, done_of};
+
+    ghost Value = { RadioPassView };
+
+    ghost coded = { radio_pass_code };
+
+    ghost view = { λ p. record {
+      name = p.ticket.table_id;
+      left = p.left.items;
+      next = next_of (known_by p.ticket);
+      done = done_of (known_by p.ticket);
+      spare = vec_capacity p.left - vec_len p.left;
+    } };
+
+    ghost invariant = { λ p. (p.ticket.me.1 ≡ []) × IsRadioWith p.left.items (known_by p.ticket) };
+}
+
+impl RadioPass {
+    /// Makes room for so many frames more in the list of what left. `NoMemory` where the growth was refused; then
+    /// nothing has changed.
+    pub fn reserve(&mut self, count: usize) -> Result<(), NoMemory>
+        ensures name { self.new.name ≡ self.old.name }
+        ensures left { self.new.left ≡ self.old.left }
+        ensures networks { (self.new.next ≡ self.old.next) × (self.new.done ≡ self.old.done) }
+        ensures room { self.old.spare ≤ self.new.spare }
+        ensures ok { OnOk result (count ≤ self.new.spare) }
+        ensures err { OnErr result (self.new ≡ self.old) }
+    {
+        self.left.reserve(count)?;
+        Ok(())
+    }
+
+    /// For how many frames more there is room.
+    pub fn spare(&self) -> usize
+        ensures { result ≡ self.now.spare }
+    {
+        self.left.capacity() - self.left.len()
+    }
+
+    /// The frames that left, in order.
+    pub fn left(&self) -> &[AirItem]
+        ensures { result.now ≡ self.now.left }
+    {
+        self.left.as_slice()
+    }
+}
