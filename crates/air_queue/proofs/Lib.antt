@@ -2,3 +2,4 @@ pub mod Items
 pub mod Entries
 pub mod RuleSteps
 pub mod Counts
+pub mod Takings

@@ -1,6 +1,6 @@
 -- What contracts see of the air queue and of the passes to it.
-use Rattle.std.specs.Prelude.{ℕ, ◌≡◌, refl, All, List, [], map}
-use Rattle.std.specs.List.{range_with_len}
+use Rattle.std.specs.Prelude.{ℕ, ◌≡◌, refl, List, [], ◌++◌, map}
+use Rattle.std.specs.List.{AllByRecursion, range_with_len}
 use Rattle.std.specs.Ordering.{nat_cmp}
 use Rattle.std.specs.FinMap as finite
 use Rattle.std.specs.Coded.{Coded, code_by, coded×, coded_ℕ, coded_list}
@@ -74,5 +74,9 @@ fresh_radio name networks spare = record {
 
 -- all passes that the networks of a queue were given, in order of place
 pub record AllThere (name : QueueName) (networks : ℕ) (passes : List NetPassView) : Type 0 where
-  pub named : All (λ pass. pass.name ≡ name) passes
+  pub named : AllByRecursion (λ pass. pass.name ≡ name) passes
   pub placed : map (λ pass. pass.place) passes ≡ range_with_len 0 networks
+
+-- the second list is the first, and then others
+abbrev pub BeginsWith : List AirItem → List AirItem → Type 0
+BeginsWith before items = (others : List AirItem) × (items ≡ before ++ others)

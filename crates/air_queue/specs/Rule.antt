@@ -1,10 +1,10 @@
 -- The rule of the air queue, which each step of each thread keeps: over what the queue holds, oldest first, and what each
 -- pass knows. A pass has a number, and what it knows stands in the list of all passes at that number.
-use Rattle.std.specs.Prelude.{ℕ, ◌+◌, ◌<◌, ◌≡◌, All, List, [], ◌∷◌, ◌++◌, Some, None}
+use Rattle.std.specs.Prelude.{ℕ, ◌+◌, ◌<◌, ◌≡◌, All, List, [], ◌∷◌, ◌++◌, Some, None, IsSome}
 use Rattle.std.specs.FinMap as finite
 use mathlib.Core.Option.{some}
 use lib.ListN.{get_elem?}
-use Rattle.air_queue.specs.Passes.{TakenIn}
+use Rattle.air_queue.specs.Passes.{TakenIn, NetPassView}
 use Rattle.air_queue.specs.declared.known.Known.{Known}
 use Rattle.air_queue.specs.declared.known.Known.TheVariants.{Network, Radio, Spent}
 use Rattle.bss_core.specs.Radio.{items_of}
@@ -52,6 +52,12 @@ abbrev pub IsNetworkAt : ℕ → Known → Type 0
 IsNetworkAt place (Network at pushed) = at ≡ place
 IsNetworkAt place (Radio left next done) = ⊥
 IsNetworkAt place Spent = ⊥
+
+-- it is the radio's pass
+abbrev pub IsRadio : Known → Type 0
+IsRadio (Network place pushed) = ⊥
+IsRadio (Radio left next done) = Unit {0}
+IsRadio Spent = ⊥
 
 -- it is the radio's pass, and this is what left
 abbrev pub IsRadioWith : List AirItem → Known → Type 0
@@ -111,6 +117,11 @@ taking_in (Radio left next done) Spent = Radio left next done
 taking_in (Network place pushed) other = Network place pushed
 taking_in Spent other = Spent
 
+-- the radio's pass, once these passes were taken in, the first of them first
+abbrev pub after_taking : Known → List NetPassView → Known
+after_taking known [] = known
+after_taking known (pass ∷ passes) = after_taking (taking_in known (Network pass.place pass.pushed)) passes
+
 -- ---- what the radio's pass learns
 
 -- each network whose pass was taken in pushed what left of it and then what is queued of it; nothing is there of a place
@@ -123,3 +134,7 @@ Accounts (Radio left next done) queued =
     → finite.get done place ≡ Some pushed
     → pushed ≡ items_of place (left ++ queued))
 Accounts Spent queued = Unit {0}
+
+-- each network's pass was taken in
+abbrev pub AllTaken : Known → Type 0
+AllTaken known = (place : ℕ) → place < next_of known → IsSome (finite.get (done_of known) place)

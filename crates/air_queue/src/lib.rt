@@ -14,6 +14,8 @@ mod known;
 mod pass;
 mod queue;
 mod rule;
+mod taking;
 
 pub use pass::{NetPass, RadioPass};
 pub use queue::AirQueue;
+pub use taking::{Left, TakeInFault};

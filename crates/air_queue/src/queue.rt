@@ -20,7 +20,7 @@ use std::sync::Wait;
 /// frames it holds at most; what it holds another thread may change at any moment, so no contract tells.
 #[derive(Drop)]
 pub struct AirQueue {
-    line: Line,
+    pub(crate) line: Line,
 }
 
 impl Model for AirQueue {
@@ -109,7 +109,12 @@ fn give_passes(
 }
 
 /// Takes the first frame of the queue into the list of what left.
-fn pop_into<R: Wait>(rt: &R, line: &Line, ticket: &mut Ticket, left: &mut Vec<AirItem>) -> bool
+pub(crate) fn pop_into<R: Wait>(
+    rt: &R,
+    line: &Line,
+    ticket: &mut Ticket,
+    left: &mut Vec<AirItem>,
+) -> bool
     requires queue { IsPassOf line.now ticket.old }
     requires radio { IsRadioWith left.old.items (known_by ticket.old) }
     requires room { vec_len left.old < vec_capacity left.old }

@@ -1,0 +1,173 @@
+-- What the radio's pass has once the networks' passes were taken in, and that nothing remains once as many left as were there.
+use Rattle.std.proofs.Common.{◌≡◌, ℕ, zero, suc, ◌+◌, ◌<◌, ◌≤◌, List, [], ◌∷◌, ◌++◌, length, map, drop, get_or, Option, Some, None, refl, sym, ap, subst, ◌∙◌, inl, inr, arith}
+use Rattle.std.specs.Prelude.{All, IsSome}
+use Rattle.std.specs.List.{AllByRecursion, range_with_len}
+use Rattle.std.specs.FinMap as finite
+use Rattle.std.proofs.lemmas.Bool.{cases_eq, false≢true}
+use Rattle.std.proofs.lemmas.List.{append-nil, length-append}
+use Rattle.crossbeam_queue.specs.Fifo.{Merges}
+use Rattle.bss_core.specs.Radio.{items_of}
+use Rattle.bss_core.specs.declared.step.AirItem.{AirItem}
+use Rattle.air_queue.specs.Passes.{TakenIn, NetPassView}
+use Rattle.air_queue.specs.Rule.{IsKept, IsNetworkAt, IsRadio, IsRadioWith, Accounts, AllTaken, pushed_by, next_of, done_of, taking_in, after_taking}
+use Rattle.air_queue.specs.declared.known.Known.{Known}
+use Rattle.air_queue.specs.declared.known.Known.TheVariants.{Network, Radio, Spent}
+use Rattle.air_queue.proofs.Counts.{same_count}
+use Rattle.air_queue.proofs.Entries.{get-here, get-other}
+use Rattle.air_queue.proofs.RuleSteps.{takes_in}
+
+-- ---- kinds of pass
+
+pub network_is : (place : ℕ) (v : Known) → IsNetworkAt place v → v ≡ Network place (pushed_by v)
+network_is place (Network at pushed) is = ap (λ k. Network k pushed) is
+network_is place (Radio left next done) is = absurd is
+network_is place Spent is = absurd is
+
+pub radio_is : (out : List AirItem) (v : Known) → IsRadioWith out v → v ≡ Radio out (next_of v) (done_of v)
+radio_is out (Network place pushed) is = absurd is
+radio_is out (Radio left next done) is = ap (λ l. Radio l next done) is
+radio_is out Spent is = absurd is
+
+pub is_radio : (out : List AirItem) (v : Known) → IsRadioWith out v → IsRadio v
+is_radio out (Network place pushed) is = absurd is
+is_radio out (Radio left next done) is = tt
+is_radio out Spent is = absurd is
+
+pub radio-taking : (v u : Known) → IsRadio v → IsRadio (taking_in v u)
+radio-taking (Network place pushed) u is = absurd is
+radio-taking (Radio left next done) (Network place pushed) is = tt
+radio-taking (Radio left next done) (Radio out given taken) is = tt
+radio-taking (Radio left next done) Spent is = tt
+radio-taking Spent u is = absurd is
+
+-- a pass of the radio takes in one of a network
+pub takes : (port : ℕ) (v : Known) (other place : ℕ) (u : Known) → IsRadio v → IsNetworkAt place u → Merges IsKept port v other u (taking_in v u) Spent
+takes port (Network at pushed) other place u is here = absurd is
+takes port (Radio left next done) other place u is here = takes_in port left (Radio left next done) other place u refl here
+takes port Spent other place u is here = absurd is
+
+-- ---- passes in order of place
+
+-- what is there of each network once these passes were taken in
+abbrev all_taken : TakenIn → List NetPassView → TakenIn
+all_taken done [] = done
+all_taken done (pass ∷ passes) = all_taken (finite.insert done pass.place pass.pushed) passes
+
+after_taking-is : (left : List AirItem) (next : ℕ) (done : TakenIn) (passes : List NetPassView) → after_taking (Radio left next done) passes ≡ Radio left next (all_taken done passes)
+after_taking-is left next done [] = refl
+after_taking-is left next done (pass ∷ passes) = after_taking-is left next (finite.insert done pass.place pass.pushed) passes
+
+abbrev Placed : ℕ → ℕ → List NetPassView → Type 0
+Placed first count passes = map (λ pass. pass.place) passes ≡ range_with_len first count
+
+record Next (first count : ℕ) (pass : NetPassView) (passes : List NetPassView) : Type 0 where
+  fewer : ℕ
+  one : count ≡ suc fewer
+  here : pass.place ≡ first
+  rest : Placed (first + 1) fewer passes
+
+next_placed : (first count : ℕ) (pass : NetPassView) (passes : List NetPassView) → Placed first count (pass ∷ passes) → Next first count pass passes
+next_placed first zero pass passes is = let h = ap length is in absurd (omega (arith, h))
+next_placed first (suc count) pass passes is = record {
+  fewer = count;
+  one = refl;
+  here = ap (λ l. get_or l 0 0) is;
+  rest = ap (drop 1) is;
+}
+
+-- those that follow leave what was taken in of the places before
+taken-before : (first count : ℕ) (passes : List NetPassView) (done : TakenIn) (place : ℕ) → Placed first count passes → place < first → finite.get (all_taken done passes) place ≡ finite.get done place
+taken-before first count [] done place is lt = refl
+taken-before first count (pass ∷ passes) done place is lt =
+    let n = next_placed first count pass passes is in
+    let here = n.here in
+    taken-before (first + 1) n.fewer passes (finite.insert done pass.place pass.pushed) place n.rest (omega (arith, lt))
+    ∙ get-other done pass.place pass.pushed place (λ e. absurd (omega (arith, e, here, lt)))
+
+taken-first : (first count : ℕ) (pass : NetPassView) (passes : List NetPassView) (done : TakenIn) → Placed first count (pass ∷ passes) → finite.get (all_taken done (pass ∷ passes)) pass.place ≡ Some pass.pushed
+taken-first first count pass passes done is =
+    let n = next_placed first count pass passes is in
+    let here = n.here in
+    taken-before (first + 1) n.fewer passes (finite.insert done pass.place pass.pushed) pass.place n.rest (omega (arith, here))
+    ∙ get-here done pass.place pass.pushed
+
+taken-each : (first count : ℕ) (passes : List NetPassView) (done : TakenIn) → Placed first count passes → AllByRecursion (λ pass. finite.get (all_taken done passes) pass.place ≡ Some pass.pushed) passes
+taken-each first count [] done is = tt
+taken-each first count (pass ∷ passes) done is =
+    let n = next_placed first count pass passes is in
+    (taken-first first count pass passes done is, taken-each (first + 1) n.fewer passes (finite.insert done pass.place pass.pushed) n.rest)
+
+taken-all : (first count : ℕ) (passes : List NetPassView) (done : TakenIn) (place : ℕ) → Placed first count passes → first ≤ place → place < first + count → IsSome (finite.get (all_taken done passes) place)
+taken-all first zero [] done place is le lt = absurd (omega (arith, le, lt))
+taken-all first (suc count) [] done place is le lt = let h = ap length is in absurd (omega (arith, h))
+taken-all first count (pass ∷ passes) done place is le lt =
+    let n = next_placed first count pass passes is in
+    let one = n.one in
+    let here = n.here in
+    elim (cases_eq place first) [
+      | inl e ↦
+          let at : finite.get (all_taken done (pass ∷ passes)) place ≡ Some pass.pushed = ap (finite.get (all_taken done (pass ∷ passes))) (e ∙ sym here) ∙ taken-first first count pass passes done is in
+          subst IsSome (sym at) refl
+      | inr ne ↦
+          taken-all (first + 1) n.fewer passes (finite.insert done pass.place pass.pushed) place n.rest (omega (arith, le, ne)) (omega (arith, lt, one))
+    ]
+
+-- ---- all passes are in
+
+taken_new : (left : List AirItem) (next : ℕ) (passes : List NetPassView) → Placed 0 next passes → AllTaken (after_taking (Radio left next finite.empty) passes)
+taken_new left next passes is =
+    subst AllTaken (sym (after_taking-is left next finite.empty passes))
+    (λ place lt. taken-all 0 next passes finite.empty place is (omega arith) (omega (arith, lt)))
+
+pub all_in : (out : List AirItem) (v : Known) (passes : List NetPassView) → IsRadioWith out v → done_of v ≡ finite.empty → Placed 0 (next_of v) passes → AllTaken (after_taking v passes)
+all_in out v passes is new placed =
+    let e : v ≡ Radio out (next_of v) finite.empty = radio_is out v is ∙ ap (Radio out (next_of v)) new in
+    subst (λ u. AllTaken (after_taking u passes)) (sym e) (taken_new out (next_of v) passes placed)
+
+pub left_in : (out : List AirItem) (v : Known) (passes : List NetPassView) → IsRadioWith out v → IsRadioWith out (after_taking v passes)
+left_in out v passes is =
+    subst (IsRadioWith out) (sym (ap (λ u. after_taking u passes) (radio_is out v is) ∙ after_taking-is out (next_of v) (done_of v) passes)) refl
+
+pub next_in : (out : List AirItem) (v : Known) (passes : List NetPassView) → IsRadioWith out v → next_of (after_taking v passes) ≡ next_of v
+next_in out v passes is = ap next_of (ap (λ u. after_taking u passes) (radio_is out v is) ∙ after_taking-is out (next_of v) (done_of v) passes)
+
+-- what left is of each network what its pass pushed
+whole : (out : List AirItem) (next : ℕ) (done : TakenIn) (passes : List NetPassView) → Accounts (Radio out next done) [] → AllByRecursion (λ pass. finite.get done pass.place ≡ Some pass.pushed) passes → AllByRecursion (λ pass. items_of pass.place out ≡ pass.pushed) passes
+whole out next done [] account each = tt
+whole out next done (pass ∷ passes) account each =
+    (ap (items_of pass.place) (sym (append-nil out)) ∙ sym (account.1 pass.place pass.pushed each.0), whole out next done passes account each.1)
+
+pub whole_in : (before out : List AirItem) (v : Known) (passes : List NetPassView) → IsRadioWith before v → done_of v ≡ finite.empty → Placed 0 (next_of v) passes → Accounts (Radio out (next_of (after_taking v passes)) (done_of (after_taking v passes))) [] → AllByRecursion (λ pass. items_of pass.place out ≡ pass.pushed) passes
+whole_in before out v passes is new placed account =
+    let e = ap (λ u. after_taking u passes) (radio_is before v is ∙ ap (Radio before (next_of v)) new) ∙ after_taking-is before (next_of v) finite.empty passes in
+    whole out (next_of v) (all_taken finite.empty passes) passes
+    (subst (λ u. Accounts (Radio out (next_of u) (done_of u)) []) e account)
+    (taken-each 0 (next_of v) passes finite.empty placed)
+
+pub placed_in : (before out : List AirItem) (v : Known) (passes : List NetPassView) → IsRadioWith before v → Accounts (Radio out (next_of (after_taking v passes)) (done_of (after_taking v passes))) [] → All (λ item. item.place < next_of v) out
+placed_in before out v passes is account =
+    subst (λ (x : ℕ × List AirItem). All (λ item. item.place < x.0) x.1) (λ i. (next_in before v passes is i, append-nil out i)) account.0
+
+-- ---- nothing remains
+
+pub accounts_as : (out : List AirItem) (next : ℕ) (done : TakenIn) (v : Known) (queued : List AirItem) → IsRadioWith out v → next_of v ≡ next → done_of v ≡ done → Accounts v queued → Accounts (Radio out next done) queued
+accounts_as out next done v queued is e f account =
+    subst (λ u. Accounts u queued) (radio_is out v is ∙ (λ i. Radio out (e i) (f i))) account
+
+no_items : (items : List AirItem) → length items ≡ 0 → items ≡ []
+no_items [] is = refl
+no_items (item ∷ items) is = absurd (omega (arith, is))
+
+some_pushed : (o : Option (List (List ℕ))) → IsSome o → (pushed : List (List ℕ)) × (o ≡ Some pushed)
+some_pushed None is = absurd (false≢true is)
+some_pushed (Some pushed) is = (pushed, refl)
+
+-- once as many left as had left and were queued, nothing is queued
+pub nothing_queued : (next : ℕ) (done : TakenIn) (before out queued now : List AirItem) → ((place : ℕ) → place < next → IsSome (finite.get done place)) → Accounts (Radio before next done) queued → Accounts (Radio out next done) now → length before + length queued ≡ length out → Accounts (Radio out next done) []
+nothing_queued next done before out queued now taken first last long =
+    let same : length (before ++ queued) ≡ length (out ++ now) =
+    same_count next (before ++ queued) (out ++ now) first.0 last.0
+    (λ place lt. let p = some_pushed (finite.get done place) (taken place lt) in sym (first.1 place p.0 p.1) ∙ last.1 place p.0 p.1) in
+    let a = length-append before queued in
+    let b = length-append out now in
+    subst (Accounts (Radio out next done)) (no_items now (omega (arith, same, a, b, long))) last
