@@ -19,3 +19,6 @@ mod taking;
 pub use pass::{NetPass, RadioPass};
 pub use queue::AirQueue;
 pub use taking::{Left, TakeInFault};
+
+#[cfg(test)]
+mod tests;
