@@ -11,11 +11,13 @@
 #![tactic(auto)]
 
 mod known;
+mod laws;
 mod pass;
 mod queue;
 mod rule;
 mod taking;
 
+pub use laws::rule_is_kept;
 pub use pass::{NetPass, RadioPass};
 pub use queue::AirQueue;
 pub use taking::{Left, TakeInFault};
