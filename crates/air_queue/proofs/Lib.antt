@@ -3,3 +3,4 @@ pub mod Entries
 pub mod RuleSteps
 pub mod Counts
 pub mod Takings
+pub mod QueueRows
