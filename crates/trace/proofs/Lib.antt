@@ -1,3 +1,4 @@
+pub mod AddressTexts
 pub mod ConfigurationNetworks
 pub mod ConfigurationReading
 pub mod ConfigurationRows

@@ -3,8 +3,9 @@ use Rattle.std.proofs.Common.{◌≡◌, ℕ, List, [], ◌∷◌, ◌++◌, Ok,
 use Rattle.std.specs.Prelude.{replicate}
 use Rattle.hex.proofs.OnLiterals.{hex_on_literals}
 use Rattle.bss_core.specs.declared.config.RadioConfig.{RadioConfig}
+use Rattle.bss_core.proofs.Samples.{network, radio}
 use Rattle.trace.specs.TraceText.{lines_of, lines_from}
-use Rattle.workers.specs.declared.line.Line.TheVariants.{Air}
+use Rattle.workers.specs.declared.line.Line.TheVariants.{Air, Wire, Tick}
 use Rattle.trace.specs.declared.read.TraceFault.{TraceFault}
 
 abbrev tab : List ℕ
@@ -85,11 +86,108 @@ pub tab_at_the_end : (config : RadioConfig) → lines_of config (codes "A 00" ++
 unfolding hex_on_literals
 tab_at_the_end config = refl
 
-pub no_wired_frames : (config : RadioConfig) → lines_of config (codes "W 02:00:00:00:00:01 00") ≡ Err (fault 1 1)
-no_wired_frames config = refl
+-- ---- frames on the wire
 
-pub no_ticks : (config : RadioConfig) → lines_of config (codes "T") ≡ Err (fault 1 1)
-no_ticks config = refl
+-- 02:00:00:00:00:01 and 02:aa:00:00:00:02
+abbrev two : RadioConfig
+two = record radio { networks = network ∷ record network { bssid = 2 ∷ 0xaa ∷ 0 ∷ 0 ∷ 0 ∷ 2 ∷ [] } ∷ [] }
+
+pub wired_frame_is_read :
+    lines_of two (codes "W 02:00:00:00:00:01 02aa00000001 02bb00000001 0800 01" ++ lf)
+    ≡ Ok (Wire 0 (2 ∷ 170 ∷ 0 ∷ 0 ∷ 0 ∷ 1 ∷ 2 ∷ 187 ∷ 0 ∷ 0 ∷ 0 ∷ 1 ∷ 8 ∷ 0 ∷ 1 ∷ []) ∷ [])
+unfolding hex_on_literals
+wired_frame_is_read = refl
+
+pub each_network_by_its_place : lines_of two (codes "W 02:aa:00:00:00:02 00" ++ lf ++ codes "W 02:00:00:00:00:01 00") ≡ Ok (Wire 1 (0 ∷ []) ∷ Wire 0 (0 ∷ []) ∷ [])
+unfolding hex_on_literals
+each_network_by_its_place = refl
+
+pub address_in_either_case : lines_of two (codes "W 02:aA:00:00:00:02 aB") ≡ Ok (Wire 1 (171 ∷ []) ∷ [])
+unfolding hex_on_literals
+address_in_either_case = refl
+
+pub any_run_of_spaces_parts_words : lines_of two (codes "W   02:00:00:00:00:01   0 80 0  " ++ cr ++ lf) ≡ Ok (Wire 0 (8 ∷ 0 ∷ []) ∷ [])
+unfolding hex_on_literals
+any_run_of_spaces_parts_words = refl
+
+pub wired_frame_of_no_octets : lines_of two (codes "W 02:00:00:00:00:01") ≡ Ok (Wire 0 [] ∷ [])
+unfolding hex_on_literals
+wired_frame_of_no_octets = refl
+
+pub no_address : (config : RadioConfig) → lines_of config (codes "W") ≡ Err (fault 3 1)
+no_address config = refl
+
+pub spaces_for_an_address : (config : RadioConfig) → lines_of config (codes "W   " ++ cr ++ lf) ≡ Err (fault 3 1)
+spaces_for_an_address config = refl
+
+pub five_pairs_are_no_address : (config : RadioConfig) → lines_of config (codes "W 02:00:00:00:00 00") ≡ Err (fault 3 1)
+five_pairs_are_no_address config = refl
+
+pub address_of_no_network : lines_of two (codes "W 02:00:00:00:00:09 00") ≡ Err (fault 4 1)
+address_of_no_network = refl
+
+pub broadcast_is_no_network : lines_of two (codes "W ff:ff:ff:ff:ff:ff 00") ≡ Err (fault 4 1)
+broadcast_is_no_network = refl
+
+pub no_space_after_the_address : (config : RadioConfig) → lines_of config (codes "W 02:00:00:00:00:0100") ≡ Err (fault 3 1)
+no_space_after_the_address config = refl
+
+pub tab_after_the_address : (config : RadioConfig) → lines_of config (codes "W 02:00:00:00:00:01" ++ tab ++ codes "00") ≡ Err (fault 3 1)
+tab_after_the_address config = refl
+
+pub tab_before_the_address : (config : RadioConfig) → lines_of config (codes "W" ++ tab ++ codes "02:00:00:00:00:01 00") ≡ Err (fault 1 1)
+tab_before_the_address config = refl
+
+pub carriage_return_after_the_address : (config : RadioConfig) → lines_of config (codes "W 02:00:00:00:00:01" ++ cr) ≡ Err (fault 3 1)
+carriage_return_after_the_address config = refl
+
+pub lower_case_word_of_a_wired_frame : (config : RadioConfig) → lines_of config (codes "w 02:00:00:00:00:01 00") ≡ Err (fault 1 1)
+lower_case_word_of_a_wired_frame config = refl
+
+pub odd_digits_of_a_wired_frame : lines_of two (codes "W 02:00:00:00:00:01 4") ≡ Err (fault 2 1)
+unfolding hex_on_literals
+odd_digits_of_a_wired_frame = refl
+
+pub too_many_octets_of_a_wired_frame : lines_of two (codes "W 02:00:00:00:00:01 " ++ replicate 8194 48) ≡ Err (fault 5 1)
+unfolding hex_on_literals
+too_many_octets_of_a_wired_frame = refl
+
+-- what is wrong with the address comes before what is wrong with the octets
+pub no_address_with_odd_digits : (config : RadioConfig) → lines_of config (codes "W 02:00:00:00:00 4") ≡ Err (fault 3 1)
+no_address_with_odd_digits config = refl
+
+pub no_network_with_odd_digits : lines_of two (codes "W 02:00:00:00:00:09 4") ≡ Err (fault 4 1)
+no_network_with_odd_digits = refl
+
+pub no_network_with_too_many_octets : lines_of two (codes "W 02:00:00:00:00:09 " ++ replicate 8194 48) ≡ Err (fault 4 1)
+no_network_with_too_many_octets = refl
+
+-- ---- ticks
+
+pub tick_is_read : (config : RadioConfig) → lines_of config (codes "T") ≡ Ok (Tick ∷ [])
+tick_is_read config = refl
+
+pub tick_with_spaces_before_a_carriage_return : (config : RadioConfig) → lines_of config (codes "T  " ++ cr ++ lf) ≡ Ok (Tick ∷ [])
+tick_with_spaces_before_a_carriage_return config = refl
+
+pub something_after_a_tick : (config : RadioConfig) → lines_of config (codes "T 00") ≡ Err (fault 1 1)
+something_after_a_tick config = refl
+
+pub tick_with_spaces_after_a_carriage_return : (config : RadioConfig) → lines_of config (codes "T" ++ cr ++ codes "  " ++ lf) ≡ Err (fault 1 1)
+tick_with_spaces_after_a_carriage_return config = refl
+
+pub tick_with_two_carriage_returns : (config : RadioConfig) → lines_of config (codes "T" ++ cr ++ cr ++ lf) ≡ Err (fault 1 1)
+tick_with_two_carriage_returns config = refl
+
+pub tick_with_a_carriage_return_at_the_very_end : (config : RadioConfig) → lines_of config (codes "T" ++ cr) ≡ Err (fault 1 1)
+tick_with_a_carriage_return_at_the_very_end config = refl
+
+pub lower_case_word_of_a_tick : (config : RadioConfig) → lines_of config (codes "t") ≡ Err (fault 1 1)
+lower_case_word_of_a_tick config = refl
+
+pub lines_of_each_kind : lines_of two (codes "T" ++ lf ++ codes "A 01" ++ lf ++ codes "W 02:aa:00:00:00:02 02" ++ lf ++ codes "T" ++ lf) ≡ Ok (Tick ∷ Air (1 ∷ []) ∷ Wire 1 (2 ∷ []) ∷ Tick ∷ [])
+unfolding hex_on_literals
+lines_of_each_kind = refl
 
 -- ---- lines
 
@@ -146,19 +244,19 @@ spaces_at_the_very_end config = refl
 
 -- ---- the number of lines
 
-pub most_lines_are_read : lines_from 1000000 (codes "A" ∷ []) ≡ Ok (Air [] ∷ [])
+pub most_lines_are_read : (config : RadioConfig) → lines_from config 1000000 (codes "A" ∷ []) ≡ Ok (Air [] ∷ [])
 unfolding hex_on_literals
-most_lines_are_read = refl
+most_lines_are_read config = refl
 
-pub one_line_too_many : lines_from 1000000 (codes "A" ∷ codes "X" ∷ []) ≡ Err (fault 5 1000001)
+pub one_line_too_many : (config : RadioConfig) → lines_from config 1000000 (codes "A" ∷ codes "X" ∷ []) ≡ Err (fault 5 1000001)
 unfolding hex_on_literals
-one_line_too_many = refl
+one_line_too_many config = refl
 
-pub skipped_line_too_many : lines_from 1000000 (codes "#" ∷ codes "#" ∷ []) ≡ Err (fault 5 1000001)
-skipped_line_too_many = refl
+pub skipped_line_too_many : (config : RadioConfig) → lines_from config 1000000 (codes "#" ∷ codes "#" ∷ []) ≡ Err (fault 5 1000001)
+skipped_line_too_many config = refl
 
-pub fault_before_the_limit : lines_from 1000000 (codes "X" ∷ codes "X" ∷ []) ≡ Err (fault 1 1000000)
-fault_before_the_limit = refl
+pub fault_before_the_limit : (config : RadioConfig) → lines_from config 1000000 (codes "X" ∷ codes "X" ∷ []) ≡ Err (fault 1 1000000)
+fault_before_the_limit config = refl
 
 pub spaces_alone_after_the_word : (config : RadioConfig) → lines_of config (codes "A   " ++ lf) ≡ Ok (Air [] ∷ [])
 unfolding hex_on_literals

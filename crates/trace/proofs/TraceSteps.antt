@@ -1,11 +1,14 @@
 -- What the steps of reading a trace text rest on.
-use Rattle.std.proofs.Common.{◌≡◌, ℕ, ◌+◌, ◌<◌, Bool, true, false, cond, List, [], ◌∷◌, ◌++◌, length, take, drop, Some, None, Result, Ok, Err, refl, ap, ◌∙◌, arith}
+use Rattle.std.proofs.Common.{◌≡◌, ℕ, ◌+◌, ◌<◌, Bool, true, false, cond, List, [], ◌∷◌, ◌++◌, length, take, drop, Option, Some, None, Result, Ok, Err, refl, ap, sym, ◌∙◌, get_or, append_assoc, one-add, arith}
 use Rattle.std.specs.List.{position, slice_split, onto_first, list_any}
 use Rattle.std.specs.Str.Lines.{lines, lines_of_parts, strip_carriage_return}
-use Rattle.std.proofs.lemmas.Bool.{or_parts, ne_eqb}
+use Rattle.std.proofs.lemmas.Bool.{or_parts, eq-eqb, ne_eqb}
 use Rattle.std.proofs.lemmas.List.Quantifiers.{position-Some}
 use Rattle.trace.specs.Texts.{is_line_feed, cut}
-use Rattle.trace.specs.TraceText.{is_space, digits_of}
+use Rattle.std.specs.Option.{option_to_list}
+use Rattle.bss_core.specs.declared.config.RadioConfig.{RadioConfig}
+use Rattle.trace.specs.Faults.{◌>>=◌}
+use Rattle.trace.specs.TraceText.{is_space, digits_of, without_spaces_at_start, line_of, lines_from}
 use Rattle.workers.specs.declared.line.Line.{Line}
 use Rattle.trace.specs.declared.read.TraceFault.{TraceFault}
 use Rattle.trace.proofs.TextLemmas.{around_line_feed, prefix_lacks, lacks_from_none, cut-ended, cut-last}
@@ -52,6 +55,20 @@ last_part text h = rw (ne_eqb (length text) 0 (omega arith)) refl
 pub lines_last : (text : List ℕ) → position is_line_feed text ≡ None → 0 < length text → lines text ≡ text ∷ []
 lines_last text e some = ap lines_of_parts (cut-last text (lacks_from_none text e)) ∙ last_part text some
 
+-- ---- spaces at the start
+
+-- a space is dropped
+pub space_first : (text : List ℕ) → 0 < length text → get_or text 0 0 ≡ 32 → without_spaces_at_start text ≡ without_spaces_at_start (drop 1 text)
+space_first [] some e = absurd (omega arith)
+space_first (x ∷ xs) some e = rw (eq-eqb x 32 e, one-add) refl
+
+-- another character stays
+pub other_first : (text : List ℕ) → (get_or text 0 0 ≡ 32 → ⊥) → without_spaces_at_start text ≡ text
+other_first [] ne = refl
+other_first (x ∷ xs) ne = rw (ne_eqb x 32 ne) refl
+
+pub ruleset starts = (space_first, other_first)
+
 -- ---- digits with spaces among them
 
 -- digits without spaces
@@ -67,3 +84,16 @@ digits_of_none (x ∷ xs) h =
 abbrev pub said_after : List Line → Result (List Line) TraceFault → Result (List Line) TraceFault
 said_after before (Ok later) = Ok (before ++ later)
 said_after before (Err fault) = Err fault
+
+-- a line that says something stands before what the later lines say
+pub said-more : (config : RadioConfig) (number : ℕ) (line : List ℕ) (rest : List (List ℕ)) (before : List Line) (said : Line) → line_of config number line ≡ Ok (Some said)
+    → said_after before (lines_from config number (line ∷ rest)) ≡ said_after (before ++ said ∷ []) (lines_from config (number + 1) rest)
+said-more config number line rest before said e =
+    ap (λ (spoken : Result (Option Line) TraceFault). said_after before (spoken >>= λ o. later >>= λ ls. Ok (option_to_list o ++ ls))) e ∙ onto later
+  where
+    later : Result (List Line) TraceFault
+    later = lines_from config (number + 1) rest
+
+    onto : (r : Result (List Line) TraceFault) → said_after before (r >>= λ ls. Ok (said ∷ ls)) ≡ said_after (before ++ said ∷ []) r
+    onto (Ok ls) = ap (λ (all : List Line). Ok all) (sym (append_assoc before (said ∷ []) ls))
+    onto (Err fault) = refl

@@ -1,15 +1,17 @@
 -- What a trace text says (profile): its lines, or the first fault with the number of its line.
-use Rattle.std.specs.Prelude.{ℕ, ◌+◌, ◌-◌, Bool, true, not, nat_lt, ◌==◌, List, [], ◌∷◌, ◌++◌, length, take, filter, codes, Option, Some, None, Result, Ok, Err, if◌then◌else◌}
-use Rattle.std.specs.List.{suffix_len, before_first, after_first}
-use Rattle.std.specs.Option.{option_to_list}
+use Rattle.std.specs.Prelude.{ℕ, ◌+◌, ◌-◌, Bool, true, not, nat_lt, ◌==◌, List, [], ◌∷◌, ◌++◌, length, take, drop, filter, position, codes, Option, Some, None, Result, Ok, Err, if◌then◌else◌}
+use Rattle.std.specs.List.{prefix_len, suffix_len, before_first, after_first}
+use Rattle.std.specs.Option.{ok_or, option_to_list}
 use Rattle.std.specs.Str.{bytes_eq}
 use Rattle.std.specs.Str.Lines.{lines}
 use Rattle.hex.specs.Hex.{decode_of}
 use Rattle.hex.specs.declared.error.FromHexError.{FromHexError}
 use Rattle.hex.specs.declared.error.FromHexError.TheVariants.{OutOfMemory}
+use Rattle.mac_frame.specs.Address.{address_of}
+use Rattle.bss_core.specs.declared.config.NetConfig.{NetConfig}
 use Rattle.bss_core.specs.declared.config.RadioConfig.{RadioConfig}
 use Rattle.workers.specs.declared.line.Line.{Line}
-use Rattle.workers.specs.declared.line.Line.TheVariants.{Air}
+use Rattle.workers.specs.declared.line.Line.TheVariants.{Air, Wire, Tick}
 use Rattle.trace.specs.Faults.{◌>>=◌}
 use Rattle.trace.specs.declared.read.TraceFault.{TraceFault}
 use Rattle.trace.specs.declared.read.TraceTextFault.{TraceTextFault}
@@ -27,13 +29,21 @@ max_octets = 4096
 
 -- ---- the faults by their codes, as a user meets them
 
--- L1: the first word is no kind of line
+-- L1: the first word is no kind of line, or something follows `T`
 abbrev pub unknown_kind : ℕ
 unknown_kind = 1
 
 -- L2: a string is not pairs of hexadecimal digits
 abbrev pub not_hexadecimal : ℕ
 not_hexadecimal = 2
+
+-- L3: no address stands where one of a network should
+abbrev pub no_address : ℕ
+no_address = 3
+
+-- L4: no network has the address
+abbrev pub unknown_network : ℕ
+unknown_network = 4
 
 -- L5: too many octets, or too many lines
 abbrev pub too_many : ℕ
@@ -47,6 +57,10 @@ is_space character = character == 32
 -- a line less the spaces at its end
 abbrev pub without_spaces_at_end : List ℕ → List ℕ
 without_spaces_at_end line = take (length line - suffix_len is_space line) line
+
+-- a text less the spaces at its start
+abbrev pub without_spaces_at_start : List ℕ → List ℕ
+without_spaces_at_start text = drop (prefix_len is_space text) text
 
 -- Only spaces part words.
 abbrev pub first_word : List ℕ → List ℕ
@@ -73,18 +87,55 @@ within_limit (Err e) = Err not_hexadecimal
 abbrev pub octets_of : List ℕ → Result (List ℕ) ℕ
 octets_of text = within_limit (decode_of (digits_of text))
 
+-- the network has the address
+abbrev pub has_address : List ℕ → NetConfig → Bool
+has_address bssid network = bytes_eq network.bssid bssid
+
+-- the place of the network that has the address; no two have the same in a configuration without a fault
+abbrev pub place_with : List ℕ → List NetConfig → Option ℕ
+place_with bssid networks = position (has_address bssid) networks
+
+-- the place of the network whose address a word spells
+abbrev pub place_named : RadioConfig → List ℕ → Result ℕ ℕ
+place_named config word = do
+  bssid ← ok_or (address_of word) no_address
+  ok_or (place_with bssid config.networks) unknown_network
+
+-- ---- what a line says after its first word
+
+-- `A`: a string that was heard
+abbrev pub air_line : List ℕ → Result Line ℕ
+air_line text = do
+  octets ← octets_of text
+  Ok (Air octets)
+
+-- `W`: the address of a network, and a frame that came over the wire to it
+abbrev pub wired_line : RadioConfig → List ℕ → Result Line ℕ
+wired_line config text = do
+  place ← place_named config (first_word text)
+  octets ← octets_of (after_first_word text)
+  Ok (Wire place octets)
+
+-- `T`: nothing
+abbrev pub tick_line : List ℕ → Result Line ℕ
+tick_line [] = Ok Tick
+tick_line (character ∷ characters) = Err unknown_kind
+
 -- ---- what a line says
 
-abbrev pub air_line : Result (List ℕ) ℕ → Result (Option Line) ℕ
-air_line (Ok octets) = Ok (Some (Air octets))
-air_line (Err code) = Err code
+-- the line of a first word and the text after it
+abbrev pub line_with : RadioConfig → List ℕ → List ℕ → Result Line ℕ
+line_with config word text =
+    if bytes_eq word (codes "A") then air_line text
+    else if bytes_eq word (codes "W") then wired_line config (without_spaces_at_start text)
+    else if bytes_eq word (codes "T") then tick_line text
+    else Err unknown_kind
 
 -- what a line less the spaces at its end says, nothing where it is skipped; or its first fault
-abbrev pub content_of : List ℕ → Result (Option Line) ℕ
-content_of line =
+abbrev pub content_of : RadioConfig → List ℕ → Result (Option Line) ℕ
+content_of config line =
     if is_skipped line then Ok None
-    else if not (bytes_eq (first_word line) (codes "A")) then Err unknown_kind
-    else air_line (octets_of (after_first_word line))
+    else (line_with config (first_word line) (after_first_word line) >>= λ said. Ok (Some said))
 
 -- ---- what a text says
 
@@ -94,22 +145,22 @@ at_line number (Ok said) = Ok said
 at_line number (Err code) = Err (record { code = code; line = number })
 
 -- what the line with a number says, or its first fault
-abbrev pub line_of : ℕ → List ℕ → Result (Option Line) TraceFault
-line_of number line =
-    at_line number (if nat_lt max_lines number then Err too_many else content_of (without_spaces_at_end line))
+abbrev pub line_of : RadioConfig → ℕ → List ℕ → Result (Option Line) TraceFault
+line_of config number line =
+    at_line number (if nat_lt max_lines number then Err too_many else content_of config (without_spaces_at_end line))
 
 -- what lines say, the first of which has this number; or the first fault
-abbrev pub lines_from : ℕ → List (List ℕ) → Result (List Line) TraceFault
-lines_from number [] = Ok []
-lines_from number (line ∷ rest) = do
-  said ← line_of number line
-  later ← lines_from (number + 1) rest
+abbrev pub lines_from : RadioConfig → ℕ → List (List ℕ) → Result (List Line) TraceFault
+lines_from config number [] = Ok []
+lines_from config number (line ∷ rest) = do
+  said ← line_of config number line
+  later ← lines_from config (number + 1) rest
   Ok (option_to_list said ++ later)
 
 -- What a trace text says to the networks of a configuration. Its lines are the parts that end with LF, less a CR
 -- directly before it, and what follows the last LF, if anything does.
 abbrev pub lines_of : RadioConfig → List ℕ → Result (List Line) TraceFault
-lines_of config text = lines_from 1 (lines text)
+lines_of config text = lines_from config 1 (lines text)
 
 -- ---- what a reader answers
 

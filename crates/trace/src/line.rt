@@ -2,25 +2,34 @@
 
 ghost use Rattle.std.specs.Prelude.{◌≡◌, IfOk};
 ghost use Rattle.trace.specs.Faults.{Gives};
-ghost use Rattle.trace.specs.TraceText.{is_skipped, without_spaces_at_end, first_word, after_first_word, digits_of, octets_of, within_limit, content_of, line_fault, text_fault, hexadecimal_fault};
+ghost use Rattle.mac_frame.specs.Address.{address_of};
+ghost use Rattle.trace.specs.TraceText.{is_skipped, without_spaces_at_end, without_spaces_at_start, first_word, after_first_word, digits_of, octets_of, within_limit, place_with, place_named, wired_line, line_with, content_of, line_fault, text_fault, hexadecimal_fault};
 ghost use Rattle.trace.specs.declared.line.LineFault.TheVariants as line_faults;
 ghost use Rattle.hex.specs.Hex.{decode_of};
 
 use crate::read::{TraceFault, TraceTextFault};
 use crate::text::place_of;
+use bss_core::{NetConfig, RadioConfig};
 use hex::FromHexError;
-use mac_frame::Octets;
+use mac_frame::{MacAddr, Octets};
 use std::alloc::{AllocError, Global};
+use std::str;
 use workers::Line;
 
 /// The most octets of a string.
 const MAX_OCTETS: usize = 4096;
 
-/// `L1`: the first word of a line is no kind of line.
+/// `L1`: the first word of a line is no kind of line, or something follows `T`.
 const UNKNOWN_KIND: u8 = 1;
 
 /// `L2`: a string is not pairs of hexadecimal digits.
 const NOT_HEXADECIMAL: u8 = 2;
+
+/// `L3`: no address stands where one of a network should.
+const NO_ADDRESS: u8 = 3;
+
+/// `L4`: no network has the address.
+const UNKNOWN_NETWORK: u8 = 4;
 
 /// `L5`: a string has too many octets, or a text too many lines.
 pub const TOO_MANY: u8 = 5;
@@ -77,17 +86,83 @@ pub fn without_spaces_at_end(line: &[u8]) -> &[u8]
 }
 
 /// What a line less the spaces at its end says: nothing where it is skipped.
-pub fn read_content(alloc: Global, line: &[u8]) -> Result<Option<Line>, LineFault>
-    ensures { Gives (λ said. said) line_fault result (content_of line.now) }
+pub fn read_content(
+    alloc: Global,
+    config: &RadioConfig,
+    line: &[u8],
+) -> Result<Option<Line>, LineFault>
+    ensures { Gives (λ said. said) line_fault result (content_of config.now line.now) }
 {
     if is_skipped(line) {
         return Ok(None);
     }
-    let (kind, octets) = split_word(line);
-    match kind {
-        b"A" => Ok(Some(Line::Air(read_octets(alloc, octets)?))),
+    let (word, text) = split_word(line);
+    Ok(Some(line_with(alloc, config, word, text)?))
+}
+
+/// The line of a first word and the text after it.
+fn line_with(
+    alloc: Global,
+    config: &RadioConfig,
+    word: &[u8],
+    text: &[u8],
+) -> Result<Line, LineFault>
+    ensures { Gives (λ line. line) line_fault result (line_with config.now word.now text.now) }
+{
+    match word {
+        b"A" => Ok(Line::Air(read_octets(alloc, text)?)),
+        b"W" => wired_line(alloc, config, without_spaces_at_start(text)),
+        b"T" if text.is_empty() => Ok(Line::Tick),
         _ => Err(LineFault::Code(UNKNOWN_KIND)),
     }
+}
+
+/// The line of an address and a frame that came over the wire to its network.
+fn wired_line(alloc: Global, config: &RadioConfig, text: &[u8]) -> Result<Line, LineFault>
+    ensures { Gives (λ line. line) line_fault result (wired_line config.now text.now) }
+{
+    let (address, frame) = split_word(text);
+    let place = place_named(config, address)?;
+    let octets = read_octets(alloc, frame)?;
+    Ok(Line::Wire { place, octets })
+}
+
+/// The place of the network whose address a word spells.
+fn place_named(config: &RadioConfig, word: &[u8]) -> Result<usize, LineFault>
+    ensures { Gives (λ place. place) line_fault result (place_named config.now word.now) }
+{
+    let bssid = address_of(word).ok_or(LineFault::Code(NO_ADDRESS))?;
+    place_with(bssid, config.networks.as_slice()).ok_or(LineFault::Code(UNKNOWN_NETWORK))
+}
+
+/// The address that a word spells.
+#[tactic(auto, using(crate::proofs::AddressTexts::no_address))]
+fn address_of(word: &[u8]) -> Option<MacAddr>
+    ensures { result ≡ address_of word.now }
+{
+    match str::from_utf8(word) {
+        Ok(text) => MacAddr::parse_text(text),
+        Err(_) => None,
+    }
+}
+
+/// The place of the first network that has an address.
+fn place_with(bssid: MacAddr, networks: &[NetConfig]) -> Option<usize>
+    ensures { result ≡ place_with bssid networks.now }
+{
+    networks.iter().position(|network| network.bssid == bssid)
+}
+
+/// A text less the spaces at its start.
+#[tactic(auto, using(crate::proofs::TraceSteps::starts))]
+fn without_spaces_at_start(text: &[u8]) -> &[u8]
+    ensures { result.now ≡ without_spaces_at_start text.now }
+{
+    let mut rest = text;
+    while let [b' ', others @ ..] = rest {
+        rest = others;
+    }
+    rest
 }
 
 /// Whether a line is empty or begins with `#`.

@@ -21,7 +21,7 @@ const MAX_LINES: u32 = 1_000_000;
 /// The first fault of a trace text.
 #[derive(Clone, Copy, Debug, PartialEq, Eq)]
 pub struct TraceFault {
-    /// Which fault: 1, 2 or 5, for `L1`, `L2` or `L5`.
+    /// Which fault: 1 to 5, for `L1` to `L5`.
     pub code: u8,
     /// The number of its line, counted from 1.
     pub line: u32,
@@ -54,13 +54,15 @@ impl<T: Drop> From<AllocFailed<T>> for TraceTextFault {
 
 /// Reads a trace text: lines that end with LF, of which the last may lack it. A CR directly before the LF and
 /// then the spaces at the end of a line are dropped; a line that is then empty, or that begins with `#`, is
-/// skipped. Only spaces part words. The word `A` stands before a string that was heard on the air: hexadecimal
-/// digits of either case, or none, with spaces among them.
+/// skipped. Only spaces part words. The word `A` stands before a string that was heard on the air; `W` before the
+/// address of a network of `config` and a frame that came over the wire to it; `T` alone is the beginning of a
+/// beacon interval. Strings and frames are hexadecimal digits of either case, or none, with spaces among them.
 ///
-/// A text with a fault gives the first: a first word that isn't `A`, also an empty one (`L1`); an odd number of
-/// digits, or another character (`L2`); more than 4096 octets, or a line after the 1,000,000th (`L5`). Where one
-/// line has several, the line too many comes first, and then `L1`, `L2`, `L5`. Skipped lines count. `config` names
-/// the networks that a line may name; today no line names one.
+/// A text with a fault gives the first: a first word that is none of these, also an empty one, or something after
+/// `T` (`L1`); a second word of `W` that is missing or no address (`L3`), or an address that no network has (`L4`);
+/// an odd number of digits, or another character (`L2`); more than 4096 octets, or a line after the 1,000,000th
+/// (`L5`). Where one line has several, the line too many comes first, and then `L1`, `L3`, `L4`, `L2`, `L5`. Skipped
+/// lines count.
 pub fn read_trace(
     alloc: Global,
     config: &RadioConfig,
@@ -74,7 +76,7 @@ pub fn read_trace(
     while !rest.is_empty() {
         number += 1;
         let (content, later) = next_line(rest);
-        if let Some(line) = read_line(alloc, number, content)? {
+        if let Some(line) = read_line(alloc, config, number, content)? {
             lines.push(line)?;
         }
         rest = later;
@@ -105,12 +107,17 @@ fn without_carriage_return(line: &[u8]) -> &[u8]
 }
 
 /// What the line of a number says.
-fn read_line(alloc: Global, number: u32, line: &[u8]) -> Result<Option<Line>, TraceTextFault>
-    ensures exact { Gives (λ said. said) trace_fault result (line_of number line.now) }
+fn read_line(
+    alloc: Global,
+    config: &RadioConfig,
+    number: u32,
+    line: &[u8],
+) -> Result<Option<Line>, TraceTextFault>
+    ensures exact { Gives (λ said. said) trace_fault result (line_of config.now number line.now) }
     ensures within { OnOk result (number ≤ MAX_LINES) }
 {
     if number > MAX_LINES {
         return Err(LineFault::Code(TOO_MANY).at(number));
     }
-    read_content(alloc, without_spaces_at_end(line)).map_err(|fault| fault.at(number))
+    read_content(alloc, config, without_spaces_at_end(line)).map_err(|fault| fault.at(number))
 }

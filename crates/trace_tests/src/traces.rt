@@ -1,19 +1,50 @@
-use bss_core::RadioConfig;
-use mac_frame::List;
+use bss_core::{NetConfig, RadioConfig};
+use mac_frame::{List, MacAddr, Octets};
 use std::alloc::{AllocError, Global};
 use std::test::Fail;
 use trace::{TraceFault, TraceTextFault, read_trace};
 use workers::Line;
 
-/// What the networks of a configuration read in a text.
-fn read(alloc: Global, text: &[u8]) -> Result<Vec<Line>, TraceTextFault> {
-    let config = RadioConfig {
+/// A network whose address ends with this octet.
+fn network(alloc: Global, last: u8) -> NetConfig {
+    NetConfig {
+        bssid: MacAddr::new([2, 0xaa, 0, 0, 0, last]),
+        ssid: Octets::new(alloc),
+        rates: Octets::new(alloc),
+        dtim: 1,
+        max_stations: 8,
+        max_known: 16,
+        quota: 8,
+        max_events: 100,
+    }
+}
+
+/// A configuration of the networks 02:aa:00:00:00:01 and 02:aa:00:00:00:02.
+fn config(alloc: Global) -> Result<RadioConfig, AllocError> {
+    let networks = vec![in alloc; network(alloc, 1), network(alloc, 2)]?;
+    Ok(RadioConfig {
         channel: 6,
         interval: 100,
         queue: 64,
-        networks: List::from_vec(Vec::new(alloc)),
-    };
-    read_trace(alloc, &config, text)
+        networks: List::from_vec(networks),
+    })
+}
+
+/// What the two networks read in a text.
+fn read(alloc: Global, text: &[u8]) -> Result<Vec<Line>, TraceTextFault> {
+    match config(alloc) {
+        Ok(config) => read_trace(alloc, &config, text),
+        Err(_) => Err(TraceTextFault::NoMemory),
+    }
+}
+
+/// The octets of a line, with the place of the network where it names one; `None` for a tick.
+fn octets_of(line: &Line) -> Option<(Option<usize>, &[u8])> {
+    match line {
+        Line::Air(octets) => Some((None, octets.as_slice())),
+        Line::Wire { place, octets } => Some((Some(*place), octets.as_slice())),
+        Line::Tick => None,
+    }
 }
 
 /// A text of so many copies of a part.
@@ -30,11 +61,12 @@ fn strings_are_read(rt: HostRuntime) -> Result<(), Fail> {
     let probe = b"A 40000000 ffffffffffff 02aa00000001 ffffffffffff 0000 0000 010402040b16\n";
     let lines = read(rt.alloc(), probe)?;
     assert_eq!(rt; lines.len(), 1);
-    let Line::Air(octets) = &lines[0];
-    assert_eq!(rt; octets.as_slice().len(), 32);
     assert_eq!(rt;
-        &octets.as_slice()[..12],
-        b"\x40\0\0\0\xff\xff\xff\xff\xff\xff\x02\xaa".as_slice()
+        octets_of(&lines[0]),
+        Some((
+            None,
+            b"\x40\0\0\0\xff\xff\xff\xff\xff\xff\x02\xaa\0\0\0\x01\xff\xff\xff\xff\xff\xff\0\0\0\0\x01\x04\x02\x04\x0b\x16".as_slice()
+        ))
     );
 
     let lines = read(
@@ -44,8 +76,7 @@ fn strings_are_read(rt: HostRuntime) -> Result<(), Fail> {
     let strings: [&[u8]; 3] = [&[0xaa, 0xbb], &[0x12, 0x34], &[]];
     assert_eq!(rt; lines.len(), strings.len());
     for (line, string) in lines.as_slice().iter().zip(strings) {
-        let Line::Air(octets) = line;
-        assert_eq!(rt; octets.as_slice(), string);
+        assert_eq!(rt; octets_of(line), Some((None, string)));
     }
 
     assert_eq!(rt; read(rt.alloc(), b"")?.len(), 0);
@@ -53,21 +84,61 @@ fn strings_are_read(rt: HostRuntime) -> Result<(), Fail> {
 }
 
 #[test]
+fn wired_frames_and_ticks_are_read(rt: HostRuntime) -> Result<(), Fail> {
+    let lines = read(
+        rt.alloc(),
+        b"T\nW 02:aa:00:00:00:01 02aa0000 0001\nW   02:AA:00:00:00:02   0 8 00  \r\nT  \r\nA 01\nW 02:aa:00:00:00:02",
+    )?;
+    let expected: [Option<(Option<usize>, &[u8])>; 6] = [
+        None,
+        Some((Some(0), &[2, 0xaa, 0, 0, 0, 1])),
+        Some((Some(1), &[8, 0])),
+        None,
+        Some((None, &[1])),
+        Some((Some(1), &[])),
+    ];
+    assert_eq!(rt; lines.len(), expected.len());
+    for (line, octets) in lines.as_slice().iter().zip(expected) {
+        assert_eq!(rt; octets_of(line), octets);
+    }
+    Ok(())
+}
+
+#[test]
 fn the_first_fault_is_answered(rt: HostRuntime) {
-    let texts: [(&[u8], u8, u32); 13] = [
+    let texts: [(&[u8], u8, u32); 32] = [
         (b"X", 1, 1),
         (b"A00", 1, 1),
+        (b"a 00", 1, 1),
         (b" A 00", 1, 1),
         (b"A\t00", 1, 1),
-        (b"T", 1, 1),
-        (b"W 02:00:00:00:00:01 00", 1, 1),
         (b"A 4", 2, 1),
         (b"A 0g", 2, 1),
+        (b"A 00\t", 2, 1),
         (b"A 00\r\r\n", 2, 1),
         (b"A 00\r", 2, 1),
         (b"A 00\r \n", 2, 1),
         (b"#\n\nA 00\nA 4\nX\n", 2, 4),
         (b"A\n\r\n  \nX", 1, 4),
+        (b"t", 1, 1),
+        (b" T", 1, 1),
+        (b"TT", 1, 1),
+        (b"T 00", 1, 1),
+        (b"T\r  \n", 1, 1),
+        (b"T\r\r\n", 1, 1),
+        (b"T\r", 1, 1),
+        (b"w 02:aa:00:00:00:01 00", 1, 1),
+        (b"W\t02:aa:00:00:00:01 00", 1, 1),
+        (b"W", 3, 1),
+        (b"W  \r\n", 3, 1),
+        (b"W 02:aa:00:00:00 00", 3, 1),
+        (b"W 02:aa:00:00:00 4", 3, 1),
+        (b"W 02:aa:00:00:00:0100", 3, 1),
+        (b"W \xff2:aa:00:00:00:01 00", 3, 1),
+        (b"W 02:aa:00:00:00:09 00", 4, 1),
+        (b"T\nW ff:ff:ff:ff:ff:ff 4", 4, 2),
+        (b"W 02:aa:00:00:00:01 4", 2, 1),
+        (b"W 02:aa:00:00:00:02 00\tT", 2, 1),
     ];
     for (text, code, line) in texts {
         let fault = TraceTextFault::At(TraceFault { code, line });
@@ -85,6 +156,9 @@ fn too_many_octets_are_a_fault(rt: HostRuntime) -> Result<(), Fail> {
     assert_eq!(rt; read(rt.alloc(), text.as_slice()).err(), fault(5));
     text.extend_from_slice(b"0")?;
     assert_eq!(rt; read(rt.alloc(), text.as_slice()).err(), fault(2));
+    let mut text = repeated(rt.alloc(), b"W 02:aa:00:00:00:01 ", 1)?;
+    text.extend_from_slice(repeated(rt.alloc(), b"0", 8194)?.as_slice())?;
+    assert_eq!(rt; read(rt.alloc(), text.as_slice()).err(), fault(5));
     Ok(())
 }
 

@@ -1,5 +1,5 @@
 -- Which lines a network hears, and which of them it takes. A network is named by its place in the configuration.
-use Rattle.std.specs.Prelude.{ℕ, nat_lt, List, [], ◌∷◌, length, take, flat_map, if◌then◌else◌}
+use Rattle.std.specs.Prelude.{ℕ, ◌==◌, nat_lt, List, [], ◌∷◌, length, take, flat_map, if◌then◌else◌}
 use Rattle.mac_frame.specs.Hearing.{is_heard}
 use Rattle.bss_core.specs.declared.config.NetConfig.{NetConfig}
 use Rattle.bss_core.specs.declared.event.Event.{Event}
@@ -7,9 +7,12 @@ use Rattle.bss_core.specs.declared.event.Event.TheVariants as event
 use Rattle.workers.specs.declared.line.Line.{Line}
 use Rattle.workers.specs.declared.line.Line.TheVariants as line
 
--- the event of a line, where the network with this place and this BSSID hears it
+-- The event of a line, where the network with this place and this BSSID hears it: a string on the air by its Address 1,
+-- a frame on the wire by the place that it names, and every tick.
 abbrev pub heard_of : ℕ → List ℕ → Line → List Event
 heard_of place bss (line.Air x) = if is_heard bss x then event.Air x ∷ [] else []
+heard_of place bss (line.Wire named x) = if named == place then event.Wire x ∷ [] else []
+heard_of place bss line.Tick = event.Tick ∷ []
 
 -- the events of the lines that a network hears, in their order
 abbrev pub heard : ℕ → List ℕ → List Line → List Event
