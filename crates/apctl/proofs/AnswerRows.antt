@@ -58,3 +58,13 @@ fault_of_the_trace_is_answered = refl
 configuration_comes_before_trace : answer_of (config_text (codes "15") (codes "100")) (codes "X") ≡ Err (Config (of_radio 4))
 unfolding answer_of configuration_on_literals
 configuration_comes_before_trace = refl
+
+-- ---- the address of a wired frame
+
+word_that_is_no_address : answer_of sample (codes "W 02:00:00:00:00 00") ≡ Err (Trace (record { code = 3; line = 1 }))
+unfolding answer_of configuration_on_literals
+word_that_is_no_address = refl
+
+address_of_no_network : answer_of sample (codes "W 02:00:00:00:00:09 00") ≡ Err (Trace (record { code = 4; line = 1 }))
+unfolding answer_of configuration_on_literals
+address_of_no_network = refl

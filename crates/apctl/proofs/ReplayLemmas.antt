@@ -1,5 +1,5 @@
 -- The events of a network, line by line.
-use Rattle.std.proofs.Common.{◌≡◌, ℕ, ◌≤◌, Bool, true, false, cond, ltb, List, [], ◌∷◌, ◌++◌, length, take, refl, sym, ap, ◌∙◌, append-nil, arith, inl, inr}
+use Rattle.std.proofs.Common.{◌≡◌, ℕ, ◌≤◌, Bool, true, false, cond, ltb, eqb, List, [], ◌∷◌, ◌++◌, length, take, refl, sym, ap, ◌∙◌, append-nil, arith, inl, inr}
 use Rattle.std.proofs.lemmas.Bool.{cases_lt, lt-ltb, le-ltb}
 use Rattle.std.proofs.lemmas.List.{length-append, length-take-le, take_all, take-append-le, flat_map_more}
 use Rattle.mac_frame.specs.Hearing.{is_heard}
@@ -8,7 +8,7 @@ use Rattle.bss_core.specs.declared.event.Event.{Event}
 use Rattle.bss_core.specs.declared.event.Event.TheVariants as event
 use Rattle.workers.specs.Lines.{heard_of, heard, own_events, taken_of}
 use Rattle.workers.specs.declared.line.Line.{Line}
-use Rattle.workers.specs.declared.line.Line.TheVariants.{Air}
+use Rattle.workers.specs.declared.line.Line.TheVariants.{Air, Wire, Tick}
 
 -- a line has one event at most
 cond_length : (b : Bool) (e : Event) → length (cond b (e ∷ []) []) ≤ 1
@@ -17,6 +17,8 @@ cond_length false e = omega arith
 
 one_at_most : (place : ℕ) (bss : List ℕ) (l : Line) → length (heard_of place bss l) ≤ 1
 one_at_most place bss (Air x) = cond_length (is_heard bss x) (event.Air x)
+one_at_most place bss (Wire named x) = cond_length (eqb named place) (event.Wire x)
+one_at_most place bss Tick = omega arith
 
 -- the prefix of a list with at most one item more
 take-push : (m : ℕ) (xs ys : List Event) → length ys ≤ 1 → take m (xs ++ ys) ≡ take m xs ++ cond (ltb (length (take m xs)) m) ys []
@@ -40,15 +42,3 @@ pub own_events-push : (place : ℕ) (n : NetConfig) (ls : List Line) (l : Line) 
 own_events-push place n ls l =
     ap (take n.max_events) (sym (flat_map_more (heard_of place n.bssid) [] ls l))
     ∙ take-push n.max_events (heard place n.bssid ls) (heard_of place n.bssid l) (one_at_most place n.bssid l)
-
--- what a network takes of a line that it hears is the line's event, where there is room
-pub taken_of-heard : (place : ℕ) (n : NetConfig) (history : List Event) (x : List ℕ) → is_heard n.bssid x ≡ true → taken_of place n history (Air x) ≡ cond (ltb (length history) n.max_events) (event.Air x ∷ []) []
-taken_of-heard place n history x e = rw e refl
-
--- it takes nothing of a line that it doesn't hear
-pub taken_of-unheard : (place : ℕ) (n : NetConfig) (history : List Event) (x : List ℕ) → is_heard n.bssid x ≡ false → taken_of place n history (Air x) ≡ []
-taken_of-unheard place n history x e = cases (ltb (length history) n.max_events) refl
-  where
-    cases : (b : Bool) → ltb (length history) n.max_events ≡ b → taken_of place n history (Air x) ≡ []
-    cases true room = rw (room, e) refl
-    cases false room = rw room refl

@@ -71,8 +71,11 @@ fn take_line(alloc: Global, radio: &mut Radio, left: &mut Left, line: Line) -> R
     requires { IsDrained radio.old left.old }
     ensures { OnOk result (IsDrained radio.new left.new × TakesLine line radio.old radio.new) }
 {
-    let Line::Air(octets) = line;
-    take_octets(alloc, radio, left, octets)
+    match line {
+        Line::Air(octets) => take_octets(alloc, radio, left, octets),
+        Line::Wire { place, octets } => take_wired(radio, left, place, octets),
+        Line::Tick => take_tick(radio, left),
+    }
 }
 
 /// Takes a string of octets that was heard on the air in each network that hears it, in order of place, and lets
@@ -96,6 +99,34 @@ fn take_octets(
         }
     }
     take_event(radio, left, last, Event::Air(octets))
+}
+
+/// Takes a frame that came over the wire in the network at a place, into which it moves, and lets its frames leave.
+/// Nothing happens where there is no network.
+fn take_wired(
+    radio: &mut Radio,
+    left: &mut Left,
+    place: usize,
+    octets: Octets,
+) -> Result<(), NoMemory>
+    requires { IsDrained radio.old left.old }
+    ensures { OnOk result (IsDrained radio.new left.new × TakesLine (Lines.Wire place octets) radio.old radio.new) }
+{
+    if place >= radio.networks() {
+        return Ok(());
+    }
+    take_event(radio, left, place, Event::Wire(octets))
+}
+
+/// Begins a beacon interval in each network, in order of place, and lets their frames leave.
+fn take_tick(radio: &mut Radio, left: &mut Left) -> Result<(), NoMemory>
+    requires { IsDrained radio.old left.old }
+    ensures { OnOk result (IsDrained radio.new left.new × TakesLine Lines.Tick radio.old radio.new) }
+{
+    for place in 0..radio.networks() {
+        take_event(radio, left, place, Event::Tick)?;
+    }
+    Ok(())
 }
 
 /// Whether the network at a place hears a string of octets.

@@ -8,6 +8,7 @@ use crate::words::{Task, task_of};
 use bss_core::ConfigFault;
 use std::alloc::{AllocError, Global};
 use std::io::{self, ErrorKind, Read};
+use std::str;
 use std::test::Fail;
 use trace::{Counted, Sink, TraceFault};
 
@@ -102,6 +103,28 @@ fn sequence_numbers_begin_again(rt: HostRuntime) -> Result<(), Fail> {
     Ok(())
 }
 
+const GUEST: &str =
+    "[[network]]\nbssid = \"02:00:00:00:00:02\"\nssid = \"guest\"\nrates = \"82840b16\"\ndtim = 1\nmax_stations = 8\nmax_known = 16\nquota = 8\nmax_events = 100\n";
+
+const EACH_KIND: &str = "T\n\
+    A d4000000 020000000001\n\
+    W 02:00:00:00:00:02 02aa00000001 02bb00000001 0800 01\n\
+    W 02:00:00:00:00:02\n\
+    T\n";
+
+#[test]
+fn lines_of_each_kind_are_taken(rt: HostRuntime) -> Result<(), Fail> {
+    let alloc = rt.alloc();
+    let base = config(alloc, 6, "82840b16", 16, 100)?;
+    let two = format!(in alloc; "{base}{GUEST}")?;
+    let (answer, written) = run(alloc, two.as_str(), EACH_KIND)?;
+    assert_eq!(rt; answer, Ok(()));
+    let report = str::from_utf8(written.as_slice()).unwrap_or("");
+    assert!(rt; report.contains("ssid 6c6162\nevents 3 "), "{report}");
+    assert!(rt; report.contains("ssid 6775657374\nevents 4 "), "{report}");
+    Ok(())
+}
+
 #[test]
 fn faults_are_answered_and_nothing_is_written(rt: HostRuntime) -> Result<(), Fail> {
     let alloc = rt.alloc();
@@ -130,6 +153,8 @@ fn faults_are_answered_and_nothing_is_written(rt: HostRuntime) -> Result<(), Fai
         (known.as_str(), PROBE, of_network(12)),
         (base.as_str(), "X\n", of_line(1)),
         (base.as_str(), "A 4\n", of_line(2)),
+        (base.as_str(), "W 02:00:00:00:00 00\n", of_line(3)),
+        (base.as_str(), "W 02:00:00:00:00:09 00\n", of_line(4)),
         (base.as_str(), long.as_str(), of_line(5)),
         (channel.as_str(), "X\n", of_radio(4)),
     ] {
@@ -160,28 +185,14 @@ fn a_failing_output_keeps_what_it_took(rt: HostRuntime) -> Result<(), Fail> {
 fn each_fault_has_its_line_and_status(rt: HostRuntime) -> Result<(), Fail> {
     let alloc = rt.alloc();
     let input = String::from_str(alloc, "-")?;
+    let in_config = |code: u8, place: Option<usize>| Fault::Config(ConfigFault { code, place });
+    let in_trace = |code: u8, line: u32| Fault::Trace(TraceFault { code, line });
     for (fault, line, status) in [
-        (
-            Fault::Config(ConfigFault {
-                code: 4,
-                place: None,
-            }),
-            "fault C4\n",
-            1,
-        ),
-        (
-            Fault::Config(ConfigFault {
-                code: 8,
-                place: Some(1),
-            }),
-            "fault C8 network 1\n",
-            1,
-        ),
-        (
-            Fault::Trace(TraceFault { code: 2, line: 7 }),
-            "fault L2 line 7\n",
-            1,
-        ),
+        (in_config(4, None), "fault C4\n", 1),
+        (in_config(8, Some(1)), "fault C8 network 1\n", 1),
+        (in_trace(2, 7), "fault L2 line 7\n", 1),
+        (in_trace(3, 1), "fault L3 line 1\n", 1),
+        (in_trace(4, 1_000_000), "fault L4 line 1000000\n", 1),
         (Fault::Words, "fault words\n", 2),
         (Fault::Memory, "fault memory\n", 3),
         (Fault::File(input), "fault file -\n", 4),
