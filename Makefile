@@ -28,9 +28,10 @@ test:
 wrong:
 	@JOBS="$(JOBS)" wrong/try $(NAME)
 
-# Measures the program on long traces.
+# Measures the program on long traces, and on stations that join, doze, poll and wake.
 bench: apctl
 	@bench/measure
+	@bench/stations
 
 # The built program, build/apctl, of proved crates.
 apctl:
