@@ -4,7 +4,7 @@
 .PHONY: run try test wrong bench apctl
 
 # What `run` and `try` give to the program: a configuration and a trace.
-INPUT = examples/guest_office_and_devices/input
+INPUT = examples/three_networks_over_some_intervals/input
 
 # Proves what the program stands on, builds it and runs it. Lines on standard error tell how far it is; the report is all
 # that stands on standard output, and comes last.
