@@ -8,6 +8,7 @@ use mac_frame::{List, MacAddr, NoMemory, Octets};
 use std::alloc::Global;
 use std::test::Fail;
 
+mod events;
 mod radio;
 
 const BSSID: [u8; 6] = [0x02, 0, 0, 0, 0, 0x01];
