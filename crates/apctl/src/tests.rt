@@ -42,6 +42,15 @@ const LAST_TWO_OF_4097: &str = "\
     00000000000000006400010000036c6162010482840b16030106\n\
     end\n";
 
+const TICK: &str = "T\n";
+
+const LAST_TWO_BEACONS_OF_4097: &str = "\
+    air 80000000ffffffffffff020000000001020000000001f0ff\
+    00000019000000006400010000036c6162010482840b16030106050400010000\n\
+    air 80000000ffffffffffff0200000000010200000000010000\
+    00900119000000006400010000036c6162010482840b16030106050400010000\n\
+    end\n";
+
 /// A configuration with one network.
 fn config(
     alloc: Global,
@@ -91,15 +100,17 @@ fn probes_are_answered(rt: HostRuntime) -> Result<(), Fail> {
 fn sequence_numbers_begin_again(rt: HostRuntime) -> Result<(), Fail> {
     let alloc = rt.alloc();
     let base = config(alloc, 6, "82840b16", 16, 5000)?;
-    let mut trace = String::new(alloc);
-    for _ in 0..4097 {
-        trace.push_str(PROBE)?;
+    for (line, last_two) in [(PROBE, LAST_TWO_OF_4097), (TICK, LAST_TWO_BEACONS_OF_4097)] {
+        let mut trace = String::new(alloc);
+        for _ in 0..4097 {
+            trace.push_str(line)?;
+        }
+        let (answer, written) = run(alloc, base.as_str(), trace.as_str())?;
+        assert_eq!(rt; answer, Ok(()));
+        assert!(rt; written.as_slice().ends_with(last_two.as_bytes()));
+        let lines = written.iter().filter(|octet| **octet == b'\n').count();
+        assert_eq!(rt; lines, 4097 + 3);
     }
-    let (answer, written) = run(alloc, base.as_str(), trace.as_str())?;
-    assert_eq!(rt; answer, Ok(()));
-    assert!(rt; written.as_slice().ends_with(LAST_TWO_OF_4097.as_bytes()));
-    let lines = written.iter().filter(|octet| **octet == b'\n').count();
-    assert_eq!(rt; lines, 4097 + 3);
     Ok(())
 }
 
