@@ -1,5 +1,5 @@
 -- A network alone, event by event.
-use Rattle.std.proofs.Common.{◌≡◌, ℕ, ◌+◌, ◌*◌, ◌<◌, ◌≤◌, ◌||◌, ◌&&◌, is_some, Some, inl, inr, Bool, true, false, not, List, [], ◌∷◌, ◌++◌, length, Option, None, Result, Ok, Err, refl, sym, ap, subst, ◌∙◌, arith, drop}
+use Rattle.std.proofs.Common.{◌≡◌, ℕ, ◌+◌, ◌*◌, ◌<◌, ◌≤◌, ◌||◌, ◌&&◌, is_some, option_to_list, Some, inl, inr, Bool, true, false, not, List, [], ◌∷◌, ◌++◌, length, Option, None, Result, Ok, Err, refl, sym, ap, subst, ◌∙◌, arith, drop}
 use Rattle.std.proofs.lemmas.List.{length-append}
 use Rattle.mac_frame.specs.declared.frame.Unread.{Unread as Fault}
 use Rattle.std.specs.Prelude.{◌⊎◌, nat_lt, ◌==◌, if◌then◌else◌}
@@ -36,7 +36,7 @@ use Rattle.bss_core.proofs.Statuses.{room-authenticated, room-associated, known-
 use Rattle.bss_core.specs.Network.{Setting, Network, empty_network, send, count_unread, change_state, change_where_served, lose, keep_or_lose, deliver, answer_wired, change_stations, drop_units, send_unit, send_each, put_on_wire, forward, set_power_mode, serve_poll, answer_poll, beacon_frame, release, tick, may_be_known, authentication_status, answer_authentication, association_status, answer_association, serve, notify_or_serve, announced_at, asks_for, answer, answer_probe, step, after, alone}
 use Rattle.bss_core.specs.Configuration.{network_fault}
 use Rattle.std.proofs.Math.Seq.{drop-append_seam}
-use Rattle.bss_core.specs.State.{Keeps, sent_by}
+use Rattle.bss_core.specs.State.{Keeps, sent_by, wired_by}
 use Rattle.bss_core.specs.Replies.{after_reply}
 use Rattle.bss_core.specs.Sound.{IsSound}
 use Rattle.bss_core.proofs.StationsSound.{length-set_link, length-forgotten, length-moded, mode-sound, authenticate-sound, associate-sound, disassociate-sound, forget-sound}
@@ -72,79 +72,38 @@ empty-sound s = record {
   lost = omega arith;
 }
 
+-- of a network with the same stations and kept units, where its counts stay within their bounds
+counts-sound : (s : Setting) (events units more most : ℕ) (n other : Network) → (other.stations ≡ n.stations) × (other.kept ≡ n.kept) → other.sequence < 4096 → other.unread ≤ more → other.clock ≤ more → other.lost + length other.kept ≤ most → IsSound s events units n → IsSound s more most other
+counts-sound s events units more most n other same sequence unread clock lost h = record {
+  stations = rw same.0 h.stations;
+  known = rw same.0 h.known;
+  kept = rw (same.0, same.1) h.kept;
+  quota = rw same.1 h.quota;
+  sequence = sequence;
+  unread = unread;
+  clock = clock;
+  lost = lost;
+}
+
 -- more events and units are no less
 more-sound : (s : Setting) (events units more most : ℕ) (n : Network) → events ≤ more → units ≤ most → IsSound s events units n → IsSound s more most n
-more-sound s events units more most n e u h = record {
-  stations = h.stations;
-  known = h.known;
-  kept = h.kept;
-  quota = h.quota;
-  sequence = h.sequence;
-  unread = omega (arith, e, h.unread);
-  clock = omega (arith, e, h.clock);
-  lost = omega (arith, u, h.lost);
-}
+more-sound s events units more most n e u h = counts-sound s events units more most n n (refl, refl) h.sequence (omega (arith, e, h.unread)) (omega (arith, e, h.clock)) (omega (arith, u, h.lost)) h
 
 send-sound : (s : Setting) (events units : ℕ) (n : Network) (frame : ℕ → List ℕ) → IsSound s events units n → IsSound s events units (send frame n)
-send-sound s events units n frame h = record {
-  stations = h.stations;
-  known = h.known;
-  kept = h.kept;
-  quota = h.quota;
-  sequence = omega arith;
-  unread = h.unread;
-  clock = h.clock;
-  lost = h.lost;
-}
+send-sound s events units n frame h = counts-sound s events units events units n (send frame n) (refl, refl) (omega arith) h.unread h.clock h.lost h
 
 count_unread-sound : (s : Setting) (events units : ℕ) (n : Network) → IsSound s events units n → IsSound s (events + 1) units (count_unread n)
-count_unread-sound s events units n h = record {
-  stations = h.stations;
-  known = h.known;
-  kept = h.kept;
-  quota = h.quota;
-  sequence = h.sequence;
-  unread = omega (arith, h.unread);
-  clock = omega (arith, h.clock);
-  lost = h.lost;
-}
+count_unread-sound s events units n h = counts-sound s events units (events + 1) units n (count_unread n) (refl, refl) h.sequence (omega (arith, h.unread)) (omega (arith, h.clock)) h.lost h
+
+clock-sound : (s : Setting) (events units : ℕ) (n : Network) → IsSound s events units n → IsSound s (events + 1) units (record n { clock = n.clock + 1 })
+clock-sound s events units n h = counts-sound s events units (events + 1) units n (record n { clock = n.clock + 1 }) (refl, refl) h.sequence (omega (arith, h.unread)) (omega (arith, h.clock)) h.lost h
 
 lose-sound : (s : Setting) (events units : ℕ) (n : Network) → IsSound s events units n → IsSound s events (units + 1) (lose n)
-lose-sound s events units n h = record {
-  stations = h.stations;
-  known = h.known;
-  kept = h.kept;
-  quota = h.quota;
-  sequence = h.sequence;
-  unread = h.unread;
-  clock = h.clock;
-  lost = omega (arith, h.lost);
-}
+lose-sound s events units n h = counts-sound s events units events (units + 1) n (lose n) (refl, refl) h.sequence h.unread h.clock (omega (arith, h.lost)) h
 
--- which frames were sent is nothing to it
-air-sound : (s : Setting) (events units : ℕ) (n : Network) (air : List (List ℕ)) → IsSound s events units n → IsSound s events units (record n { air = air })
-air-sound s events units n air h = record {
-  stations = h.stations;
-  known = h.known;
-  kept = h.kept;
-  quota = h.quota;
-  sequence = h.sequence;
-  unread = h.unread;
-  clock = h.clock;
-  lost = h.lost;
-}
-
-wire-sound : (s : Setting) (events units : ℕ) (n : Network) (wire : List (List ℕ)) → IsSound s events units n → IsSound s events units (record n { wire = wire })
-wire-sound s events units n wire h = record {
-  stations = h.stations;
-  known = h.known;
-  kept = h.kept;
-  quota = h.quota;
-  sequence = h.sequence;
-  unread = h.unread;
-  clock = h.clock;
-  lost = h.lost;
-}
+-- which frames were sent, on the air or on the wire, is nothing to it
+frames-sound : (s : Setting) (events units : ℕ) (n : Network) (air wire : List (List ℕ)) → IsSound s events units n → IsSound s events units (record n { air = air; wire = wire })
+frames-sound s events units n air wire h = counts-sound s events units events units n (record n { air = air; wire = wire }) (refl, refl) h.sequence h.unread h.clock h.lost h
 
 -- some units leave
 kept-sound : (s : Setting) (events units : ℕ) (n : Network) (kept : List Entry) → AreKeptFor n.stations kept → length kept ≤ length n.kept → IsSound s events units n → IsSound s events units (record n { kept = kept })
@@ -238,7 +197,7 @@ send_each-sound s telling (u ∷ us) events units n h =
     send_each-sound s telling us events units (send_unit s (telling && are_left us) u n) (send-sound s events units n (unit_frame s.network.bssid (telling && are_left us) u) h)
 
 put_on_wire-sound : (s : Setting) (wired : Option (List ℕ)) (events units : ℕ) (n : Network) → IsSound s events units n → IsSound s events (units + 1) (put_on_wire wired n)
-put_on_wire-sound s (Some octets) events units n h = more-sound s events units events (units + 1) _ (omega arith) (omega arith) (wire-sound s events units n (n.wire ++ octets ∷ []) h)
+put_on_wire-sound s (Some octets) events units n h = more-sound s events units events (units + 1) _ (omega arith) (omega arith) (frames-sound s events units n n.air (n.wire ++ octets ∷ []) h)
 put_on_wire-sound s None events units n h = lose-sound s events units n h
 
 forward-sound : (s : Setting) (u : DataUnit) (events units : ℕ) (n : Network) → IsSound s events units n → IsSound s events (units + 2) (forward s u n)
@@ -276,18 +235,6 @@ polled-sound s from aid events units n h = by (may_poll aid (link_of from n.stat
     by : (b : Bool) → may_poll aid (link_of from n.stations) ≡ b → IsSound s events units (answer_poll s from aid n)
     by true is = rw is (poll-sound s from (units_for (One from) n.kept) events units n h)
     by false is = rw is h
-
-clock-sound : (s : Setting) (events units : ℕ) (n : Network) → IsSound s events units n → IsSound s (events + 1) units (record n { clock = n.clock + 1 })
-clock-sound s events units n h = record {
-  stations = h.stations;
-  known = h.known;
-  kept = h.kept;
-  quota = h.quota;
-  sequence = h.sequence;
-  unread = omega (arith, h.unread);
-  clock = omega (arith, h.clock);
-  lost = h.lost;
-}
 
 release-sound : (s : Setting) (events units : ℕ) (n : Network) → IsSound s events units n → IsSound s events units (release s n)
 release-sound s events units n h = by (dtim_count n.clock s.network.dtim == 0) refl
@@ -418,7 +365,7 @@ unfolding alone
 keeps-none s h = record { bounded = omega arith; sound = h; same = refl }
 
 pub keeps-sound : (s : Setting) (es : List Event) (kept : Network) → Keeps s es kept → IsSound s (length es) (2 * length es) kept
-keeps-sound s es kept k = subst (IsSound s (length es) (2 * length es)) k.same (air-sound s (length es) (2 * length es) (alone s es) [] (alone-sound s es k.sound))
+keeps-sound s es kept k = subst (IsSound s (length es) (2 * length es)) k.same (frames-sound s (length es) (2 * length es) (alone s es) [] (alone s es).wire (alone-sound s es k.sound))
 
 -- ---- one more event, by the reply to it
 
@@ -445,3 +392,14 @@ pub air-push : (s : Setting) (es : List Event) (e : Event) (r : Reply) → step 
 air-push s es e r h =
     ap (λ (n : Network). n.air) (reply_is s es e r h)
     ∙ ap (λ (fs : List (List ℕ)). (alone s es).air ++ fs) (sym (sent_by-reply s es e r h))
+
+-- the wired frames that the event adds are those of the reply, and stand after those that were put there
+pub wired_by-reply : (s : Setting) (es : List Event) (e : Event) (r : Reply) → step s (alone s es) e ≡ after_reply r (alone s es) → wired_by s es e ≡ option_to_list r.wired
+wired_by-reply s es e r h =
+    ap (λ (n : Network). drop (length (alone s es).wire) n.wire) (reply_is s es e r h)
+    ∙ drop-append_seam (alone s es).wire (option_to_list r.wired)
+
+pub wire-push : (s : Setting) (es : List Event) (e : Event) (r : Reply) → step s (alone s es) e ≡ after_reply r (alone s es) → (alone s (es ++ e ∷ [])).wire ≡ (alone s es).wire ++ wired_by s es e
+wire-push s es e r h =
+    ap (λ (n : Network). n.wire) (reply_is s es e r h)
+    ∙ ap (λ (fs : List (List ℕ)). (alone s es).wire ++ fs) (sym (wired_by-reply s es e r h))

@@ -27,7 +27,7 @@ abbrev pub AreKeptFor : Table → List Entry → Type 0
 AreKeptFor stations [] = Unit {0}
 AreKeptFor stations (entry ∷ entries) = IsKeptFor stations entry.0 × AreKeptFor stations entries
 
--- a network that took so many events, which brought it at most so many units that are kept or lost
+-- a network that took so many events, and of which what it lost and keeps is at most so many units
 pub record IsSound (s : Setting) (events units : ℕ) (n : Network) : Type 0 where
   pub stations : AreSound s.network.max_stations n.stations
   pub known : length n.stations ≤ s.network.max_known

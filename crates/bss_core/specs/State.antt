@@ -20,6 +20,10 @@ network_of s = alone s.setting s.history
 abbrev pub sent_by : Setting → List Event → Event → List (List ℕ)
 sent_by s es e = drop (length (alone s es).air) (alone s (es ++ e ∷ [])).air
 
+-- the frames that an event adds to those that a network put on its wire
+abbrev pub wired_by : Setting → List Event → Event → List (List ℕ)
+wired_by s es e = drop (length (alone s es).wire) (alone s (es ++ e ∷ [])).wire
+
 -- what a network keeps of itself: a bounded history, and what its history makes of it but for the frames that it
 -- sent on the air
 pub record Keeps (s : Setting) (history : List Event) (kept : Network) : Type 0 where

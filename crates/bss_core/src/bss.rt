@@ -7,7 +7,7 @@ ghost use Rattle.powersave.specs.Keep.{units_for};
 ghost use Rattle.powersave.specs.declared.unit.Whom.TheVariants as whoms;
 ghost use Rattle.bss_core.specs.Replies.{no_reply, after_reply, IsWithin};
 ghost use Rattle.bss_core.specs.Stations.{IsAllowed};
-ghost use Rattle.bss_core.specs.State.{State, network_of, sent_by};
+ghost use Rattle.bss_core.specs.State.{State, network_of, sent_by, wired_by};
 ghost use Rattle.association.specs.Request.{request_of};
 ghost use Rattle.bss_core.specs.declared.bss.Refusal.TheVariants as refusals;
 
@@ -241,13 +241,14 @@ impl Bss {
 
     /// Takes an event, and answers its number in the history, from 0. Frames that it sends wait after the others.
     /// `HistoryFull` exactly where the history is full, which is tested first; `NoMemory` where a growth was
-    /// refused. After either nothing has changed. An air event that the network doesn't hear counts as unread
-    /// (*profile*).
+    /// refused. After either nothing has changed. An air event that the network doesn't hear and a wired frame
+    /// that can't be read count as unread (*profile*).
     pub fn take(&mut self, event: Event) -> Result<u32, Refusal>
         ensures number { IfOk result (λ number. number ≡ length self.old.history) }
         ensures history { OnOk result (self.new.history ≡ self.old.history ++ event ∷ []) }
         ensures waiting { OnOk result (self.new.waiting ≡ self.old.waiting ++ sent_by self.old.setting self.old.history event) }
         ensures air { OnOk result ((network_of self.new).air ≡ (network_of self.old).air ++ sent_by self.old.setting self.old.history event) }
+        ensures wire { OnOk result ((network_of self.new).wire ≡ (network_of self.old).wire ++ wired_by self.old.setting self.old.history event) }
         ensures bounded { length self.new.history ≤ self.new.setting.network.max_events }
         ensures setting { self.new.setting ≡ self.old.setting }
         ensures full { (result ≡ Err Refusal.HistoryFull) ↔ (length self.old.history ≡ self.old.setting.network.max_events) }

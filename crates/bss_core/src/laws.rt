@@ -12,8 +12,8 @@ ghost use Rattle.bss_core.specs.Radio.{after_steps, items_of, sections_of};
 ghost use Rattle.bss_core.specs.State.{sent_by};
 ghost use Rattle.bss_core.specs.Worlds.{AreAlike, AreCutFromOne};
 
-/// What holds of every network that events make of an empty one, where its configuration has no fault; each event keeps or
-/// loses two units at most.
+/// What holds of every network that events make of an empty one, where its configuration has no fault: what it keeps and
+/// what it lost are together two units at most for each event that it took.
 pub fn reachable()
     ensures { (s : Setting) (es : List Event) → network_fault s.network ≡ None → IsSound s (length es) (2 * length es) (alone s es) }
 {}

@@ -1,4 +1,4 @@
-//! A network of an access point, alone (IEEE Std 802.11-2016, 11.1.4 and 11.3).
+//! A network of an access point, alone, and a radio of several (IEEE Std 802.11-2016, 11.1 to 11.3).
 //!
 //! A [`Bss`] is a deterministic state machine: it takes events and keeps what it sends in a list; it has no
 //! socket, no clock and no thread. It promises that its table, its counts and its wired frames are what its

@@ -2,11 +2,11 @@ use Rattle.std.proofs.Common.{◌≡◌, ℕ, ◌+◌, ◌*◌, ◌<◌, ◌≤�
 use Rattle.std.proofs.lemmas.List.{length-append}
 use Rattle.bss_core.specs.Network.{Setting, step, alone}
 use Rattle.bss_core.specs.Replies.{after_reply, kept_after}
-use Rattle.bss_core.specs.State.{State, network_of, sent_by}
+use Rattle.bss_core.specs.State.{State, network_of, sent_by, wired_by}
 use Rattle.bss_core.specs.Stations.{StationTable}
 use Rattle.bss_core.specs.declared.event.Event.{Event}
 use Rattle.bss_core.specs.declared.reply.Reply.{Reply}
-use Rattle.bss_core.proofs.AloneLaws.{keeps-sound, keeps-push, sent_by-reply, air-push}
+use Rattle.bss_core.proofs.AloneLaws.{keeps-sound, keeps-push, sent_by-reply, air-push, wire-push}
 use Rattle.bss_core.proofs.Checked.{numbers_bounded}
 use Rattle.bss_core.proofs.bss.Bss.take.Goals as goal
 
@@ -81,3 +81,12 @@ returns-clause-air c =
     let replied = subst (IsReply c.args.event c.in_ok-reply.reply) (sym c.self.view_is) c.in_ok-reply.ensures.step in
     ap (λ (h : List Event). (alone s h).air) items ∙ air-push s es c.args.event c.in_ok-reply.reply replied
     ∙ ap (λ (st : State). (network_of st).air ++ sent_by st.setting st.history c.args.event) c.self.view_is
+
+pub returns-clause-wire : goal.returns-clause-wire
+returns-clause-wire c =
+    let s : Setting = c.self.inside.setting in
+    let es : List Event = c.self.inside.history.items in
+    let items : c.push_reserved.new.self.items ≡ es ++ c.args.event ∷ [] = c.push_reserved.ensures.items ∙ ap (λ (h : List Event). h ++ c.args.event ∷ []) c.reserve.ensures.items in
+    let replied = subst (IsReply c.args.event c.in_ok-reply.reply) (sym c.self.view_is) c.in_ok-reply.ensures.step in
+    ap (λ (h : List Event). (alone s h).wire) items ∙ wire-push s es c.args.event c.in_ok-reply.reply replied
+    ∙ ap (λ (st : State). (network_of st).wire ++ wired_by st.setting st.history c.args.event) c.self.view_is
