@@ -381,6 +381,10 @@ keeps-push s es e r kept k room h = record {
       ∙ ap (λ (n : Network). record (after_reply r n) { air = [] }) k.same;
 }
 
+-- so it stays within its bounds, and can be counted
+pub reply-sound : (s : Setting) (es : List Event) (e : Event) (r : Reply) (kept : Network) → Keeps s es kept → length es < s.network.max_events → step s (alone s es) e ≡ after_reply r (alone s es) → IsSound s (length es + 1) (2 * (length es + 1)) (record (after_reply r kept) { air = [] })
+reply-sound s es e r kept k room h = subst (λ (m : ℕ). IsSound s m (2 * m) (record (after_reply r kept) { air = [] })) (length-append es (e ∷ [])) (keeps-sound s (es ++ e ∷ []) _ (keeps-push s es e r kept k room h))
+
 -- the frames that the event adds are those of the reply
 pub sent_by-reply : (s : Setting) (es : List Event) (e : Event) (r : Reply) → step s (alone s es) e ≡ after_reply r (alone s es) → sent_by s es e ≡ r.frames
 sent_by-reply s es e r h =

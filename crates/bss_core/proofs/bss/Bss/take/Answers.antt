@@ -6,7 +6,7 @@ use Rattle.bss_core.specs.State.{State, network_of, sent_by, wired_by}
 use Rattle.bss_core.specs.Stations.{StationTable}
 use Rattle.bss_core.specs.declared.event.Event.{Event}
 use Rattle.bss_core.specs.declared.reply.Reply.{Reply}
-use Rattle.bss_core.proofs.AloneLaws.{keeps-sound, keeps-push, sent_by-reply, air-push, wire-push}
+use Rattle.bss_core.proofs.AloneLaws.{reply-sound, keeps-push, sent_by-reply, air-push, wire-push}
 use Rattle.bss_core.proofs.Checked.{numbers_bounded}
 use Rattle.bss_core.proofs.bss.Bss.take.Goals as goal
 
@@ -17,35 +17,29 @@ IsReply e r st = step st.setting (network_of st) e ≡ after_reply r (network_of
 pub overflow_add-self : goal.overflow_add-self
 overflow_add-self c =
     let s : Setting = c.self.inside.setting in
-    let es : List Event = c.self.inside.history.items in
-    let len : c.len.result ≡ length es = c.len.ensures ∙ c.self.inside.history.ok.0 in
-    let room : length es < s.network.max_events = omega (arith, c.if-len-self.false) in
+    let len : c.len.result ≡ length c.self.inside.history.items = c.len.ensures ∙ c.self.inside.history.ok.0 in
+    let room : length c.self.inside.history.items < s.network.max_events = omega (arith, c.if-len-self.false) in
     let replied = subst (IsReply c.args.event c.in_ok-reply.reply) (sym c.self.view_is) c.in_ok-reply.ensures.step in
-    let sound = keeps-sound _ _ _ (keeps-push s es c.args.event c.in_ok-reply.reply _ c.self.invariant.0 room replied) in
-    let few : c.self.inside.lost + c.in_ok-reply.reply.lost ≤ 2 * length (es ++ c.args.event ∷ []) = omega (arith, sound.lost) in
-    omega (arith, few, length-append es (c.args.event ∷ []), (numbers_bounded s.network c.self.invariant.0.sound).events)
+    let sound = reply-sound s _ c.args.event c.in_ok-reply.reply _ c.self.invariant.0 room replied in
+    omega (arith, room, sound.lost, (numbers_bounded s.network c.self.invariant.0.sound).events)
 
 pub overflow_add-self-2 : goal.overflow_add-self-2
 overflow_add-self-2 c =
     let s : Setting = c.self.inside.setting in
-    let es : List Event = c.self.inside.history.items in
-    let len : c.len.result ≡ length es = c.len.ensures ∙ c.self.inside.history.ok.0 in
-    let room : length es < s.network.max_events = omega (arith, c.if-len-self.false) in
+    let len : c.len.result ≡ length c.self.inside.history.items = c.len.ensures ∙ c.self.inside.history.ok.0 in
+    let room : length c.self.inside.history.items < s.network.max_events = omega (arith, c.if-len-self.false) in
     let replied = subst (IsReply c.args.event c.in_ok-reply.reply) (sym c.self.view_is) c.in_ok-reply.ensures.step in
-    let sound = keeps-sound _ _ _ (keeps-push s es c.args.event c.in_ok-reply.reply _ c.self.invariant.0 room replied) in
-    let few : c.self.inside.unread + c.in_ok-reply.reply.unread ≤ length (es ++ c.args.event ∷ []) = sound.unread in
-    omega (arith, few, length-append es (c.args.event ∷ []), (numbers_bounded s.network c.self.invariant.0.sound).events)
+    let sound = reply-sound s _ c.args.event c.in_ok-reply.reply _ c.self.invariant.0 room replied in
+    omega (arith, room, sound.unread, (numbers_bounded s.network c.self.invariant.0.sound).events)
 
 pub overflow_add-self-3 : goal.overflow_add-self-3
 overflow_add-self-3 c =
     let s : Setting = c.self.inside.setting in
-    let es : List Event = c.self.inside.history.items in
-    let len : c.len.result ≡ length es = c.len.ensures ∙ c.self.inside.history.ok.0 in
-    let room : length es < s.network.max_events = omega (arith, c.if-len-self.false) in
+    let len : c.len.result ≡ length c.self.inside.history.items = c.len.ensures ∙ c.self.inside.history.ok.0 in
+    let room : length c.self.inside.history.items < s.network.max_events = omega (arith, c.if-len-self.false) in
     let replied = subst (IsReply c.args.event c.in_ok-reply.reply) (sym c.self.view_is) c.in_ok-reply.ensures.step in
-    let sound = keeps-sound _ _ _ (keeps-push s es c.args.event c.in_ok-reply.reply _ c.self.invariant.0 room replied) in
-    let few : c.self.inside.clock + c.in_ok-reply.reply.clock ≤ length (es ++ c.args.event ∷ []) = sound.clock in
-    omega (arith, few, length-append es (c.args.event ∷ []), (numbers_bounded s.network c.self.invariant.0.sound).events)
+    let sound = reply-sound s _ c.args.event c.in_ok-reply.reply _ c.self.invariant.0 room replied in
+    omega (arith, room, sound.clock, (numbers_bounded s.network c.self.invariant.0.sound).events)
 
 pub invariant_of-self-2 : goal.invariant_of-self-2
 invariant_of-self-2 c =
