@@ -3,7 +3,7 @@
 ghost use Rattle.std.specs.Prelude.{◌≡◌, IfOk, None, IsTrue};
 ghost use Rattle.bss_core.specs.Configuration.{max_events_fits, network_fault};
 
-use bss_core::{Bss, ConfigFault, Counts, Event, NetConfig, RadioConfig, Refusal, hears};
+use bss_core::{Bss, ConfigFault, Counts, Event, NetConfig, RadioConfig, Refusal, Section, hears};
 use mac_frame::{List, MacAddr, NoMemory, Octets};
 use std::alloc::Global;
 use std::test::Fail;
@@ -68,58 +68,142 @@ fn probe(alloc: Global) -> Result<Event, NoMemory> {
     Ok(Event::Air(Octets::from_slice(alloc, &PROBE)?))
 }
 
+/// What a network answers to the probe.
+fn ask(alloc: Global, bss: &mut Bss) -> Result<u32, Refusal> {
+    bss.take(probe(alloc)?)
+}
+
+/// A network that took the probe so many times.
+fn probed(alloc: Global, times: u8) -> Result<Bss, Fail> {
+    let mut bss = bss(alloc, 100)?;
+    for _ in 0..times {
+        ask(alloc, &mut bss)?;
+    }
+    Ok(bss)
+}
+
+/// Whether these octets are the network's answer with sequence number 0.
+fn is_response(octets: &[u8]) -> bool {
+    octets == RESPONSE.as_slice()
+}
+
+/// Takes out the first frame that waits, and answers whether it is the answer with sequence number 0.
+fn sends_response(bss: &mut Bss) -> bool {
+    match bss.take_front() {
+        Some(frame) => is_response(frame.as_slice()),
+        None => false,
+    }
+}
+
+/// The octet at a place of a string.
+fn octet_at(octets: &[u8], place: usize) -> Option<u8> {
+    match octets.get(place) {
+        Some(octet) => Some(*octet),
+        None => None,
+    }
+}
+
+/// Takes out the first frame that waits, and answers the first octet of its Sequence Control field.
+fn sent_sequence(bss: &mut Bss) -> Option<u8> {
+    match bss.take_front() {
+        Some(frame) => octet_at(frame.as_slice(), 22),
+        None => None,
+    }
+}
+
+/// How many frames wait, events were taken, stations are known and frames are on the wire.
+fn lengths(bss: &Bss) -> [usize; 4] {
+    [
+        bss.waiting_len(),
+        bss.history().len(),
+        bss.table_len(),
+        bss.wired().len(),
+    ]
+}
+
+#[test]
+fn a_probe_is_heard(rt: HostRuntime) -> Result<(), Fail> {
+    let bss = bss(rt.alloc(), 100)?;
+    assert!(rt; hears(bss.config().bssid, &PROBE));
+    Ok(())
+}
+
 #[test]
 fn a_probe_is_answered(rt: HostRuntime) -> Result<(), Fail> {
-    let mut bss = bss(rt.alloc(), 100)?;
-    assert!(rt; hears(bss.config().bssid, &PROBE));
-    assert_eq!(rt; bss.take(probe(rt.alloc())?)?, 0);
-    let answer = bss.take_front().ok_or("no answer")?;
-    assert_eq!(rt; answer.as_slice(), RESPONSE.as_slice());
-    assert_eq!(rt; bss.waiting_len(), 0);
-    assert_eq!(rt; bss.history().len(), 1);
-    assert_eq!(rt; bss.table_len(), 0);
-    assert_eq!(rt; bss.wired().len(), 0);
+    let mut bss = probed(rt.alloc(), 0)?;
+    assert_eq!(rt; ask(rt.alloc(), &mut bss)?, 0);
+    assert!(rt; sends_response(&mut bss));
+    assert_eq!(rt; lengths(&bss), [0, 1, 0, 0]);
     Ok(())
+}
+
+/// A network with a full history of one event.
+fn full(alloc: Global) -> Result<Bss, Fail> {
+    let mut bss = bss(alloc, 1)?;
+    ask(alloc, &mut bss)?;
+    Ok(bss)
 }
 
 #[test]
 fn a_full_history_takes_no_event(rt: HostRuntime) -> Result<(), Fail> {
-    let mut bss = bss(rt.alloc(), 1)?;
-    bss.take(probe(rt.alloc())?)?;
+    let mut bss = full(rt.alloc())?;
     let counts = bss.counts();
-    assert_eq!(rt; bss.take(probe(rt.alloc())?), Err(Refusal::HistoryFull));
+    assert_eq!(rt; ask(rt.alloc(), &mut bss), Err(Refusal::HistoryFull));
     assert_eq!(rt; bss.counts(), counts);
-    assert_eq!(rt; bss.history().len(), 1);
-    assert_eq!(rt; bss.waiting_len(), 1);
+    assert_eq!(rt; lengths(&bss), [1, 1, 0, 0]);
     Ok(())
+}
+
+/// Takes out the first frame that waits, if there is one, and gives it back. Answers whether there was a slot for it
+/// before that, and whether there was one after.
+fn give_first_back(bss: &mut Bss) -> Option<[bool; 2]> {
+    let Some(first) = bss.take_front() else {
+        return None;
+    };
+    if !bss.has_slot() {
+        return Some([false, false]);
+    }
+    bss.give_back(first);
+    Some([true, bss.has_slot()])
 }
 
 #[test]
 fn a_frame_is_given_back(rt: HostRuntime) -> Result<(), Fail> {
-    let mut bss = bss(rt.alloc(), 100)?;
-    bss.take(probe(rt.alloc())?)?;
-    bss.take(probe(rt.alloc())?)?;
-    let first = bss.take_front().ok_or("no answer")?;
-    assert!(rt; bss.has_slot());
-    bss.give_back(first);
-    assert!(rt; !bss.has_slot());
-    let first = bss.take_front().ok_or("no first answer")?;
-    let second = bss.take_front().ok_or("no second answer")?;
-    assert_eq!(rt; first.as_slice(), RESPONSE.as_slice());
-    assert_eq!(rt; second.as_slice().get(22), Some(&0x10));
+    let mut bss = probed(rt.alloc(), 2)?;
+    assert_eq!(rt; give_first_back(&mut bss), Some([true, false]));
+    assert!(rt; sends_response(&mut bss));
+    assert_eq!(rt; sent_sequence(&mut bss), Some(0x10));
     assert!(rt; bss.take_front().is_none());
     Ok(())
 }
 
+/// The section of a network that took the probe and a string of no octets.
+fn section(alloc: Global) -> Result<Section, Fail> {
+    let mut bss = probed(alloc, 1)?;
+    bss.take(Event::Air(Octets::new(alloc)))?;
+    Ok(bss.into_section(List::from_vec(Vec::new(alloc)))?)
+}
+
+/// How many events, stations, frames on the air and frames on the wire a section has.
+fn section_lengths(section: &Section) -> [usize; 4] {
+    [
+        section.events.as_slice().len(),
+        section.table.as_slice().len(),
+        section.air.as_slice().len(),
+        section.wire.as_slice().len(),
+    ]
+}
+
 #[test]
 fn a_network_becomes_its_section(rt: HostRuntime) -> Result<(), Fail> {
-    let mut bss = bss(rt.alloc(), 100)?;
-    bss.take(probe(rt.alloc())?)?;
-    bss.take(Event::Air(Octets::new(rt.alloc())))?;
-    let section = bss.into_section(List::from_vec(Vec::new(rt.alloc())))?;
+    let section = section(rt.alloc())?;
     assert_eq!(rt; section.config.ssid.as_slice(), b"lab".as_slice());
-    assert_eq!(rt; section.events.as_slice().len(), 2);
-    assert_eq!(rt; section.table.as_slice().len(), 0);
+    assert_eq!(rt; section_lengths(&section), [2, 0, 0, 0]);
+    Ok(())
+}
+
+#[test]
+fn a_section_has_the_counts(rt: HostRuntime) -> Result<(), Fail> {
     let counts = Counts {
         events: 2,
         clock: 0,
@@ -127,9 +211,7 @@ fn a_network_becomes_its_section(rt: HostRuntime) -> Result<(), Fail> {
         lost: 0,
         kept: 0,
     };
-    assert_eq!(rt; section.counts, counts);
-    assert_eq!(rt; section.air.as_slice().len(), 0);
-    assert_eq!(rt; section.wire.as_slice().len(), 0);
+    assert_eq!(rt; section(rt.alloc())?.counts, counts);
     Ok(())
 }
 
