@@ -9,6 +9,7 @@ pub mod Checked
 pub mod Samples
 pub mod NetworkRows
 pub mod AnswerRows
+pub mod UnitRows
 pub mod RequestRows
 pub mod ConfigurationRows
 pub mod RadioRows
