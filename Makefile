@@ -28,7 +28,8 @@ test:
 wrong:
 	@JOBS="$(JOBS)" wrong/try $(NAME)
 
-# Measures the program on long traces, and on stations that join, doze, poll and wake.
+# Measures the program on long traces: of probes, of stations that join, doze, poll and wake, of units between air and wire, of
+# beacons, and of all these in four networks.
 bench: apctl
 	@bench/measure
 	@bench/stations
