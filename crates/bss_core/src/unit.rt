@@ -1,6 +1,6 @@
 //! Units that arrive, and where they go (IEEE Std 802.11-2016, 5.1.4 and 11.2.3).
 
-ghost use Rattle.std.specs.Prelude.{◌≡◌, ◌+◌, ◌++◌, ◌^◌, ◌<◌, IfOk, OnOk, OnErr};
+ghost use Rattle.std.specs.Prelude.{◌≡◌, ◌+◌, ◌++◌, ◌^◌, ◌<◌, ◌≤◌, length, IfOk, OnOk, OnErr};
 ghost use Rattle.bridge.specs.Encapsulation.{on_air};
 ghost use Rattle.bss_core.specs.Arrivals.{body_octets, unit_shown};
 
@@ -61,7 +61,8 @@ impl Arrival<'_> {
 impl Body<'_> {
     /// How many octets it has at most; the header of a wired frame's type takes eight.
     pub fn len(&self) -> usize
-        ensures { result < 2 ^ 63 + 8 }
+        ensures room { length (body_octets self.now) ≤ result }
+        ensures bounded { result < 2 ^ 63 + 8 }
     {
         match self {
             Body::Heard(octets) => octets.len(),
