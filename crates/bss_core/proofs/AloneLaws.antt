@@ -28,17 +28,17 @@ use Rattle.powersave.specs.Keep.{units_for, without_all, without_oldest}
 use Rattle.bss_core.specs.declared.stations.Link.{Link}
 use Rattle.bss_core.specs.declared.unit.Delivery.{Delivery}
 use Rattle.bss_core.specs.declared.unit.Delivery.TheVariants.{Now, Kept, Nowhere}
-use Rattle.bss_core.proofs.UnitsKept.{kept-elsewhere, kept-where, kept-filtered, kept-without_first, kept-push, length-filtered, length-without_first, link_of-set, link_of-forgotten, link_of-moded, dozing-stays, mode-stays}
+use Rattle.bss_core.proofs.UnitsKept.{kept-elsewhere, kept-where, kept-filtered, kept-without_first, kept-push, length-filtered, length-without_first, link_of-set, link_of-forgotten, link_of-moded, mode-stays}
 use Rattle.bss_core.specs.declared.stations.Link.TheVariants.{Authenticated, Associated}
 use Rattle.bss_core.specs.Sound.{AreSound, IsKeptFor, AreKeptFor}
 use Rattle.bss_core.proofs.Checked.{stations_fit}
 use Rattle.bss_core.proofs.Statuses.{room-authenticated, room-associated, known-where_taken, known-where_associated}
-use Rattle.bss_core.specs.Network.{Setting, Network, empty_network, send, count_unread, change_state, change_where_served, lose, keep_or_lose, deliver, answer_wired, change_stations, drop_units, send_unit, send_each, put_on_wire, forward, set_power_mode, serve_poll, answer_poll, beacon_frame, release, tick, may_be_known, authentication_status, answer_authentication, association_status, answer_association, serve, notify_or_serve, announced_at, asks_for, answer, answer_probe, step, after, alone}
+use Rattle.bss_core.specs.Network.{Setting, Network, empty_network, send, count_unread, change_state, change_where_served, lose, keep_or_lose, deliver, answer_wired, drop_units, send_unit, send_each, put_on_wire, forward, set_power_mode, serve_poll, answer_poll, beacon_frame, release, tick, may_be_known, authentication_status, answer_authentication, association_status, answer_association, serve, notify_or_serve, announced_at, asks_for, answer, answer_probe, step, after, alone}
 use Rattle.bss_core.specs.Configuration.{network_fault}
 use Rattle.std.proofs.Math.Seq.{drop-append_seam}
 use Rattle.bss_core.specs.State.{Keeps, sent_by, wired_by}
 use Rattle.bss_core.specs.Replies.{after_reply}
-use Rattle.bss_core.specs.Sound.{IsSound}
+use Rattle.bss_core.specs.Sound.{IsSoundNetwork}
 use Rattle.bss_core.proofs.StationsSound.{length-set_link, length-forgotten, length-moded, mode-sound, authenticate-sound, associate-sound, disassociate-sound, forget-sound}
 use Rattle.beacon.specs.ProbeResponse.{probe_response}
 use Rattle.bss_core.specs.declared.reply.Reply.{Reply}
@@ -60,7 +60,7 @@ alone-push s es e = after-push s empty_network es e
 
 -- ---- what holds of every network that can be reached: of the empty one, after each named change
 
-empty-sound : (s : Setting) → IsSound s 0 0 empty_network
+empty-sound : (s : Setting) → IsSoundNetwork s 0 0 empty_network
 empty-sound s = record {
   stations = record { addresses = tt; aids = tt; associated = omega arith };
   known = omega arith;
@@ -73,7 +73,7 @@ empty-sound s = record {
 }
 
 -- of a network with the same stations and kept units, where its counts stay within their bounds
-counts-sound : (s : Setting) (events units more most : ℕ) (n other : Network) → (other.stations ≡ n.stations) × (other.kept ≡ n.kept) → other.sequence < 4096 → other.unread ≤ more → other.clock ≤ more → other.lost + length other.kept ≤ most → IsSound s events units n → IsSound s more most other
+counts-sound : (s : Setting) (events units more most : ℕ) (n other : Network) → (other.stations ≡ n.stations) × (other.kept ≡ n.kept) → other.sequence < 4096 → other.unread ≤ more → other.clock ≤ more → other.lost + length other.kept ≤ most → IsSoundNetwork s events units n → IsSoundNetwork s more most other
 counts-sound s events units more most n other same sequence unread clock lost h = record {
   stations = rw same.0 h.stations;
   known = rw same.0 h.known;
@@ -86,27 +86,27 @@ counts-sound s events units more most n other same sequence unread clock lost h 
 }
 
 -- more events and units are no less
-more-sound : (s : Setting) (events units more most : ℕ) (n : Network) → events ≤ more → units ≤ most → IsSound s events units n → IsSound s more most n
+more-sound : (s : Setting) (events units more most : ℕ) (n : Network) → events ≤ more → units ≤ most → IsSoundNetwork s events units n → IsSoundNetwork s more most n
 more-sound s events units more most n e u h = counts-sound s events units more most n n (refl, refl) h.sequence (omega (arith, e, h.unread)) (omega (arith, e, h.clock)) (omega (arith, u, h.lost)) h
 
-send-sound : (s : Setting) (events units : ℕ) (n : Network) (frame : ℕ → List ℕ) → IsSound s events units n → IsSound s events units (send frame n)
+send-sound : (s : Setting) (events units : ℕ) (n : Network) (frame : ℕ → List ℕ) → IsSoundNetwork s events units n → IsSoundNetwork s events units (send frame n)
 send-sound s events units n frame h = counts-sound s events units events units n (send frame n) (refl, refl) (omega arith) h.unread h.clock h.lost h
 
-count_unread-sound : (s : Setting) (events units : ℕ) (n : Network) → IsSound s events units n → IsSound s (events + 1) units (count_unread n)
+count_unread-sound : (s : Setting) (events units : ℕ) (n : Network) → IsSoundNetwork s events units n → IsSoundNetwork s (events + 1) units (count_unread n)
 count_unread-sound s events units n h = counts-sound s events units (events + 1) units n (count_unread n) (refl, refl) h.sequence (omega (arith, h.unread)) (omega (arith, h.clock)) h.lost h
 
-clock-sound : (s : Setting) (events units : ℕ) (n : Network) → IsSound s events units n → IsSound s (events + 1) units (record n { clock = n.clock + 1 })
+clock-sound : (s : Setting) (events units : ℕ) (n : Network) → IsSoundNetwork s events units n → IsSoundNetwork s (events + 1) units (record n { clock = n.clock + 1 })
 clock-sound s events units n h = counts-sound s events units (events + 1) units n (record n { clock = n.clock + 1 }) (refl, refl) h.sequence (omega (arith, h.unread)) (omega (arith, h.clock)) h.lost h
 
-lose-sound : (s : Setting) (events units : ℕ) (n : Network) → IsSound s events units n → IsSound s events (units + 1) (lose n)
+lose-sound : (s : Setting) (events units : ℕ) (n : Network) → IsSoundNetwork s events units n → IsSoundNetwork s events (units + 1) (lose n)
 lose-sound s events units n h = counts-sound s events units events (units + 1) n (lose n) (refl, refl) h.sequence h.unread h.clock (omega (arith, h.lost)) h
 
 -- which frames were sent, on the air or on the wire, is nothing to it
-frames-sound : (s : Setting) (events units : ℕ) (n : Network) (air wire : List (List ℕ)) → IsSound s events units n → IsSound s events units (record n { air = air; wire = wire })
+frames-sound : (s : Setting) (events units : ℕ) (n : Network) (air wire : List (List ℕ)) → IsSoundNetwork s events units n → IsSoundNetwork s events units (record n { air = air; wire = wire })
 frames-sound s events units n air wire h = counts-sound s events units events units n (record n { air = air; wire = wire }) (refl, refl) h.sequence h.unread h.clock h.lost h
 
 -- some units leave
-kept-sound : (s : Setting) (events units : ℕ) (n : Network) (kept : List Entry) → AreKeptFor n.stations kept → length kept ≤ length n.kept → IsSound s events units n → IsSound s events units (record n { kept = kept })
+kept-sound : (s : Setting) (events units : ℕ) (n : Network) (kept : List Entry) → AreKeptFor n.stations kept → length kept ≤ length n.kept → IsSoundNetwork s events units n → IsSoundNetwork s events units (record n { kept = kept })
 kept-sound s events units n kept for fewer h = record {
   stations = h.stations;
   known = h.known;
@@ -119,7 +119,7 @@ kept-sound s events units n kept for fewer h = record {
 }
 
 -- the stations change, and stay sound, and whoever units are kept for dozes
-stations-sound : (s : Setting) (events units : ℕ) (n : Network) (table : Table) → AreSound s.network.max_stations table → length table ≤ s.network.max_known → AreKeptFor table n.kept → IsSound s events units n → IsSound s events units (record n { stations = table })
+stations-sound : (s : Setting) (events units : ℕ) (n : Network) (table : Table) → AreSound s.network.max_stations table → length table ≤ s.network.max_known → AreKeptFor table n.kept → IsSoundNetwork s events units n → IsSoundNetwork s events units (record n { stations = table })
 stations-sound s events units n table sound few for h = record {
   stations = sound;
   known = few;
@@ -132,7 +132,7 @@ stations-sound s events units n table sound few for h = record {
 }
 
 -- one of them changes, and the units for it leave
-state-sound : (s : Setting) (addr : List ℕ) (change : Table → Table) (events units : ℕ) (n : Network) → AreSound s.network.max_stations (change n.stations) → length (change n.stations) ≤ s.network.max_known → ((b : List ℕ) → bytes_eq b addr ≡ false → link_of b (change n.stations) ≡ link_of b n.stations) → IsSound s events units n → IsSound s events units (change_state addr change n)
+state-sound : (s : Setting) (addr : List ℕ) (change : Table → Table) (events units : ℕ) (n : Network) → AreSound s.network.max_stations (change n.stations) → length (change n.stations) ≤ s.network.max_known → ((b : List ℕ) → bytes_eq b addr ≡ false → link_of b (change n.stations) ≡ link_of b n.stations) → IsSoundNetwork s events units n → IsSoundNetwork s events units (change_state addr change n)
 state-sound s addr change events units n sound few elsewhere h = record {
   stations = sound;
   known = few;
@@ -146,10 +146,10 @@ state-sound s addr change events units n sound few elsewhere h = record {
 
 -- ---- units
 
-keep-sound : (s : Setting) (whom : Whom) (u : DataUnit) (events units : ℕ) (n : Network) → IsKeptFor n.stations whom → IsSound s events units n → IsSound s events (units + 1) (keep_or_lose s whom u n)
+keep-sound : (s : Setting) (whom : Whom) (u : DataUnit) (events units : ℕ) (n : Network) → IsKeptFor n.stations whom → IsSoundNetwork s events units n → IsSoundNetwork s events (units + 1) (keep_or_lose s whom u n)
 keep-sound s whom u events units n for h = by (nat_lt (length n.kept) s.network.quota) refl
   where
-    by : (b : Bool) → nat_lt (length n.kept) s.network.quota ≡ b → IsSound s events (units + 1) (keep_or_lose s whom u n)
+    by : (b : Bool) → nat_lt (length n.kept) s.network.quota ≡ b → IsSoundNetwork s events (units + 1) (keep_or_lose s whom u n)
     by false is = rw is (lose-sound s events units n h)
     by true is =
         let room : length n.kept < s.network.quota = ltb-true (length n.kept) s.network.quota is in
@@ -183,39 +183,39 @@ delivery-for to t kept whom h = by (is_group to) refl
     by true is = to_group (some_station_dozes t || group_is_kept kept) (sym (rw is refl) ∙ h)
     by false is = to_one (link_of to t) refl (sym (rw is refl) ∙ h)
 
-deliver-sound : (s : Setting) (u : DataUnit) (events units : ℕ) (n : Network) → IsSound s events units n → IsSound s events (units + 1) (deliver s u n)
+deliver-sound : (s : Setting) (u : DataUnit) (events units : ℕ) (n : Network) → IsSoundNetwork s events units n → IsSoundNetwork s events (units + 1) (deliver s u n)
 deliver-sound s u events units n h = by (delivery_of u.to n.stations n.kept) refl
   where
-    by : (d : Delivery) → delivery_of u.to n.stations n.kept ≡ d → IsSound s events (units + 1) (deliver s u n)
+    by : (d : Delivery) → delivery_of u.to n.stations n.kept ≡ d → IsSoundNetwork s events (units + 1) (deliver s u n)
     by Now is = rw is (more-sound s events units events (units + 1) _ (omega arith) (omega arith) (send-sound s events units n (unit_frame s.network.bssid false u) h))
     by (Kept whom) is = rw is (keep-sound s whom u events units n (delivery-for u.to n.stations n.kept whom is) h)
     by Nowhere is = rw is (more-sound s events units events (units + 1) n (omega arith) (omega arith) h)
 
-send_each-sound : (s : Setting) (telling : Bool) (us : List DataUnit) (events units : ℕ) (n : Network) → IsSound s events units n → IsSound s events units (send_each s telling us n)
+send_each-sound : (s : Setting) (telling : Bool) (us : List DataUnit) (events units : ℕ) (n : Network) → IsSoundNetwork s events units n → IsSoundNetwork s events units (send_each s telling us n)
 send_each-sound s telling [] events units n h = h
 send_each-sound s telling (u ∷ us) events units n h =
     send_each-sound s telling us events units (send_unit s (telling && are_left us) u n) (send-sound s events units n (unit_frame s.network.bssid (telling && are_left us) u) h)
 
-put_on_wire-sound : (s : Setting) (wired : Option (List ℕ)) (events units : ℕ) (n : Network) → IsSound s events units n → IsSound s events (units + 1) (put_on_wire wired n)
+put_on_wire-sound : (s : Setting) (wired : Option (List ℕ)) (events units : ℕ) (n : Network) → IsSoundNetwork s events units n → IsSoundNetwork s events (units + 1) (put_on_wire wired n)
 put_on_wire-sound s (Some octets) events units n h = more-sound s events units events (units + 1) _ (omega arith) (omega arith) (frames-sound s events units n n.air (n.wire ++ octets ∷ []) h)
 put_on_wire-sound s None events units n h = lose-sound s events units n h
 
-forward-sound : (s : Setting) (u : DataUnit) (events units : ℕ) (n : Network) → IsSound s events units n → IsSound s events (units + 2) (forward s u n)
+forward-sound : (s : Setting) (u : DataUnit) (events units : ℕ) (n : Network) → IsSoundNetwork s events units n → IsSoundNetwork s events (units + 2) (forward s u n)
 forward-sound s u events units n h = by (goes_on_wire u.to n.stations) refl
   where
-    by : (b : Bool) → goes_on_wire u.to n.stations ≡ b → IsSound s events (units + 2) (forward s u n)
+    by : (b : Bool) → goes_on_wire u.to n.stations ≡ b → IsSoundNetwork s events (units + 2) (forward s u n)
     by true is =
         rw is (more-sound s events (units + 1 + 1) events (units + 2) _ (omega arith) (omega arith)
         (put_on_wire-sound s (on_wire u.to u.source u.body) events (units + 1) (deliver s u n) (deliver-sound s u events units n h)))
     by false is = rw is (more-sound s events (units + 1) events (units + 2) _ (omega arith) (omega arith) (deliver-sound s u events units n h))
 
-mode_set-sound : (s : Setting) (from : List ℕ) (doze : Bool) (events units : ℕ) (n : Network) → IsSound s events units n → IsSound s events units (set_power_mode s from doze n)
+mode_set-sound : (s : Setting) (from : List ℕ) (doze : Bool) (events units : ℕ) (n : Network) → IsSoundNetwork s events units n → IsSoundNetwork s events units (set_power_mode s from doze n)
 mode_set-sound s from doze events units n h = by (is_dozing from n.stations && not doze) refl
   where
     few : length (set_mode from doze n.stations) ≤ s.network.max_known
     few = omega (arith, length-moded from doze n.stations, h.known)
 
-    by : (b : Bool) → (is_dozing from n.stations && not doze) ≡ b → IsSound s events units (set_power_mode s from doze n)
+    by : (b : Bool) → (is_dozing from n.stations && not doze) ≡ b → IsSoundNetwork s events units (set_power_mode s from doze n)
     by true is =
         rw is (send_each-sound s false (units_for (One from) n.kept) events units (change_state from (set_mode from doze) n)
         (state-sound s from (set_mode from doze) events units n (mode-sound s.network.max_stations from doze n.stations h.stations) few (λ b other. link_of-moded from b doze n.stations other) h))
@@ -223,39 +223,39 @@ mode_set-sound s from doze events units n h = by (is_dozing from n.stations && n
         rw is (stations-sound s events units n (set_mode from doze n.stations) (mode-sound s.network.max_stations from doze n.stations h.stations) few
         (kept-where n.stations (set_mode from doze n.stations) (λ b dozes. mode-stays from b doze n.stations is dozes) n.kept h.kept) h)
 
-poll-sound : (s : Setting) (from : List ℕ) (us : List DataUnit) (events units : ℕ) (n : Network) → IsSound s events units n → IsSound s events units (serve_poll s from us n)
+poll-sound : (s : Setting) (from : List ℕ) (us : List DataUnit) (events units : ℕ) (n : Network) → IsSoundNetwork s events units n → IsSoundNetwork s events units (serve_poll s from us n)
 poll-sound s from [] events units n h = h
 poll-sound s from (u ∷ us) events units n h =
     send-sound s events units _ (unit_frame s.network.bssid (are_left us) u)
     (kept-sound s events units n (without_oldest (One from) n.kept) (kept-without_first n.stations (is_for (One from)) n.kept h.kept) (length-without_first (is_for (One from)) n.kept) h)
 
-polled-sound : (s : Setting) (from : List ℕ) (aid events units : ℕ) (n : Network) → IsSound s events units n → IsSound s events units (answer_poll s from aid n)
+polled-sound : (s : Setting) (from : List ℕ) (aid events units : ℕ) (n : Network) → IsSoundNetwork s events units n → IsSoundNetwork s events units (answer_poll s from aid n)
 polled-sound s from aid events units n h = by (may_poll aid (link_of from n.stations)) refl
   where
-    by : (b : Bool) → may_poll aid (link_of from n.stations) ≡ b → IsSound s events units (answer_poll s from aid n)
+    by : (b : Bool) → may_poll aid (link_of from n.stations) ≡ b → IsSoundNetwork s events units (answer_poll s from aid n)
     by true is = rw is (poll-sound s from (units_for (One from) n.kept) events units n h)
     by false is = rw is h
 
-release-sound : (s : Setting) (events units : ℕ) (n : Network) → IsSound s events units n → IsSound s events units (release s n)
+release-sound : (s : Setting) (events units : ℕ) (n : Network) → IsSoundNetwork s events units n → IsSoundNetwork s events units (release s n)
 release-sound s events units n h = by (dtim_count n.clock s.network.dtim == 0) refl
   where
-    by : (b : Bool) → (dtim_count n.clock s.network.dtim == 0) ≡ b → IsSound s events units (release s n)
+    by : (b : Bool) → (dtim_count n.clock s.network.dtim == 0) ≡ b → IsSoundNetwork s events units (release s n)
     by true is =
         rw is (send_each-sound s true (units_for Group n.kept) events units (drop_units Group n)
         (kept-sound s events units n (without_all Group n.kept) (kept-filtered n.stations (λ entry. not (is_for Group entry)) n.kept h.kept) (length-filtered (λ entry. not (is_for Group entry)) n.kept) h))
     by false is = rw is h
 
-tick-sound : (s : Setting) (events units : ℕ) (n : Network) → IsSound s events units n → IsSound s (events + 1) units (tick s n)
+tick-sound : (s : Setting) (events units : ℕ) (n : Network) → IsSoundNetwork s events units n → IsSoundNetwork s (events + 1) units (tick s n)
 tick-sound s events units n h =
     release-sound s (events + 1) units _
     (send-sound s (events + 1) units (record n { clock = n.clock + 1 }) (beacon_frame s (n.clock + 1) n.stations n.kept) (clock-sound s events units n h))
 
 -- ---- and so by each answer, step and history
 
-probe-sound : (s : Setting) (from : List ℕ) (ssid : Option (List ℕ)) (events units : ℕ) (n : Network) → IsSound s events units n → IsSound s events units (answer_probe s from ssid n)
+probe-sound : (s : Setting) (from : List ℕ) (ssid : Option (List ℕ)) (events units : ℕ) (n : Network) → IsSoundNetwork s events units n → IsSoundNetwork s events units (answer_probe s from ssid n)
 probe-sound s from ssid events units n h = cases (asks_for s.network.ssid ssid) refl
   where
-    cases : (b : Bool) → asks_for s.network.ssid ssid ≡ b → IsSound s events units (answer_probe s from ssid n)
+    cases : (b : Bool) → asks_for s.network.ssid ssid ≡ b → IsSoundNetwork s events units (answer_probe s from ssid n)
     cases true e = rw e (send-sound s events units n (probe_response (announced_at s n.clock) from) h)
     cases false e = rw e h
 
@@ -275,14 +275,14 @@ authenticated-few s from n room few =
     at_most_one true = omega arith
     at_most_one false = omega arith
 
-served-sound : (s : Setting) (status : ℕ) (addr : List ℕ) (change : Table → Table) (events units : ℕ) (n : Network) → (status ≡ success → IsSound s events units (change_state addr change n)) → IsSound s events units n → IsSound s events units (change_where_served status addr change n)
+served-sound : (s : Setting) (status : ℕ) (addr : List ℕ) (change : Table → Table) (events units : ℕ) (n : Network) → (status ≡ success → IsSoundNetwork s events units (change_state addr change n)) → IsSoundNetwork s events units n → IsSoundNetwork s events units (change_where_served status addr change n)
 served-sound s status addr change events units n served h = by (status == success) refl
   where
-    by : (b : Bool) → (status == success) ≡ b → IsSound s events units (change_where_served status addr change n)
+    by : (b : Bool) → (status == success) ≡ b → IsSoundNetwork s events units (change_where_served status addr change n)
     by true is = let yes : status ≡ success = eqb-true status success is in rw is (served yes)
     by false is = rw is h
 
-authentication-sound : (s : Setting) (from : List ℕ) (algorithm step events units : ℕ) (n : Network) → IsSound s events units n → IsSound s events units (answer_authentication s from algorithm step n)
+authentication-sound : (s : Setting) (from : List ℕ) (algorithm step events units : ℕ) (n : Network) → IsSoundNetwork s events units n → IsSoundNetwork s events units (answer_authentication s from algorithm step n)
 authentication-sound s from algorithm step events units n h =
     send-sound s events units _ (λ sequence. authentication from s.network.bssid sequence algorithm (authentication_status s from algorithm step n))
     (served-sound s (authentication_status s from algorithm step n) from (authenticate from) events units n
@@ -290,7 +290,7 @@ authentication-sound s from algorithm step events units n h =
     (authenticated-few s from n (room-authenticated algorithm step (may_be_known s from n) served) h.known)
     (λ b other. link_of-set from b Authenticated n.stations other) h) h)
 
-association-sound : (s : Setting) (from : List ℕ) (again : Bool) (listen : ℕ) (es : List Pair) (events units : ℕ) (n : Network) → s.network.max_stations ≤ 2007 → is_some (link_of from n.stations) ≡ true → IsSound s events units n → IsSound s events units (answer_association s from again listen es n)
+association-sound : (s : Setting) (from : List ℕ) (again : Bool) (listen : ℕ) (es : List Pair) (events units : ℕ) (n : Network) → s.network.max_stations ≤ 2007 → is_some (link_of from n.stations) ≡ true → IsSoundNetwork s events units n → IsSoundNetwork s events units (answer_association s from again listen es n)
 association-sound s from again listen es events units n limit known h =
     send-sound s events units _ (λ sequence. association_response from s.network.bssid sequence again (association_status s from es n) (next_aid from n.stations) s.network.rates)
     (served-sound s (association_status s from es n) from (associate from listen) events units n
@@ -299,7 +299,7 @@ association-sound s from again listen es events units n limit known h =
     (let len = length-set_link from (Associated (next_aid from n.stations) listen false) n.stations in let same = rw known at len in omega (arith, same, h.known))
     (λ b other. link_of-set from b (Associated (next_aid from n.stations) listen false) n.stations other) h) h)
 
-disassociation-sound : (s : Setting) (from : List ℕ) (events units : ℕ) (n : Network) → IsSound s events units n → IsSound s events units (change_state from (disassociate from) n)
+disassociation-sound : (s : Setting) (from : List ℕ) (events units : ℕ) (n : Network) → IsSoundNetwork s events units n → IsSoundNetwork s events units (change_state from (disassociate from) n)
 disassociation-sound s from events units n h =
     state-sound s from (disassociate from) events units n (disassociate-sound s.network.max_stations from n.stations h.stations) (few (is_some (aid_of from n.stations)) refl)
     (λ b other. elsewhere b other (is_some (aid_of from n.stations)) refl) h
@@ -316,7 +316,7 @@ disassociation-sound s from events units n h =
     elsewhere b other true is = rw is (link_of-set from b Authenticated n.stations other)
     elsewhere b other false is = rw is refl
 
-serve-sound : (s : Setting) (r : Request) (events units : ℕ) (n : Network) → s.network.max_stations ≤ 2007 → class_fault (standing_of (sender r) n.stations) (class_of r) ≡ None → IsSound s events units n → IsSound s events (units + 2) (serve s r n)
+serve-sound : (s : Setting) (r : Request) (events units : ℕ) (n : Network) → s.network.max_stations ≤ 2007 → class_fault (standing_of (sender r) n.stations) (class_of r) ≡ None → IsSoundNetwork s events units n → IsSoundNetwork s events (units + 2) (serve s r n)
 serve-sound s (Probe from ssid) events units n limit taken h = more-sound s events units events (units + 2) _ (omega arith) (omega arith) (probe-sound s from ssid events units n h)
 serve-sound s (Auth from algorithm step) events units n limit taken h = more-sound s events units events (units + 2) _ (omega arith) (omega arith) (authentication-sound s from algorithm step events units n h)
 serve-sound s (Assoc from again listen es) events units n limit taken h = more-sound s events units events (units + 2) _ (omega arith) (omega arith) (association-sound s from again listen es events units n limit (known-where_taken (link_of from n.stations) taken) h)
@@ -330,30 +330,30 @@ serve-sound s (Msdu from doze to body) events units n limit taken h =
 serve-sound s (Null from doze) events units n limit taken h = more-sound s events units events (units + 2) _ (omega arith) (omega arith) (mode_set-sound s from doze events units n h)
 serve-sound s (Poll from aid) events units n limit taken h = more-sound s events units events (units + 2) _ (omega arith) (omega arith) (polled-sound s from aid events units n h)
 
-notified-sound : (s : Setting) (r : Request) (fault : Option Notice) (events units : ℕ) (n : Network) → s.network.max_stations ≤ 2007 → class_fault (standing_of (sender r) n.stations) (class_of r) ≡ fault → IsSound s events units n → IsSound s events (units + 2) (notify_or_serve fault s r n)
+notified-sound : (s : Setting) (r : Request) (fault : Option Notice) (events units : ℕ) (n : Network) → s.network.max_stations ≤ 2007 → class_fault (standing_of (sender r) n.stations) (class_of r) ≡ fault → IsSoundNetwork s events units n → IsSoundNetwork s events (units + 2) (notify_or_serve fault s r n)
 notified-sound s r (Some notice) events units n limit is h = more-sound s events units events (units + 2) _ (omega arith) (omega arith) (send-sound s events units n (λ sequence. notice_frame (sender r) s.network.bssid sequence notice) h)
 notified-sound s r None events units n limit is h = serve-sound s r events units n limit is h
 
-answer-sound : (s : Setting) (asked : Result Request Fault) (events units : ℕ) (n : Network) → s.network.max_stations ≤ 2007 → IsSound s events units n → IsSound s (events + 1) (units + 2) (answer s asked n)
+answer-sound : (s : Setting) (asked : Result Request Fault) (events units : ℕ) (n : Network) → s.network.max_stations ≤ 2007 → IsSoundNetwork s events units n → IsSoundNetwork s (events + 1) (units + 2) (answer s asked n)
 answer-sound s (Ok r) events units n limit h = more-sound s events (units + 2) (events + 1) (units + 2) _ (omega arith) (omega arith) (notified-sound s r (class_fault (standing_of (sender r) n.stations) (class_of r)) events units n limit refl h)
 answer-sound s (Err fault) events units n limit h = more-sound s (events + 1) units (events + 1) (units + 2) _ (omega arith) (omega arith) (count_unread-sound s events units n h)
 
-wired-sound : (s : Setting) (read : Result Ethernet Fault) (events units : ℕ) (n : Network) → IsSound s events units n → IsSound s (events + 1) (units + 2) (answer_wired s read n)
+wired-sound : (s : Setting) (read : Result Ethernet Fault) (events units : ℕ) (n : Network) → IsSoundNetwork s events units n → IsSoundNetwork s (events + 1) (units + 2) (answer_wired s read n)
 wired-sound s (Ok w) events units n h = more-sound s events (units + 1) (events + 1) (units + 2) _ (omega arith) (omega arith) (deliver-sound s (unit_of w) events units n h)
 wired-sound s (Err fault) events units n h = more-sound s (events + 1) units (events + 1) (units + 2) _ (omega arith) (omega arith) (count_unread-sound s events units n h)
 
-step-sound : (s : Setting) (events units : ℕ) (n : Network) (e : Event) → s.network.max_stations ≤ 2007 → IsSound s events units n → IsSound s (events + 1) (units + 2) (step s n e)
+step-sound : (s : Setting) (events units : ℕ) (n : Network) (e : Event) → s.network.max_stations ≤ 2007 → IsSoundNetwork s events units n → IsSoundNetwork s (events + 1) (units + 2) (step s n e)
 step-sound s events units n (Air x) limit h = answer-sound s (request_of s.network.bssid x) events units n limit h
 step-sound s events units n (Wire y) limit h = wired-sound s (ethernet_of y) events units n h
 step-sound s events units n Tick limit h = more-sound s (events + 1) units (events + 1) (units + 2) _ (omega arith) (omega arith) (tick-sound s events units n h)
 
-after-sound : (s : Setting) (events units : ℕ) (n : Network) (es : List Event) → s.network.max_stations ≤ 2007 → IsSound s events units n → IsSound s (events + length es) (units + 2 * length es) (after s n es)
+after-sound : (s : Setting) (events units : ℕ) (n : Network) (es : List Event) → s.network.max_stations ≤ 2007 → IsSoundNetwork s events units n → IsSoundNetwork s (events + length es) (units + 2 * length es) (after s n es)
 after-sound s events units n [] limit h = more-sound s events units _ _ n (omega arith) (omega arith) h
 after-sound s events units n (e ∷ es) limit h =
     more-sound s _ _ _ _ (after s (step s n e) es) (omega arith) (omega arith)
     (after-sound s (events + 1) (units + 2) (step s n e) es limit (step-sound s events units n e limit h))
 
-pub alone-sound : (s : Setting) (es : List Event) → network_fault s.network ≡ None → IsSound s (length es) (2 * length es) (alone s es)
+pub alone-sound : (s : Setting) (es : List Event) → network_fault s.network ≡ None → IsSoundNetwork s (length es) (2 * length es) (alone s es)
 unfolding alone
 alone-sound s es h =
     more-sound s _ _ _ _ (after s empty_network es) (omega arith) (omega arith) (after-sound s 0 0 empty_network es (stations_fit s.network h).1 (empty-sound s))
@@ -364,8 +364,8 @@ pub keeps-none : (s : Setting) → network_fault s.network ≡ None → Keeps s 
 unfolding alone
 keeps-none s h = record { bounded = omega arith; sound = h; same = refl }
 
-pub keeps-sound : (s : Setting) (es : List Event) (kept : Network) → Keeps s es kept → IsSound s (length es) (2 * length es) kept
-keeps-sound s es kept k = subst (IsSound s (length es) (2 * length es)) k.same (frames-sound s (length es) (2 * length es) (alone s es) [] (alone s es).wire (alone-sound s es k.sound))
+pub keeps-sound : (s : Setting) (es : List Event) (kept : Network) → Keeps s es kept → IsSoundNetwork s (length es) (2 * length es) kept
+keeps-sound s es kept k = subst (IsSoundNetwork s (length es) (2 * length es)) k.same (frames-sound s (length es) (2 * length es) (alone s es) [] (alone s es).wire (alone-sound s es k.sound))
 
 -- ---- one more event, by the reply to it
 
@@ -382,8 +382,8 @@ keeps-push s es e r kept k room h = record {
 }
 
 -- so it stays within its bounds, and can be counted
-pub reply-sound : (s : Setting) (es : List Event) (e : Event) (r : Reply) (kept : Network) → Keeps s es kept → length es < s.network.max_events → step s (alone s es) e ≡ after_reply r (alone s es) → IsSound s (length es + 1) (2 * (length es + 1)) (record (after_reply r kept) { air = [] })
-reply-sound s es e r kept k room h = subst (λ (m : ℕ). IsSound s m (2 * m) (record (after_reply r kept) { air = [] })) (length-append es (e ∷ [])) (keeps-sound s (es ++ e ∷ []) _ (keeps-push s es e r kept k room h))
+pub reply-sound : (s : Setting) (es : List Event) (e : Event) (r : Reply) (kept : Network) → Keeps s es kept → length es < s.network.max_events → step s (alone s es) e ≡ after_reply r (alone s es) → IsSoundNetwork s (length es + 1) (2 * (length es + 1)) (record (after_reply r kept) { air = [] })
+reply-sound s es e r kept k room h = subst (λ (m : ℕ). IsSoundNetwork s m (2 * m) (record (after_reply r kept) { air = [] })) (length-append es (e ∷ [])) (keeps-sound s (es ++ e ∷ []) _ (keeps-push s es e r kept k room h))
 
 -- the frames that the event adds are those of the reply
 pub sent_by-reply : (s : Setting) (es : List Event) (e : Event) (r : Reply) → step s (alone s es) e ≡ after_reply r (alone s es) → sent_by s es e ≡ r.frames

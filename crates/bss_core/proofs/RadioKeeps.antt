@@ -7,7 +7,7 @@ use Rattle.std.proofs.lemmas.List.Elements.{All-rest}
 use Rattle.std.proofs.Math.Seq.{map-set_same}
 use Rattle.bss_core.specs.Network.{Setting, alone}
 use Rattle.bss_core.specs.Radio.{no_network, setting_at, setting_in, items_of}
-use Rattle.bss_core.specs.RadioView.{RadioView, NetworkView, unused, view_at, settings_of, shown, config_of, radio_of, IsSuffix, IsSound}
+use Rattle.bss_core.specs.RadioView.{RadioView, NetworkView, unused, view_at, settings_of, shown, config_of, radio_of, IsSuffix, IsSoundRadio}
 use Rattle.bss_core.specs.State.{State, network_of, sent_by}
 use Rattle.bss_core.specs.declared.bss.Refusal.{Refusal}
 use Rattle.bss_core.specs.declared.config.NetConfig.{NetConfig}
@@ -45,7 +45,7 @@ abbrev EndsFrames : RadioConfig → List AirItem → ℕ → NetworkView → Typ
 EndsFrames c items place v =
     IsSuffix (items_of place items ++ v.waiting) (alone (setting_at c place) v.history).air
 
-sound-changed : (r : RadioView) (place : ℕ) (v : NetworkView) (items : List AirItem) → IsSound r → place < length r.config.networks → length items ≤ r.config.queue → All (λ item. item.place < length r.config.networks) items → ((other : ℕ) → (other ≡ place → ⊥) → items_of other items ≡ items_of other r.queue) → EndsFrames r.config items place v → IsSound (changed r place v items)
+sound-changed : (r : RadioView) (place : ℕ) (v : NetworkView) (items : List AirItem) → IsSoundRadio r → place < length r.config.networks → length items ≤ r.config.queue → All (λ item. item.place < length r.config.networks) items → ((other : ℕ) → (other ≡ place → ⊥) → items_of other items ≡ items_of other r.queue) → EndsFrames r.config items place v → IsSoundRadio (changed r place v items)
 sound-changed r place v items h within bounded placed others last = record {
   accepted = h.accepted;
   whole = length-set r.networks place v ∙ h.whole;
@@ -77,7 +77,7 @@ settings-changed channel interval capacity states place d new same all =
     ∙ ap (λ (ns : List NetConfig). settings_of (record (config_of channel interval capacity states) { networks = ns })) (sym (map-set_same (λ (s : State). s.setting.network) states place new d (ap (λ (s : Setting). s.network) same)))
 
 -- what is queued and then waits of a network, by the network itself
-pub last-at : (channel interval capacity : ℕ) (states : List State) (items : List AirItem) (place : ℕ) (d : State) → IsSound (radio_of channel interval capacity states items) → map (λ (s : State). s.setting) states ≡ settings_of (config_of channel interval capacity states) → place < length states → IsSuffix (items_of place items ++ (get_or states place d).waiting) (network_of (get_or states place d)).air
+pub last-at : (channel interval capacity : ℕ) (states : List State) (items : List AirItem) (place : ℕ) (d : State) → IsSoundRadio (radio_of channel interval capacity states items) → map (λ (s : State). s.setting) states ≡ settings_of (config_of channel interval capacity states) → place < length states → IsSuffix (items_of place items ++ (get_or states place d).waiting) (network_of (get_or states place d)).air
 last-at channel interval capacity states items place d h same within =
     let c : RadioConfig = config_of channel interval capacity states in
     let view : view_at (radio_of channel interval capacity states items) place ≡ shown (get_or states place d) = get_or-map shown states place d unused within in
@@ -86,13 +86,13 @@ last-at channel interval capacity states items place d h same within =
     subst (λ (t : Setting). IsSuffix (items_of place items ++ (get_or states place d).waiting) (alone t (get_or states place d).history).air) (sym setting)
     (subst (λ (v : NetworkView). IsSuffix (items_of place items ++ v.waiting) (alone (setting_at c place) v.history).air) view given)
 
-pub sound-network : (channel interval capacity : ℕ) (states : List State) (items more : List AirItem) (place : ℕ) (d new : State) → IsSound (radio_of channel interval capacity states items) → map (λ (s : State). s.setting) states ≡ settings_of (config_of channel interval capacity states) → place < length states → new.setting ≡ (get_or states place d).setting → length more ≤ capacity → All (λ item. item.place < length states) more → ((other : ℕ) → (other ≡ place → ⊥) → items_of other more ≡ items_of other items) → IsSuffix (items_of place more ++ new.waiting) (network_of new).air → IsSound (radio_of channel interval capacity (set states place new) more)
+pub sound-network : (channel interval capacity : ℕ) (states : List State) (items more : List AirItem) (place : ℕ) (d new : State) → IsSoundRadio (radio_of channel interval capacity states items) → map (λ (s : State). s.setting) states ≡ settings_of (config_of channel interval capacity states) → place < length states → new.setting ≡ (get_or states place d).setting → length more ≤ capacity → All (λ item. item.place < length states) more → ((other : ℕ) → (other ≡ place → ⊥) → items_of other more ≡ items_of other items) → IsSuffix (items_of place more ++ new.waiting) (network_of new).air → IsSoundRadio (radio_of channel interval capacity (set states place new) more)
 sound-network channel interval capacity states items more place d new h same within setting bounded placed others last =
     let r : RadioView = radio_of channel interval capacity states items in
     let count = length-map states (λ (s : State). s.setting.network) in
     let at = setting ∙ setting-at channel interval capacity states place d same within in
     let ends = subst (λ (t : Setting). IsSuffix (items_of place more ++ new.waiting) (alone t new.history).air) at last in
-    subst IsSound (sym (radio-changed channel interval capacity states items more place d new within setting))
+    subst IsSoundRadio (sym (radio-changed channel interval capacity states items more place d new within setting))
     (sound-changed r place (shown new) more h (omega (arith, count)) bounded (subst (λ n. All (λ (item : AirItem). item.place < n) more) (sym count) placed) others ends)
 
 -- ---- a network takes an event
@@ -120,8 +120,8 @@ handed-last old new place items octets front setting history h =
 
 -- ---- a frame leaves
 
-pub sound-left : (r : RadioView) (o : Option AirItem) (rest : List AirItem) → r.queue ≡ option_to_list o ++ rest → IsSound r → IsSound (record r { queue = rest })
-sound-left r None rest is h = subst (λ (q : List AirItem). IsSound (record r { queue = q })) is h
+pub sound-left : (r : RadioView) (o : Option AirItem) (rest : List AirItem) → r.queue ≡ option_to_list o ++ rest → IsSoundRadio r → IsSoundRadio (record r { queue = rest })
+sound-left r None rest is h = subst (λ (q : List AirItem). IsSoundRadio (record r { queue = q })) is h
 sound-left r (Some item) rest is h = record {
   accepted = h.accepted;
   whole = h.whole;

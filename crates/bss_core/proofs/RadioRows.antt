@@ -162,14 +162,14 @@ each_frame_belongs_to_its_network = refl
 pub the_frames_of_a_network_keep_their_order : items_of 0 (answer ∷ guest_answer ∷ (record { place = 0; octets = [] }) ∷ []) ≡ response_with 0x00 0x00 ∷ [] ∷ []
 the_frames_of_a_network_keep_their_order = refl
 
-pub each_network_has_one_answer_in_its_section : sections_of two three_steps ≡ section_of setting (asked ∷ []) ∷ section_of (record setting { network = guest }) (asked ∷ []) ∷ []
-each_network_has_one_answer_in_its_section = refl
+pub each_section_is_of_its_own_events : sections_of two three_steps ≡ section_of setting (asked ∷ []) ∷ section_of (record setting { network = guest }) (asked ∷ []) ∷ []
+each_section_is_of_its_own_events = refl
 
--- fifty frames more to the other network
-pub the_other_network_changes_nothing : part_of two 0 (replicate 50 (Take 1 asked) ++ three_steps ++ replicate 50 (Take 1 asked)) ≡ part_of two 0 three_steps
-the_other_network_changes_nothing = refl
+-- a hundred frames more to the other network
+pub frames_to_the_other_network_are_no_part_of_this_one : part_of two 0 (replicate 50 (Take 1 asked) ++ three_steps ++ replicate 50 (Take 1 asked)) ≡ part_of two 0 three_steps
+frames_to_the_other_network_are_no_part_of_this_one = refl
 
--- the second answer of the second network has sequence number 1, whatever the first one sent
+-- the answer of the second network has sequence number 0, though the first one answered twice
 pub each_network_numbers_its_own_frames :
     waiting_at two (after_steps two (both_asked ++ Take 0 asked ∷ [])) 1 ≡ guest_response ∷ []
 unfolding after_steps radio_step alone timestamp fixed_fields network_elements elements_of elements_within

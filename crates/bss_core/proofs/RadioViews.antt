@@ -4,7 +4,7 @@ use Rattle.std.proofs.lemmas.List.{length-map, get_or-map}
 use Rattle.bss_core.specs.Configuration.{fault_of}
 use Rattle.bss_core.specs.Network.{Setting, alone}
 use Rattle.bss_core.specs.Radio.{network_at, setting_at}
-use Rattle.bss_core.specs.RadioView.{NetworkView, unused, view_at, settings_of, shown, opened, config_of, radio_of, IsSuffix, IsSound, fresh_radio}
+use Rattle.bss_core.specs.RadioView.{NetworkView, unused, view_at, settings_of, shown, opened, config_of, radio_of, IsSuffix, IsSoundRadio, fresh_radio}
 use Rattle.bss_core.specs.State.{State}
 use Rattle.bss_core.specs.declared.config.NetConfig.{NetConfig}
 use Rattle.bss_core.specs.declared.config.RadioConfig.{RadioConfig}
@@ -42,7 +42,7 @@ empty_suffix : (s : Setting) → IsSuffix unused.waiting (alone s unused.history
 unfolding alone
 empty_suffix s = ([], refl)
 
-pub sound-fresh : (c : RadioConfig) → fault_of c ≡ None → IsSound (fresh_radio c)
+pub sound-fresh : (c : RadioConfig) → fault_of c ≡ None → IsSoundRadio (fresh_radio c)
 sound-fresh c accepted = record {
   accepted = accepted;
   whole = length-map c.networks (λ _. unused);

@@ -5,7 +5,7 @@ use Rattle.std.proofs.lemmas.List.{length-take, length-drop, get_or-map, get_or-
 use Rattle.std.proofs.lemmas.Option.{slice_get_past, slice_get-get_or}
 use Rattle.bss_core.specs.Network.{alone}
 use Rattle.bss_core.specs.Radio.{network_at, setting_at, Place, untouched, RadioState, first_state, place_at, air_at, waiting_at, with_place, radio_step, after_steps, event_for}
-use Rattle.bss_core.specs.RadioView.{RadioView, NetworkView, unused, view_at, IsSound, fresh_radio, took, moved, after_hand}
+use Rattle.bss_core.specs.RadioView.{RadioView, NetworkView, unused, view_at, IsSoundRadio, fresh_radio, took, moved, after_hand}
 use Rattle.bss_core.specs.Running.{IsAt}
 use Rattle.bss_core.specs.State.{sent_by}
 use Rattle.bss_core.specs.declared.config.RadioConfig.{RadioConfig}
@@ -72,7 +72,7 @@ record Shows (c : RadioConfig) (place : ℕ) (p : Place) (v : NetworkView) : Typ
 shows-at : (s : RadioState) (r : RadioView) (gone : List AirItem) (place : ℕ) → IsAt s r gone → place < length r.config.networks → Shows r.config place (place_at s place) (view_at r place)
 shows-at s r gone place h within = record { history = h.history place within; waiting = h.waiting place within }
 
-is_at-changed : (r : RadioView) (before : List Step) (gone : List AirItem) (step : Step) (place : ℕ) (p : Place) (v : NetworkView) (items : List AirItem) → IsSound r → place < length r.config.networks → IsAt (after_steps r.config before) r gone → radio_step r.config (after_steps r.config before) step ≡ record (with_place (after_steps r.config before) place p) { queue = items } → Shows r.config place p v → IsAt (after_steps r.config (before ++ step ∷ [])) (record r { networks = set r.networks place v; queue = items }) gone
+is_at-changed : (r : RadioView) (before : List Step) (gone : List AirItem) (step : Step) (place : ℕ) (p : Place) (v : NetworkView) (items : List AirItem) → IsSoundRadio r → place < length r.config.networks → IsAt (after_steps r.config before) r gone → radio_step r.config (after_steps r.config before) step ≡ record (with_place (after_steps r.config before) place p) { queue = items } → Shows r.config place p v → IsAt (after_steps r.config (before ++ step ∷ [])) (record r { networks = set r.networks place v; queue = items }) gone
 is_at-changed r before gone step place p v items sound within h is shows = subst (λ (t : RadioState). IsAt t next gone) (sym (after_steps-push r.config before step ∙ is)) (record { left = h.left; queue = refl; history = λ q l. (each q l).history; waiting = λ q l. (each q l).waiting })
   where
     s : RadioState
@@ -97,7 +97,7 @@ history-le r before gone place h within =
     let part = ap length (h.history place within ∙ events-part r.config before place within) in
     omega (arith, length-take (network_at r.config place).max_events (filter_map (event_for place) before))
 
-pub is_at-took : (r : RadioView) (before : List Step) (gone : List AirItem) (place : ℕ) (event : Event) → IsSound r → place < length r.config.networks → length (view_at r place).history ≢ (network_at r.config place).max_events → IsAt (after_steps r.config before) r gone → IsAt (after_steps r.config (before ++ Take place event ∷ [])) (took place event r) gone
+pub is_at-took : (r : RadioView) (before : List Step) (gone : List AirItem) (place : ℕ) (event : Event) → IsSoundRadio r → place < length r.config.networks → length (view_at r place).history ≢ (network_at r.config place).max_events → IsAt (after_steps r.config before) r gone → IsAt (after_steps r.config (before ++ Take place event ∷ [])) (took place event r) gone
 is_at-took r before gone place event sound within not_full h =
     let c : RadioConfig = r.config in
     let s : RadioState = after_steps c before in
@@ -136,7 +136,7 @@ hand_refused r before gone place octets rest within first full h =
     let next = frame-next (air_at r.config s place) (place_at s place).handed octets rest (sym (h.waiting place within) ∙ first) in
     is_at-same r before gone (Hand place) h (hand-full r.config s place octets within next.0 (omega (arith, full, ap length h.queue)))
 
-hand_moved : (r : RadioView) (before : List Step) (gone : List AirItem) (place : ℕ) (octets : List ℕ) (rest : List (List ℕ)) → IsSound r → place < length r.config.networks → (view_at r place).waiting ≡ octets ∷ rest → length r.queue ≢ r.config.queue → IsAt (after_steps r.config before) r gone → IsAt (after_steps r.config (before ++ Hand place ∷ [])) (moved place r (octets ∷ rest)) gone
+hand_moved : (r : RadioView) (before : List Step) (gone : List AirItem) (place : ℕ) (octets : List ℕ) (rest : List (List ℕ)) → IsSoundRadio r → place < length r.config.networks → (view_at r place).waiting ≡ octets ∷ rest → length r.queue ≢ r.config.queue → IsAt (after_steps r.config before) r gone → IsAt (after_steps r.config (before ++ Hand place ∷ [])) (moved place r (octets ∷ rest)) gone
 hand_moved r before gone place octets rest sound within first not_full h =
     let c : RadioConfig = r.config in
     let s : RadioState = after_steps c before in
@@ -147,7 +147,7 @@ hand_moved r before gone place octets rest sound within first not_full h =
     (is_at-changed r before gone (Hand place) place _ _ (s.queue ++ (record { place = place; octets = octets }) ∷ []) sound within h (hand-frame c s place octets within next.0 room) (record { history = shown.history; waiting = sym next.1 }))
 
 -- whatever `hand` answers, as it says when it answers it
-is_at-handed_by : (r : RadioView) (before : List Step) (gone : List AirItem) (place : ℕ) (waiting : List (List ℕ)) (answer : Handed) → (view_at r place).waiting ≡ waiting → IsSound r → place < length r.config.networks → (answer ≡ Nothing) ↔ ((view_at r place).waiting ≡ []) → (answer ≡ QueueFull) ↔ (((view_at r place).waiting ≢ []) × (length r.queue ≡ r.config.queue)) → IsAt (after_steps r.config before) r gone → IsAt (after_steps r.config (before ++ Hand place ∷ [])) (after_hand place answer r) gone
+is_at-handed_by : (r : RadioView) (before : List Step) (gone : List AirItem) (place : ℕ) (waiting : List (List ℕ)) (answer : Handed) → (view_at r place).waiting ≡ waiting → IsSoundRadio r → place < length r.config.networks → (answer ≡ Nothing) ↔ ((view_at r place).waiting ≡ []) → (answer ≡ QueueFull) ↔ (((view_at r place).waiting ≢ []) × (length r.queue ≡ r.config.queue)) → IsAt (after_steps r.config before) r gone → IsAt (after_steps r.config (before ++ Hand place ∷ [])) (after_hand place answer r) gone
 is_at-handed_by r before gone place waiting Nothing is sound within nothing full h =
     hand_empty r before gone place within (nothing.0 refl) h
 is_at-handed_by r before gone place [] QueueFull is sound within nothing full h = absurd ((full.0 refl).0 is)
@@ -161,7 +161,7 @@ is_at-handed_by r before gone place (octets ∷ rest) Moved is sound within noth
     subst (λ (w : List (List ℕ)). IsAt (after_steps r.config (before ++ Hand place ∷ [])) (moved place r w) gone) (sym is)
     (hand_moved r before gone place octets rest sound within is not_full h)
 
-pub is_at-handed : (r : RadioView) (before : List Step) (gone : List AirItem) (place : ℕ) (answer : Handed) → IsSound r → place < length r.config.networks → (answer ≡ Nothing) ↔ ((view_at r place).waiting ≡ []) → (answer ≡ QueueFull) ↔ (((view_at r place).waiting ≢ []) × (length r.queue ≡ r.config.queue)) → IsAt (after_steps r.config before) r gone → IsAt (after_steps r.config (before ++ Hand place ∷ [])) (after_hand place answer r) gone
+pub is_at-handed : (r : RadioView) (before : List Step) (gone : List AirItem) (place : ℕ) (answer : Handed) → IsSoundRadio r → place < length r.config.networks → (answer ≡ Nothing) ↔ ((view_at r place).waiting ≡ []) → (answer ≡ QueueFull) ↔ (((view_at r place).waiting ≢ []) × (length r.queue ≡ r.config.queue)) → IsAt (after_steps r.config before) r gone → IsAt (after_steps r.config (before ++ Hand place ∷ [])) (after_hand place answer r) gone
 is_at-handed r before gone place answer sound within nothing full h =
     is_at-handed_by r before gone place (view_at r place).waiting answer refl sound within nothing full h
 

@@ -12,11 +12,10 @@ use borrow.Author.Tests.{eqb-true}
 use Rattle.indexmap.specs.IndexMap.{insert_entry}
 use Rattle.bss_core.specs.StationsKept.{AreOut, dozing_count}
 use Rattle.std.specs.Int.{from_bool}
-use Rattle.std.specs.List.{list_any}
 use Rattle.std.specs.Map.{lookup, set_value}
 use Rattle.std.specs.Str.{bytes_eq}
 use Rattle.aid_pool.specs.LeastFree.{is_among, least_free, IsLeastFree}
-use Rattle.bss_core.specs.Stations.{Table, link_of, identifier_of, identifiers, aid_with, aid_of, AreIdentifiers, set_link, forget, set_mode, with_mode, dozes, dozes_with, is_dozing, some_station_dozes, changed, IsModeAlone, StationTable, with_table}
+use Rattle.bss_core.specs.Stations.{Table, link_of, identifier_of, identifiers, aid_with, aid_of, AreIdentifiers, set_link, forget, set_mode, with_mode, dozes, is_dozing, some_station_dozes, changed, IsModeAlone, StationTable, with_table}
 use Rattle.bss_core.specs.declared.stations.Change.{Change}
 use Rattle.bss_core.specs.declared.stations.Change.TheVariants.{Nothing, Authenticate, Associate, Disassociate, Forget, SetMode}
 use Rattle.bss_core.specs.declared.stations.Link.{Link}

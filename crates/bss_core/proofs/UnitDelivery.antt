@@ -1,5 +1,5 @@
 -- How a reply goes on: a frame is sent, a unit is delivered.
-use Rattle.std.proofs.Common.{◌≡◌, ℕ, zero, suc, ◌+◌, ◌<◌, ◌≤◌, Bool, true, false, ◌||◌, ◌&&◌, List, [], ◌∷◌, ◌++◌, length, drop, slice_get, get_or, Option, Some, None, option_to_list, refl, sym, ap, subst, ◌∙◌, arith}
+use Rattle.std.proofs.Common.{◌≡◌, ℕ, zero, suc, ◌+◌, ◌<◌, ◌≤◌, Bool, true, false, ◌||◌, ◌&&◌, List, [], ◌∷◌, ◌++◌, length, drop, slice_get, Option, Some, None, option_to_list, refl, sym, ap, ◌∙◌, arith}
 use Rattle.std.specs.Prelude.{nat_lt, if◌then◌else◌}
 use Rattle.std.specs.Str.{bytes_eq}
 use Rattle.std.proofs.lemmas.Bool.{both_ways, lt-ltb, le-ltb}
@@ -8,12 +8,12 @@ use Rattle.std.proofs.lemmas.Option.{slice_get_within, get_or_from_slice_get}
 use Rattle.std.proofs.lemmas.Slice.Eq.{bytes_eq-Decides}
 use borrow.Author.Tests.{ltb-true, ltb-false}
 use Rattle.mac_frame.specs.Address.{is_group}
-use Rattle.powersave.specs.Keep.{Entry, is_same, without_all, without_oldest}
+use Rattle.powersave.specs.Keep.{Entry, without_all, without_oldest}
 use Rattle.powersave.specs.declared.unit.Whom.{Whom}
 use Rattle.powersave.specs.declared.unit.Whom.TheVariants.{One, Group}
 use Rattle.powersave.specs.declared.unit.Unit.{Unit as Msdu}
-use Rattle.bss_core.specs.Network.{Setting, Network, send, next_sequence, send_unit, send_each, serve_poll, deliver_by, deliver}
-use Rattle.bss_core.specs.Replies.{after_reply, sending, without, kept_after, is_left, IsAwake}
+use Rattle.bss_core.specs.Network.{Setting, Network, send, send_unit, send_each, serve_poll, deliver_by, deliver}
+use Rattle.bss_core.specs.Replies.{after_reply, sending, without, is_left, IsAwake}
 use Rattle.bss_core.specs.Sound.{IsKeptFor}
 use Rattle.bss_core.specs.Stations.{Table, link_of, is_dozing, some_station_dozes, changed}
 use Rattle.bss_core.specs.Units.{are_left, delivery_of, delivery_with, group_is_kept, unit_frame}

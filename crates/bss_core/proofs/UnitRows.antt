@@ -10,7 +10,6 @@ use Rattle.beacon.specs.Advert.{timestamp, fixed_fields, network_elements}
 use Rattle.beacon.specs.Beacon.{dtim_count}
 use Rattle.bss_core.specs.Network.{Setting, Network, empty_network, answer, step}
 use Rattle.bss_core.specs.Units.{unit}
-use Rattle.bss_core.specs.declared.event.Event.{Event}
 use Rattle.bss_core.specs.declared.event.Event.TheVariants.{Wire, Tick}
 use Rattle.bss_core.specs.declared.stations.Link.TheVariants.{Authenticated, Associated}
 use Rattle.bss_core.proofs.Samples.{bssid, station, network, setting}

@@ -1,6 +1,6 @@
 -- The units that are kept, and whoever they are kept for.
-use Rattle.std.proofs.Common.{◌≡◌, ℕ, suc, ◌+◌, ◌<◌, ◌≤◌, Bool, true, false, not, ◌&&◌, List, [], ◌∷◌, ◌++◌, length, Option, Some, None, refl, sym, ap, ◌∙◌, arith}
-use Rattle.std.specs.Prelude.{filter, if◌then◌else◌, option_map, map, min, nat_lt}
+use Rattle.std.proofs.Common.{◌≡◌, ℕ, suc, ◌+◌, ◌≤◌, Bool, true, false, not, ◌&&◌, List, [], ◌∷◌, ◌++◌, length, Option, Some, None, refl, sym, ap, ◌∙◌, arith}
+use Rattle.std.specs.Prelude.{filter, option_map, min, nat_lt}
 use Rattle.std.specs.List.{list_any}
 use Rattle.std.specs.Str.{bytes_eq}
 use Rattle.std.proofs.lemmas.Bool.{both_ways, lt-ltb}
@@ -9,7 +9,7 @@ use Rattle.powersave.specs.Keep.{Entry, is_same, is_for, units_for, without_all,
 use Rattle.powersave.specs.declared.unit.Whom.{Whom}
 use Rattle.powersave.specs.declared.unit.Whom.TheVariants.{One, Group}
 use Rattle.powersave.specs.declared.unit.Unit.{Unit as Msdu}
-use Rattle.bss_core.specs.Stations.{Table, link_of, dozes, dozes_with, is_dozing, with_mode, set_link, forget, set_mode}
+use Rattle.bss_core.specs.Stations.{Table, link_of, dozes_with, is_dozing, with_mode, set_link, forget, set_mode}
 use Rattle.bss_core.specs.Sound.{IsKeptFor, AreKeptFor}
 use Rattle.bss_core.specs.Units.{group_is_kept}
 use Rattle.bss_core.specs.declared.stations.Link.{Link}

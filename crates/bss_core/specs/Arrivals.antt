@@ -1,4 +1,4 @@
--- Units that arrived, without where their octets lie in memory.
+-- Units, without where their octets lie in memory (profile).
 use Rattle.std.specs.Prelude.{ℕ, List}
 use Rattle.bridge.specs.Ethernet.{shown}
 use Rattle.bridge.specs.Encapsulation.{on_air}
@@ -6,10 +6,10 @@ use Rattle.powersave.specs.declared.unit.Unit.{Unit as Msdu}
 use Rattle.bss_core.specs.Units.{unit}
 use Rattle.bss_core.specs.declared.unit.Arrival.{Arrival}
 use Rattle.bss_core.specs.declared.unit.Body.{Body}
-use Rattle.bss_core.specs.declared.unit.Body.TheVariants.{Heard, Wired}
+use Rattle.bss_core.specs.declared.unit.Body.TheVariants.{Plain, Wired}
 
 abbrev pub body_octets : Body → List ℕ
-body_octets (Heard octets) = octets.now
+body_octets (Plain octets) = octets.now
 body_octets (Wired ether) = on_air (shown ether)
 
 abbrev pub unit_shown : Arrival → Msdu

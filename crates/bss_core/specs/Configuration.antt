@@ -1,8 +1,9 @@
 -- Which configurations are sound, and the first fault of one that isn't (profile).
-use Rattle.std.specs.Prelude.{ℕ, ◌%◌, ◌++◌, nat_le, nat_lt, Bool, true, not, ◌==◌, ◌&&◌, List, [], ◌∷◌, length, Option, Some, None, if◌then◌else◌}
+use Rattle.std.specs.Prelude.{ℕ, ◌++◌, nat_le, nat_lt, Bool, true, not, ◌==◌, ◌&&◌, List, [], ◌∷◌, length, Option, Some, None, if◌then◌else◌}
 use Rattle.std.specs.List.{list_any, list_all}
 use Rattle.std.specs.Str.{bytes_eq}
 use Rattle.mac_frame.specs.Address.{is_group}
+use Rattle.elements.specs.Rates.{units_of, is_rate_among}
 use Rattle.bss_core.specs.declared.config.NetConfig.{NetConfig}
 use Rattle.bss_core.specs.declared.config.RadioConfig.{RadioConfig}
 use Rattle.bss_core.specs.declared.config.ConfigFault.{ConfigFault}
@@ -27,20 +28,14 @@ count_fits = is_between 1 8
 abbrev pub ssid_fits : List ℕ → Bool
 ssid_fits ssid = is_between 1 32 (length ssid)
 
--- the low seven bits: the rate itself, in units of 500 kb/s, without the mark of a basic rate
-abbrev pub rate_value : ℕ → ℕ
-rate_value octet = octet % 128
-
+-- a rate of at most 54 Mb/s, basic or not
 abbrev pub is_rate : ℕ → Bool
-is_rate octet = is_between 1 108 (rate_value octet)
+is_rate octet = is_between 1 108 (units_of octet)
 
--- some octet stands for the same rate
-abbrev pub has_same_rate : List ℕ → ℕ → Bool
-has_same_rate rates octet = list_any (λ other. rate_value other == rate_value octet) rates
-
+-- no two are the same rate, basic or not
 abbrev pub are_different : List ℕ → Bool
 are_different [] = true
-are_different (rate ∷ rates) = not (has_same_rate rates rate) && are_different rates
+are_different (rate ∷ rates) = not (is_rate_among rate rates) && are_different rates
 
 abbrev pub rates_fit : List ℕ → Bool
 rates_fit rates = is_between 1 16 (length rates) && list_all is_rate rates && are_different rates

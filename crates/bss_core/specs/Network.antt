@@ -73,7 +73,7 @@ change_stations change n = record n { stations = change n.stations }
 abbrev pub drop_units : Whom → Network → Network
 drop_units whom n = record n { kept = without_all whom n.kept }
 
--- a station's state changes, and no unit is kept for it any more
+-- a station's state changes, and no unit is kept for it any more (profile)
 abbrev pub change_state : List ℕ → (Table → Table) → Network → Network
 change_state addr change n = drop_units (One addr) (change_stations change n)
 
@@ -98,7 +98,7 @@ abbrev pub send_each : Setting → Bool → List DataUnit → Network → Networ
 send_each s telling [] n = n
 send_each s telling (u ∷ us) n = send_each s telling us (send_unit s (telling && are_left us) u n)
 
--- a unit goes on the wire, or is lost where it has no wired form
+-- a unit goes on the wire, or is lost where it has no wired form (profile)
 abbrev pub put_on_wire : Option (List ℕ) → Network → Network
 put_on_wire (Some octets) n = record n { wire = n.wire ++ octets ∷ [] }
 put_on_wire None n = lose n
@@ -139,7 +139,7 @@ answer_authentication s from algorithm step n =
     send (λ sequence. authentication from s.network.bssid sequence algorithm (authentication_status s from algorithm step n))
     (change_where_served (authentication_status s from algorithm step n) from (authenticate from) n)
 
--- a request to associate is answered with its status, and where it is served with the identifier (11.3.5.3)
+-- a request to associate is answered with its status, and where it is served with the identifier (11.3.5.3, 11.3.5.5)
 abbrev pub association_status : Setting → List ℕ → List Pair → Network → ℕ
 association_status s from elements n =
     assoc_status s.network.ssid s.network.rates (may_associate s.network.max_stations from n.stations) elements
@@ -160,7 +160,7 @@ deliver_by Nowhere s u n = n
 abbrev pub deliver : Setting → DataUnit → Network → Network
 deliver s u n = deliver_by (delivery_of u.to n.stations n.kept) s u n
 
--- a station's unit is delivered on the air, and goes on the wire but where it is for one associated station (5.1.4)
+-- a station's unit is delivered on the air, and goes on the wire but where it is for one associated station (4.5.2)
 abbrev pub forward_by : Bool → Setting → DataUnit → Network → Network
 forward_by true s u n = put_on_wire (on_wire u.to u.source u.body) (deliver s u n)
 forward_by false s u n = deliver s u n
@@ -180,12 +180,12 @@ abbrev pub serve_poll : Setting → List ℕ → List DataUnit → Network → N
 serve_poll s from [] n = n
 serve_poll s from (u ∷ us) n = send_unit s (are_left us) u (record n { kept = without_oldest (One from) n.kept })
 
--- a poll of a station that dozes and names its association identifier (11.2.3.6)
+-- a poll of a station that dozes and names its association identifier (11.2.3.6); any other brings nothing (profile)
 abbrev pub answer_poll : Setting → List ℕ → ℕ → Network → Network
 answer_poll s from aid n =
     if may_poll aid (link_of from n.stations) then serve_poll s from (units_for (One from) n.kept) n else n
 
--- a frame of the wire, which goes to the group, to an associated station or nowhere
+-- a frame of the wire (4.5.2.2), which goes to the group, to an associated station or nowhere (profile)
 abbrev pub answer_wired : Setting → Result Ethernet Unread → Network → Network
 answer_wired s (Ok w) n = deliver s (unit_of w) n
 answer_wired s (Err fault) n = count_unread n

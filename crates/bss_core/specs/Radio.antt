@@ -1,5 +1,5 @@
--- A radio and its networks: what a list of steps makes of them, in whatever order the steps come. What a network does
--- is said by `alone`, of its own setting and its own events, and by nothing else.
+-- A radio and its networks (profile): what a list of steps makes of them, in whatever order the steps come. What a network
+-- does is said by `alone`, of its own setting and its own events, and by nothing else.
 use Rattle.std.specs.Prelude.{ℕ, ◌+◌, ◌==◌, nat_lt, Bool, List, [], ◌∷◌, ◌++◌, length, take, drop, map, filter, slice_get, slice_set, Option, Some, None, if◌then◌else◌}
 use Rattle.std.specs.List.{slice_index_or, filter_map, range_with_len}
 use Rattle.bss_core.specs.Network.{Setting, alone}

@@ -1,4 +1,4 @@
--- What contracts see of a radio that runs.
+-- What contracts see of a radio that runs (profile).
 use Rattle.std.specs.Prelude.{ℕ, ◌<◌, ◌≤◌, ◌≡◌, All, List, [], ◌∷◌, ◌++◌, length, map, slice_set, false, None}
 use Rattle.std.specs.List.{slice_index_or}
 use Rattle.bss_core.specs.Configuration.{fault_of}
@@ -69,7 +69,7 @@ opened channel interval n = record {
 abbrev pub IsSuffix : List (List ℕ) → List (List ℕ) → Type 0
 IsSuffix xs ys = (before : List (List ℕ)) × (before ++ xs ≡ ys)
 
-pub record IsSound (r : RadioView) : Type 0 where
+pub record IsSoundRadio (r : RadioView) : Type 0 where
   pub accepted : fault_of r.config ≡ None
   pub whole : length r.networks ≡ length r.config.networks
   pub bounded : length r.queue ≤ r.config.queue

@@ -1,10 +1,10 @@
--- What a reply makes of a network.
+-- What a reply makes of a network (profile).
 use Rattle.std.specs.Prelude.{ℕ, ◌+◌, ◌<◌, ◌≡◌, Bool, false, List, [], ◌∷◌, ◌++◌, length, Option, Some, None, option_to_list}
 use Rattle.powersave.specs.Keep.{Entry, Kept, is_same, room_beside, without_all, without_oldest}
 use Rattle.powersave.specs.declared.unit.Whom.{Whom}
 use Rattle.powersave.specs.declared.unit.Whom.TheVariants.{One, Group}
 use Rattle.bss_core.specs.Network.{Setting, Network, next_sequence}
-use Rattle.bss_core.specs.Stations.{Table, changed, is_dozing, IsAllowed}
+use Rattle.bss_core.specs.Stations.{Table, changed, is_dozing, IsAllowed, IsModeAlone}
 use Rattle.bss_core.specs.declared.keeping.Leaving.{Leaving}
 use Rattle.bss_core.specs.declared.keeping.Leaving.TheVariants as leavings
 use Rattle.bss_core.specs.declared.keeping.Keeping.{Keeping}
@@ -90,3 +90,13 @@ IsAwake leavings.Nothing table = Unit {0}
 IsAwake (leavings.All (One addr)) table = is_dozing addr table ≡ false
 IsAwake (leavings.All Group) table = ⊥
 IsAwake (leavings.Oldest whom) table = ⊥
+
+-- a reply to which the delivery of a unit can be added: it sets the mode of one station at most, units leave for one that is
+-- active then, and no unit comes, is lost or goes on the wire
+pub record IsModeReply (r : Reply) (n : Network) : Type 0 where
+  pub change : IsModeAlone r.change
+  pub awake : IsAwake r.keeping.leaving (changed r.change n.stations)
+  pub none_arrives : r.keeping.arriving ≡ None
+  pub sequence : r.sequence < 4096
+  pub lost : r.lost ≡ 0
+  pub wired : r.wired ≡ None

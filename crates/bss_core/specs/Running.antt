@@ -1,4 +1,4 @@
--- What a run of steps keeps, and the sections that it ends with.
+-- What a run of steps keeps, and the sections that it ends with (profile).
 use Rattle.std.specs.Prelude.{ℕ, ◌<◌, ◌≡◌, List, ◌++◌, length, map}
 use Rattle.std.specs.List.{enumerate_from}
 use Rattle.bss_core.specs.Network.{table_of, counts_of}

@@ -1,4 +1,4 @@
--- What is known of a network in the end.
+-- What is known of a network in the end (profile).
 use Rattle.std.specs.Prelude.{List, length}
 use Rattle.bss_core.specs.Network.{Setting, alone, table_of, counts_of}
 use Rattle.bss_core.specs.declared.event.Event.{Event}

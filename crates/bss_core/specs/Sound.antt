@@ -1,4 +1,4 @@
--- What holds of every network that events make of an empty one.
+-- What holds of every network that events make of an empty one (profile, but where a clause is named).
 use Rattle.std.specs.Prelude.{ℕ, ◌≡◌, ◌+◌, ◌<◌, ◌≤◌, true, List, [], ◌∷◌, None, length}
 use Rattle.powersave.specs.Keep.{Entry}
 use Rattle.powersave.specs.declared.unit.Whom.{Whom}
@@ -28,7 +28,7 @@ AreKeptFor stations [] = Unit {0}
 AreKeptFor stations (entry ∷ entries) = IsKeptFor stations entry.0 × AreKeptFor stations entries
 
 -- a network that took so many events, and of which what it lost and keeps is at most so many units
-pub record IsSound (s : Setting) (events units : ℕ) (n : Network) : Type 0 where
+pub record IsSoundNetwork (s : Setting) (events units : ℕ) (n : Network) : Type 0 where
   pub stations : AreSound s.network.max_stations n.stations
   pub known : length n.stations ≤ s.network.max_known
   pub kept : AreKeptFor n.stations n.kept

@@ -1,4 +1,4 @@
--- What contracts see of a network that runs.
+-- What contracts see of a network that runs (profile).
 use Rattle.std.specs.Prelude.{ℕ, ◌≤◌, ◌≡◌, ◌++◌, Bool, List, [], ◌∷◌, length, drop, None}
 use Rattle.bss_core.specs.Configuration.{network_fault}
 use Rattle.bss_core.specs.Network.{Setting, Network, alone}

@@ -1,5 +1,5 @@
 -- The stations of a network and how far each has come (IEEE Std 802.11-2016, 11.3.1).
-use Rattle.std.specs.Prelude.{ℕ, ◌≡◌, ◌≤◌, Bool, true, false, not, ◌||◌, ◌&&◌, ◌==◌, nat_lt, List, [], ◌∷◌, ◌++◌, length, Option, Some, None, is_some, unwrap_or, if◌then◌else◌}
+use Rattle.std.specs.Prelude.{ℕ, ◌≡◌, ◌≤◌, Bool, true, false, ◌||◌, nat_lt, List, [], ◌∷◌, ◌++◌, length, Option, Some, None, is_some, unwrap_or, if◌then◌else◌}
 use Rattle.std.specs.List.{list_any}
 use Rattle.std.specs.Map.{lookup, remove_entry}
 use Rattle.std.specs.Str.{bytes_eq}
@@ -54,6 +54,11 @@ aid_with (Some (Associated aid listen doze)) = Some aid
 abbrev pub aid_of : List ℕ → Table → Option ℕ
 aid_of addr table = aid_with (link_of addr table)
 
+abbrev pub is_associated : Option Link → Bool
+is_associated None = false
+is_associated (Some Authenticated) = false
+is_associated (Some (Associated aid listen doze)) = true
+
 -- the listen interval, or 0 where it is not associated (9.4.1.6)
 abbrev pub listen_of : Link → ℕ
 listen_of Authenticated = 0
@@ -93,13 +98,13 @@ next_aid addr table = unwrap_or (aid_of addr table) (least_free (is_among (ident
 
 -- ---- changes of one station
 
--- a known station keeps its place, and an unknown one goes last
+-- a known station keeps its place, and an unknown one goes last (profile)
 abbrev pub set_link : List ℕ → Link → Table → Table
 set_link addr link [] = (addr, link) ∷ []
 set_link addr link (station ∷ stations) =
     if bytes_eq addr station.0 then (station.0, link) ∷ stations else station ∷ set_link addr link stations
 
--- authentication (11.3.4.3): no longer associated
+-- authentication (11.3.4.3): no longer associated (profile)
 abbrev pub authenticate : List ℕ → Table → Table
 authenticate addr table = set_link addr Authenticated table
 
@@ -107,7 +112,7 @@ authenticate addr table = set_link addr Authenticated table
 abbrev pub associate : List ℕ → ℕ → Table → Table
 associate addr listen table = set_link addr (Associated (next_aid addr table) listen false) table
 
--- disassociation (11.3.5.7): a station that is associated is authenticated only
+-- disassociation (11.3.5.9): a station that is associated is authenticated only
 abbrev pub disassociate : List ℕ → Table → Table
 disassociate addr table = if is_some (aid_of addr table) then set_link addr Authenticated table else table
 

@@ -1,4 +1,4 @@
--- Units and where they go (IEEE Std 802.11-2016, 5.1.4 and 11.2.3): the frame that carries one, and how it is delivered.
+-- Units and where they go (IEEE Std 802.11-2016, 4.5.2 and 11.2.3): the frame that carries one, and how it is delivered.
 use Rattle.std.specs.Prelude.{ℕ, ◌==◌, Bool, true, false, not, ◌||◌, ◌&&◌, List, [], ◌∷◌, ◌++◌, Option, Some, None, if◌then◌else◌}
 use Rattle.std.specs.List.{list_any}
 use Rattle.mac_frame.specs.Address.{is_group}
@@ -6,10 +6,9 @@ use Rattle.mac_frame.specs.Data.{data_header}
 use Rattle.bridge.specs.Ethernet.{Ethernet}
 use Rattle.bridge.specs.Encapsulation.{on_air}
 use Rattle.powersave.specs.Keep.{Entry, is_for}
-use Rattle.powersave.specs.declared.unit.Whom.{Whom}
 use Rattle.powersave.specs.declared.unit.Whom.TheVariants.{One, Group}
 use Rattle.powersave.specs.declared.unit.Unit.{Unit as Msdu}
-use Rattle.bss_core.specs.Stations.{Table, link_of, some_station_dozes}
+use Rattle.bss_core.specs.Stations.{Table, link_of, is_associated, some_station_dozes}
 use Rattle.bss_core.specs.declared.stations.Link.{Link}
 use Rattle.bss_core.specs.declared.stations.Link.TheVariants.{Authenticated, Associated}
 use Rattle.bss_core.specs.declared.unit.Delivery.{Delivery}
@@ -55,12 +54,7 @@ delivery_of to table kept =
     if is_group to then (if group_waits table kept then Kept Group else Now)
     else delivery_with (link_of to table) to
 
--- ---- where a station's unit goes besides (5.1.4)
-
-abbrev pub is_associated : Option Link → Bool
-is_associated None = false
-is_associated (Some Authenticated) = false
-is_associated (Some (Associated aid listen doze)) = true
+-- ---- where a station's unit goes besides (4.5.2)
 
 -- to the wire, but for a unit to one associated station
 abbrev pub goes_on_wire : List ℕ → Table → Bool
@@ -70,9 +64,9 @@ goes_on_wire to table = is_group to || not (is_associated (link_of to table))
 
 -- a station with this link dozes and has this association identifier
 abbrev pub may_poll : ℕ → Option Link → Bool
-may_poll number None = false
-may_poll number (Some Authenticated) = false
-may_poll number (Some (Associated aid listen doze)) = doze && number == aid
+may_poll aid None = false
+may_poll aid (Some Authenticated) = false
+may_poll aid (Some (Associated own listen doze)) = doze && aid == own
 
 -- ---- who has units waiting, for the beacon (11.2.3.3)
 
@@ -80,10 +74,10 @@ abbrev pub has_unit : List ℕ → List Entry → Bool
 has_unit addr kept = list_any (is_for (One addr)) kept
 
 -- it has this association identifier
-abbrev pub has_number : ℕ → Link → Bool
-has_number number Authenticated = false
-has_number number (Associated aid listen doze) = number == aid
+abbrev pub has_aid : ℕ → Link → Bool
+has_aid aid Authenticated = false
+has_aid aid (Associated own listen doze) = aid == own
 
 -- a station with this association identifier has units waiting
 abbrev pub is_waited_for : Table → List Entry → ℕ → Bool
-is_waited_for table kept number = list_any (λ station. has_number number station.1 && has_unit station.0 kept) table
+is_waited_for table kept aid = list_any (λ station. has_aid aid station.1 && has_unit station.0 kept) table

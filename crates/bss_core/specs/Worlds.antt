@@ -1,4 +1,4 @@
--- Two radios that have a network in common, whatever else they have and whatever else happens to them.
+-- Two radios that have a network in common, whatever else they have and whatever else happens to them (profile).
 use Rattle.std.specs.Prelude.{ℕ, ◌<◌, ◌≡◌, ◌⊎◌, List, ◌++◌, length}
 use Rattle.bss_core.specs.Radio.{network_at, part_of}
 use Rattle.bss_core.specs.declared.config.RadioConfig.{RadioConfig}

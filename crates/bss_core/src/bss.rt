@@ -2,16 +2,17 @@
 
 ghost use Rattle.std.specs.Prelude.{◌≡◌, Err, ◌+◌, ◌++◌, ◌∷◌, [], ◌↔◌, ◌<◌, ◌≤◌, true, false, None, Some, slice_get, IsTrue, IfOk, OnOk, OnErr, IfNone, vec_len, vec_capacity, length, is_some, option_to_list, if◌then◌else◌};
 ghost use Rattle.bss_core.specs.Configuration.{setting_fault, network_fault};
-ghost use Rattle.bss_core.specs.Network.{step, answer, row_of, table_of, counts_of};
+ghost use Rattle.bss_core.specs.Network.{step, answer, table_of, counts_of};
 ghost use Rattle.powersave.specs.Keep.{units_for};
 ghost use Rattle.powersave.specs.declared.unit.Whom.TheVariants as whoms;
-ghost use Rattle.bss_core.specs.Replies.{no_reply, after_reply, IsWithin};
-ghost use Rattle.bss_core.specs.Stations.{IsAllowed};
+ghost use Rattle.bss_core.specs.Replies.{no_reply, after_reply, IsFitting};
 ghost use Rattle.bss_core.specs.State.{State, network_of, sent_by, wired_by};
+ghost use Rattle.bss_core.specs.RadioView.{opened};
+ghost use Rattle.bss_core.specs.Running.{section_with};
 ghost use Rattle.association.specs.Request.{request_of};
 ghost use Rattle.bss_core.specs.declared.bss.Refusal.TheVariants as refusals;
 
-use crate::config::NetConfig;
+use crate::config::{MAX_EVENTS, NetConfig};
 use crate::event::Event;
 use crate::reply::Reply;
 use crate::section::{Counts, Section, StationRow};
@@ -115,12 +116,7 @@ impl Bss {
     ) -> Result<Bss, NoMemory>
         requires setting { setting_fault channel interval ≡ None }
         requires network { network_fault config ≡ None }
-        ensures { IfOk result (λ bss. bss ≡ record {
-          setting = record { channel = channel; interval = interval; network = config };
-          history = [];
-          waiting = [];
-          has_slot = false;
-        }) }
+        ensures { IfOk result (λ bss. bss ≡ opened channel interval config) }
     {
         Ok(Bss {
             alloc,
@@ -164,7 +160,8 @@ impl Bss {
         self.stations.len()
     }
 
-    /// The station at a place of its table, from 0, in order of first authentication (IEEE Std 802.11-2016, 11.3.1).
+    /// The station at a place of its table, from 0 and below [`Bss::table_len`], in order of first authentication (IEEE Std
+    /// 802.11-2016, 11.3.1).
     pub fn row(&self, place: usize) -> StationRow
         requires { place < length (table_of (network_of self.now)) }
         ensures { slice_get (table_of (network_of self.now)) place ≡ Some result }
@@ -279,8 +276,7 @@ impl Bss {
 
     /// What it does about an event. It changes nothing.
     fn reply(&self, event: &Event) -> Result<Reply, NoMemory>
-        ensures allowed { IfOk result (λ reply. IsAllowed self.now.setting.network.max_stations reply.change (network_of self.now).stations) }
-        ensures within { IfOk result (λ reply. IsWithin self.now.setting.network.quota reply.keeping.leaving (network_of self.now).kept reply.keeping.arriving) }
+        ensures fitting { IfOk result (λ reply. IsFitting self.now.setting reply (network_of self.now)) }
         ensures step { IfOk result (λ reply.
             step self.now.setting (network_of self.now) event.now ≡ after_reply reply (network_of self.now)) }
     {
@@ -293,8 +289,7 @@ impl Bss {
 
     /// What it does about a string of octets that was heard on the air.
     fn answer(&self, frame: &[u8]) -> Result<Reply, NoMemory>
-        ensures allowed { IfOk result (λ reply. IsAllowed self.now.setting.network.max_stations reply.change (network_of self.now).stations) }
-        ensures within { IfOk result (λ reply. IsWithin self.now.setting.network.quota reply.keeping.leaving (network_of self.now).kept reply.keeping.arriving) }
+        ensures fitting { IfOk result (λ reply. IsFitting self.now.setting reply (network_of self.now)) }
         ensures answer { IfOk result (λ reply.
             answer self.now.setting (request_of self.now.setting.network.bssid frame.now) (network_of self.now) ≡ after_reply reply (network_of self.now)) }
     {
@@ -368,7 +363,7 @@ impl Bss {
     /// How many beacon intervals have begun.
     pub(crate) fn clock(&self) -> u32
         ensures clock { result ≡ (network_of self.now).clock }
-        ensures bounded { result ≤ 1000000 }
+        ensures bounded { result ≤ MAX_EVENTS }
     {
         self.clock
     }
@@ -392,14 +387,7 @@ impl Bss {
     /// The section of all that it took, with `air` as the frames that left it. `NoMemory` where the
     /// room for its table was refused.
     pub fn into_section(self, air: List<Octets>) -> Result<Section, NoMemory>
-        ensures { IfOk result (λ section. section ≡ record {
-          config = self.setting.network;
-          events = self.history;
-          table = table_of (network_of self);
-          counts = counts_of (length self.history) (network_of self);
-          air = air;
-          wire = (network_of self).wire;
-        }) }
+        ensures { IfOk result (λ section. section ≡ section_with air self) }
     {
         let counts = self.counts();
         let table = List::from_vec(self.rows()?);

@@ -2,12 +2,13 @@
 
 ghost use Rattle.std.specs.Prelude.{◌≡◌, []};
 ghost use Rattle.std.specs.List.{list_all};
-ghost use Rattle.bss_core.specs.Configuration.{rate_value, is_rate, has_same_rate, are_different, rates_fit, numbers_fit, network_fault, is_taken, fault_among, networks_fault, fault_of};
+ghost use Rattle.bss_core.specs.Configuration.{is_rate, are_different, rates_fit, numbers_fit, network_fault, is_taken, fault_among, networks_fault, fault_of};
 
 use crate::config::{
     ConfigFault, MAX_CHANNEL, MAX_EVENTS, MAX_KNOWN, MAX_NETWORKS, MAX_QUEUE, MAX_QUOTA, MAX_RATE,
     MAX_RATES, MAX_SSID_LEN, MAX_STATIONS, NetConfig, RadioConfig,
 };
+use elements::{is_rate_among, units_of};
 use mac_frame::MacAddr;
 
 impl RadioConfig {
@@ -93,24 +94,18 @@ pub fn rates_fit(rates: &[u8]) -> bool
     (1..=MAX_RATES).contains(&rates.len()) && are_rates(rates) && are_different(rates)
 }
 
-/// Whether each octet is a rate from 1 to 108, but for the mark of a basic rate.
+/// Whether each octet is such a rate.
 fn are_rates(rates: &[u8]) -> bool
     ensures { result ≡ list_all is_rate rates.now }
 {
     rates.iter().all(|rate| is_rate(*rate))
 }
 
+/// Whether an octet is a rate from 1 to 108, but for the mark of a basic rate.
 fn is_rate(octet: u8) -> bool
     ensures { result ≡ is_rate octet }
 {
-    (1..=MAX_RATE).contains(&rate_value(octet))
-}
-
-/// The rate of an octet, without the mark of a basic rate.
-fn rate_value(octet: u8) -> u8
-    ensures { result ≡ rate_value octet }
-{
-    octet % 128
+    (1..=MAX_RATE).contains(&units_of(octet))
 }
 
 /// Whether no rate stands twice.
@@ -119,21 +114,12 @@ fn are_different(rates: &[u8]) -> bool
 {
     let mut rest = rates;
     while let Some((first, others)) = rest.split_first() {
-        if has_same_rate(others, *first) {
+        if is_rate_among(*first, others) {
             return false;
         }
         rest = others;
     }
     true
-}
-
-/// Whether some octet stands for the same rate.
-fn has_same_rate(rates: &[u8], octet: u8) -> bool
-    ensures { result ≡ has_same_rate rates.now octet }
-{
-    rates
-        .iter()
-        .any(|other| rate_value(*other) == rate_value(octet))
 }
 
 /// Whether each number is in its limits.

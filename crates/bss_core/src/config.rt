@@ -3,6 +3,7 @@
 ghost use Rattle.std.specs.Prelude.{◌≡◌};
 ghost use Rattle.bss_core.specs.Configuration.{of_radio, of_network};
 
+use aid_pool::MAX_AID;
 use mac_frame::{List, MacAddr, Octets};
 use std::fmt;
 
@@ -26,12 +27,12 @@ pub const MAX_RATE: u8 = 108;
 
 /// The most stations that are associated at a time: as many as there are association identifiers (IEEE Std
 /// 802.11-2016, 9.4.1.8).
-pub const MAX_STATIONS: u16 = 2007;
+pub const MAX_STATIONS: u16 = MAX_AID;
 
 /// The most stations that are known at a time (*profile*).
 pub const MAX_KNOWN: u16 = 10_000;
 
-/// The most units that a network keeps for dozing stations (*profile*).
+/// The most units that a network keeps, whoever they are for (*profile*).
 pub const MAX_QUOTA: u32 = 100_000;
 
 /// The most events that a network takes (*profile*).
@@ -44,8 +45,8 @@ pub struct NetConfig {
     pub bssid: MacAddr,
     /// Its name, 1 to [`MAX_SSID_LEN`] octets (IEEE Std 802.11-2016, 9.4.2.2).
     pub ssid: Octets,
-    /// Its rates in units of 500 kb/s, bit 7 set for a basic rate: 1 to 16 octets, whose low seven bits are 1 to
-    /// 108 and all different (9.4.2.3, 9.4.2.13).
+    /// Its rates in units of 500 kb/s, bit 7 set for a basic rate: 1 to [`MAX_RATES`] octets, whose low seven
+    /// bits are 1 to [`MAX_RATE`] and all different (9.4.2.3, 9.4.2.13; that they differ is *profile*).
     pub rates: Octets,
     /// The DTIM period in beacon intervals, 1 to 255 (9.4.2.6).
     pub dtim: u8,
@@ -53,7 +54,7 @@ pub struct NetConfig {
     pub max_stations: u16,
     /// The most stations that are known at a time, from `max_stations` to [`MAX_KNOWN`].
     pub max_known: u16,
-    /// The most units that are kept for dozing stations, 0 to [`MAX_QUOTA`].
+    /// The most units that are kept, for stations and for the group, 0 to [`MAX_QUOTA`].
     pub quota: u32,
     /// The most events that it takes, 1 to [`MAX_EVENTS`].
     pub max_events: u32,

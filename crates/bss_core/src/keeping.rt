@@ -1,6 +1,6 @@
 //! What becomes of the units that a network keeps.
 
-ghost use Rattle.std.specs.Prelude.{◌≡◌, ◌<◌, ◌≤◌, ◌++◌, length, None, Some, IfSome, OnOk, OnErr};
+ghost use Rattle.std.specs.Prelude.{◌≡◌, ◌<◌, length, None, Some, OnOk};
 ghost use Rattle.bss_core.specs.Replies.{without, room_after, kept_after, IsWithin, IsRoomFor};
 
 use mac_frame::NoMemory;

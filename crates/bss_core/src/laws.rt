@@ -1,10 +1,10 @@
 //! What follows from the definitions, for whoever stands on them.
 
-ghost use Rattle.std.specs.Prelude.{◌≡◌, ◌<◌, ◌*◌, ◌++◌, ℕ, List, [], ◌∷◌, slice_get, length, None};
+ghost use Rattle.std.specs.Prelude.{◌≡◌, ◌*◌, ◌++◌, ℕ, List, [], ◌∷◌, slice_get, length, None};
 ghost use Rattle.std.specs.List.{AllByRecursion};
 ghost use Rattle.bss_core.specs.Configuration.{fault_of, setting_fault, network_fault};
 ghost use Rattle.bss_core.specs.Network.{Setting, alone, empty_network, step};
-ghost use Rattle.bss_core.specs.Sound.{IsSound};
+ghost use Rattle.bss_core.specs.Sound.{IsSoundNetwork};
 ghost use Rattle.bss_core.specs.declared.config.RadioConfig.{RadioConfig};
 ghost use Rattle.bss_core.specs.declared.event.Event.{Event};
 ghost use Rattle.bss_core.specs.declared.step.Step.{Step};
@@ -15,7 +15,7 @@ ghost use Rattle.bss_core.specs.Worlds.{AreAlike, AreCutFromOne};
 /// What holds of every network that events make of an empty one, where its configuration has no fault: what it keeps and
 /// what it lost are together two units at most for each event that it took.
 pub fn reachable()
-    ensures { (s : Setting) (es : List Event) → network_fault s.network ≡ None → IsSound s (length es) (2 * length es) (alone s es) }
+    ensures { (s : Setting) (es : List Event) → network_fault s.network ≡ None → IsSoundNetwork s (length es) (2 * length es) (alone s es) }
 {}
 
 /// A network alone begins empty, and each further event is one further step.

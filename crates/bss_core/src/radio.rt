@@ -4,7 +4,7 @@ ghost use Rattle.std.specs.Prelude.{◌≡◌, ◌≢◌, ◌↔◌, ◌++◌, �
 ghost use Rattle.std.specs.List.{AllByRecursion};
 ghost use Rattle.bss_core.specs.Configuration.{setting_fault, network_fault, fault_of};
 ghost use Rattle.bss_core.specs.Radio.{network_at, setting_at};
-ghost use Rattle.bss_core.specs.RadioView.{IsSound, view_at, opened, shown, settings_of, fresh_radio, took, after_hand};
+ghost use Rattle.bss_core.specs.RadioView.{IsSoundRadio, view_at, opened, shown, settings_of, fresh_radio, took, after_hand};
 ghost use Rattle.bss_core.specs.declared.config.ConfigFault.{ConfigFault};
 ghost use Rattle.bss_core.specs.declared.radio.OpenFault.TheVariants as faults;
 
@@ -23,7 +23,7 @@ use std::marker::Model;
 pub enum OpenFault {
     /// The first fault of the configuration.
     Config(ConfigFault),
-    /// The number of callers is none that an access point has. No call of this crate answers it.
+    /// Not 1 to 64 callers (*profile*). No call of this crate answers it.
     Callers,
     /// A growth was refused.
     NoMemory,
@@ -63,14 +63,14 @@ pub struct Radio {
 impl Model for Radio {
     ghost use Rattle.std.specs.Prelude.{◌≡◌, ◌≤◌, map};
     ghost use Rattle.std.specs.VecDeque.{deque_capacity};
-    ghost use Rattle.bss_core.specs.RadioView.{RadioView, IsSound, settings_of, config_of, radio_of};
+    ghost use Rattle.bss_core.specs.RadioView.{RadioView, IsSoundRadio, settings_of, config_of, radio_of};
 
     ghost Value = { RadioView };
 
     ghost view = { λ r. radio_of r.channel r.interval r.capacity r.networks.items r.queue.items };
 
     ghost invariant = { λ r.
-        IsSound (radio_of r.channel r.interval r.capacity r.networks.items r.queue.items)
+        IsSoundRadio (radio_of r.channel r.interval r.capacity r.networks.items r.queue.items)
         × (map (λ s. s.setting) r.networks.items ≡ settings_of (config_of r.channel r.interval r.capacity r.networks.items))
         × (r.capacity ≤ deque_capacity r.queue) };
 }
@@ -104,26 +104,26 @@ impl Radio {
         })
     }
 
-    /// How many networks it has. Their places are the numbers below.
+    /// How many networks it has. Their places are 0 and the numbers below this one.
     pub fn networks(&self) -> usize
         ensures count { result ≡ length self.now.config.networks }
-        ensures sound { IsSound self.now }
+        ensures sound { IsSoundRadio self.now }
     {
         self.networks.len()
     }
 
-    /// The network at a place.
+    /// The network at a place, from 0 and below [`Radio::networks`].
     pub fn bss(&self, place: usize) -> &Bss
         requires { place < length self.now.config.networks }
         ensures setting { result.now.setting ≡ setting_at self.now.config place }
         ensures history { result.now.history ≡ (view_at self.now place).history }
         ensures waiting { result.now.waiting ≡ (view_at self.now place).waiting }
-        ensures sound { IsSound self.now }
+        ensures sound { IsSoundRadio self.now }
     {
         &self.networks[place]
     }
 
-    /// Lets the network at a place take an event, as [`Bss::take`] does: it answers the event's number in that
+    /// Lets the network at a place, below [`Radio::networks`], take an event, as [`Bss::take`] does: it answers the event's number in that
     /// network's history, from 0, and frames that it sends wait after the others. `HistoryFull` exactly where that
     /// history is full, which is tested first; `NoMemory` where a growth was refused. After either nothing has changed.
     /// The other networks and the queue stay as they were.
@@ -139,7 +139,7 @@ impl Radio {
         self.networks[place].take(event)
     }
 
-    /// Moves the first waiting frame of the network at a place to the end of the queue. `Nothing` exactly where none
+    /// Moves the first waiting frame of the network at a place, below [`Radio::networks`], to the end of the queue. `Nothing` exactly where none
     /// of its frames waits; else `QueueFull` exactly where the queue is full. After either nothing has changed. Takes
     /// no memory.
     pub fn hand(&mut self, place: usize) -> Handed

@@ -9,7 +9,7 @@ ghost use Rattle.bss_core.specs.Units.{unit_frame};
 use crate::frames::Frames;
 use crate::keeping::Keeping;
 use crate::stations::Change;
-use crate::unit::Arrival;
+use crate::unit::{Arrival, Body};
 use mac_frame::{HEADER_LEN, MacAddr, NoMemory, Octets, write_msdu};
 use powersave::Unit;
 use std::alloc::Global;
@@ -87,7 +87,7 @@ impl Reply {
         ensures err { OnErr result (self.new ≡ self.old) }
     {
         let mut frame = Octets::new(alloc);
-        frame.reserve(HEADER_LEN + unit.body.len())?;
+        frame.reserve(HEADER_LEN + unit.body.room())?;
         write_msdu(&mut frame, unit.to, bssid, unit.source, self.sequence, more)?;
         unit.body.append_to(&mut frame)?;
         self.send(frame)
@@ -108,11 +108,11 @@ impl Reply {
         }) }
         ensures err { OnErr result (self.new ≡ self.old) }
     {
-        let mut frame = Octets::new(alloc);
-        let body = unit.body.as_slice();
-        frame.reserve(HEADER_LEN + body.len())?;
-        write_msdu(&mut frame, unit.to, bssid, unit.source, self.sequence, more)?;
-        frame.append(body)?;
-        self.send(frame)
+        let unit = Arrival {
+            to: unit.to,
+            source: unit.source,
+            body: Body::Plain(unit.body.as_slice()),
+        };
+        self.send_unit(alloc, bssid, more, &unit)
     }
 }

@@ -156,7 +156,7 @@ fn section(
     network.into_section(List::from_vec(air))
 }
 
-/// Puts copies of the frames of the network at a place behind those in `air`.
+/// Puts copies of the frames of the network at a place after those in `air`.
 fn copy_items(
     alloc: Global,
     air: &mut Vec<Octets>,

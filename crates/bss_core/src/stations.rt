@@ -1,9 +1,8 @@
 //! The stations that a network knows (IEEE Std 802.11-2016, 11.3.1).
 
-ghost use Rattle.std.specs.Prelude.{◌≡◌, ◌<◌, ◌≤◌, ℕ, List, [], IsTrue, OnOk, OnErr, IfOk, IfSome, map, Some, None, option_map, length, slice_get, is_some, if◌then◌else◌};
-ghost use Rattle.bss_core.specs.Units.{is_associated};
+ghost use Rattle.std.specs.Prelude.{◌≡◌, ◌<◌, ◌≤◌, ℕ, List, [], IsTrue, OnOk, OnErr, IfSome, Some, None, option_map, length, slice_get, is_some, if◌then◌else◌};
 ghost use Rattle.bss_core.specs.declared.stations.Link.{Link as Linked};
-ghost use Rattle.bss_core.specs.Stations.{with_table, link_of, standing_of, identifiers, aid_with, dozes_with, some_station_dozes, may_associate, next_aid, set_link, authenticate, associate, disassociate, forget, set_mode, with_mode, changed, IsAllowed, IsModeAlone};
+ghost use Rattle.bss_core.specs.Stations.{with_table, link_of, standing_of, aid_with, dozes_with, some_station_dozes, may_associate, next_aid, is_associated, set_link, authenticate, associate, disassociate, forget, set_mode, with_mode, changed, IsAllowed, IsModeAlone};
 
 use aid_pool::{AidPool, MAX_AID};
 use indexmap::IndexMap;
@@ -42,7 +41,7 @@ pub enum Change {
         /// Its listen interval in beacon intervals (9.4.1.6).
         listen: u16,
     },
-    /// It is no longer associated (11.3.5.7).
+    /// It is no longer associated (11.3.5.9).
     Disassociate(MacAddr),
     /// It is not known any more (11.3.4.5).
     Forget(MacAddr),
@@ -113,7 +112,7 @@ impl Stations {
         ensures least { IfSome result (λ aid. 1 ≤ aid) }
         ensures greatest { IfSome result (λ aid. aid ≤ MAX_AID) }
     {
-        // what is kept says that it is one
+        // The prover opens what the table keeps, which bounds each identifier, where a field is read.
         let _ = &self.pool;
         let (_, link) = self.row(place);
         aid_with(Some(link))

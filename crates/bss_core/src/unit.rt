@@ -1,7 +1,6 @@
-//! Units that arrive, and where they go (IEEE Std 802.11-2016, 5.1.4 and 11.2.3).
+//! Units that arrive, and where they go (IEEE Std 802.11-2016, 4.5.2 and 11.2.3).
 
 ghost use Rattle.std.specs.Prelude.{◌≡◌, ◌+◌, ◌++◌, ◌^◌, ◌<◌, ◌≤◌, length, IfOk, OnOk, OnErr};
-ghost use Rattle.bridge.specs.Encapsulation.{on_air};
 ghost use Rattle.bss_core.specs.Arrivals.{body_octets, unit_shown};
 
 use bridge::{Ether, to_air};
@@ -23,16 +22,16 @@ pub enum Delivery {
     Nowhere,
 }
 
-/// The body of a unit that arrived, where it lies.
+/// The body of a unit, where it lies.
 #[derive(Clone, Copy, Debug)]
 pub enum Body<'a> {
-    /// That of a frame that a station sent.
-    Heard(&'a [u8]),
-    /// That by which an Ethernet frame is carried on the air.
+    /// That by which a unit is carried on the air.
+    Plain(&'a [u8]),
+    /// That of a unit which an Ethernet frame carries.
     Wired(Ether<'a>),
 }
 
-/// A unit that arrived and isn't copied yet.
+/// A unit whose body lies elsewhere.
 #[derive(Clone, Copy, Debug)]
 pub struct Arrival<'a> {
     /// The destination address.
@@ -59,13 +58,13 @@ impl Arrival<'_> {
 }
 
 impl Body<'_> {
-    /// How many octets it has at most; the header of a wired frame's type takes eight.
-    pub fn len(&self) -> usize
-        ensures room { length (body_octets self.now) ≤ result }
+    /// Room for its octets; the header of a wired frame's type takes eight.
+    pub fn room(&self) -> usize
+        ensures enough { length (body_octets self.now) ≤ result }
         ensures bounded { result < 2 ^ 63 + 8 }
     {
         match self {
-            Body::Heard(octets) => octets.len(),
+            Body::Plain(octets) => octets.len(),
             Body::Wired(ether) => ether.payload.len() + RFC1042_LEN,
         }
     }
@@ -76,7 +75,7 @@ impl Body<'_> {
         ensures err { OnErr result (out.new ≡ out.old) }
     {
         match self {
-            Body::Heard(octets) => out.append(octets),
+            Body::Plain(octets) => out.append(octets),
             Body::Wired(ether) => to_air(out, ether),
         }
     }

@@ -1,13 +1,13 @@
-//! Data frames: the mode of a station, and its units (IEEE Std 802.11-2016, 5.1.4 and 11.2.3.2).
+//! Data frames: the mode of a station, and its units (IEEE Std 802.11-2016, 4.5.2 and 11.2.3.2).
 
-ghost use Rattle.std.specs.Prelude.{◌≡◌, ◌<◌, ◌≤◌, false, None, IfOk, OnOk, option_map};
+ghost use Rattle.std.specs.Prelude.{◌≡◌, ◌≤◌, false, None, IfOk, OnOk};
 ghost use Rattle.bridge.specs.Encapsulation.{on_wire};
 ghost use Rattle.powersave.specs.Keep.{units_for};
 ghost use Rattle.powersave.specs.declared.unit.Whom.TheVariants as whoms;
 ghost use Rattle.bss_core.specs.Network.{forward, set_power_mode, put_on_wire, send_each, change_state};
-ghost use Rattle.bss_core.specs.Replies.{after_reply, IsAwake, IsWithin};
+ghost use Rattle.bss_core.specs.Replies.{after_reply, IsFitting, IsModeReply};
 ghost use Rattle.bss_core.specs.State.{network_of};
-ghost use Rattle.bss_core.specs.Stations.{IsAllowed, IsModeAlone, changed, set_mode};
+ghost use Rattle.bss_core.specs.Stations.{IsModeAlone, changed, set_mode};
 ghost use Rattle.bss_core.specs.Units.{unit, goes_on_wire};
 
 use crate::bss::Bss;
@@ -29,8 +29,7 @@ impl Bss {
         to: MacAddr,
         body: &[u8],
     ) -> Result<Reply, NoMemory>
-        ensures allowed { IfOk result (λ reply. IsAllowed self.now.setting.network.max_stations reply.change (network_of self.now).stations) }
-        ensures within { IfOk result (λ reply. IsWithin self.now.setting.network.quota reply.keeping.leaving (network_of self.now).kept reply.keeping.arriving) }
+        ensures fitting { IfOk result (λ reply. IsFitting self.now.setting reply (network_of self.now)) }
         ensures answer { IfOk result (λ reply.
             forward self.now.setting (unit to from body.now) (set_power_mode self.now.setting from doze (network_of self.now)) ≡ after_reply reply (network_of self.now)) }
     {
@@ -39,7 +38,7 @@ impl Bss {
         let unit = Arrival {
             to,
             source: from,
-            body: Body::Heard(body),
+            body: Body::Plain(body),
         };
         self.deliver(&mut reply, &unit)?;
         if goes_on_wire {
@@ -51,16 +50,10 @@ impl Bss {
     /// The reply to what tells the mode of an associated station. One that dozed and is active now is sent all units that
     /// were kept for it.
     pub(crate) fn set_power_mode(&self, from: MacAddr, doze: bool) -> Result<Reply, NoMemory>
-        ensures allowed { IfOk result (λ reply. IsAllowed self.now.setting.network.max_stations reply.change (network_of self.now).stations) }
-        ensures within { IfOk result (λ reply. IsWithin self.now.setting.network.quota reply.keeping.leaving (network_of self.now).kept reply.keeping.arriving) }
+        ensures fitting { IfOk result (λ reply. IsFitting self.now.setting reply (network_of self.now)) }
         ensures answer { IfOk result (λ reply.
             set_power_mode self.now.setting from doze (network_of self.now) ≡ after_reply reply (network_of self.now)) }
-        ensures mode { IfOk result (λ reply. IsModeAlone reply.change) }
-        ensures awake { IfOk result (λ reply. IsAwake reply.keeping.leaving (changed reply.change (network_of self.now).stations)) }
-        ensures none_arrives { IfOk result (λ reply. reply.keeping.arriving ≡ None) }
-        ensures sequence { IfOk result (λ reply. reply.sequence < 4096) }
-        ensures lost { IfOk result (λ reply. reply.lost ≡ 0) }
-        ensures wired { IfOk result (λ reply. reply.wired ≡ None) }
+        ensures mode { IfOk result (λ reply. IsModeReply reply (network_of self.now)) }
     {
         if !doze && dozes_with(self.stations().link_of(from)) {
             return self.wake(from);
@@ -72,16 +65,10 @@ impl Bss {
 
     /// The reply to a station that dozed and is active now: it is sent all units that were kept for it.
     fn wake(&self, from: MacAddr) -> Result<Reply, NoMemory>
-        ensures allowed { IfOk result (λ reply. IsAllowed self.now.setting.network.max_stations reply.change (network_of self.now).stations) }
-        ensures within { IfOk result (λ reply. IsWithin self.now.setting.network.quota reply.keeping.leaving (network_of self.now).kept reply.keeping.arriving) }
+        ensures fitting { IfOk result (λ reply. IsFitting self.now.setting reply (network_of self.now)) }
         ensures answer { IfOk result (λ reply.
             send_each self.now.setting false (units_for (whoms.One from) (network_of self.now).kept) (change_state from (set_mode from false) (network_of self.now)) ≡ after_reply reply (network_of self.now)) }
-        ensures mode { IfOk result (λ reply. IsModeAlone reply.change) }
-        ensures awake { IfOk result (λ reply. IsAwake reply.keeping.leaving (changed reply.change (network_of self.now).stations)) }
-        ensures none_arrives { IfOk result (λ reply. reply.keeping.arriving ≡ None) }
-        ensures sequence { IfOk result (λ reply. reply.sequence < 4096) }
-        ensures lost { IfOk result (λ reply. reply.lost ≡ 0) }
-        ensures wired { IfOk result (λ reply. reply.wired ≡ None) }
+        ensures mode { IfOk result (λ reply. IsModeReply reply (network_of self.now)) }
     {
         let mut reply = self.no_reply();
         reply.change = Change::SetMode {

@@ -5,10 +5,10 @@ ghost use Rattle.powersave.specs.Keep.{units_for};
 ghost use Rattle.powersave.specs.declared.unit.Unit.{Unit as Msdu};
 ghost use Rattle.bss_core.specs.Arrivals.{unit_shown};
 ghost use Rattle.bss_core.specs.Network.{deliver, keep_or_lose, send_each};
-ghost use Rattle.bss_core.specs.Replies.{after_reply, sending, is_left, IsAwake, IsWithin};
+ghost use Rattle.bss_core.specs.Replies.{after_reply, sending, is_left, IsModeReply, IsWithin};
 ghost use Rattle.bss_core.specs.State.{network_of};
 ghost use Rattle.bss_core.specs.Stations.{IsModeAlone, changed};
-ghost use Rattle.bss_core.specs.Units.{delivery_of, delivery_with, group_waits, unit_frame};
+ghost use Rattle.bss_core.specs.Units.{delivery_of, delivery_with, group_is_kept, group_waits, unit_frame};
 
 use crate::bss::Bss;
 use crate::reply::Reply;
@@ -21,11 +21,7 @@ impl Bss {
     /// Goes on with a reply, which sets the mode of one station at most: delivers a unit on the air as the network does
     /// once the reply is carried out. After `NoMemory` the reply is of no use.
     pub(crate) fn deliver(&self, reply: &mut Reply, unit: &Arrival<'_>) -> Result<(), NoMemory>
-        requires mode { IsModeAlone reply.old.change }
-        requires awake { IsAwake reply.old.keeping.leaving (changed reply.old.change (network_of self.now).stations) }
-        requires none_arrives { reply.old.keeping.arriving ≡ None }
-        requires sequence { reply.old.sequence < 4096 }
-        requires lost { reply.old.lost ≡ 0 }
+        requires { IsModeReply reply.old (network_of self.now) }
         ensures ok { OnOk result (deliver self.now.setting (unit_shown unit.now) (after_reply reply.old (network_of self.now)) ≡ after_reply reply.new (network_of self.now)) }
         ensures within { OnOk result (IsWithin self.now.setting.network.quota reply.new.keeping.leaving (network_of self.now).kept reply.new.keeping.arriving) }
         ensures change { reply.new.change ≡ reply.old.change }
@@ -35,13 +31,9 @@ impl Bss {
         match self.delivery_of(reply.change, unit.to) {
             Delivery::Now => {
                 let bssid = self.setting().network.bssid;
-                reply.send_unit(self.alloc(), bssid, false, unit)?;
-                Ok(())
+                reply.send_unit(self.alloc(), bssid, false, unit)
             }
-            Delivery::Kept(whom) => {
-                self.keep_or_lose(reply, whom, unit)?;
-                Ok(())
-            }
+            Delivery::Kept(whom) => self.keep_or_lose(reply, whom, unit),
             Delivery::Nowhere => Ok(()),
         }
     }
@@ -65,9 +57,14 @@ impl Bss {
         requires { IsModeAlone change }
         ensures { result ≡ group_waits (changed change (network_of self.now).stations) (network_of self.now).kept }
     {
-        let dozes = self.stations().some_dozes_after(change);
-        let kept = self.kept().count_for(Whom::Group) > 0;
-        dozes | kept
+        self.stations().some_dozes_after(change) || self.group_is_kept()
+    }
+
+    /// Whether units for the group are kept (11.2.3.3).
+    pub(crate) fn group_is_kept(&self) -> bool
+        ensures { result ≡ group_is_kept (network_of self.now).kept }
+    {
+        self.kept().count_for(Whom::Group) > 0
     }
 
     /// Goes on with a reply: keeps a unit for one, or counts it as lost.
@@ -115,7 +112,7 @@ impl Bss {
         Ok(())
     }
 
-    /// Goes on with a reply: sends the unit for one that so many others for it came before, with More Data or without.
+    /// Goes on with a reply: sends the unit at a place, from 0, of those that are kept for one, with More Data or without.
     pub(crate) fn send_nth(
         &self,
         reply: &mut Reply,

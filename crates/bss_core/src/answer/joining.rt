@@ -1,10 +1,11 @@
-//! Requests to associate or reassociate and their answers (IEEE Std 802.11-2016, 11.3.5.3).
+//! Requests to associate or reassociate and their answers (IEEE Std 802.11-2016, 11.3.5.3 and
+//! 11.3.5.5).
 
 ghost use Rattle.std.specs.Prelude.{◌≡◌, IfOk, is_some, true};
 ghost use Rattle.bss_core.specs.Network.{answer_association};
-ghost use Rattle.bss_core.specs.Replies.{after_reply, IsWithin};
+ghost use Rattle.bss_core.specs.Replies.{after_reply, IsFitting};
 ghost use Rattle.bss_core.specs.State.{network_of};
-ghost use Rattle.bss_core.specs.Stations.{IsAllowed, link_of};
+ghost use Rattle.bss_core.specs.Stations.{link_of};
 
 use crate::bss::Bss;
 use crate::keeping::Leaving;
@@ -26,8 +27,7 @@ impl Bss {
         elements: &Elements<'_>,
     ) -> Result<Reply, NoMemory>
         requires { is_some (link_of from (network_of self.now).stations) ≡ true }
-        ensures allowed { IfOk result (λ reply. IsAllowed self.now.setting.network.max_stations reply.change (network_of self.now).stations) }
-        ensures within { IfOk result (λ reply. IsWithin self.now.setting.network.quota reply.keeping.leaving (network_of self.now).kept reply.keeping.arriving) }
+        ensures fitting { IfOk result (λ reply. IsFitting self.now.setting reply (network_of self.now)) }
         ensures answer { IfOk result (λ reply.
             answer_association self.now.setting from again listen elements.now (network_of self.now) ≡ after_reply reply (network_of self.now)) }
     {

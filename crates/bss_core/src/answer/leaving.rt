@@ -1,12 +1,12 @@
 //! Stations that leave, and notices to those whose frames are not taken (IEEE Std 802.11-2016, 11.3.3, 11.3.4.5 and
-//! 11.3.5.7).
+//! 11.3.5.9).
 
 ghost use Rattle.std.specs.Prelude.{◌≡◌, IfOk};
 ghost use Rattle.association.specs.Leaving.{notice_frame};
 ghost use Rattle.bss_core.specs.Network.{change_state, send};
-ghost use Rattle.bss_core.specs.Replies.{after_reply, IsWithin};
+ghost use Rattle.bss_core.specs.Replies.{after_reply, IsFitting};
 ghost use Rattle.bss_core.specs.State.{network_of};
-ghost use Rattle.bss_core.specs.Stations.{IsAllowed, disassociate, forget};
+ghost use Rattle.bss_core.specs.Stations.{disassociate, forget};
 
 use crate::bss::Bss;
 use crate::keeping::Leaving;
@@ -20,8 +20,7 @@ use station_state::Notice;
 impl Bss {
     /// The reply to a disassociation, which is not answered: the station is no longer associated.
     pub(crate) fn answer_disassociation(&self, from: MacAddr) -> Reply
-        ensures allowed { IsAllowed self.now.setting.network.max_stations result.change (network_of self.now).stations }
-        ensures within { IsWithin self.now.setting.network.quota result.keeping.leaving (network_of self.now).kept result.keeping.arriving }
+        ensures fitting { IsFitting self.now.setting result (network_of self.now) }
         ensures answer { change_state from (disassociate from) (network_of self.now) ≡ after_reply result (network_of self.now) }
     {
         let mut reply = self.no_reply();
@@ -32,8 +31,7 @@ impl Bss {
 
     /// The reply to a deauthentication, which is not answered: the station is not known any more.
     pub(crate) fn answer_deauthentication(&self, from: MacAddr) -> Reply
-        ensures allowed { IsAllowed self.now.setting.network.max_stations result.change (network_of self.now).stations }
-        ensures within { IsWithin self.now.setting.network.quota result.keeping.leaving (network_of self.now).kept result.keeping.arriving }
+        ensures fitting { IsFitting self.now.setting result (network_of self.now) }
         ensures answer { change_state from (forget from) (network_of self.now) ≡ after_reply result (network_of self.now) }
     {
         let mut reply = self.no_reply();
@@ -44,8 +42,7 @@ impl Bss {
 
     /// The reply to a frame whose class is not taken from its station: a notice, and nothing else (11.3.3).
     pub(crate) fn notify(&self, from: MacAddr, notice: Notice) -> Result<Reply, NoMemory>
-        ensures allowed { IfOk result (λ reply. IsAllowed self.now.setting.network.max_stations reply.change (network_of self.now).stations) }
-        ensures within { IfOk result (λ reply. IsWithin self.now.setting.network.quota reply.keeping.leaving (network_of self.now).kept reply.keeping.arriving) }
+        ensures fitting { IfOk result (λ reply. IsFitting self.now.setting reply (network_of self.now)) }
         ensures answer { IfOk result (λ reply.
             send (λ sequence. notice_frame from self.now.setting.network.bssid sequence notice) (network_of self.now) ≡ after_reply reply (network_of self.now)) }
     {

@@ -2,9 +2,8 @@
 
 ghost use Rattle.std.specs.Prelude.{◌≡◌, IfOk};
 ghost use Rattle.bss_core.specs.Network.{answer_poll};
-ghost use Rattle.bss_core.specs.Replies.{after_reply, IsWithin};
+ghost use Rattle.bss_core.specs.Replies.{after_reply, IsFitting};
 ghost use Rattle.bss_core.specs.State.{network_of};
-ghost use Rattle.bss_core.specs.Stations.{IsAllowed};
 ghost use Rattle.bss_core.specs.Units.{may_poll};
 
 use crate::bss::Bss;
@@ -18,8 +17,7 @@ impl Bss {
     /// The reply to a poll: the unit that was kept first for the station, which tells whether others follow, where the
     /// station dozes and names its own identifier.
     pub(crate) fn answer_poll(&self, from: MacAddr, aid: u16) -> Result<Reply, NoMemory>
-        ensures allowed { IfOk result (λ reply. IsAllowed self.now.setting.network.max_stations reply.change (network_of self.now).stations) }
-        ensures within { IfOk result (λ reply. IsWithin self.now.setting.network.quota reply.keeping.leaving (network_of self.now).kept reply.keeping.arriving) }
+        ensures fitting { IfOk result (λ reply. IsFitting self.now.setting reply (network_of self.now)) }
         ensures answer { IfOk result (λ reply.
             answer_poll self.now.setting from aid (network_of self.now) ≡ after_reply reply (network_of self.now)) }
     {
@@ -38,11 +36,11 @@ impl Bss {
 }
 
 /// Whether a station with this link dozes and has this association identifier.
-fn may_poll(number: u16, link: Option<Link>) -> bool
-    ensures { result ≡ may_poll number link }
+fn may_poll(aid: u16, link: Option<Link>) -> bool
+    ensures { result ≡ may_poll aid link }
 {
     match link {
-        Some(Link::Associated { aid, doze, .. }) => doze && number == aid,
+        Some(Link::Associated { aid: own, doze, .. }) => doze && aid == own,
         _ => false,
     }
 }

@@ -2,9 +2,8 @@
 
 ghost use Rattle.std.specs.Prelude.{◌≡◌, IfOk, option_map};
 ghost use Rattle.bss_core.specs.Network.{asks_for, answer_probe};
-ghost use Rattle.bss_core.specs.Replies.{after_reply, IsWithin};
+ghost use Rattle.bss_core.specs.Replies.{after_reply, IsFitting};
 ghost use Rattle.bss_core.specs.State.{network_of};
-ghost use Rattle.bss_core.specs.Stations.{IsAllowed};
 
 use crate::bss::Bss;
 use crate::reply::Reply;
@@ -14,8 +13,7 @@ use mac_frame::{MacAddr, NoMemory, Octets};
 impl Bss {
     /// The reply to a probe: a probe response, where the probe asks for this network.
     pub(crate) fn answer_probe(&self, from: MacAddr, ssid: Option<&[u8]>) -> Result<Reply, NoMemory>
-        ensures allowed { IfOk result (λ reply. IsAllowed self.now.setting.network.max_stations reply.change (network_of self.now).stations) }
-        ensures within { IfOk result (λ reply. IsWithin self.now.setting.network.quota reply.keeping.leaving (network_of self.now).kept reply.keeping.arriving) }
+        ensures fitting { IfOk result (λ reply. IsFitting self.now.setting reply (network_of self.now)) }
         ensures answer { IfOk result (λ reply.
             answer_probe self.now.setting from (option_map (λ s. s.now) ssid.entry) (network_of self.now) ≡ after_reply reply (network_of self.now)) }
     {

@@ -1,13 +1,12 @@
 //! Beacon intervals (IEEE Std 802.11-2016, 11.1.3.2 and 11.2.3.3).
 
-ghost use Rattle.std.specs.Prelude.{◌≡◌, ◌+◌, ◌<◌, ◌≤◌, ◌&&◌, ◌||◌, ℕ, List, Bool, IsTrue, IfOk, OnOk, OnErr, Some, length, slice_get};
+ghost use Rattle.std.specs.Prelude.{◌≡◌, ◌+◌, ◌<◌, ◌≤◌, ◌&&◌, ◌||◌, ℕ, List, IfOk, OnOk, OnErr, Some, length, slice_get};
 ghost use Rattle.std.specs.FinSet as set;
 ghost use Rattle.tim.specs.Tim.{IsAid, SameNumbers};
 ghost use Rattle.bss_core.specs.Network.{tick, beacon_frame};
-ghost use Rattle.bss_core.specs.Replies.{after_reply, sending, IsWithin};
+ghost use Rattle.bss_core.specs.Replies.{after_reply, sending, IsFitting};
 ghost use Rattle.bss_core.specs.State.{network_of};
-ghost use Rattle.bss_core.specs.Stations.{IsAllowed};
-ghost use Rattle.bss_core.specs.Units.{has_number, has_unit, is_waited_for};
+ghost use Rattle.bss_core.specs.Units.{has_aid, has_unit, is_waited_for};
 ghost use Rattle.bss_core.specs.declared.stations.Link.{Link as Linked};
 
 use crate::bss::Bss;
@@ -21,8 +20,7 @@ use tim::{Bitmap, one_tim};
 impl Bss {
     /// The reply to a beacon interval that begins: a beacon, and at a DTIM after it all units that are kept for the group.
     pub(crate) fn tick(&self) -> Result<Reply, NoMemory>
-        ensures allowed { IfOk result (λ reply. IsAllowed self.now.setting.network.max_stations reply.change (network_of self.now).stations) }
-        ensures within { IfOk result (λ reply. IsWithin self.now.setting.network.quota reply.keeping.leaving (network_of self.now).kept reply.keeping.arriving) }
+        ensures fitting { IfOk result (λ reply. IsFitting self.now.setting reply (network_of self.now)) }
         ensures answer { IfOk result (λ reply. tick self.now.setting (network_of self.now) ≡ after_reply reply (network_of self.now)) }
     {
         let mut reply = self.no_reply();
@@ -47,7 +45,7 @@ impl Bss {
         one_tim();
         let setting = self.setting();
         let bits = self.waited_for();
-        let group = self.kept().count_for(Whom::Group) > 0;
+        let group = self.group_is_kept();
         let advert = setting.advert(clock, reply.sequence);
         let mut frame = Octets::new(self.alloc());
         write_beacon(&mut frame, &advert, setting.network.dtim, group, &bits)?;
@@ -70,7 +68,7 @@ impl Bss {
     fn wait_for(&self, place: usize, bits: &mut Bitmap)
         requires { place < length (network_of self.now).stations }
         ensures { (station : List ℕ × Linked) → slice_get (network_of self.now).stations place ≡ Some station → (n : ℕ) → IsAid n →
-            set.contains bits.new n ≡ ((has_number n station.1 && has_unit station.0 (network_of self.now).kept) || set.contains bits.old n) }
+            set.contains bits.new n ≡ ((has_aid n station.1 && has_unit station.0 (network_of self.now).kept) || set.contains bits.old n) }
     {
         let stations = self.stations();
         let (addr, _) = stations.row(place);

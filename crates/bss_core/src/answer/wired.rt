@@ -1,11 +1,10 @@
-//! Frames of the wire (IEEE Std 802.11-2016, 5.1.4).
+//! Frames of the wire (IEEE Std 802.11-2016, 4.5.2.2).
 
 ghost use Rattle.std.specs.Prelude.{◌≡◌, IfOk};
 ghost use Rattle.bridge.specs.Ethernet.{ethernet_of};
 ghost use Rattle.bss_core.specs.Network.{answer_wired};
-ghost use Rattle.bss_core.specs.Replies.{after_reply, IsWithin};
+ghost use Rattle.bss_core.specs.Replies.{after_reply, IsFitting};
 ghost use Rattle.bss_core.specs.State.{network_of};
-ghost use Rattle.bss_core.specs.Stations.{IsAllowed};
 
 use crate::bss::Bss;
 use crate::reply::Reply;
@@ -16,8 +15,7 @@ use mac_frame::NoMemory;
 impl Bss {
     /// The reply to a frame of the wire: it is delivered on the air to the group or to an associated station.
     pub(crate) fn answer_wired(&self, frame: &[u8]) -> Result<Reply, NoMemory>
-        ensures allowed { IfOk result (λ reply. IsAllowed self.now.setting.network.max_stations reply.change (network_of self.now).stations) }
-        ensures within { IfOk result (λ reply. IsWithin self.now.setting.network.quota reply.keeping.leaving (network_of self.now).kept reply.keeping.arriving) }
+        ensures fitting { IfOk result (λ reply. IsFitting self.now.setting reply (network_of self.now)) }
         ensures answer { IfOk result (λ reply.
             answer_wired self.now.setting (ethernet_of frame.now) (network_of self.now) ≡ after_reply reply (network_of self.now)) }
     {

@@ -1,4 +1,4 @@
-use Rattle.std.proofs.Common.{◌≡◌, ◌∙◌, List, ℕ, false, sym, ap}
+use Rattle.std.proofs.Common.{◌∙◌, List, ℕ, false, Result, Ok, Err, OnOk, sym, ap}
 use Rattle.bss_core.specs.declared.unit.Delivery.TheVariants.{Now, Kept}
 use Rattle.bss_core.specs.Arrivals.{unit_shown}
 use Rattle.bss_core.specs.Network.{Setting}
@@ -11,6 +11,11 @@ use Rattle.bss_core.proofs.AloneLaws.{delivery-for}
 use Rattle.bss_core.proofs.UnitDelivery.{after-sent, left-apart, delivered}
 use Rattle.bss_core.proofs.bss.Bss.deliver.Goals as goal
 
+-- where a call ends well, what follows from its clause
+where-ok : {A E P Q : Type 0} (result : Result A E) → (P → Q) → OnOk result P → OnOk result Q
+where-ok (Ok value) follows clause = follows clause
+where-ok (Err fault) follows clause = tt
+
 pub keep_or_lose-requires-clause-apart : goal.keep_or_lose-requires-clause-apart
 keep_or_lose-requires-clause-apart c =
     let n = network_of c.args.self.now in
@@ -18,22 +23,25 @@ keep_or_lose-requires-clause-apart c =
     left-apart r.keeping.leaving (changed r.change n.stations) c.in-Kept.whom c.requires.awake
     (delivery-for c.args.unit.now.to (changed r.change n.stations) n.kept c.in-Kept.whom (sym c.delivery_of.ensures ∙ c.in-Kept.is))
 
-pub returns-in_ok-send_unit-in-Now-clause-ok : goal.returns-in_ok-send_unit-in-Now-clause-ok
-returns-in_ok-send_unit-in-Now-clause-ok c =
+pub returns-in-Now-clause-ok : goal.returns-in-Now-clause-ok
+returns-in-Now-clause-ok c =
     let s : Setting = c.args.self.now.setting in
     let n = network_of c.args.self.now in
     let r : Reply = c.args.reply.now in
     let u = unit_shown c.args.unit.now in
     let sent : (bss : List ℕ) → Reply = λ bss. sending r (unit_frame bss false u) in
-    delivered s u r n Now c.requires.awake c.requires.none_arrives (sym c.in-Now.is ∙ c.delivery_of.ensures)
-    ∙ after-sent r n (unit_frame s.network.bssid false u)
-    ∙ ap (λ (t : Setting). after_reply (sent t.network.bssid) n) (sym c.setting.ensures.setting)
-    ∙ ap (λ (q : Reply). after_reply q n) (sym c.in_ok-send_unit-in-Now.ensures.ok)
+    where-ok c.send_unit.result
+    (λ is. delivered s u r n Now c.requires.awake c.requires.none_arrives (sym c.in-Now.is ∙ c.delivery_of.ensures)
+        ∙ after-sent r n (unit_frame s.network.bssid false u)
+        ∙ ap (λ (t : Setting). after_reply (sent t.network.bssid) n) (sym c.setting.ensures.setting)
+        ∙ ap (λ (q : Reply). after_reply q n) (sym is))
+    c.send_unit.ensures.ok
 
-pub returns-in_ok-keep_or_lose-in-Kept-clause-ok : goal.returns-in_ok-keep_or_lose-in-Kept-clause-ok
-returns-in_ok-keep_or_lose-in-Kept-clause-ok c =
+pub returns-in-Kept-clause-ok : goal.returns-in-Kept-clause-ok
+returns-in-Kept-clause-ok c =
     let s : Setting = c.args.self.now.setting in
     let n = network_of c.args.self.now in
     let r : Reply = c.args.reply.now in
-    delivered s (unit_shown c.args.unit.now) r n (Kept c.in-Kept.whom) c.requires.awake c.requires.none_arrives (sym c.in-Kept.is ∙ c.delivery_of.ensures)
-    ∙ c.in_ok-keep_or_lose-in-Kept.ensures.ok
+    where-ok c.keep_or_lose.result
+    (λ is. delivered s (unit_shown c.args.unit.now) r n (Kept c.in-Kept.whom) c.requires.awake c.requires.none_arrives (sym c.in-Kept.is ∙ c.delivery_of.ensures) ∙ is)
+    c.keep_or_lose.ensures.ok

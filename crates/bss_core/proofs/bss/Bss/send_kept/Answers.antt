@@ -1,4 +1,4 @@
-use Rattle.std.proofs.Common.{◌≡◌, ◌∙◌, ℕ, ◌+◌, ◌<◌, ◌&&◌, Bool, List, length, drop, slice_get, Some, sym, ap, arith}
+use Rattle.std.proofs.Common.{◌≡◌, ◌∙◌, ℕ, ◌+◌, ◌&&◌, Bool, List, length, drop, sym, ap, arith}
 use Rattle.std.specs.Prelude.{nat_lt}
 use Rattle.powersave.specs.Keep.{Entry, units_for}
 use Rattle.powersave.specs.declared.unit.Unit.{Unit as Msdu}

@@ -1,5 +1,4 @@
-use Rattle.std.proofs.Common.{◌≡◌, ℕ, ◌+◌, ◌*◌, ◌<◌, ◌≤◌, ◌++◌, ◌∷◌, [], List, length, option_to_list, subst, sym, ap, ◌∙◌, arith, rules}
-use Rattle.std.proofs.lemmas.List.{length-append}
+use Rattle.std.proofs.Common.{◌≡◌, ℕ, ◌+◌, ◌<◌, ◌++◌, ◌∷◌, [], List, length, option_to_list, subst, sym, ap, ◌∙◌, arith}
 use Rattle.bss_core.specs.Network.{Setting, step, alone}
 use Rattle.bss_core.specs.Replies.{after_reply, kept_after}
 use Rattle.bss_core.specs.State.{State, network_of, sent_by, wired_by}

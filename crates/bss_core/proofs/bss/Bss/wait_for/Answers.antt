@@ -1,12 +1,12 @@
-use Rattle.std.proofs.Common.{◌≡◌, ◌∙◌, ℕ, Bool, true, false, ◌||◌, ◌&&◌, List, length, Some, None, slice_get, refl, sym, ap}
-use Rattle.std.specs.Prelude.{◌==◌, nat_lt}
+use Rattle.std.proofs.Common.{◌≡◌, ◌∙◌, ℕ, Bool, true, false, ◌||◌, ◌&&◌, List, length, Some, None, slice_get, sym, ap}
+use Rattle.std.specs.Prelude.{nat_lt}
 use Rattle.std.specs.FinSet as set
 use Rattle.std.proofs.lemmas.Bool.{lt-ltb, le-ltb}
 use Rattle.powersave.specs.Keep.{Entry, units_for}
 use Rattle.powersave.specs.declared.unit.Whom.TheVariants.{One}
 use Rattle.bss_core.specs.State.{network_of}
 use Rattle.bss_core.specs.Stations.{Table, aid_with}
-use Rattle.bss_core.specs.Units.{has_number, has_unit}
+use Rattle.bss_core.specs.Units.{has_aid, has_unit}
 use Rattle.bss_core.specs.declared.stations.Link.{Link}
 use Rattle.bss_core.proofs.StationTables.{contains_inserted}
 use Rattle.bss_core.proofs.WaitedFor.{no-number, its-number, has-unit, with-unit, without-unit}
@@ -32,7 +32,7 @@ returns-then-count_for-gt0 c station here n aid =
     ap (λ (k : List ℕ × Link). has_unit k.0 kept) (sym row) ∙ has-unit c.row-addr.result.0 kept
     ∙ sym (ap (λ (es : List Entry). nat_lt 0 (length (units_for (One c.row-addr.result.0) es))) c.kept.ensures.entries) ∙ sym (ap (nat_lt 0) c.count_for.ensures) ∙ lt-ltb 0 c.count_for.result c.if-count_for-gt0.true in
     ap (λ s. set.contains s n) c.set.ensures ∙ contains_inserted c.args.bits.now c.in-Some.aid n
-    ∙ sym (ap (λ (b : Bool). (has_number n station.1 && b) || set.contains c.args.bits.now n) unit ∙ with-unit (has_number n station.1) (set.contains c.args.bits.now n) ∙ ap (λ (b : Bool). b || set.contains c.args.bits.now n) (its-number station.1 n c.in-Some.aid some))
+    ∙ sym (ap (λ (b : Bool). (has_aid n station.1 && b) || set.contains c.args.bits.now n) unit ∙ with-unit (has_aid n station.1) (set.contains c.args.bits.now n) ∙ ap (λ (b : Bool). b || set.contains c.args.bits.now n) (its-number station.1 n c.in-Some.aid some))
 
 pub returns-else-count_for-gt0 : goal.returns-else-count_for-gt0
 returns-else-count_for-gt0 c station here n aid =
@@ -41,4 +41,4 @@ returns-else-count_for-gt0 c station here n aid =
     let unit : has_unit station.0 kept ≡ false =
     ap (λ (k : List ℕ × Link). has_unit k.0 kept) (sym row) ∙ has-unit c.row-addr.result.0 kept
     ∙ sym (ap (λ (es : List Entry). nat_lt 0 (length (units_for (One c.row-addr.result.0) es))) c.kept.ensures.entries) ∙ sym (ap (nat_lt 0) c.count_for.ensures) ∙ le-ltb 0 c.count_for.result c.if-count_for-gt0.false in
-    sym (ap (λ (b : Bool). (has_number n station.1 && b) || set.contains c.args.bits.now n) unit ∙ without-unit (has_number n station.1) (set.contains c.args.bits.now n))
+    sym (ap (λ (b : Bool). (has_aid n station.1 && b) || set.contains c.args.bits.now n) unit ∙ without-unit (has_aid n station.1) (set.contains c.args.bits.now n))

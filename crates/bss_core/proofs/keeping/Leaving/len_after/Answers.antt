@@ -1,4 +1,4 @@
-use Rattle.std.proofs.Common.{◌≡◌, ℕ, ◌+◌, ◌-◌, ◌≤◌, List, length, ap, ◌∙◌, arith}
+use Rattle.std.proofs.Common.{◌≡◌, ℕ, ◌-◌, List, length, ap, ◌∙◌, arith}
 use Rattle.std.specs.Prelude.{min}
 use Rattle.powersave.specs.Keep.{Entry, units_for, without_all, without_oldest}
 use Rattle.bss_core.specs.Replies.{without}

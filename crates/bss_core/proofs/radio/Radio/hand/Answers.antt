@@ -3,7 +3,7 @@ use Rattle.std.specs.Prelude.{All}
 use Rattle.std.proofs.lemmas.List.{length-map, length-append}
 use Rattle.std.proofs.lemmas.List.Elements.{All-push}
 use Rattle.bss_core.specs.Radio.{items_of}
-use Rattle.bss_core.specs.RadioView.{RadioView, IsSuffix, view_at, radio_of, IsSound, moved}
+use Rattle.bss_core.specs.RadioView.{RadioView, IsSuffix, view_at, radio_of, IsSoundRadio, moved}
 use Rattle.bss_core.specs.State.{State, network_of}
 use Rattle.bss_core.specs.declared.step.AirItem.{AirItem}
 use Rattle.bss_core.proofs.RadioFrames.{items_of-other}
@@ -29,7 +29,7 @@ invariant_of-self-in-Some c =
     let placed : All (λ i. i.place < length states) (items ++ item ∷ []) = All-push (λ (i : AirItem). i.place < length states) items item (subst (λ n. All (λ (i : AirItem). i.place < n) items) (length-map states (λ (s : State). s.setting.network)) keeps.0.placed) within in
     let room : length (items ++ item ∷ []) ≤ r.capacity = omega (arith, length-append items (item ∷ []), c.if-len-from.false, c.from.ensures, c.len.ensures, r.queue.ok.0) in
     let sound = sound-network r.channel r.interval r.capacity states items (items ++ item ∷ []) place old new keeps.0 keeps.1 within setting room placed (λ q ne. items_of-other q place items octets ne) last in
-    (subst (λ (q : List AirItem). IsSound (radio_of r.channel r.interval r.capacity (set states place new) q)) (sym c.push_back_reserved.ensures.items) sound, settings-changed r.channel r.interval r.capacity states place old new setting keeps.1, omega (arith, keeps.2, c.push_back_reserved.ensures.capacity))
+    (subst (λ (q : List AirItem). IsSoundRadio (radio_of r.channel r.interval r.capacity (set states place new) q)) (sym c.push_back_reserved.ensures.items) sound, settings-changed r.channel r.interval r.capacity states place old new setting keeps.1, omega (arith, keeps.2, c.push_back_reserved.ensures.capacity))
 
 pub returns-in-Some-clause-after : goal.returns-in-Some-clause-after
 returns-in-Some-clause-after c =

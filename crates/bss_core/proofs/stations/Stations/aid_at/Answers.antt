@@ -1,4 +1,4 @@
-use Rattle.std.proofs.Common.{◌≡◌, ◌∙◌, ℕ, ◌≤◌, List, Option, Some, None, slice_get, sym, ap, refl}
+use Rattle.std.proofs.Common.{◌≡◌, ◌∙◌, ℕ, ◌≤◌, List, Option, Some, None, slice_get, sym, ap}
 use Rattle.std.specs.Prelude.{IfSome}
 use Rattle.bss_core.specs.Stations.{Table, StationTable, aid_with, identifiers, AreIdentifiers}
 use Rattle.bss_core.specs.declared.stations.Link.{Link}

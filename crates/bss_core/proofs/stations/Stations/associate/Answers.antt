@@ -1,4 +1,4 @@
-use Rattle.std.proofs.Common.{◌≡◌, ◌∙◌, Some, None, true, false, is_some, unwrap_or, refl, sym, ap, ◌≢◌, ◌<◌, ◌≤◌, ◌+◌, ℕ, arith}
+use Rattle.std.proofs.Common.{◌≡◌, ◌∙◌, Some, None, true, false, is_some, unwrap_or, refl, sym, ap, ◌≢◌, ◌<◌, arith}
 use Rattle.std.specs.Int.{from_bool}
 use Rattle.bss_core.specs.Stations.{Table, StationTable, aid_of, aid_with, dozes_with, link_of, identifiers, next_aid, set_link, associate}
 use Rattle.bss_core.specs.declared.stations.Link.TheVariants.{Associated}

@@ -1,4 +1,4 @@
-use Rattle.std.proofs.Common.{◌≡◌, ℕ, ◌+◌, ◌≤◌, ◌∙◌, Some, None, sym, ap, arith}
+use Rattle.std.proofs.Common.{◌≡◌, ◌∙◌, Some, None, sym, ap, arith}
 use Rattle.std.specs.Int.{from_bool}
 use Rattle.bss_core.specs.Stations.{Table, aid_of, aid_with, dozes_with, set_link, authenticate}
 use Rattle.bss_core.specs.declared.stations.Link.TheVariants.{Authenticated}

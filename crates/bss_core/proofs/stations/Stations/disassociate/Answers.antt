@@ -1,4 +1,4 @@
-use Rattle.std.proofs.Common.{◌≡◌, ℕ, ◌+◌, ◌≤◌, ◌∙◌, Some, is_some, if◌then◌else◌, sym, ap, arith}
+use Rattle.std.proofs.Common.{◌≡◌, ◌∙◌, Some, is_some, if◌then◌else◌, sym, ap, arith}
 use Rattle.std.specs.Int.{from_bool}
 use Rattle.bss_core.specs.Stations.{Table, StationTable, aid_of, aid_with, dozes_with, link_of, set_link, disassociate}
 use Rattle.bss_core.specs.declared.stations.Link.TheVariants.{Authenticated}

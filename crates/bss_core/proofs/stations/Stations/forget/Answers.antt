@@ -1,4 +1,4 @@
-use Rattle.std.proofs.Common.{◌≡◌, ℕ, ◌+◌, ◌≤◌, ◌∙◌, Some, None, sym, ap, arith}
+use Rattle.std.proofs.Common.{◌≡◌, ◌∙◌, Some, None, sym, ap, arith}
 use Rattle.std.specs.Int.{from_bool}
 use Rattle.bss_core.specs.Stations.{Table, aid_of, aid_with, dozes_with, forget}
 use Rattle.bss_core.proofs.StationTables.{out-of_associated, out-freed, out-kept, dozing_at, dozing-forgotten}

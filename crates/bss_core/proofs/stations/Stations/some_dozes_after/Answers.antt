@@ -1,4 +1,4 @@
-use Rattle.std.proofs.Common.{◌≡◌, ◌∙◌, ℕ, Bool, true, false, sym, ap}
+use Rattle.std.proofs.Common.{◌≡◌, ◌∙◌, ℕ, true, false, sym, ap}
 use Rattle.std.specs.Prelude.{nat_lt}
 use Rattle.std.specs.Int.{from_bool}
 use Rattle.bss_core.specs.Stations.{Table, StationTable, dozes_with, is_dozing, link_of, some_station_dozes, set_mode, changed}
