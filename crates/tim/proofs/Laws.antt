@@ -5,7 +5,7 @@ use Rattle.std.specs.List.{range_with_len}
 use Rattle.std.proofs.lemmas.Bool.{cases_lt, le-leb, leb-true, and_parts, cases_Bool}
 use Rattle.std.proofs.lemmas.Nat.Bits.{bit_at_lowest}
 use Rattle.tim.specs.Tim.{IsAid, SameNumbers, max_aid, tim_id, first_place, HasNumber, ShowsTim, is_shown, bits_from, octet_at, virtual_bitmap, partial_of, element_of, tim_octets}
-use Rattle.tim.proofs.Octets.{from_bool-le, bit_at-octet_at, length-virtual_bitmap, get_or-virtual_bitmap, virtual_bitmap-lt}
+use Rattle.tim.proofs.Octets.{from_bool-le, from_bool-true, bit_at-octet_at, length-virtual_bitmap, get_or-virtual_bitmap, virtual_bitmap-lt}
 use Rattle.tim.proofs.Partial.{IsPartial, partial_of-is}
 use Rattle.tim.proofs.Spelling.{sent_at, sent_at-from, sent_at-before, sent_at-has, has-sent_at, IsSpelled, spelled, shows, one_spelling}
 
@@ -37,10 +37,6 @@ aid-shown members n shown =
     let parts = and_parts _ _ shown in
     let both = and_parts _ _ parts.0 in
     ((leb-true 1 n both.0, leb-true n max_aid both.1), parts.1)
-
-pub from_bool-true : (b : Bool) → from_bool b ≡ 1 → b ≡ true
-from_bool-true true e = refl
-from_bool-true false e = absurd (omega arith)
 
 -- the bit of a number in the virtual bitmap
 pub bit_in_bitmap : (members : ℕ → Bool) (n : ℕ) → n ≤ max_aid → bit_at (get_or (virtual_bitmap members) (n / 8) 0) (n % 8) ≡ from_bool (is_shown members n)

@@ -12,6 +12,10 @@ pub from_bool-le : (b : Bool) → from_bool b ≤ 1
 from_bool-le true = omega arith
 from_bool-le false = omega arith
 
+pub from_bool-true : (b : Bool) → from_bool b ≡ 1 → b ≡ true
+from_bool-true true e = refl
+from_bool-true false e = absurd (omega arith)
+
 -- each of the bits is that of its number
 pub bit_at-bits_from : (bit : ℕ → Bool) (count n k : ℕ) → k < count → bit_at (bits_from bit count n) k ≡ from_bool (bit (n + k))
 unfolding bits_from

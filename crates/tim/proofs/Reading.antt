@@ -5,6 +5,7 @@ use Rattle.std.proofs.lemmas.Bool.{cases_lt, le-leb, leb-true, lt-ltb, ltb-true,
 use Rattle.std.proofs.lemmas.Nat.Bits.{bit_at_lowest}
 use Rattle.tim.specs.Tim.{IsAid, first_place, HasNumber, ShowsTim, tim_id}
 use Rattle.tim.specs.Spelling.{has_number, is_placed, is_trimmed, is_spelled}
+use Rattle.tim.proofs.Octets.{from_bool-true}
 use Rattle.tim.proofs.Spelling.{sent_at-from, has-sent_at, IsUsed, IsSpelled, spelled, shows}
 
 -- ---- one number
@@ -157,10 +158,6 @@ read_shows t count period control half octets members string in_t test half_is n
     subst (λ u. ShowsTim u count period (control % 2 == 1) members) (sym string)
     (shows count period control (control % 2 == 1) octets members s.0 (in_fields 3) (in_fields 4) (lowest_bit control) at_0 s.2 (λ n aid. in_control n))
 
-from_bool_one : (group : Bool) → from_bool group ≡ 1 → group ≡ true
-from_bool_one true e = refl
-from_bool_one false e = absurd (omega (arith, e))
-
 -- what shows something passes the tests
 pub shown_passes : (t : List ℕ) (count period control : ℕ) (octets : List ℕ) → t ≡ tim_id ∷ (length octets + 3) ∷ count ∷ period ∷ control ∷ octets → (count' period' : ℕ) (group : Bool) (members : ℕ → Bool) → ShowsTim t count' period' group members → is_spelled count period control octets ≡ true
 shown_passes t count period control octets string count' period' group members w =
@@ -172,7 +169,7 @@ shown_passes t count period control octets string count' period' group members w
     let octets_is : octets ≡ w.octets = cc in
     (λ i. is_spelled (count_is i) (period_is i) (control_is i) (octets_is i))
     ∙ test-from_spelled count' period' w.control w.octets w.count_below_period
-    (λ bit. w.group_at_0 (from_bool_one group (sym w.traffic_indicator ∙ bit)))
+    (λ bit. w.group_at_0 (from_bool-true group (sym w.traffic_indicator ∙ bit)))
     (spelled t count' period' group members w)
 
 -- the numbers that octets have are association identifiers

@@ -1,5 +1,5 @@
 -- TIMs on which the definitions are computed.
-use Rattle.std.proofs.Common.{◌≡◌, ◌==◌, ◌||◌, true, false, [], ◌∷◌, ◌++◌, refl}
+use Rattle.std.proofs.Common.{◌≡◌, ◌==◌, ◌&&◌, ◌||◌, nat_le, true, false, [], ◌∷◌, ◌++◌, refl}
 use Rattle.std.specs.Prelude.{replicate}
 use Rattle.tim.specs.Tim.{tim_octets, partial_of, from_first_pair, up_to_last, virtual_bitmap, octet_at, bits_from}
 use Rattle.tim.specs.Spelling.{is_spelled}
@@ -43,8 +43,13 @@ every_number_is_250_octets_of_ones :
 unfolding tim_octets partial_of from_first_pair up_to_last virtual_bitmap octet_at bits_from
 every_number_is_250_octets_of_ones = refl
 
-eight_numbers_fill_the_last_octet :
+three_numbers_stand_in_one_octet :
     tim_octets 0 1 false (λ n. n == 2000 || n == 2001 || n == 2006) ≡ 5 ∷ 4 ∷ 0 ∷ 1 ∷ 0xfa ∷ 0x43 ∷ []
+unfolding tim_octets partial_of from_first_pair up_to_last virtual_bitmap octet_at bits_from
+three_numbers_stand_in_one_octet = refl
+
+eight_numbers_fill_the_last_octet :
+    tim_octets 0 1 false (λ n. nat_le 2000 n && nat_le n 2007) ≡ 5 ∷ 4 ∷ 0 ∷ 1 ∷ 0xfa ∷ 0xff ∷ []
 unfolding tim_octets partial_of from_first_pair up_to_last virtual_bitmap octet_at bits_from
 eight_numbers_fill_the_last_octet = refl
 

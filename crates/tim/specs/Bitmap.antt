@@ -1,4 +1,4 @@
--- Sets of association identifiers.
+-- Sets of association identifiers (IEEE Std 802.11-2016, 9.4.1.8).
 use Rattle.std.specs.Prelude.{ℕ, Bool, filter}
 use Rattle.std.specs.List.{range_with_len}
 use Rattle.std.specs.Ordering.{nat_cmp}

@@ -1,4 +1,4 @@
--- The tests by which a TIM is read, in the order of its octets.
+-- The tests by which a TIM is read (IEEE Std 802.11-2016, 9.4.2.6): that it is the one spelling of a set is profile.
 use Rattle.std.specs.Prelude.{ℕ, ◌+◌, ◌-◌, ◌/◌, ◌%◌, Bool, not, nat_lt, nat_le, ◌==◌, ◌&&◌, ◌||◌, List, length, slice_index}
 use Rattle.std.specs.Int.{bit_at}
 use Rattle.tim.specs.Tim.{first_place}

@@ -79,7 +79,7 @@ octet_at members place = bits_from (is_shown members) 8 (8 * place)
 unfoldable pub virtual_bitmap : (ℕ → Bool) → List ℕ
 virtual_bitmap members = map (octet_at members) (range_with_len 0 251)
 
--- an octet and those behind it, but for one that is 0 with nothing behind it
+-- an octet and those behind it; a 0 with nothing behind it is left out
 abbrev pub put : ℕ → List ℕ → List ℕ
 put zero [] = []
 put octet octets = octet ∷ octets

@@ -10,14 +10,17 @@ use std::marker::Model;
 /// The greatest association identifier (9.4.1.8). The least is 1.
 pub const MAX_AID: u16 = 2007;
 
-/// How many octets the virtual bitmap has: that of the greatest identifier stands at the last place, 250.
+/// How many octets the virtual bitmap has (9.4.2.6): that of the greatest identifier stands at the last place, 250.
 pub(crate) const BITMAP_LEN: usize = 251;
 
-/// A set of association identifiers. Contracts see it as a finite set of numbers from 1 to [`MAX_AID`].
+/// How many bits the virtual bitmap has: one for each number from 0 to the greatest identifier.
+const BITS: usize = 8 * BITMAP_LEN;
+
+/// A set of association identifiers (9.4.1.8). Contracts see it as a finite set of numbers from 1 to [`MAX_AID`].
 #[derive(Debug, Drop)]
 pub struct Bitmap {
-    // one truth value for each number below 8 * BITMAP_LEN; that of 0 stays false
-    has: [bool; 2008],
+    // one truth value for each number; that of 0 stays false
+    has: [bool; BITS],
 }
 
 impl Model for Bitmap {
@@ -41,10 +44,10 @@ impl Bitmap {
     pub fn new() -> Bitmap
         ensures { result ≡ set.empty }
     {
-        Bitmap { has: [false; 2008] }
+        Bitmap { has: [false; BITS] }
     }
 
-    /// Puts an association identifier into the set.
+    /// Puts an association identifier, 1 to [`MAX_AID`], into the set, whether it has it or not. The others stay.
     pub fn set(&mut self, aid: u16)
         requires least { 1 ≤ aid }
         requires greatest { aid ≤ MAX_AID }
@@ -53,7 +56,7 @@ impl Bitmap {
         self.has[usize::from(aid)] = true;
     }
 
-    /// Takes an association identifier out of the set.
+    /// Takes an association identifier, 1 to [`MAX_AID`], out of the set, whether it has it or not. The others stay.
     pub fn clear(&mut self, aid: u16)
         requires least { 1 ≤ aid }
         requires greatest { aid ≤ MAX_AID }
@@ -62,7 +65,7 @@ impl Bitmap {
         self.has[usize::from(aid)] = false;
     }
 
-    /// Whether the set has an association identifier.
+    /// Whether the set has an association identifier, 1 to [`MAX_AID`].
     pub fn has(&self, aid: u16) -> bool
         requires least { 1 ≤ aid }
         requires greatest { aid ≤ MAX_AID }
@@ -78,7 +81,7 @@ impl Bitmap {
         ensures numbers { (n : ℕ) → IsTrue (set.contains result n) ↔ HasNumber first octets.now n }
         ensures aids { (n : ℕ) → IsTrue (set.contains result n) → IsAid n }
     {
-        let mut has = [false; 2008];
+        let mut has = [false; BITS];
         for (n, bit) in has.iter_mut().enumerate() {
             *bit = has_number(first, octets, n);
         }
@@ -86,10 +89,10 @@ impl Bitmap {
     }
 
     /// The octets of the virtual bitmap (9.4.2.6): bit n mod 8 of octet n / 8 tells whether the set has n.
-    pub(crate) fn virtual_bitmap(&self) -> [u8; 251]
+    pub(crate) fn virtual_bitmap(&self) -> [u8; BITMAP_LEN]
         ensures { result ≡ virtual_bitmap (set.contains self.now) }
     {
-        let mut octets = [0; 251];
+        let mut octets = [0; BITMAP_LEN];
         for (place, octet) in octets.iter_mut().enumerate() {
             *octet = self.octet(place);
         }

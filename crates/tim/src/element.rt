@@ -28,14 +28,22 @@ pub struct Tim {
     pub bits: Bitmap,
 }
 
-/// What a whole element shows: nothing where it is no TIM, and where it is one in another spelling (profile).
-/// It takes no memory.
+/// What a whole element shows (9.4.2.6): `None` where it is no TIM, where its fields don't go together, and where it is a TIM in
+/// another spelling (*profile*). It takes no memory.
 pub fn read_tim(element: &[u8]) -> Option<Tim>
     ensures found { IfSome result (λ tim. ShowsTim element.now tim.count tim.period tim.group (set.contains tim.bits)) }
-    ensures only { (count period : ℕ) (group : Bool) (members : ℕ → Bool) → ShowsTim element.now count period group members → IsSomeAnd result (λ tim. (tim.count ≡ count) × (tim.period ≡ period) × (tim.group ≡ group) × SameNumbers (set.contains tim.bits) members) }
+    ensures only { (count period : ℕ) (group : Bool) (members : ℕ → Bool) → ShowsTim element.now count period group members
+        → IsSomeAnd result (λ tim.
+        (tim.count ≡ count) × (tim.period ≡ period) × (tim.group ≡ group) × SameNumbers (set.contains tim.bits) members) }
     ensures aids { IfSome result (λ tim. (n : ℕ) → IsTrue (set.contains tim.bits n) → IsAid n) }
 {
-    let (count, period, control, octets) = fields(element)?;
+    let fields = read_fields(element)?;
+    let Fields {
+        count,
+        period,
+        control,
+        octets,
+    } = fields;
     if !is_spelled(count, period, control, octets) {
         return None;
     }
@@ -47,10 +55,23 @@ pub fn read_tim(element: &[u8]) -> Option<Tim>
     })
 }
 
-/// DTIM Count, DTIM Period, Bitmap Control and the Partial Virtual Bitmap of an element whose element ID and Length
-/// are those of a TIM.
-fn fields(element: &[u8]) -> Option<(u8, u8, u8, &[u8])>
-    ensures found { IfSome result (λ f. element.now ≡ TIM ∷ (length f.3.now + 3) ∷ f.0 ∷ f.1 ∷ f.2 ∷ f.3.now) }
+/// The Information field of a TIM, whatever stands in it.
+#[derive(Clone, Copy, Debug)]
+struct Fields<'a> {
+    /// DTIM Count.
+    count: u8,
+    /// DTIM Period.
+    period: u8,
+    /// Bitmap Control: the Traffic Indicator in bit 0, the Bitmap Offset in the others.
+    control: u8,
+    /// The Partial Virtual Bitmap.
+    octets: &'a [u8],
+}
+
+/// The Information field of an element whose element ID and Length are those of a TIM.
+fn read_fields(element: &[u8]) -> Option<Fields<'_>>
+    ensures found { IfSome result (λ f.
+        element.now ≡ TIM ∷ (length f.octets.now + 3) ∷ f.count ∷ f.period ∷ f.control ∷ f.octets.now) }
     ensures only { (count period control : ℕ) (octets : List ℕ) → element.now ≡ TIM ∷ (length octets + 3) ∷ count ∷ period ∷ control ∷ octets → IsSome result }
 {
     let [id, len, count, period, control, octets @ ..] = element else {
@@ -59,7 +80,12 @@ fn fields(element: &[u8]) -> Option<(u8, u8, u8, &[u8])>
     if *id != TIM || usize::from(*len) != octets.len() + usize::from(FIELDS_LEN) {
         return None;
     }
-    Some((*count, *period, *control, octets))
+    Some(Fields {
+        count: *count,
+        period: *period,
+        control: *control,
+        octets,
+    })
 }
 
 /// Whether the fields of a TIM go together, and its octets are the one spelling of a set.
@@ -104,9 +130,9 @@ fn up_to_last(octets: &[u8]) -> &[u8]
 
 /// The octets from the first pair on that isn't 0 and 0, and how many pairs stand before it.
 fn from_first_pair(octets: &[u8]) -> (u8, &[u8])
-    requires { length octets.now ≤ 251 }
+    requires { length octets.now ≤ BITMAP_LEN }
     ensures octets { (result.0, result.1.now) ≡ from_first_pair 0 octets.now }
-    ensures within { 2 * result.0 + length result.1.now ≤ 251 }
+    ensures within { 2 * result.0 + length result.1.now ≤ BITMAP_LEN }
 {
     let mut octets = octets;
     let mut passed = 0;
@@ -117,12 +143,12 @@ fn from_first_pair(octets: &[u8]) -> (u8, &[u8])
     (passed, octets)
 }
 
-/// What is sent of the octets of a virtual bitmap (profile): the Bitmap Offset, and the octets from the first pair that
+/// What is sent of the octets of a virtual bitmap (*profile*): the Bitmap Offset, and the octets from the first pair that
 /// isn't 0 and 0 up to the last octet that isn't 0, or one 0 where there is none.
 fn partial(bitmap: &[u8]) -> (u8, &[u8])
-    requires { length bitmap.now ≤ 251 }
+    requires { length bitmap.now ≤ BITMAP_LEN }
     ensures octets { (result.0, result.1.now) ≡ partial_of bitmap.now }
-    ensures within { 2 * result.0 + length result.1.now ≤ 251 }
+    ensures within { 2 * result.0 + length result.1.now ≤ BITMAP_LEN }
 {
     let (offset, octets) = from_first_pair(up_to_last(bitmap));
     if octets.is_empty() {
@@ -131,8 +157,9 @@ fn partial(bitmap: &[u8]) -> (u8, &[u8])
     (offset, octets)
 }
 
-/// Appends the TIM that shows a set, with this DTIM Count and DTIM Period, and whether the group has units.
-/// After `NoMemory` `out` is as it was.
+/// Appends the TIM that shows the stations `bits` as those that have units (9.4.2.6). DTIM Count and DTIM Period are numbers of
+/// beacons, the count below the period. `group`, the Traffic Indicator, tells that the group has units, and is true at count 0
+/// alone. Which octets of the virtual bitmap are sent is *profile*. After `NoMemory` `out` is as it was.
 pub fn write_tim(
     out: &mut Octets,
     count: u8,
@@ -157,8 +184,13 @@ pub fn write_tim(
 
 /// A set is shown by exactly one string, and a string shows one count, period, group and set at most (9.4.2.6).
 pub fn one_tim()
-    ensures shows { (count period : ℕ) (group : Bool) (members : ℕ → Bool) → count < period → period < 2 ^ 8 → (IsTrue group → count ≡ 0) → ShowsTim (tim_octets count period group members) count period group members }
-    ensures string { (t u : List ℕ) (count period : ℕ) (group : Bool) (members : ℕ → Bool) → ShowsTim t count period group members → ShowsTim u count period group members → t ≡ u }
-    ensures values { (t : List ℕ) (count count' period period' : ℕ) (group group' : Bool) (members members' : ℕ → Bool) → ShowsTim t count period group members → ShowsTim t count' period' group' members' → (count ≡ count') × (period ≡ period') × (group ≡ group') × SameNumbers members members' }
-    ensures same { (count period : ℕ) (group : Bool) (members others : ℕ → Bool) → SameNumbers members others → tim_octets count period group members ≡ tim_octets count period group others }
+    ensures shows { (count period : ℕ) (group : Bool) (members : ℕ → Bool) → count < period → period < 2 ^ 8
+        → (IsTrue group → count ≡ 0) → ShowsTim (tim_octets count period group members) count period group members }
+    ensures string { (t u : List ℕ) (count period : ℕ) (group : Bool) (members : ℕ → Bool)
+        → ShowsTim t count period group members → ShowsTim u count period group members → t ≡ u }
+    ensures values { (t : List ℕ) (count count' period period' : ℕ) (group group' : Bool) (members members' : ℕ → Bool)
+        → ShowsTim t count period group members → ShowsTim t count' period' group' members'
+        → (count ≡ count') × (period ≡ period') × (group ≡ group') × SameNumbers members members' }
+    ensures same { (count period : ℕ) (group : Bool) (members others : ℕ → Bool) → SameNumbers members others
+        → tim_octets count period group members ≡ tim_octets count period group others }
 {}
