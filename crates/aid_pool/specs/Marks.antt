@@ -1,4 +1,5 @@
--- How a pool keeps its numbers: a mark for each, the first for number 1.
+-- How a pool keeps its numbers, the association identifiers of IEEE Std 802.11-2016, 9.4.1.8: a mark for each, the first for
+-- number 1.
 use Rattle.std.specs.Prelude.{ℕ, ◌+◌, Bool, true, false, List, [], ◌∷◌}
 use Rattle.std.specs.Ordering.{nat_cmp}
 use Rattle.std.specs.FinSet as set

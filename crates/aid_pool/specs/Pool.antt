@@ -1,4 +1,5 @@
--- A pool of association identifiers: how many it hands out at most, and the finite set of those that are out.
+-- A pool of association identifiers (IEEE Std 802.11-2016, 9.4.1.8): how many it hands out at most (profile), and the finite set
+-- of those that are out.
 use Rattle.std.specs.Prelude.{ℕ, refl}
 use Rattle.std.specs.Ordering.{nat_cmp}
 use Rattle.std.specs.FinSet as set

@@ -1,20 +1,19 @@
-//! A pool of association identifiers (IEEE Std 802.11-2016, 9.4.1.8): which are out, and which is the next.
+//! A pool of association identifiers (IEEE Std 802.11-2016, 9.4.1.8): which are out, and which is handed out next.
 
 ghost use Rattle.std.specs.Prelude.{◌≡◌, ◌+◌, ◌<◌, ◌≤◌, ◌↔◌, ℕ, List, Bool, length, false, not, slice_index_or, position, IsTrue, IsNone, IfSome, IfNone};
-ghost use Rattle.std.specs.Ordering.{nat_cmp};
 ghost use Rattle.std.specs.FinSet as set;
 ghost use Rattle.aid_pool.specs.LeastFree.{IsLeastFree, least_free, is_among};
 
 use std::marker::Model;
 
-/// The greatest association identifier (9.4.1.8).
+/// The greatest association identifier (9.4.1.8). The least is 1.
 pub const MAX_AID: u16 = 2007;
 
-/// A mark for each identifier.
-const MARKS: usize = 2007;
+/// How many marks there are: one for each identifier.
+const MARKS: usize = MAX_AID as usize;
 
-/// The association identifiers of a network: each is out or not. Contracts see how many are out at most, and the set
-/// of those that are out. It takes no memory.
+/// The association identifiers of a network, numbers from 1 to [`MAX_AID`] (9.4.1.8): each is out or free. Contracts see how many
+/// are out at most, and the set of those that are out. None of its methods takes memory.
 #[derive(Drop)]
 pub struct AidPool {
     most: u16,
@@ -27,6 +26,7 @@ impl Model for AidPool {
     ghost use Rattle.std.specs.FinSet as set;
     ghost use Rattle.aid_pool.specs.Pool.{Pool, pool_code};
     ghost use Rattle.aid_pool.specs.Marks.{numbers_of};
+    ghost use Rattle.aid_pool.specs.declared.pool.TheConstants.{MAX_AID};
 
     ghost Value = { Pool };
 
@@ -34,11 +34,11 @@ impl Model for AidPool {
 
     ghost view = { λ p. record { most = p.most; out = numbers_of p.marks } };
 
-    ghost invariant = { λ p. record { count : p.count ≡ set.len (numbers_of p.marks); few : p.count ≤ p.most; most : p.most ≤ 2007 } };
+    ghost invariant = { λ p. record { count : p.count ≡ set.len (numbers_of p.marks); few : p.count ≤ p.most; most : p.most ≤ MAX_AID } };
 }
 
 impl AidPool {
-    /// A pool that hands out at most so many numbers, of which none is out.
+    /// A pool that hands out at most `most` numbers at a time, 1 to [`MAX_AID`]. None is out.
     pub fn new(most: u16) -> AidPool
         requires some { 1 ≤ most }
         requires few { most ≤ MAX_AID }
@@ -51,7 +51,7 @@ impl AidPool {
         }
     }
 
-    /// Whether a number is out.
+    /// Whether a number is out. One that is no identifier never is.
     pub fn is_out(&self, aid: u16) -> bool
         ensures value { result ≡ set.contains self.now.out aid }
         ensures first { IsTrue result → 1 ≤ aid }
@@ -64,7 +64,7 @@ impl AidPool {
         marks[usize::from(aid) - 1]
     }
 
-    /// How many numbers are out: at most as many as the pool hands out.
+    /// How many numbers are out: never more than the pool hands out at most.
     pub fn out_count(&self) -> u16
         ensures count { result ≡ set.len self.now.out }
         ensures few { result ≤ self.now.most }
@@ -73,8 +73,8 @@ impl AidPool {
         self.count
     }
 
-    /// The number that [`AidPool::take`] gives next: the least that is not out. `None` exactly where as many are out as
-    /// the pool hands out.
+    /// The number that [`AidPool::take`] gives next: the least that is free (*profile*). `None` exactly where as many are out as
+    /// the pool hands out at most.
     pub fn least(&self) -> Option<u16>
         ensures none { IsNone result ↔ (set.len self.now.out ≡ self.now.most) }
         ensures least { IfSome result (IsLeastFree (set.contains self.now.out)) }
@@ -87,8 +87,8 @@ impl AidPool {
         Some(place as u16 + 1)
     }
 
-    /// Takes the least number that is not out, which is out from then on. `None` exactly where as many are out as the
-    /// pool hands out: then nothing changes.
+    /// Takes the least number that is free (*profile*), which is out from then on. `None` exactly where as many are out as the
+    /// pool hands out at most: then nothing changes.
     pub fn take(&mut self) -> Option<u16>
         ensures none { IsNone result ↔ (set.len self.old.out ≡ self.old.most) }
         ensures least { IfSome result (IsLeastFree (set.contains self.old.out)) }
@@ -102,7 +102,7 @@ impl AidPool {
         Some(aid)
     }
 
-    /// Takes a number back that is out, so that it may be taken again.
+    /// Takes a number back that is out: it is free from then on. The others stay as they were.
     pub fn give(&mut self, aid: u16)
         requires { IsTrue (set.contains self.old.out aid) }
         ensures { self.new ≡ record self.old { out = set.remove self.old.out aid } }
@@ -126,8 +126,8 @@ fn first_clear(marks: &[bool]) -> Option<usize>
     marks.iter().position(|is_set| !is_set)
 }
 
-/// There is one least free number at most, which [`AidPool::least`] tells. Fewer than 2007 numbers leave one free, which
-/// is at most one more than there are of them.
+/// There is one least free number at most, which [`AidPool::least`] tells. Fewer than [`MAX_AID`] numbers leave one free, of which
+/// the least is at most one more than there are of them (9.4.1.8; that the least is given is *profile*).
 pub fn least_is_free()
     ensures only { (is_out : ℕ → Bool) (n : ℕ) → IsLeastFree is_out n → n ≡ least_free is_out }
     ensures some { (numbers : List ℕ) → length numbers < MAX_AID → IsLeastFree (is_among numbers) (least_free (is_among numbers)) }
