@@ -11,7 +11,7 @@ pub const INVALID_CLASS_2_FRAME: u16 = 6;
 /// The reason of a notice for a Class 3 frame from a station that is not associated (9.4.1.7, Table 9-45).
 pub const INVALID_CLASS_3_FRAME: u16 = 7;
 
-/// In which states a frame is taken (11.3.3).
+/// The class of a frame: in which states of its station it is taken (11.3.3).
 #[derive(Clone, Copy, Debug, PartialEq, Eq)]
 pub enum Class {
     /// In every state.
@@ -22,7 +22,7 @@ pub enum Class {
     Three,
 }
 
-/// What a network sends to a station of its own accord, with its reason (9.4.1.7, Table 9-45).
+/// A notice that a network sends to a station of its own accord, with its reason code (9.4.1.7, Table 9-45).
 #[derive(Clone, Copy, Debug, PartialEq, Eq)]
 pub enum Notice {
     /// The station is no longer authenticated (9.3.3.13).
@@ -31,8 +31,8 @@ pub enum Notice {
     Disassociate(u16),
 }
 
-/// What is sent to a station in this state for a frame of this class, or `None` where the frame is taken (11.3.3;
-/// which reason is *profile*).
+/// The notice that is sent to a station in this state for a frame of this class, or `None` where the frame is taken (11.3.3). Its
+/// reason is 6 for a Class 2 frame and 7 for a Class 3 frame (*profile*).
 pub fn fault(standing: Standing, class: Class) -> Option<Notice>
     ensures { result ≡ class_fault standing class }
 {

@@ -18,7 +18,7 @@ mod class;
 
 pub use class::{Class, INVALID_CLASS_2_FRAME, INVALID_CLASS_3_FRAME, Notice, fault};
 
-/// How far a station has come towards the network (11.3.1).
+/// The state that the network keeps of a station (11.3.1).
 #[derive(Clone, Copy, Debug, PartialEq, Eq)]
 pub enum Standing {
     /// State 1: not authenticated.
