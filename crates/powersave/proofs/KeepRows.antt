@@ -1,10 +1,11 @@
 -- What the definitions say of some lists.
-use Rattle.std.proofs.Common.{◌≡◌, ℕ, List, [], ◌∷◌, length, Option, Some, None, refl}
+use Rattle.std.proofs.Common.{◌≡◌, [], ◌∷◌, Some, None, refl}
 use Rattle.std.specs.List.{slice_get}
-use Rattle.powersave.specs.declared.unit.Whom.{Whom}
 use Rattle.powersave.specs.declared.unit.Whom.TheVariants.{One, Group}
 use Rattle.powersave.specs.Keep.{units_for, without_oldest, without_all, room_beside}
-use Rattle.powersave.proofs.Samples.{station, other_station, broadcast, unit_to, for_station, for_other, for_group, three}
+use Rattle.mac_frame.specs.Address.{broadcast}
+use Rattle.mac_frame.proofs.Samples.{station}
+use Rattle.powersave.proofs.Samples.{other_station, unit_to, for_station, for_other, for_group, three}
 
 units_for_a_station_are_in_order_of_arrival : units_for (One station) three ≡ unit_to station 1 ∷ unit_to station 3 ∷ []
 units_for_a_station_are_in_order_of_arrival = refl

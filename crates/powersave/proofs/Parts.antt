@@ -1,16 +1,15 @@
 -- The part of the list for one, and the parts for others.
-use Rattle.std.proofs.Common.{◌≡◌, ◌≢◌, ℕ, ◌<◌, Bool, true, false, not, cond, List, [], ◌∷◌, ◌++◌, length, map, filter, drop, get_or, Option, Some, None, refl, sym, ap, ◌∙◌, subst, arith}
-use Rattle.std.specs.List.{slice_get, position, remove}
+use Rattle.std.proofs.Common.{◌≡◌, ◌≢◌, ℕ, Bool, true, false, not, cond, List, [], ◌∷◌, ◌++◌, map, filter, drop, get_or, Option, Some, None, refl, sym, ap, ◌∙◌}
+use Rattle.std.specs.List.{slice_get, position}
 use Rattle.std.specs.Option.{option_map}
-use Rattle.std.specs.Str.{bytes_eq}
 use Rattle.std.specs.Cmp.Lexicographic.{bytes_decides}
 use Rattle.std.proofs.lemmas.Bool.{false_from_ne_true}
 use Rattle.std.proofs.lemmas.Option.{slice_get-map, slice_get-get_or}
 use Rattle.powersave.specs.declared.unit.Whom.{Whom}
 use Rattle.powersave.specs.declared.unit.Whom.TheVariants.{One, Group}
 use Rattle.powersave.specs.declared.unit.Unit.{Unit as Msdu}
-use Rattle.powersave.specs.Keep.{Entry, is_same, is_for, units_for, without_all, without_first, without_oldest, room_beside}
-use Rattle.powersave.proofs.Lists.{IsFirst, first_is, none_is}
+use Rattle.powersave.specs.Keep.{Entry, is_same, is_for, units_for, without_all, without_oldest, room_beside}
+use Rattle.powersave.proofs.Lists.{first_is, none_is}
 
 -- ---- for whom
 

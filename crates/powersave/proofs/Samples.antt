@@ -1,24 +1,14 @@
 -- Stations and units of which the rows speak.
 use Rattle.std.proofs.Common.{ℕ, List, [], ◌∷◌}
-use Rattle.powersave.specs.declared.unit.Whom.{Whom}
+use Rattle.mac_frame.specs.Address.{broadcast}
+use Rattle.mac_frame.proofs.Samples.{station, host}
 use Rattle.powersave.specs.declared.unit.Whom.TheVariants.{One, Group}
 use Rattle.powersave.specs.declared.unit.Unit.{Unit as Msdu}
 use Rattle.powersave.specs.Keep.{Entry}
 
--- 02:aa:00:00:00:01
-abbrev pub station : List ℕ
-station = 0x02 ∷ 0xaa ∷ 0x00 ∷ 0x00 ∷ 0x00 ∷ 0x01 ∷ []
-
 -- 02:aa:00:00:00:02
 abbrev pub other_station : List ℕ
 other_station = 0x02 ∷ 0xaa ∷ 0x00 ∷ 0x00 ∷ 0x00 ∷ 0x02 ∷ []
-
--- 02:bb:00:00:00:01
-abbrev pub host : List ℕ
-host = 0x02 ∷ 0xbb ∷ 0x00 ∷ 0x00 ∷ 0x00 ∷ 0x01 ∷ []
-
-abbrev pub broadcast : List ℕ
-broadcast = 0xff ∷ 0xff ∷ 0xff ∷ 0xff ∷ 0xff ∷ 0xff ∷ []
 
 -- a unit from the host with a body of one octet
 abbrev pub unit_to : List ℕ → ℕ → Msdu

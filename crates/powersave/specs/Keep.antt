@@ -9,7 +9,7 @@ use Rattle.powersave.specs.declared.unit.Unit.{Unit as Msdu}
 abbrev pub Entry : Type 0
 Entry = Whom × Msdu
 
--- the quota, the units in order of arrival, and for whom room was made, if for one
+-- the quota (profile), the units in order of arrival, and for whom room is reserved, if for any
 pub record Kept : Type 0 where
   pub quota : ℕ
   pub entries : List Entry
@@ -43,7 +43,7 @@ without_first test (x ∷ xs) = if test x then xs else x ∷ without_first test 
 abbrev pub without_oldest : Whom → List Entry → List Entry
 without_oldest whom entries = without_first (is_for whom) entries
 
--- the room that was made, but for one
+-- the reservation, unless it is for this one
 abbrev pub room_beside : Whom → Option Whom → Option Whom
 room_beside whom None = None
 room_beside whom (Some other) = if is_same other whom then None else Some other

@@ -1,4 +1,4 @@
-//! A unit, and for whom it is kept.
+//! A unit, and for whom it is kept (IEEE Std 802.11-2016, 11.2.3).
 
 use mac_frame::{MacAddr, Octets};
 
@@ -11,13 +11,13 @@ pub enum Whom {
     Group,
 }
 
-/// One MSDU (IEEE Std 802.11-2016, 3.1) with its addresses.
+/// One MSDU (3.1) with its addresses.
 #[derive(Debug, Drop)]
 pub struct Unit {
     /// The destination address.
     pub to: MacAddr,
     /// The source address.
     pub source: MacAddr,
-    /// The body of the frame that carries it.
+    /// The Frame Body of the Data frame that carries it (9.2.4.7).
     pub body: Octets,
 }

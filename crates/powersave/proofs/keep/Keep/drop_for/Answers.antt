@@ -1,4 +1,4 @@
-use Rattle.std.proofs.Common.{◌≡◌, not, ap, ◌∙◌, rules}
+use Rattle.std.proofs.Common.{not, ap, ◌∙◌, rules}
 use Rattle.std.proofs.lemmas.Fn.{filter_same}
 use Rattle.powersave.specs.Keep.{is_for, without_all, room_beside}
 use Rattle.powersave.proofs.keep.Keep.drop_for.Goals as goal

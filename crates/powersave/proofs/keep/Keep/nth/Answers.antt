@@ -1,6 +1,5 @@
-use Rattle.std.proofs.Common.{◌≡◌, List, Option, Some, None, sym, ap, ◌∙◌}
+use Rattle.std.proofs.Common.{◌≡◌, sym, ap, ◌∙◌}
 use Rattle.std.specs.Option.{option_map, option_copied}
-use Rattle.powersave.specs.Keep.{Entry}
 use Rattle.powersave.proofs.Parts.{nth_unit, msdu}
 use Rattle.powersave.proofs.keep.Keep.nth.Goals as goal
 

@@ -1,6 +1,6 @@
-use Rattle.std.proofs.Common.{◌≡◌, List, Some, None, sym, ap, ◌∙◌}
+use Rattle.std.proofs.Common.{◌≡◌, Some, None, sym, ap, ◌∙◌}
 use Rattle.std.specs.List.{slice_get, position}
-use Rattle.powersave.specs.Keep.{Entry, is_for, units_for, without_oldest, room_beside}
+use Rattle.powersave.specs.Keep.{is_for, units_for, without_oldest, room_beside}
 use Rattle.powersave.proofs.Lists.{first_is, none_is}
 use Rattle.powersave.proofs.Parts.{first_unit, no_unit}
 use Rattle.powersave.proofs.keep.Keep.oldest.Goals as goal
