@@ -9,12 +9,18 @@ use borrow.Author.Tests.{eqb-true}
 use Rattle.mac_frame.specs.declared.frame.Unread.{Unread}
 use Rattle.mac_frame.specs.declared.frame.Unread.TheVariants.{Kind, Body}
 use Rattle.mac_frame.specs.Management.{association_request_subtype, reassociation_request_subtype, probe_request_subtype, disassociation_subtype, authentication_subtype, deauthentication_subtype}
-use Rattle.elements.specs.Elements.{Pair, first_of, elements_of, ssid_id}
-use Rattle.elements.proofs.Walk.{IsElements-from_read, elements_of_elements}
+use Rattle.elements.specs.Elements.{Pair, IsElements, first_of, elements_of, ssid_id}
 use Rattle.association.specs.Request.{Request, Probe, Auth, Assoc, Disassoc, Deauth, Msdu, Null, Poll, sender, IsProbeBody, IsAuthenticationBody, IsAssociationBody, IsReassociationBody, IsReasonBody, number_at, with_fixed, probe_of, auth_of, assoc_with, asked_by}
 
 abbrev pub AreOctets : List ℕ → Type 0
 AreOctets body = (place : ℕ) → get_or body place 0 < 256
+
+-- each body is read as its one list of elements
+abbrev pub ReadsElements : Type 0
+ReadsElements = (body : List ℕ) (es : List Pair) → IsElements body es → elements_of body ≡ Some es
+
+abbrev pub FindsElements : Type 0
+FindsElements = (body : List ℕ) (es : List Pair) → AreOctets body → elements_of body ≡ Some es → IsElements body es
 
 -- ---- all management frames alike
 
@@ -58,10 +64,10 @@ enough fixed body read long = let fits : ltb (length body) fixed ≡ false = le-
 
 -- ---- what a body says is read of it
 
-pub says-read : (body : List ℕ) (r : Request) → Says body r → asked_by (subtype_of r) (sender r) body ≡ Ok r
-says-read body (Probe from ssid) w =
-    ap (probe_of from) (elements_of_elements body w.elements w.are_elements) ∙ ap (λ s. Ok (Probe from s)) (sym w.names)
-says-read body (Auth from algorithm step) w =
+pub says-read : ReadsElements → (body : List ℕ) (r : Request) → Says body r → asked_by (subtype_of r) (sender r) body ≡ Ok r
+says-read reads body (Probe from ssid) w =
+    ap (probe_of from) (reads body w.elements w.are_elements) ∙ ap (λ s. Ok (Probe from s)) (sym w.names)
+says-read reads body (Auth from algorithm step) w =
     let a = w.algorithm_field in
     let b = w.step_field in
     let s = w.status_field in
@@ -71,7 +77,7 @@ says-read body (Auth from algorithm step) w =
     let one : number_at body 0 ≡ algorithm = ap (from_le_bytes w16) (field body [] a (b ++ (s ++ w.rest)) 0 2 first refl w.algorithm_length) ∙ sym w.algorithm_is in
     let two : number_at body 2 ≡ step = ap (from_le_bytes w16) (field body a b (s ++ w.rest) 2 2 second w.algorithm_length w.step_length) ∙ sym w.step_is in
     enough 6 body (Ok (Auth from (number_at body 0) (number_at body 2))) long ∙ ap (λ n. Ok (Auth from n (number_at body 2))) one ∙ ap (λ n. Ok (Auth from algorithm n)) two
-says-read body (Assoc from true listen elements) w =
+says-read reads body (Assoc from true listen elements) w =
     let c = w.capability_field in
     let l = w.listen_field in
     let p = w.current_ap_field in
@@ -79,24 +85,24 @@ says-read body (Assoc from true listen elements) w =
     let before : length ((c ++ l) ++ p) ≡ 10 = omega (arith, length-append (c ++ l) p, length-append c l, w.capability_length, w.listen_length, w.current_ap_length) in
     let long : 10 ≤ length body = omega (arith, ap length w.whole, length-append ((c ++ l) ++ p) w.rest, before) in
     let number : number_at body 2 ≡ listen = ap (from_le_bytes w16) (field body c l (p ++ w.rest) 2 2 second w.capability_length w.listen_length) ∙ sym w.listen_is in
-    let read : elements_of (drop 10 body) ≡ Some elements = ap elements_of (after body ((c ++ l) ++ p) w.rest 10 w.whole before) ∙ elements_of_elements w.rest elements w.are_elements in
+    let read : elements_of (drop 10 body) ≡ Some elements = ap elements_of (after body ((c ++ l) ++ p) w.rest 10 w.whole before) ∙ reads w.rest elements w.are_elements in
     enough 10 body (assoc_with from true (number_at body 2) (elements_of (drop 10 body))) long ∙ ap (assoc_with from true (number_at body 2)) read ∙ ap (λ n. Ok (Assoc from true n elements)) number
-says-read body (Assoc from false listen elements) w =
+says-read reads body (Assoc from false listen elements) w =
     let c = w.capability_field in
     let l = w.listen_field in
     let second : body ≡ c ++ (l ++ w.rest) = w.whole ∙ append_assoc c l w.rest in
     let before : length (c ++ l) ≡ 4 = omega (arith, length-append c l, w.capability_length, w.listen_length) in
     let long : 4 ≤ length body = omega (arith, ap length w.whole, length-append (c ++ l) w.rest, before) in
     let number : number_at body 2 ≡ listen = ap (from_le_bytes w16) (field body c l w.rest 2 2 second w.capability_length w.listen_length) ∙ sym w.listen_is in
-    let read : elements_of (drop 4 body) ≡ Some elements = ap elements_of (after body (c ++ l) w.rest 4 w.whole before) ∙ elements_of_elements w.rest elements w.are_elements in
+    let read : elements_of (drop 4 body) ≡ Some elements = ap elements_of (after body (c ++ l) w.rest 4 w.whole before) ∙ reads w.rest elements w.are_elements in
     enough 4 body (assoc_with from false (number_at body 2) (elements_of (drop 4 body))) long ∙ ap (assoc_with from false (number_at body 2)) read ∙ ap (λ n. Ok (Assoc from false n elements)) number
-says-read body (Disassoc from) w =
+says-read reads body (Disassoc from) w =
     enough 2 body (Ok (Disassoc from)) (omega (arith, ap length w.whole, length-append w.reason_field w.rest, w.reason_length))
-says-read body (Deauth from) w =
+says-read reads body (Deauth from) w =
     enough 2 body (Ok (Deauth from)) (omega (arith, ap length w.whole, length-append w.reason_field w.rest, w.reason_length))
-says-read body (Msdu from doze to unit) w = absurd w
-says-read body (Null from doze) w = absurd w
-says-read body (Poll from aid) w = absurd w
+says-read reads body (Msdu from doze to unit) w = absurd w
+says-read reads body (Null from doze) w = absurd w
+says-read reads body (Poll from aid) w = absurd w
 
 -- ---- what is read of a body is what it says
 
@@ -135,11 +141,11 @@ two_fields body =
 field_length : (body : List ℕ) (k m : ℕ) → k + m ≤ length body → length (take m (drop k body)) ≡ m
 field_length body k m long = length-take-le m (drop k body) (omega (arith, length-drop k body))
 
-told-probe : (from body : List ℕ) (o : Option (List Pair)) (r : Request) → AreOctets body → elements_of body ≡ o → probe_of from o ≡ Ok r → Told probe_request_subtype from body r
-told-probe from body None r octets read h = absurd (cc)
-told-probe from body (Some es) r octets read h =
+told-probe : FindsElements → (from body : List ℕ) (o : Option (List Pair)) (r : Request) → AreOctets body → elements_of body ≡ o → probe_of from o ≡ Ok r → Told probe_request_subtype from body r
+told-probe finds from body None r octets read h = absurd (cc)
+told-probe finds from body (Some es) r octets read h =
     let is : Probe from (first_of ssid_id es) ≡ r = cc in
-    subst (Told probe_request_subtype from body) is (record { subtype_is = refl; from_is = refl; says = record { elements = es; are_elements = IsElements-from_read body es octets read; names = refl } })
+    subst (Told probe_request_subtype from body) is (record { subtype_is = refl; from_is = refl; says = record { elements = es; are_elements = finds body es octets read; names = refl } })
 
 told-auth : (from body : List ℕ) (r : Request) → auth_of from body ≡ Ok r → Told authentication_subtype from body r
 told-auth from body r h =
@@ -165,9 +171,9 @@ told-auth from body r h =
       };
     })
 
-told-association : (from body : List ℕ) (o : Option (List Pair)) (r : Request) → AreOctets body → 4 ≤ length body → elements_of (drop 4 body) ≡ o → assoc_with from false (number_at body 2) o ≡ Ok r → Told association_request_subtype from body r
-told-association from body None r octets long read h = absurd (cc)
-told-association from body (Some es) r octets long read h =
+told-association : FindsElements → (from body : List ℕ) (o : Option (List Pair)) (r : Request) → AreOctets body → 4 ≤ length body → elements_of (drop 4 body) ≡ o → assoc_with from false (number_at body 2) o ≡ Ok r → Told association_request_subtype from body r
+told-association finds from body None r octets long read h = absurd (cc)
+told-association finds from body (Some es) r octets long read h =
     let is : Assoc from false (number_at body 2) es ≡ r = cc in
     subst (Told association_request_subtype from body) is (record {
       subtype_is = refl;
@@ -180,13 +186,13 @@ told-association from body (Some es) r octets long read h =
         capability_length = length-take-le 2 body (omega (arith, long));
         listen_length = field_length body 2 2 (omega (arith, long));
         listen_is = refl;
-        are_elements = IsElements-from_read (drop 4 body) es (octets-after 4 body octets) read;
+        are_elements = finds (drop 4 body) es (octets-after 4 body octets) read;
       };
     })
 
-told-reassociation : (from body : List ℕ) (o : Option (List Pair)) (r : Request) → AreOctets body → 10 ≤ length body → elements_of (drop 10 body) ≡ o → assoc_with from true (number_at body 2) o ≡ Ok r → Told reassociation_request_subtype from body r
-told-reassociation from body None r octets long read h = absurd (cc)
-told-reassociation from body (Some es) r octets long read h =
+told-reassociation : FindsElements → (from body : List ℕ) (o : Option (List Pair)) (r : Request) → AreOctets body → 10 ≤ length body → elements_of (drop 10 body) ≡ o → assoc_with from true (number_at body 2) o ≡ Ok r → Told reassociation_request_subtype from body r
+told-reassociation finds from body None r octets long read h = absurd (cc)
+told-reassociation finds from body (Some es) r octets long read h =
     let is : Assoc from true (number_at body 2) es ≡ r = cc in
     let whole : body ≡ ((take 2 body ++ take 2 (drop 2 body)) ++ take 6 (drop 4 body)) ++ drop 10 body =
     two_fields body ∙ ap (λ q. (take 2 body ++ take 2 (drop 2 body)) ++ q) (cut 6 (drop 4 body) ∙ ap (λ q. take 6 (drop 4 body) ++ q) (drop-drop 6 4 body))
@@ -204,7 +210,7 @@ told-reassociation from body (Some es) r octets long read h =
         listen_length = field_length body 2 2 (omega (arith, long));
         current_ap_length = field_length body 4 6 (omega (arith, long));
         listen_is = refl;
-        are_elements = IsElements-from_read (drop 10 body) es (octets-after 10 body octets) read;
+        are_elements = finds (drop 10 body) es (octets-after 10 body octets) read;
       };
     })
 
@@ -228,18 +234,18 @@ told-deauthentication from body r h =
 under : (n subtype : ℕ) (from body : List ℕ) (r : Request) → eqb subtype n ≡ true → Told n from body r → Told subtype from body r
 under n subtype from body r same told = subst (λ (m : ℕ). Told m from body r) (sym (eqb-true subtype n same)) told
 
-pub read-says : (subtype : ℕ) (from body : List ℕ) (r : Request) → AreOctets body → asked_by subtype from body ≡ Ok r → Told subtype from body r
-read-says subtype from body r octets h =
+pub read-says : FindsElements → (subtype : ℕ) (from body : List ℕ) (r : Request) → AreOctets body → asked_by subtype from body ≡ Ok r → Told subtype from body r
+read-says finds subtype from body r octets h =
     elim (picked (eqb subtype 0) _ _ r h) [
       | inl p ↦
           let parts = fixed-there 4 body _ r p.1 in
-          under 0 subtype from body r p.0 (told-association from body (elements_of (drop 4 body)) r octets parts.0 refl parts.1)
+          under 0 subtype from body r p.0 (told-association finds from body (elements_of (drop 4 body)) r octets parts.0 refl parts.1)
       | inr p ↦ elim (picked (eqb subtype 2) _ _ r p.1) [
         | inl q ↦
             let parts = fixed-there 10 body _ r q.1 in
-            under 2 subtype from body r q.0 (told-reassociation from body (elements_of (drop 10 body)) r octets parts.0 refl parts.1)
+            under 2 subtype from body r q.0 (told-reassociation finds from body (elements_of (drop 10 body)) r octets parts.0 refl parts.1)
         | inr q ↦ elim (picked (eqb subtype 4) _ _ r q.1) [
-          | inl s ↦ under 4 subtype from body r s.0 (told-probe from body (elements_of body) r octets refl s.1)
+          | inl s ↦ under 4 subtype from body r s.0 (told-probe finds from body (elements_of body) r octets refl s.1)
           | inr s ↦ elim (picked (eqb subtype 10) _ _ r s.1) [
             | inl t ↦ under 10 subtype from body r t.0 (told-disassociation from body r t.1)
             | inr t ↦ elim (picked (eqb subtype 11) _ _ r t.1) [

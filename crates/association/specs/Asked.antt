@@ -1,4 +1,4 @@
--- A request that was read, without where its octets lie in memory, and its class.
+-- A request that was read (IEEE Std 802.11-2016, 9.3), without where its octets lie in memory, and its class (11.3.3).
 use Rattle.std.specs.Prelude.{option_map}
 use Rattle.station_state.specs.declared.class.Class.{Class}
 use Rattle.station_state.specs.declared.class.Class.TheVariants.{One, Two, Three}
@@ -16,7 +16,7 @@ shown (asked.Msdu from doze to body) = Msdu from doze to body.now
 shown (asked.Null from doze) = Null from doze
 shown (asked.Poll from aid) = Poll from aid
 
--- the class of its frame (IEEE Std 802.11-2016, 11.3.3)
+-- the class of its frame (11.3.3)
 abbrev pub class_of : Request → Class
 class_of (Probe from ssid) = One
 class_of (Auth from algorithm step) = One

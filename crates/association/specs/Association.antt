@@ -1,5 +1,5 @@
--- Association and reassociation (IEEE Std 802.11-2016, 9.3.3.6 to 9.3.3.9 and 11.3.5): the status of a request, and its
--- answer.
+-- Association and reassociation (IEEE Std 802.11-2016, 9.3.3.6 to 9.3.3.9, 11.3.5.3 and 11.3.5.5): the status of a request, and
+-- its answer.
 use Rattle.std.specs.Prelude.{ℕ, ◌+◌, Bool, false, not, ◌==◌, ◌||◌, List, ◌++◌, Option, Some, None, if◌then◌else◌}
 use Rattle.std.specs.Int.{w16, to_le_bytes}
 use Rattle.std.specs.List.{list_all}

@@ -1,4 +1,4 @@
--- Open System authentication (IEEE Std 802.11-2016, 9.3.3.12 and 12.3.3.2): the status of a request, and its answer.
+-- Open System authentication (IEEE Std 802.11-2016, 9.3.3.12, 11.3.4.3 and 12.3.3.2): the status of a request, and its answer.
 use Rattle.std.specs.Prelude.{ℕ, Bool, not, ◌==◌, List, ◌++◌, if◌then◌else◌}
 use Rattle.std.specs.Int.{w16, to_le_bytes}
 use Rattle.mac_frame.specs.Management.{authentication_subtype}

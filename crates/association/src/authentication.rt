@@ -1,4 +1,4 @@
-//! Open System authentication (IEEE Std 802.11-2016, 9.3.3.12 and 12.3.3.2): the status of a request, and its answer.
+//! Open System authentication (IEEE Std 802.11-2016, 9.3.3.12, 11.3.4.3 and 12.3.3.2): the status of a request, and its answer.
 
 ghost use Rattle.std.specs.Prelude.{◌≡◌, ◌++◌, ◌<◌, OnOk, OnErr};
 ghost use Rattle.association.specs.Authentication.{auth_status, authentication_body, authentication};
@@ -16,8 +16,10 @@ const REQUEST: u16 = 1;
 /// The transaction sequence number of an answer (9.4.1.2).
 const ANSWER: u16 = 2;
 
-/// The status of a request to authenticate by this algorithm, at this step, where there is room for the station or not
-/// (9.4.1.9; the statuses, their conditions and their order are *profile*).
+/// The status of a request to authenticate by this algorithm (9.4.1.1), at this step (9.4.1.2), where there is room for the
+/// station or not (9.4.1.9). The first of these that applies, in this order (*profile*): [`UNSUPPORTED_AUTH_ALGORITHM`] where the
+/// algorithm isn't 0, Open System, [`TRANSACTION_SEQUENCE_ERROR`] where the step isn't 1, [`REFUSED`] where there is no room,
+/// [`SUCCESS`].
 pub fn auth_status(algorithm: u16, step: u16, room: bool) -> u16
     ensures { result ≡ auth_status algorithm step room }
 {
@@ -33,7 +35,8 @@ pub fn auth_status(algorithm: u16, step: u16, room: bool) -> u16
 }
 
 /// Appends the whole answer to a request to authenticate by this algorithm, with this status, to the station `to`, from the
-/// network `bss` (9.3.3.12). After `NoMemory` `out` is as it was.
+/// network `bss` (9.3.3.12). Its transaction sequence number is always 2 (*profile*). The sequence number `seq` is below 4096.
+/// After `NoMemory` `out` is as it was.
 pub fn write_auth(
     out: &mut Octets,
     to: MacAddr,

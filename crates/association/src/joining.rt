@@ -1,7 +1,7 @@
-//! Association and reassociation (IEEE Std 802.11-2016, 9.3.3.6 to 9.3.3.9 and 11.3.5): the status of a request, and its
-//! answer.
+//! Association and reassociation (IEEE Std 802.11-2016, 9.3.3.6 to 9.3.3.9, 11.3.5.3 and 11.3.5.5): the status of a request, and
+//! its answer.
 
-ghost use Rattle.std.specs.Prelude.{◌≡◌, ◌++◌, ◌+◌, ◌<◌, ◌≤◌, length, OnOk, OnErr};
+ghost use Rattle.std.specs.Prelude.{◌≡◌, ◌++◌, ◌<◌, ◌≤◌, length, OnOk, OnErr};
 ghost use Rattle.association.specs.Association.{names_network, has_basic_rates, assoc_status, aid_field, association_fields, association_response};
 
 use crate::frame::write_frame;
@@ -18,8 +18,10 @@ const AID_BITS: u16 = 0xc000;
 /// (9.3.3.7).
 const FIXED_LEN: usize = HEADER_LEN + 6 + 2 * 2;
 
-/// The status of a request to associate, by the network's SSID and rates and whether there is room for the station
-/// (9.4.1.9; the statuses, their conditions and their order are *profile*).
+/// The status of a request to associate or reassociate with these elements (9.4.1.9), by the network's SSID, its rates, as octets
+/// of Supported Rates (9.4.2.3), and whether there is room for the station. The first of these that applies, in this order
+/// (*profile*): [`REFUSED`] where the elements don't name the SSID, [`REFUSED_BASIC_RATES_MISMATCH`] where they lack a basic rate,
+/// [`DENIED_NO_MORE_STAS`] where there is no room, [`SUCCESS`].
 pub fn assoc_status(ssid: &[u8], rates: &[u8], room: bool, elements: &Elements<'_>) -> u16
     ensures { result ≡ assoc_status ssid.now rates.now room elements.now }
 {
@@ -38,10 +40,7 @@ pub fn assoc_status(ssid: &[u8], rates: &[u8], room: bool, elements: &Elements<'
 fn names_network(ssid: &[u8], elements: &Elements<'_>) -> bool
     ensures { result ≡ names_network ssid.now elements.now }
 {
-    match elements.first(SSID) {
-        Some(named) => named == ssid,
-        None => false,
-    }
+    elements.first(SSID).is_some_and(|named| named == ssid)
 }
 
 /// Whether the elements have each basic rate of these.
@@ -54,8 +53,10 @@ fn has_basic_rates(rates: &[u8], elements: &Elements<'_>) -> bool
 }
 
 /// Appends the whole answer to a request to associate, or `again` to reassociate, with this status, to the station `to`, from
-/// the network `bss` with these rates (9.3.3.7, 9.3.3.9). The identifier counts where the status is `SUCCESS`. After
-/// `NoMemory` `out` is as it was.
+/// the network `bss` (9.3.3.7, 9.3.3.9). The sequence number `seq` is below 4096. The association identifier `aid`, 0 to 2007,
+/// is written with the two high bits set (9.4.1.8) where the status is [`SUCCESS`]; else the AID field is 0 (*profile*). There are
+/// 1 to 16 rates, as octets of Supported Rates (9.4.2.3): the first 8 go into that element, the others into Extended Supported
+/// Rates (9.4.2.13). After `NoMemory` `out` is as it was.
 pub fn write_assoc(
     out: &mut Octets,
     to: MacAddr,

@@ -8,7 +8,8 @@ use mac_frame::{DEAUTHENTICATION, DISASSOCIATION, MacAddr, NoMemory, Octets};
 use station_state::Notice;
 
 /// Appends the whole frame of a notice to the station `to`, from the network `bss`: a deauthentication or a
-/// disassociation with its reason (9.3.3.5, 9.3.3.13). After `NoMemory` `out` is as it was.
+/// disassociation with its reason (9.3.3.5, 9.3.3.13). The sequence number `seq` is below 4096. After `NoMemory` `out` is as it
+/// was.
 pub fn write_notice(
     out: &mut Octets,
     to: MacAddr,

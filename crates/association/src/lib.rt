@@ -2,8 +2,7 @@
 //! authentication, association, disassociation and deauthentication.
 //!
 //! It promises which request a string of octets is for a network, if it is one, and of which class; which status a request is
-//! answered with; and that each answer and each notice is appended with exactly the
-//! octets of its frame.
+//! answered with; and that each answer and each notice is appended with exactly the octets of its frame.
 //!
 //! Whether there is room for a station, which identifier it is given, when a notice is sent, and what becomes of a unit or a
 //! poll, is left to the network.

@@ -26,47 +26,47 @@ const REASSOCIATION_LEN: usize = 10;
 /// The octets of a Reason Code (9.4.1.7).
 const REASON_LEN: usize = 2;
 
-/// What a station asks.
+/// What a station asks of a network. SSID, elements and body are parts of the string that it was read from.
 #[derive(Debug, Drop)]
 pub enum Request<'a> {
-    /// Which networks are here (9.3.3.10).
+    /// A probe request (9.3.3.10): which networks are here.
     Probe {
         /// The station.
         from: MacAddr,
-        /// The SSID that it names, if it names one.
+        /// The SSID that it names, if it names one (9.4.2.2): of any length, empty for the wildcard SSID.
         ssid: Option<&'a [u8]>,
     },
-    /// To be authenticated (9.3.3.12).
+    /// An authentication (9.3.3.12, 11.3.4.3): the station asks to be authenticated.
     Auth {
         /// The station.
         from: MacAddr,
-        /// The algorithm (9.4.1.1).
+        /// The algorithm (9.4.1.1), any number.
         algorithm: u16,
-        /// The transaction sequence number (9.4.1.2).
+        /// The transaction sequence number (9.4.1.2), any number.
         step: u16,
     },
-    /// To be associated (9.3.3.6, 9.3.3.8).
+    /// An association or reassociation request (9.3.3.6, 9.3.3.8, 11.3.5.3, 11.3.5.5): the station asks to be associated.
     Assoc {
         /// The station.
         from: MacAddr,
-        /// Whether it reassociates.
+        /// Whether it is a reassociation request.
         again: bool,
         /// Its listen interval in beacon intervals (9.4.1.6).
         listen: u16,
         /// The elements of its body.
         elements: Elements<'a>,
     },
-    /// To be associated no longer (9.3.3.5).
+    /// A disassociation (9.3.3.5, 11.3.5.9): the station ends its association.
     Disassoc {
         /// The station.
         from: MacAddr,
     },
-    /// To be authenticated no longer (9.3.3.13).
+    /// A deauthentication (9.3.3.13, 11.3.4.5): the station ends its authentication.
     Deauth {
         /// The station.
         from: MacAddr,
     },
-    /// That a unit be passed on (9.3.2.1).
+    /// A Data frame (9.3.2.1), with a unit that the network is to pass on.
     Msdu {
         /// The station.
         from: MacAddr,
@@ -77,14 +77,14 @@ pub enum Request<'a> {
         /// The body, of at most 2304 octets.
         body: &'a [u8],
     },
-    /// Nothing: it tells its mode (9.3.2.1).
+    /// A Null frame (9.3.2.1), which tells the mode of the station alone.
     Null {
         /// The station.
         from: MacAddr,
         /// Whether it dozes from now on (9.2.4.1.7).
         doze: bool,
     },
-    /// What is kept for it (9.3.1.5).
+    /// A PS-Poll (9.3.1.5): the station asks for what is kept for it.
     Poll {
         /// The station.
         from: MacAddr,
@@ -93,7 +93,7 @@ pub enum Request<'a> {
     },
 }
 
-/// The class of a request's frame (11.3.3).
+/// The class of the frame that a request came in (11.3.3).
 pub fn class(request: &Request<'_>) -> Class
     ensures { result ≡ class_of (shown request.now) }
 {
@@ -104,7 +104,7 @@ pub fn class(request: &Request<'_>) -> Class
     }
 }
 
-/// The station of a request.
+/// The address of the station that a request came from (9.2.4.3).
 pub fn sender(request: &Request<'_>) -> MacAddr
     ensures { result ≡ sender (shown request.now) }
 {
@@ -120,8 +120,8 @@ pub fn sender(request: &Request<'_>) -> MacAddr
     }
 }
 
-/// The request of a string of octets for the network `bss` (9.3), or its first fault in the order of [`Unread`]
-/// (*profile*). It takes no memory.
+/// The request that a string of octets is for the network `bss` (9.3). Where it is none, its first fault in the order of
+/// [`Unread`] (*profile*). It takes no memory.
 pub fn read(bss: MacAddr, frame: &[u8]) -> Result<Request<'_>, Unread>
     // What is read is this request; what is this request is read.
     ensures request { IfOk result (λ request. IsRequest bss frame.now (shown request)) }
@@ -131,6 +131,9 @@ pub fn read(bss: MacAddr, frame: &[u8]) -> Result<Request<'_>, Unread>
         (λ request. request_of bss frame.now ≡ Ok (shown request))
         (λ fault. request_of bss frame.now ≡ Err fault) }
 {
+    one_frame();
+    body_has_octets();
+    one_list();
     match decode(bss, frame) {
         Ok(rx) => request_in(rx),
         Err(fault) => Err(fault),
@@ -191,13 +194,11 @@ fn probe(from: MacAddr, body: &[u8]) -> Result<Request<'_>, Unread>
         (λ request. probe_of from (elements_of body.now) ≡ Ok (shown request))
         (λ fault. probe_of from (elements_of body.now) ≡ Err fault) }
 {
-    match Elements::new(body) {
-        Ok(elements) => Ok(Request::Probe {
-            from,
-            ssid: elements.first(SSID),
-        }),
-        Err(_) => Err(Unread::Body),
-    }
+    let elements = Elements::new(body).map_err(|_| Unread::Body)?;
+    Ok(Request::Probe {
+        from,
+        ssid: elements.first(SSID),
+    })
 }
 
 /// The authentication with this body (9.3.3.12).
@@ -226,15 +227,13 @@ fn association(from: MacAddr, again: bool, fixed: usize, body: &[u8]) -> Result<
     if body.len() < fixed {
         return Err(Unread::Body);
     }
-    match Elements::new(&body[fixed..]) {
-        Ok(elements) => Ok(Request::Assoc {
-            from,
-            again,
-            listen: number_at(body, 2),
-            elements,
-        }),
-        Err(_) => Err(Unread::Body),
-    }
+    let elements = Elements::new(&body[fixed..]).map_err(|_| Unread::Body)?;
+    Ok(Request::Assoc {
+        from,
+        again,
+        listen: number_at(body, 2),
+        elements,
+    })
 }
 
 /// The number of two octets at a place, the low octet first (9.2.2).
@@ -251,7 +250,8 @@ fn number_at(body: &[u8], place: usize) -> u16
 pub fn one_request()
     ensures unique { (bss x : List ℕ) (r s : Asking) → IsRequest bss x r → IsRequest bss x s → r ≡ s }
     ensures read { (bss x : List ℕ) (r : Asking) → IsRequest bss x r → request_of bss x ≡ Ok r }
-    ensures found { (bss x : List ℕ) (r : Asking) → ((place : ℕ) → slice_index x place < 256) → request_of bss x ≡ Ok r → IsRequest bss x r }
+    ensures found { (bss x : List ℕ) (r : Asking) → ((place : ℕ) → slice_index x place < 256) → request_of bss x ≡ Ok r
+        → IsRequest bss x r }
     ensures heard { (bss x : List ℕ) (r : Asking) → IsRequest bss x r → Hears bss x }
 {
     one_frame();

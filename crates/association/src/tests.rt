@@ -17,6 +17,31 @@ const FOUR_RATES: [u8; 4] = [0x82, 0x84, 0x0b, 0x16];
 #[test]
 fn a_station_is_authenticated(rt: HostRuntime) -> Result<(), Fail> {
     let mut out = Octets::from_slice(rt.alloc(), &[0xff])?;
+    let status = auth_status(0, 1, true);
+    write_auth(
+        &mut out,
+        MacAddr::new(STATION),
+        MacAddr::new(NETWORK),
+        0,
+        0,
+        status,
+    )?;
+    let frame = [
+        0xff, // what was there
+        0xb0, 0x00, 0x00, 0x00, // Frame Control and Duration
+        0x02, 0xaa, 0x00, 0x00, 0x00, 0x01, // the station
+        0x02, 0x00, 0x00, 0x00, 0x00, 0x01, // the network
+        0x02, 0x00, 0x00, 0x00, 0x00, 0x01, // the network
+        0x00, 0x00, // sequence number 0
+        0x00, 0x00, 0x02, 0x00, 0x00, 0x00, // algorithm, step and status
+    ];
+    assert_eq!(rt; out.as_slice(), frame.as_slice());
+    Ok(())
+}
+
+#[test]
+fn shared_key_is_answered_with_13(rt: HostRuntime) -> Result<(), Fail> {
+    let mut out = Octets::from_slice(rt.alloc(), &[0xff])?;
     let status = auth_status(1, 1, true);
     write_auth(
         &mut out,
@@ -41,6 +66,35 @@ fn a_station_is_authenticated(rt: HostRuntime) -> Result<(), Fail> {
 
 #[test]
 fn a_station_is_associated(rt: HostRuntime) -> Result<(), Fail> {
+    let elements = Elements::new(&[0, 3, b'l', b'a', b'b', 1, 4, 0x02, 0x04, 0x0b, 0x16])?;
+    let status = assoc_status(b"lab", &FOUR_RATES, true, &elements);
+    let mut out = Octets::from_slice(rt.alloc(), &[0xff])?;
+    write_assoc(
+        &mut out,
+        MacAddr::new(STATION),
+        MacAddr::new(NETWORK),
+        1,
+        false,
+        status,
+        1,
+        &FOUR_RATES,
+    )?;
+    let frame = [
+        0xff, // what was there
+        0x10, 0x00, 0x00, 0x00, // Frame Control and Duration
+        0x02, 0xaa, 0x00, 0x00, 0x00, 0x01, // the station
+        0x02, 0x00, 0x00, 0x00, 0x00, 0x01, // the network
+        0x02, 0x00, 0x00, 0x00, 0x00, 0x01, // the network
+        0x10, 0x00, // sequence number 1
+        0x01, 0x00, 0x00, 0x00, 0x01, 0xc0, // capability, status and AID
+        0x01, 0x04, 0x82, 0x84, 0x0b, 0x16, // the rates
+    ];
+    assert_eq!(rt; out.as_slice(), frame.as_slice());
+    Ok(())
+}
+
+#[test]
+fn a_station_is_associated_again(rt: HostRuntime) -> Result<(), Fail> {
     let elements = Elements::new(&[0, 3, b'l', b'a', b'b', 1, 3, 0x02, 0x0b, 0x16, 50, 1, 0x04])?;
     let status = assoc_status(b"lab", &FOUR_RATES, true, &elements);
     let mut out = Octets::from_slice(rt.alloc(), &[0xff])?;
@@ -69,7 +123,7 @@ fn a_station_is_associated(rt: HostRuntime) -> Result<(), Fail> {
 }
 
 #[test]
-fn a_station_is_refused(rt: HostRuntime) -> Result<(), Fail> {
+fn a_station_without_a_basic_rate_is_refused(rt: HostRuntime) -> Result<(), Fail> {
     let elements = Elements::new(&[0, 3, b'l', b'a', b'b', 1, 3, 0x02, 0x0b, 0x16])?;
     let status = assoc_status(b"lab", &FOUR_RATES, false, &elements);
     let mut out = Octets::new(rt.alloc());
