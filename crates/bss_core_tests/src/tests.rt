@@ -10,6 +10,7 @@ use std::test::Fail;
 
 mod events;
 mod radio;
+mod runs;
 
 const BSSID: [u8; 6] = [0x02, 0, 0, 0, 0, 0x01];
 
@@ -38,6 +39,23 @@ const RESPONSE: [u8; 50] = [
     0x01, 0x04, 0x82, 0x84, 0x0b, 0x16, // Supported Rates
     0x03, 0x01, 0x06, // DSSS Parameter Set
 ];
+
+/// The network's first beacon.
+const BEACON: &str =
+    "80000000 ffffffffffff 020000000001 020000000001 0000 0090010000000000 6400 0100 \
+    00036c6162 010482840b16 030106 050400010000";
+
+/// The station authenticates itself, and the answer.
+const AUTHENTICATION: (&str, &str) = (
+    "b000000002000000000102aa000000010200000000010000000001000000",
+    "b000000002aa000000010200000000010200000000010000000002000000",
+);
+
+/// The octets that a text of digits and spaces spells.
+fn octets(alloc: Global, digits: &str) -> Result<Octets, Fail> {
+    let digits = digits.replace(alloc, " ", "")?;
+    Ok(Octets::from_slice(alloc, hex::decode(alloc, digits.as_str())?.as_slice())?)
+}
 
 /// The configuration of a network that takes so many events.
 fn network(alloc: Global, max_events: u32) -> Result<NetConfig, NoMemory>
@@ -89,26 +107,19 @@ fn is_response(octets: &[u8]) -> bool {
 
 /// Takes out the first frame that waits, and answers whether it is the answer with sequence number 0.
 fn sends_response(bss: &mut Bss) -> bool {
-    match bss.take_front() {
-        Some(frame) => is_response(frame.as_slice()),
-        None => false,
-    }
+    bss.take_front()
+        .is_some_and(|frame| is_response(frame.as_slice()))
 }
 
 /// The octet at a place of a string.
 fn octet_at(octets: &[u8], place: usize) -> Option<u8> {
-    match octets.get(place) {
-        Some(octet) => Some(*octet),
-        None => None,
-    }
+    octets.get(place).copied()
 }
 
 /// Takes out the first frame that waits, and answers the first octet of its Sequence Control field.
 fn sent_sequence(bss: &mut Bss) -> Option<u8> {
-    match bss.take_front() {
-        Some(frame) => octet_at(frame.as_slice(), 22),
-        None => None,
-    }
+    let frame = bss.take_front()?;
+    octet_at(frame.as_slice(), 22)
 }
 
 /// How many frames wait, events were taken, stations are known and frames are on the wire.
@@ -157,9 +168,7 @@ fn a_full_history_takes_no_event(rt: HostRuntime) -> Result<(), Fail> {
 /// Takes out the first frame that waits, if there is one, and gives it back. Answers whether there was a slot for it
 /// before that, and whether there was one after.
 fn give_first_back(bss: &mut Bss) -> Option<[bool; 2]> {
-    let Some(first) = bss.take_front() else {
-        return None;
-    };
+    let first = bss.take_front()?;
     if !bss.has_slot() {
         return Some([false, false]);
     }

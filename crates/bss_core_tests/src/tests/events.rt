@@ -1,19 +1,13 @@
 //! What a network does with each kind of event, on octets from outside.
 
-use super::bss;
+use super::{AUTHENTICATION, BEACON, bss, octets};
 use bss_core::{Bss, Event, StationRow};
 use mac_frame::{MacAddr, Octets};
 use station_state::Standing;
 use std::alloc::Global;
 use std::test::Fail;
 
-/// The station 02:aa:00:00:00:01 authenticates itself, and the answer.
-const AUTHENTICATION: (&str, &str) = (
-    "b000000002000000000102aa000000010200000000010000000001000000",
-    "b000000002aa000000010200000000010200000000010000000002000000",
-);
-
-/// It associates itself, and the answer.
+/// The station associates itself, and the answer.
 const ASSOCIATION: (&str, &str) = (
     "0000000002000000000102aa000000010200000000010000 01000a00 00036c6162 010402040b16",
     "1000000002aa00000001020000000001020000000001 1000 0100000001c0 010482840b16",
@@ -40,23 +34,10 @@ const POLL: (&str, &str) = (
 /// A wired frame for it.
 const WIRED: &str = "02aa00000001 02bb00000001 0800 01";
 
-const BEACON: &str =
-    "80000000 ffffffffffff 020000000001 020000000001 0000 0090010000000000 6400 0100 \
-    00036c6162 010482840b16 030106 050400010000";
-
-/// The octets that a text of digits and spaces spells.
-fn octets(alloc: Global, digits: &str) -> Result<Octets, Fail> {
-    let digits = digits.replace(alloc, " ", "")?;
-    Ok(Octets::from_slice(alloc, hex::decode(alloc, digits.as_str())?.as_slice())?)
-}
-
 /// The frame that a network sends for an event; no octets where it sends none.
 fn sent(alloc: Global, bss: &mut Bss, event: Event) -> Result<Octets, Fail> {
     bss.take(event)?;
-    match bss.take_front() {
-        Some(frame) => Ok(frame),
-        None => Ok(Octets::new(alloc)),
-    }
+    Ok(bss.take_front().unwrap_or_else(|| Octets::new(alloc)))
 }
 
 /// Whether these octets are the frame that a network sends for an event.
