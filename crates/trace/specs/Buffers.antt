@@ -1,9 +1,20 @@
--- What a call puts into a sink that stands after a piece of memory.
-use Rattle.std.specs.Prelude.{◌≡◌, ℕ, ◌+◌, List, Option, Result, OnOk, OnErr}
-use Rattle.trace.specs.Report.{failures_met}
-use Rattle.trace.specs.Sinks.{Delivers, Stops}
+-- What a call puts into a sink that stands after a piece of memory (profile).
+use Rattle.std.specs.Prelude.{◌≡◌, ℕ, ◌+◌, List, ◌++◌, Option, Result, OnOk, OnErr}
+use Rattle.std.specs.Io.KnownBytes.{Appends}
+use Rattle.trace.specs.Sinks.{failures_of_report}
 use Rattle.trace.specs.declared.report.ReportFault.{ReportFault}
 use Rattle.trace.specs.declared.report.buffer.Buffered.{Buffered}
+
+-- A text goes through a buffer: what was held, and then the text, is written, but for what is held now.
+pub record Delivers (old : Option (List ℕ)) (held : List ℕ) (new : Option (List ℕ)) (holds text : List ℕ) : Type 0 where
+  pub written : List ℕ
+  pub in_order : held ++ text ≡ written ++ holds
+  pub taken : Appends old new written
+
+-- It stops on the way: a prefix of what was held, and then the text, is written.
+pub record Stops (old : Option (List ℕ)) (held : List ℕ) (new : Option (List ℕ)) (text : List ℕ) : Type 0 where
+  pub rest : List ℕ
+  pub prefix : Delivers old held new rest text
 
 -- The call puts a text after what the piece holds, into the same sink, or stops on the way; each failure of the sink
 -- counts. `taken` and `failed` are what the sink has taken, where it is known, and how often it failed.
@@ -11,4 +22,4 @@ pub record Puts {W : Type 0} (taken : W → Option (List ℕ)) (failed : W → �
   pub same_sink : new.sink.ghost_name ≡ old.sink.ghost_name
   pub ok : OnOk result (Delivers (taken old.sink.now) old.piece.now.items (taken new.sink.now) new.piece.now.items text)
   pub err : OnErr result (Stops (taken old.sink.now) old.piece.now.items (taken new.sink.now) text)
-  pub failures : failed new.sink.now ≡ failed old.sink.now + failures_met result
+  pub failures : failed new.sink.now ≡ failed old.sink.now + failures_of_report result

@@ -1,5 +1,5 @@
 -- The text of a report (profile).
-use Rattle.std.specs.Prelude.{ℕ, Bool, if◌then◌else◌, List, [], ◌++◌, length, codes, decimal, flat_map, Result, Ok, Err}
+use Rattle.std.specs.Prelude.{ℕ, Bool, if◌then◌else◌, List, [], ◌++◌, length, codes, decimal, flat_map}
 use Rattle.hex.specs.Hex.{encode_lower}
 use Rattle.mac_frame.specs.Address.{address_text}
 use Rattle.station_state.specs.declared.Standing.{Standing}
@@ -9,8 +9,6 @@ use Rattle.bss_core.specs.declared.section.Counts.{Counts}
 use Rattle.bss_core.specs.declared.section.Section.{Section}
 use Rattle.bss_core.specs.declared.section.StationRow.{StationRow}
 use Rattle.trace.specs.Texts.{ended}
-use Rattle.trace.specs.declared.report.ReportFault.{ReportFault}
-use Rattle.trace.specs.declared.report.ReportFault.TheVariants.{Write, NoMemory}
 
 -- which network it is: its address, and its name as octets
 unfoldable pub network_line : NetConfig → List ℕ
@@ -60,9 +58,3 @@ section_text section =
 -- the sections, one after the other
 abbrev pub report_text : List Section → List ℕ
 report_text sections = flat_map section_text sections
-
--- how many failures of its sink a call met that answers this
-abbrev pub failures_met : {T : Type 0} → Result T ReportFault → ℕ
-failures_met (Ok answer) = 0
-failures_met (Err Write) = 1
-failures_met (Err NoMemory) = 0

@@ -1,6 +1,8 @@
--- What writers know of the octets that they took.
-use Rattle.std.specs.Prelude.{ℕ, ◌+◌, ◌≡◌, List, ◌++◌, Option, Result, is_err, if◌then◌else◌}
+-- What writers know of the octets that they took, and of their failures (profile).
+use Rattle.std.specs.Prelude.{ℕ, ◌^◌, ◌<◌, ◌≡◌, List, ◌++◌, Option, Result, Ok, Err}
 use Rattle.std.specs.Io.KnownBytes.{Appends}
+use Rattle.trace.specs.declared.report.ReportFault.{ReportFault}
+use Rattle.trace.specs.declared.report.ReportFault.TheVariants.{Write, NoMemory}
 
 -- a writer, and how often writing to it failed
 pub record CountedWriter (T : Type 0) : Type 0 where
@@ -14,17 +16,20 @@ pub record AppendsPrefix (old new : Option (List ℕ)) (text : List ℕ) : Type 
   pub in_order : text ≡ written ++ rest
   pub taken : Appends old new written
 
--- the failures of a sink after a call that writes to it and stops at the first
-abbrev pub counts_failure : {T E : Type 0} → ℕ → Result T E → ℕ
-counts_failure old result = if is_err result then old + 1 else old
+-- ---- how often a sink failed
 
--- A text goes through a buffer: what was held, and then the text, is written, but for what is held now.
-pub record Delivers (old : Option (List ℕ)) (held : List ℕ) (new : Option (List ℕ)) (holds text : List ℕ) : Type 0 where
-  pub written : List ℕ
-  pub in_order : held ++ text ≡ written ++ holds
-  pub taken : Appends old new written
+-- What each call on a sink asks for (profile): fewer than 2 ^ 63 failures so far. Their number is a u64, and a call stops
+-- at its first failure, so that there is room to count that one.
+abbrev pub MayFail : ℕ → Type 0
+MayFail failures = failures < 2 ^ 63
 
--- It stops on the way: a prefix of what was held, and then the text, is written.
-pub record Stops (old : Option (List ℕ)) (held : List ℕ) (new : Option (List ℕ)) (text : List ℕ) : Type 0 where
-  pub rest : List ℕ
-  pub prefix : Delivers old held new rest text
+-- how many failures of its sink a call met that only writes, and answers this
+abbrev pub failures_of_write : {T E : Type 0} → Result T E → ℕ
+failures_of_write (Ok answer) = 0
+failures_of_write (Err failed) = 1
+
+-- how many failures of its sink a call met that may run out of memory too, and answers this
+abbrev pub failures_of_report : {T : Type 0} → Result T ReportFault → ℕ
+failures_of_report (Ok answer) = 0
+failures_of_report (Err Write) = 1
+failures_of_report (Err NoMemory) = 0

@@ -13,11 +13,11 @@ use Rattle.bss_core.specs.declared.config.RadioConfig.{RadioConfig}
 use Rattle.workers.specs.declared.line.Line.{Line}
 use Rattle.workers.specs.declared.line.Line.TheVariants.{Air, Wire, Tick}
 use Rattle.trace.specs.Faults.{◌>>=◌}
-use Rattle.trace.specs.declared.read.TraceFault.{TraceFault}
-use Rattle.trace.specs.declared.read.TraceTextFault.{TraceTextFault}
-use Rattle.trace.specs.declared.read.TraceTextFault.TheVariants.{At, NoMemory}
-use Rattle.trace.specs.declared.line.LineFault.{LineFault}
-use Rattle.trace.specs.declared.line.LineFault.TheVariants as line
+use Rattle.trace.specs.declared.fault.TraceFault.{TraceFault}
+use Rattle.trace.specs.declared.fault.TraceTextFault.{TraceTextFault}
+use Rattle.trace.specs.declared.fault.TraceTextFault.TheVariants.{At, NoMemory}
+use Rattle.trace.specs.declared.fault.LineFault.{LineFault}
+use Rattle.trace.specs.declared.fault.LineFault.TheVariants as line
 
 -- ---- the limits
 
@@ -169,16 +169,25 @@ abbrev pub trace_fault : TraceTextFault → Option TraceFault
 trace_fault (At fault) = Some fault
 trace_fault NoMemory = None
 
+-- the code of a line's fault, none where memory ran out
 abbrev pub line_fault : LineFault → Option ℕ
-line_fault (line.Code code) = Some code
+line_fault line.UnknownKind = Some unknown_kind
+line_fault line.NotHexadecimal = Some not_hexadecimal
+line_fault line.NoAddress = Some no_address
+line_fault line.UnknownNetwork = Some unknown_network
+line_fault line.TooMany = Some too_many
 line_fault line.NoMemory = None
+
+-- the fault of a text whose line of this number has the fault of a code
+abbrev pub fault_with : ℕ → Option ℕ → TraceTextFault
+fault_with number (Some code) = At (record { code = code; line = number })
+fault_with number None = NoMemory
 
 -- the fault of a text whose line of this number has the fault
 abbrev pub text_fault : ℕ → LineFault → TraceTextFault
-text_fault number (line.Code code) = At (record { code = code; line = number })
-text_fault number line.NoMemory = NoMemory
+text_fault number fault = fault_with number (line_fault fault)
 
 -- the fault of a line whose digits have the fault
 abbrev pub hexadecimal_fault : FromHexError → LineFault
 hexadecimal_fault OutOfMemory = line.NoMemory
-hexadecimal_fault _ = line.Code not_hexadecimal
+hexadecimal_fault _ = line.NotHexadecimal

@@ -9,6 +9,7 @@
 #![tactic(auto)]
 
 mod configuration;
+mod fault;
 mod line;
 mod read;
 mod report;
@@ -16,7 +17,8 @@ mod sink;
 mod text;
 
 pub use configuration::{ConfigTextFault, read_config};
-pub use read::{TraceFault, TraceTextFault, read_trace};
+pub use fault::{TraceFault, TraceTextFault};
+pub use read::read_trace;
 pub use report::{ReportFault, write_report};
 pub use sink::{Counted, Failed, Sink, write_all};
 pub use text::place_of;

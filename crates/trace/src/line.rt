@@ -3,14 +3,12 @@
 ghost use Rattle.std.specs.Prelude.{◌≡◌, IfOk};
 ghost use Rattle.trace.specs.Faults.{Gives};
 ghost use Rattle.mac_frame.specs.Address.{address_of};
-ghost use Rattle.trace.specs.TraceText.{is_skipped, without_spaces_at_end, without_spaces_at_start, first_word, after_first_word, digits_of, octets_of, within_limit, place_with, place_named, wired_line, line_with, content_of, line_fault, text_fault, hexadecimal_fault};
-ghost use Rattle.trace.specs.declared.line.LineFault.TheVariants as line_faults;
+ghost use Rattle.trace.specs.TraceText.{is_skipped, without_spaces_at_end, without_spaces_at_start, first_word, after_first_word, digits_of, octets_of, within_limit, place_with, place_named, wired_line, line_with, content_of, line_fault};
 ghost use Rattle.hex.specs.Hex.{decode_of};
 
-use crate::read::{TraceFault, TraceTextFault};
+use crate::fault::LineFault;
 use crate::text::place_of;
 use bss_core::{NetConfig, RadioConfig};
-use hex::FromHexError;
 use mac_frame::{MacAddr, Octets};
 use std::alloc::{AllocError, Global};
 use std::str;
@@ -18,61 +16,6 @@ use workers::Line;
 
 /// The most octets of a string.
 const MAX_OCTETS: usize = 4096;
-
-/// `L1`: the first word of a line is no kind of line, or something follows `T`.
-const UNKNOWN_KIND: u8 = 1;
-
-/// `L2`: a string is not pairs of hexadecimal digits.
-const NOT_HEXADECIMAL: u8 = 2;
-
-/// `L3`: no address stands where one of a network should.
-const NO_ADDRESS: u8 = 3;
-
-/// `L4`: no network has the address.
-const UNKNOWN_NETWORK: u8 = 4;
-
-/// `L5`: a string has too many octets, or a text too many lines.
-pub const TOO_MANY: u8 = 5;
-
-/// Why a line is not read.
-#[derive(Clone, Copy, Debug)]
-pub enum LineFault {
-    /// It has the fault of this code.
-    Code(u8),
-    /// A growth was refused.
-    NoMemory,
-}
-
-impl LineFault {
-    /// The fault of the text whose line of this number has the fault.
-    pub fn at(self, line: u32) -> TraceTextFault
-        ensures { result ≡ text_fault line self }
-    {
-        match self {
-            LineFault::Code(code) => TraceTextFault::At(TraceFault { code, line }),
-            LineFault::NoMemory => TraceTextFault::NoMemory,
-        }
-    }
-}
-
-impl From<AllocError> for LineFault {
-    ghost from_gives = { λ _ fault. fault ≡ line_faults.NoMemory };
-
-    fn from(_e: AllocError) -> LineFault {
-        LineFault::NoMemory
-    }
-}
-
-impl From<FromHexError> for LineFault {
-    ghost from_gives = { λ e fault. fault ≡ hexadecimal_fault e };
-
-    fn from(e: FromHexError) -> LineFault {
-        match e {
-            FromHexError::OutOfMemory => LineFault::NoMemory,
-            _ => LineFault::Code(NOT_HEXADECIMAL),
-        }
-    }
-}
 
 /// A line less the spaces at its end.
 pub fn without_spaces_at_end(line: &[u8]) -> &[u8]
@@ -113,7 +56,7 @@ fn line_with(
         b"A" => Ok(Line::Air(read_octets(alloc, text)?)),
         b"W" => wired_line(alloc, config, without_spaces_at_start(text)),
         b"T" if text.is_empty() => Ok(Line::Tick),
-        _ => Err(LineFault::Code(UNKNOWN_KIND)),
+        _ => Err(LineFault::UnknownKind),
     }
 }
 
@@ -131,8 +74,8 @@ fn wired_line(alloc: Global, config: &RadioConfig, text: &[u8]) -> Result<Line, 
 fn place_named(config: &RadioConfig, word: &[u8]) -> Result<usize, LineFault>
     ensures { Gives (λ place. place) line_fault result (place_named config.now word.now) }
 {
-    let bssid = address_of(word).ok_or(LineFault::Code(NO_ADDRESS))?;
-    place_with(bssid, config.networks.as_slice()).ok_or(LineFault::Code(UNKNOWN_NETWORK))
+    let bssid = address_of(word).ok_or(LineFault::NoAddress)?;
+    place_with(bssid, config.networks.as_slice()).ok_or(LineFault::UnknownNetwork)
 }
 
 /// The address that a word spells.
@@ -210,7 +153,7 @@ fn read_digits(alloc: Global, digits: &[u8]) -> Result<Octets, LineFault>
 {
     let octets = hex::decode(alloc, digits)?;
     if octets.len() > MAX_OCTETS {
-        return Err(LineFault::Code(TOO_MANY));
+        return Err(LineFault::TooMany);
     }
     Ok(Octets::from_vec(octets))
 }

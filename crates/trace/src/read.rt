@@ -6,51 +6,16 @@ ghost use Rattle.std.specs.Prelude.{◌≡◌, ◌<◌, ◌≤◌, ◌∷◌, le
 ghost use Rattle.std.specs.Str.Lines.{lines, strip_carriage_return};
 ghost use Rattle.trace.specs.Faults.{Gives};
 ghost use Rattle.trace.specs.TraceText.{line_of, lines_of, trace_fault};
-ghost use Rattle.trace.specs.declared.read.TraceTextFault.TheVariants as text_faults;
 
-use crate::line::{LineFault, TOO_MANY, read_content, without_spaces_at_end};
+use crate::fault::{LineFault, TraceTextFault};
+use crate::line::{read_content, without_spaces_at_end};
 use crate::text::place_of;
 use bss_core::RadioConfig;
-use std::alloc::{AllocFailed, Global};
-use std::fmt;
+use std::alloc::Global;
 use workers::Line;
 
 /// The most lines of a text.
 const MAX_LINES: u32 = 1_000_000;
-
-/// The first fault of a trace text.
-#[derive(Clone, Copy, Debug, PartialEq, Eq)]
-pub struct TraceFault {
-    /// Which fault: 1 to 5, for `L1` to `L5`.
-    pub code: u8,
-    /// The number of its line, counted from 1.
-    pub line: u32,
-}
-
-/// The fault as a user meets it, as in `L2 line 7`.
-impl fmt::Display for TraceFault {
-    fn fmt<W: fmt::Write>(&self, f: &mut fmt::Formatter<W>) -> fmt::Result {
-        let TraceFault { code, line } = *self;
-        write!(f, "L{code} line {line}")
-    }
-}
-
-/// Why a trace text is not read.
-#[derive(Clone, Copy, Debug, PartialEq, Eq)]
-pub enum TraceTextFault {
-    /// The text has a fault.
-    At(TraceFault),
-    /// A growth was refused.
-    NoMemory,
-}
-
-impl<T: Drop> From<AllocFailed<T>> for TraceTextFault {
-    ghost from_gives = { λ _ fault. fault ≡ text_faults.NoMemory };
-
-    fn from(_e: AllocFailed<T>) -> TraceTextFault {
-        TraceTextFault::NoMemory
-    }
-}
 
 /// Reads a trace text: lines that end with LF, of which the last may lack it. A CR directly before the LF and
 /// then the spaces at the end of a line are dropped; a line that is then empty, or that begins with `#`, is
@@ -117,7 +82,7 @@ fn read_line(
     ensures within { OnOk result (number ≤ MAX_LINES) }
 {
     if number > MAX_LINES {
-        return Err(LineFault::Code(TOO_MANY).at(number));
+        return Err(LineFault::TooMany.at(number));
     }
     read_content(alloc, config, without_spaces_at_end(line)).map_err(|fault| fault.at(number))
 }

@@ -15,11 +15,11 @@
 //! air, one for each that it sent on the wire, and `end`. Octets are pairs of hexadecimal digits in lower case,
 //! numbers are decimal.
 
-ghost use Rattle.std.specs.Prelude.{◌≡◌, ◌+◌, ◌^◌, ◌<◌, ◌≤◌, ◌++◌, length, flat_map, string_bytes, IfOk, OnOk, OnErr};
+ghost use Rattle.std.specs.Prelude.{◌≡◌, ◌+◌, ◌≤◌, ◌++◌, length, flat_map, string_bytes, IfOk, OnOk, OnErr};
 ghost use Rattle.std.specs.Io.KnownBytes.{Appends};
 ghost use Rattle.hex.specs.Hex.{encode_lower};
-ghost use Rattle.trace.specs.Report.{report_text, section_text, network_line, counts_line, station_line, mode_text, frame_line, failures_met};
-ghost use Rattle.trace.specs.Sinks.{AppendsPrefix};
+ghost use Rattle.trace.specs.Report.{report_text, section_text, network_line, counts_line, station_line, mode_text, frame_line};
+ghost use Rattle.trace.specs.Sinks.{AppendsPrefix, MayFail, failures_of_report};
 ghost use Rattle.trace.specs.Buffers.{Puts};
 ghost use Rattle.trace.specs.declared.report.ReportFault.TheVariants.{Write, NoMemory};
 
@@ -70,10 +70,10 @@ pub fn write_report<W: Sink>(
     sections: &[Section],
     out: &mut W,
 ) -> Result<(), ReportFault>
-    requires { W.failed out.old < 2 ^ 63 }
+    requires { MayFail (W.failed out.old) }
     ensures ok { OnOk result (Appends (W.taken out.old) (W.taken out.new) (report_text sections.now)) }
     ensures prefix { OnErr result (AppendsPrefix (W.taken out.old) (W.taken out.new) (report_text sections.now)) }
-    ensures failures { W.failed out.new ≡ W.failed out.old + failures_met result }
+    ensures failures { W.failed out.new ≡ W.failed out.old + failures_of_report result }
 {
     let mut piece = Vec::with_capacity(alloc, PIECE)?;
     let mut buffered = Buffered::new(out, &mut piece);
@@ -89,7 +89,7 @@ fn put_section<W: Sink>(
     out: &mut Buffered<'_, W>,
     section: &Section,
 ) -> Result<(), ReportFault>
-    requires { W.failed out.old.sink.now < 2 ^ 63 }
+    requires { MayFail (W.failed out.old.sink.now) }
     ensures { Puts W.taken W.failed result out.old out.new (section_text section.now) }
 {
     put_heading(alloc, out, section)?;
@@ -105,7 +105,7 @@ fn put_heading<W: Sink>(
     out: &mut Buffered<'_, W>,
     section: &Section,
 ) -> Result<(), ReportFault>
-    requires { W.failed out.old.sink.now < 2 ^ 63 }
+    requires { MayFail (W.failed out.old.sink.now) }
     ensures { Puts W.taken W.failed result out.old out.new
         (network_line section.now.config ++ counts_line (length section.now.events) section.now.counts) }
 {
@@ -146,7 +146,7 @@ fn put_stations<W: Sink>(
     out: &mut Buffered<'_, W>,
     table: &[StationRow],
 ) -> Result<(), ReportFault>
-    requires { W.failed out.old.sink.now < 2 ^ 63 }
+    requires { MayFail (W.failed out.old.sink.now) }
     ensures { Puts W.taken W.failed result out.old out.new (flat_map station_line table.now) }
 {
     for row in table {
@@ -194,7 +194,7 @@ fn put_frames<W: Sink>(
     word: &[u8],
     frames: &[Octets],
 ) -> Result<(), ReportFault>
-    requires { W.failed out.old.sink.now < 2 ^ 63 }
+    requires { MayFail (W.failed out.old.sink.now) }
     ensures { Puts W.taken W.failed result out.old out.new (flat_map (frame_line word.now) frames.now) }
 {
     for frame in frames {
@@ -209,7 +209,7 @@ fn put_frame<W: Sink>(
     word: &[u8],
     frame: &[u8],
 ) -> Result<(), ReportFault>
-    requires { W.failed out.old.sink.now < 2 ^ 63 }
+    requires { MayFail (W.failed out.old.sink.now) }
     ensures { Puts W.taken W.failed result out.old out.new (frame_line word.now frame.now) }
 {
     out.put(word)?;
@@ -219,7 +219,7 @@ fn put_frame<W: Sink>(
 
 /// Puts octets as pairs of hexadecimal digits.
 fn put_digits<W: Sink>(out: &mut Buffered<'_, W>, octets: &[u8]) -> Result<(), ReportFault>
-    requires { W.failed out.old.sink.now < 2 ^ 63 }
+    requires { MayFail (W.failed out.old.sink.now) }
     ensures { Puts W.taken W.failed result out.old out.new (encode_lower octets.now) }
 {
     let mut rest = octets;
@@ -234,7 +234,7 @@ fn put_digits<W: Sink>(out: &mut Buffered<'_, W>, octets: &[u8]) -> Result<(), R
 /// Puts as many octets as are written at a time, or fewer, as pairs of hexadecimal digits.
 fn put_few_digits<W: Sink>(out: &mut Buffered<'_, W>, octets: &[u8]) -> Result<(), ReportFault>
     requires few { length octets.now ≤ OCTETS_AT_A_TIME }
-    requires few_failures { W.failed out.old.sink.now < 2 ^ 63 }
+    requires few_failures { MayFail (W.failed out.old.sink.now) }
     ensures { Puts W.taken W.failed result out.old out.new (encode_lower octets.now) }
 {
     let mut digits = [0; 2 * OCTETS_AT_A_TIME];

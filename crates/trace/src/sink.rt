@@ -1,8 +1,8 @@
 //! Where octets go: anything that takes octets, a part at a time, and counts how often it failed (*profile*).
 
-ghost use Rattle.std.specs.Prelude.{◌≡◌, ℕ, ◌+◌, ◌^◌, ◌<◌, ◌≤◌, List, Option, length, take, IfOk, OnOk, OnErr};
+ghost use Rattle.std.specs.Prelude.{◌≡◌, ℕ, ◌+◌, ◌<◌, ◌≤◌, List, Option, length, take, IfOk, OnOk, OnErr};
 ghost use Rattle.std.specs.Io.KnownBytes.{Appends, Keeps};
-ghost use Rattle.trace.specs.Sinks.{AppendsPrefix, counts_failure};
+ghost use Rattle.trace.specs.Sinks.{AppendsPrefix, MayFail, failures_of_write};
 
 use std::io::Write;
 use std::marker::Model;
@@ -24,11 +24,11 @@ pub trait Sink {
     /// where the number of failures rises, by one; it then took none.
     fn write_some(&mut self, piece: &[u8]) -> Result<usize, Failed>
         requires some { 0 < length piece.now }
-        requires few { failed self.old < 2 ^ 63 }
+        requires few { MayFail (failed self.old) }
         ensures prefix { IfOk result (λ count. (1 ≤ count) × (count ≤ length piece.now)
             × Appends (taken self.old) (taken self.new) (take count piece.now)) }
         ensures err { OnErr result (Keeps (taken self.old) (taken self.new)) }
-        ensures failures { failed self.new ≡ counts_failure (failed self.old) result };
+        ensures failures { failed self.new ≡ failed self.old + failures_of_write result };
 
     /// The number of its failures. It takes no memory.
     fn failures(&self) -> u64
@@ -92,10 +92,10 @@ impl<T: Write> Sink for Counted<T> {
 /// Has the sink take the whole text. It stops at the first failure, which is its answer; the sink has then taken a
 /// prefix of the text.
 pub fn write_all<W: Sink>(out: &mut W, text: &[u8]) -> Result<(), Failed>
-    requires { W.failed out.old < 2 ^ 63 }
+    requires { MayFail (W.failed out.old) }
     ensures ok { OnOk result (Appends (W.taken out.old) (W.taken out.new) text.now) }
     ensures err { OnErr result (AppendsPrefix (W.taken out.old) (W.taken out.new) text.now) }
-    ensures failures { W.failed out.new ≡ counts_failure (W.failed out.old) result }
+    ensures failures { W.failed out.new ≡ W.failed out.old + failures_of_write result }
 {
     let mut rest = text;
     while !rest.is_empty() {

@@ -2,7 +2,7 @@
 
 ghost use Rattle.std.specs.Prelude.{◌≡◌, ◌≤◌, IfSome, option_map, option_copied};
 ghost use Rattle.bss_core.specs.Configuration.{is_between};
-ghost use Rattle.toml.specs.Data.{get_member, as_integer};
+ghost use Rattle.toml.specs.Data.{get_member};
 ghost use Rattle.toml.specs.View.{view, array_view, table_view};
 ghost use Rattle.trace.specs.ConfigurationText.{number_at, text_at, array_at};
 

@@ -1,7 +1,8 @@
 //! A sink with a piece of memory before it.
 
-ghost use Rattle.std.specs.Prelude.{◌≡◌, ◌^◌, ◌<◌, [], OnOk};
+ghost use Rattle.std.specs.Prelude.{◌≡◌, [], OnOk};
 ghost use Rattle.trace.specs.Buffers.{Puts};
+ghost use Rattle.trace.specs.Sinks.{MayFail};
 
 use crate::report::ReportFault;
 use crate::sink::{Sink, write_all};
@@ -11,7 +12,7 @@ pub const PIECE: usize = 65536;
 
 /// A sink with a piece of memory before it, which collects texts until it is full.
 ///
-/// What the piece still holds goes to the sink by [`Buffered::flush`], and not where the value is let go.
+/// What the piece still holds goes to the sink by [`Buffered::flush`], and not where the value is dropped.
 #[derive(Drop)]
 pub struct Buffered<'a, W> {
     sink: &'a mut W,
@@ -34,7 +35,7 @@ impl<W: Sink> Buffered<'_, W> {
     /// octets. `Write` comes exactly where a write to the sink failed, and `NoMemory` where the piece could not grow;
     /// the sink has then taken a prefix of what was held and of the text.
     pub fn put(&mut self, text: &[u8]) -> Result<(), ReportFault>
-        requires { W.failed self.old.sink.now < 2 ^ 63 }
+        requires { MayFail (W.failed self.old.sink.now) }
         ensures { Puts W.taken W.failed result self.old self.new text.now }
     {
         self.make_room(text.len())?;
@@ -44,7 +45,7 @@ impl<W: Sink> Buffered<'_, W> {
 
     /// Empties the piece where as many more octets would not fit.
     fn make_room(&mut self, len: usize) -> Result<(), ReportFault>
-        requires { W.failed self.old.sink.now < 2 ^ 63 }
+        requires { MayFail (W.failed self.old.sink.now) }
         ensures { Puts W.taken W.failed result self.old self.new [] }
     {
         if len <= PIECE.saturating_sub(self.piece.len()) {
@@ -56,7 +57,7 @@ impl<W: Sink> Buffered<'_, W> {
     /// Has the sink take what the piece holds, which is empty then. `Write` comes exactly where a write to the sink
     /// failed; the sink has then taken a prefix of it.
     pub fn flush(&mut self) -> Result<(), ReportFault>
-        requires { W.failed self.old.sink.now < 2 ^ 63 }
+        requires { MayFail (W.failed self.old.sink.now) }
         ensures puts { Puts W.taken W.failed result self.old self.new [] }
         ensures empty { OnOk result (self.new.piece.now.items ≡ []) }
     {

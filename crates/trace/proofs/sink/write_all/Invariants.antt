@@ -1,6 +1,6 @@
 -- What went from the text was taken, and no write failed.
 use Rattle.std.proofs.Common.{◌≡◌, [], length}
-use Rattle.trace.specs.Sinks.{Delivers}
+use Rattle.trace.specs.Buffers.{Delivers}
 use Rattle.trace.proofs.sink.write_all.Given as goal
 
 abbrev pub invariant-loop-rest : goal.invariant-loop-rest
