@@ -6,8 +6,8 @@ use Rattle.bss_core.specs.declared.section.Section.{Section}
 use Rattle.trace.specs.declared.configuration.fault.ConfigTextFault.{ConfigTextFault}
 use Rattle.trace.specs.declared.configuration.fault.ConfigTextFault.TheVariants as config
 use Rattle.workers.specs.declared.line.Line.{Line}
-use Rattle.trace.specs.declared.read.TraceTextFault.{TraceTextFault}
-use Rattle.trace.specs.declared.read.TraceTextFault.TheVariants as trace
+use Rattle.trace.specs.declared.fault.TraceTextFault.{TraceTextFault}
+use Rattle.trace.specs.declared.fault.TraceTextFault.TheVariants as trace
 use Rattle.trace.specs.declared.report.ReportFault.{ReportFault}
 use Rattle.trace.specs.declared.report.ReportFault.TheVariants as report
 use Rattle.trace.specs.Faults.{IsFaultOf}

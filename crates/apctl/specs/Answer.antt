@@ -1,4 +1,4 @@
--- What the program answers to the octets of a configuration and of a trace.
+-- What the program answers to the octets of a configuration and of a trace (profile).
 use Rattle.std.specs.Prelude.{ℕ, ◌≡◌, ◌⊎◌, List, Option, Result, Ok, Err}
 use Rattle.std.specs.Io.KnownBytes.{Appends, Keeps}
 use Rattle.bss_core.specs.declared.config.RadioConfig.{RadioConfig}
@@ -6,9 +6,9 @@ use Rattle.bss_core.specs.declared.config.ConfigFault.{ConfigFault}
 use Rattle.trace.specs.declared.configuration.fault.ConfigTextFault.{ConfigTextFault}
 use Rattle.trace.specs.declared.configuration.fault.ConfigTextFault.TheVariants as config
 use Rattle.workers.specs.declared.line.Line.{Line}
-use Rattle.trace.specs.declared.read.TraceFault.{TraceFault}
-use Rattle.trace.specs.declared.read.TraceTextFault.{TraceTextFault}
-use Rattle.trace.specs.declared.read.TraceTextFault.TheVariants as trace
+use Rattle.trace.specs.declared.fault.TraceFault.{TraceFault}
+use Rattle.trace.specs.declared.fault.TraceTextFault.{TraceTextFault}
+use Rattle.trace.specs.declared.fault.TraceTextFault.TheVariants as trace
 use Rattle.trace.specs.declared.report.ReportFault.{ReportFault}
 use Rattle.trace.specs.declared.report.ReportFault.TheVariants as report
 use Rattle.apctl.specs.declared.text_fault.TextFault.{TextFault}
@@ -45,14 +45,6 @@ Ends (Err (Config fault)) answer old new = (answer ≡ Err (Config fault)) × Ke
 Ends (Err (Trace fault)) answer old new = (answer ≡ Err (Trace fault)) × Keeps old new
 Ends (Err Write) answer old new = WritesPrefix answer old new
 Ends (Err NoMemory) answer old new = Keeps old new ⊎ WritesPrefix answer old new
-
--- how many failures of its output a run met that ends so
-abbrev pub failures_of : Result Unit TextFault → ℕ
-failures_of (Ok u) = 0
-failures_of (Err (Config fault)) = 0
-failures_of (Err (Trace fault)) = 0
-failures_of (Err NoMemory) = 0
-failures_of (Err Write) = 1
 
 -- ---- a fault of a part, as the program's
 

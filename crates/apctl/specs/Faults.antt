@@ -1,5 +1,5 @@
--- The faults of the program, and the exit status that goes with each (profile).
-use Rattle.std.specs.Prelude.{ℕ}
+-- The faults of the program, the exit status that goes with each, and how many failures of its output (profile).
+use Rattle.std.specs.Prelude.{ℕ, ◌≡◌, List, Result, Ok, Err, string_bytes}
 use Rattle.apctl.specs.declared.fault.Fault.{Fault}
 use Rattle.apctl.specs.declared.fault.Fault.TheVariants.{Config, Trace, Words, Memory, File, Output}
 use Rattle.apctl.specs.declared.text_fault.TextFault.{TextFault}
@@ -19,3 +19,24 @@ status_of Words = 2
 status_of Memory = 3
 status_of (File name) = 4
 status_of Output = 4
+
+-- the fault of a file of this name that can't be read, or of memory that ran out meanwhile
+abbrev pub IsOfFile : List ℕ → Fault → Type 0
+IsOfFile wanted (File name) = string_bytes name ≡ wanted
+IsOfFile wanted Memory = Unit {0}
+IsOfFile wanted _ = ⊥
+
+-- ---- how often the output failed
+
+-- how many failures of its output a call met that answers a text so
+abbrev pub failures_of_text : Result Unit TextFault → ℕ
+failures_of_text (Ok u) = 0
+failures_of_text (Err (replay.Config fault)) = 0
+failures_of_text (Err (replay.Trace fault)) = 0
+failures_of_text (Err replay.NoMemory) = 0
+failures_of_text (Err replay.Write) = 1
+
+-- how many failures of its output a run of the program met that ends so
+abbrev pub failures_of_run : Result Unit Fault → ℕ
+failures_of_run (Err Output) = 1
+failures_of_run _ = 0

@@ -1,4 +1,4 @@
--- What a trace makes of the networks of a configuration: each network takes what it hears, alone.
+-- What a trace makes of the networks of a configuration (profile): each network takes what it hears, alone.
 use Rattle.std.specs.Prelude.{ℕ, ◌<◌, ◌≡◌, ◌≢◌, ◌++◌, nat_lt, Bool, true, false, List, [], ◌∷◌, length, map, replicate, slice_set, None, if◌then◌else◌}
 use Rattle.std.specs.List.{range_with_len, slice_index_or}
 use Rattle.bss_core.specs.Configuration.{fault_of}

@@ -1,8 +1,10 @@
 //! What is said of a configuration alone: how many networks it has, or its first fault.
 
-ghost use Rattle.std.specs.Prelude.{◌≡◌, ◌+◌, ◌^◌, ◌<◌, length, string_bytes, IfOk};
-ghost use Rattle.apctl.specs.Answer.{Ends, failures_of};
+ghost use Rattle.std.specs.Prelude.{◌≡◌, ◌+◌, string_bytes, IfOk};
+ghost use Rattle.trace.specs.Sinks.{MayFail};
+ghost use Rattle.apctl.specs.Answer.{Ends};
 ghost use Rattle.apctl.specs.Checking.{check_of, count_line};
+ghost use Rattle.apctl.specs.Faults.{failures_of_text};
 
 use crate::text_fault::TextFault;
 use std::alloc::{AllocError, Global};
@@ -15,9 +17,9 @@ use trace::{Sink, read_config, write_all};
 /// `out` failed, and `NoMemory` where a growth was refused; what was written by then is nothing or a prefix of that
 /// line. `Trace` never comes.
 pub fn check_text<W: Sink>(alloc: Global, config: &[u8], out: &mut W) -> Result<(), TextFault>
-    requires { W.failed out.old < 2 ^ 63 }
+    requires { MayFail (W.failed out.old) }
     ensures ends { Ends result (check_of config.now) (W.taken out.old) (W.taken out.new) }
-    ensures failures { W.failed out.new ≡ W.failed out.old + failures_of result }
+    ensures failures { W.failed out.new ≡ W.failed out.old + failures_of_text result }
 {
     let config = read_config(alloc, config)?;
     let line = count_line(alloc, config.networks.as_slice().len())?;

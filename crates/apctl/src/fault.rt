@@ -1,8 +1,8 @@
 //! What can go wrong, as a user meets it (*profile*): one line on standard error and an exit status.
 
-ghost use Rattle.std.specs.Prelude.{◌≡◌, ◌+◌, ◌^◌, ◌<◌, IfOk};
-ghost use Rattle.apctl.specs.Faults.{of_replay, status_of};
-ghost use Rattle.trace.specs.Report.{failures_met};
+ghost use Rattle.std.specs.Prelude.{◌≡◌, ◌+◌, IfOk};
+ghost use Rattle.trace.specs.Sinks.{MayFail, failures_of_report};
+ghost use Rattle.apctl.specs.Faults.{of_replay, status_of, IsOfFile};
 ghost use Rattle.apctl.specs.declared.fault.Fault.TheVariants as faults;
 
 use crate::text_fault::TextFault;
@@ -47,6 +47,16 @@ impl Fault {
             Fault::File(_) | Fault::Output => 4,
         }
     }
+
+    /// The fault of a file of this name that can't be read: `File`, or `Memory` where the name can't be kept.
+    pub fn of_file(alloc: Global, name: &str) -> Fault
+        ensures { IsOfFile name.now result }
+    {
+        match String::from_str(alloc, name) {
+            Ok(name) => Fault::File(name),
+            Err(_) => Fault::Memory,
+        }
+    }
 }
 
 impl From<TextFault> for Fault {
@@ -73,9 +83,9 @@ impl From<AllocError> for Fault {
 /// Writes the line of a fault, and answers the exit status that goes with it. `Write` where a write of `out`
 /// failed, `NoMemory` where a growth was refused.
 pub fn show_fault<W: Sink>(alloc: Global, fault: &Fault, out: &mut W) -> Result<u8, ReportFault>
-    requires { W.failed out.old < 2 ^ 63 }
+    requires { MayFail (W.failed out.old) }
     ensures status { IfOk result (λ status. status ≡ status_of fault.now) }
-    ensures failures { W.failed out.new ≡ W.failed out.old + failures_met result }
+    ensures failures { W.failed out.new ≡ W.failed out.old + failures_of_report result }
 {
     let line = format!(in alloc; "{fault}\n")?;
     write_all(out, line.as_bytes())?;

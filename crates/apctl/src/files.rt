@@ -1,7 +1,7 @@
 //! The files that the program reads.
 
 use crate::fault::Fault;
-use crate::input::{read_all, unread};
+use crate::input::read_all;
 use std::fs::File;
 use std::io::ErrorKind;
 
@@ -11,6 +11,6 @@ pub fn read_file(rt: &HostRuntime, name: &str) -> Result<Vec<u8>, Fault> {
     match File::open(rt, name) {
         Ok(mut file) => read_all(rt.alloc(), &mut file, name),
         Err(error) if error.kind() == ErrorKind::OutOfMemory => Err(Fault::Memory),
-        Err(_) => Err(unread(rt.alloc(), name)),
+        Err(_) => Err(Fault::of_file(rt.alloc(), name)),
     }
 }

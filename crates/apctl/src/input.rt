@@ -1,9 +1,11 @@
 //! From a reader to a sink: a configuration and a trace in one text, and the report of them.
 //!
-//! It is the whole program but for its words, its streams and the line of a fault.
+//! It is all that the program does without words, but for its streams and the line of a fault.
 
-ghost use Rattle.std.specs.Prelude.{◌≡◌, ◌+◌, ◌^◌, ◌<◌, IfOk, IfErr, IfSome};
-ghost use Rattle.apctl.specs.Input.{EndsInput, IsUnread, output_failures};
+ghost use Rattle.std.specs.Prelude.{◌≡◌, ◌+◌, IfOk, IfErr, IfSome};
+ghost use Rattle.trace.specs.Sinks.{MayFail};
+ghost use Rattle.apctl.specs.Faults.{IsOfFile, failures_of_run};
+ghost use Rattle.apctl.specs.Input.{EndsInput};
 
 use crate::fault::Fault;
 use crate::joined::split_joined;
@@ -24,9 +26,9 @@ const STANDARD_INPUT: &str = "-";
 /// `File` comes where the reader failed, and names standard input; nothing is written then. `Memory` comes where a
 /// growth was refused: nothing is written then, or a prefix of the report. `Words` never comes.
 pub fn run_input<R: Read, W: Sink>(alloc: Global, reader: &mut R, out: &mut W) -> Result<(), Fault>
-    requires { W.failed out.old < 2 ^ 63 }
+    requires { MayFail (W.failed out.old) }
     ensures ends { EndsInput result (R.remaining reader.old) (W.taken out.old) (W.taken out.new) }
-    ensures failures { W.failed out.new ≡ W.failed out.old + output_failures result }
+    ensures failures { W.failed out.new ≡ W.failed out.old + failures_of_run result }
 {
     let input = read_all(alloc, reader, STANDARD_INPUT)?;
     let (config, trace) = split_joined(input.as_slice());
@@ -38,7 +40,7 @@ pub fn run_input<R: Read, W: Sink>(alloc: Global, reader: &mut R, out: &mut W) -
 /// reader failed: `File` with this name then, and `Memory` where a growth was refused.
 pub fn read_all<R: Read>(alloc: Global, reader: &mut R, name: &str) -> Result<Vec<u8>, Fault>
     ensures ok { IfOk result (λ input. IfSome (R.remaining reader.old) (λ octets. input.items ≡ octets)) }
-    ensures err { IfErr result (IsUnread name.now) }
+    ensures err { IfErr result (IsOfFile name.now) }
 {
     let mut input = Vec::new(alloc);
     let mut piece = [0; READ_AT_ONCE];
@@ -47,18 +49,8 @@ pub fn read_all<R: Read>(alloc: Global, reader: &mut R, name: &str) -> Result<Ve
             Ok(0) => return Ok(input),
             Ok(count) => input.extend_from_slice(&piece[..count])?,
             Err(error) if error.kind() == ErrorKind::Interrupted => {}
-            Err(_) => return Err(unread(alloc, name)),
+            Err(_) => return Err(Fault::of_file(alloc, name)),
         }
     }
-    Err(unread(alloc, name))
-}
-
-/// The fault of a file of this name that can't be read.
-pub fn unread(alloc: Global, name: &str) -> Fault
-    ensures { IsUnread name.now result }
-{
-    match String::from_str(alloc, name) {
-        Ok(name) => Fault::File(name),
-        Err(_) => Fault::Memory,
-    }
+    Err(Fault::of_file(alloc, name))
 }

@@ -1,9 +1,10 @@
 //! The program `apctl`: from the octets of a configuration and a trace to the octets of a report.
 //!
-//! It promises, on [`input::run_input`], that where it ends well, what it wrote is the report of what each network
-//! alone makes of its own events of the trace that it read; that a fault of the configuration or of the trace is the
-//! first one, and nothing was written then; and that where memory ran out or a write failed, what was written is
-//! nothing or a prefix of that report.
+//! It promises, on [`replay::run_text`], that where it ends well, what it wrote is the report of what each network
+//! alone makes of its own events of the trace; that a fault of the configuration or of the trace is the first one, and
+//! nothing was written then; and that where memory ran out or a write failed, what was written is nothing or a prefix
+//! of that report. [`input::run_input`] says the same of one text that is read and cut in two, and
+//! [`checking::check_text`] that it writes how many networks a configuration has, or answers its first fault.
 //!
 //! It promises nothing of words, of the process's streams, or of the line of a fault. That the program is called as a
 //! user called it is shown by tests.

@@ -1,10 +1,12 @@
 //! From the octets of a configuration and a trace to those of a report: each network takes what it hears, alone.
 
-ghost use Rattle.std.specs.Prelude.{◌≡◌, ◌<◌, ◌+◌, ◌^◌, ℕ, [], false, None, IsTrue, IfSome, IfNone, IfOk, OnOk, length};
+ghost use Rattle.std.specs.Prelude.{◌≡◌, ◌<◌, ◌+◌, ℕ, [], false, None, IsTrue, IfSome, IfNone, IfOk, OnOk, length};
 ghost use Rattle.bss_core.specs.Configuration.{fault_of};
 ghost use Rattle.bss_core.specs.RadioView.{fresh_radio, view_at};
 ghost use Rattle.workers.specs.declared.line.Line.TheVariants as Lines;
-ghost use Rattle.apctl.specs.Answer.{Ends, answer_of, failures_of};
+ghost use Rattle.trace.specs.Sinks.{MayFail};
+ghost use Rattle.apctl.specs.Answer.{Ends, answer_of};
+ghost use Rattle.apctl.specs.Faults.{failures_of_text};
 ghost use Rattle.apctl.specs.Replay.{IsDrained, TakesAt, TakesLine, sections_of, sections_at, is_heard_at, leaves, emptied, SendsFirst};
 
 use crate::left::Left;
@@ -29,9 +31,9 @@ pub fn run_text<W: Sink>(
     trace: &[u8],
     out: &mut W,
 ) -> Result<(), TextFault>
-    requires { W.failed out.old < 2 ^ 63 }
+    requires { MayFail (W.failed out.old) }
     ensures ends { Ends result (answer_of config.now trace.now) (W.taken out.old) (W.taken out.new) }
-    ensures failures { W.failed out.new ≡ W.failed out.old + failures_of result }
+    ensures failures { W.failed out.new ≡ W.failed out.old + failures_of_text result }
 {
     let config = read_config(alloc, config)?;
     let lines = read_trace(alloc, &config, trace)?;

@@ -249,6 +249,40 @@ impl Read for Broken<'_> {
     }
 }
 
+/// A reader whose first read is interrupted.
+#[derive(Drop)]
+struct Interrupted<'a> {
+    octets: &'a [u8],
+    was_interrupted: bool,
+}
+
+impl Read for Interrupted<'_> {
+    fn read(&mut self, buf: &mut [u8]) -> io::Result<usize> {
+        if !self.was_interrupted {
+            self.was_interrupted = true;
+            return Err(io::Error::from(ErrorKind::Interrupted));
+        }
+        self.octets.read(buf)
+    }
+}
+
+#[test]
+fn an_interrupted_read_is_tried_again(rt: HostRuntime) -> Result<(), Fail> {
+    let alloc = rt.alloc();
+    let base = config(alloc, 6, "82840b16", 16, 100)?;
+    let joined = format!(in alloc; "{base}---\n{PROBE}")?;
+    let mut reader = Interrupted {
+        octets: joined.as_bytes(),
+        was_interrupted: false,
+    };
+    let mut out = Counted::new(Vec::new(alloc));
+    run_input(alloc, &mut reader, &mut out)?;
+    assert!(rt; reader.was_interrupted);
+    let written = out.into_inner();
+    assert_eq!(rt; written.as_slice(), ANSWERED.as_bytes());
+    Ok(())
+}
+
 /// Whether the fault is that of standard input.
 fn names_standard_input(answer: &Result<(), Fault>) -> bool {
     match answer {

@@ -5,6 +5,18 @@ use clap::error::ErrorKind;
 use clap::{Arg, ArgMatches, Command};
 use std::alloc::{AllocError, Global};
 
+/// The subcommand that reads a configuration.
+const CHECK: &str = "check";
+
+/// The subcommand that runs a trace.
+const RUN: &str = "run";
+
+/// What stands for the name of a configuration's file.
+const CONFIG: &str = "CONFIG";
+
+/// What stands for the name of a trace's file.
+const TRACE: &str = "TRACE";
+
 /// What the program is asked to do.
 #[derive(Clone, Copy, Debug, PartialEq, Eq)]
 pub enum Task<'a> {
@@ -39,10 +51,10 @@ pub fn task_of<'a>(alloc: Global, words: &'a [String]) -> Result<Task<'a>, Fault
 
 /// The program's subcommands with the files that each needs.
 fn command<'a>(alloc: Global) -> Result<Command<'a>, AllocError> {
-    let check = Command::new(alloc, "check").arg(file(alloc, "CONFIG"))?;
-    let run = Command::new(alloc, "run")
-        .arg(file(alloc, "CONFIG"))?
-        .arg(file(alloc, "TRACE"))?;
+    let check = Command::new(alloc, CHECK).arg(file(alloc, CONFIG))?;
+    let run = Command::new(alloc, RUN)
+        .arg(file(alloc, CONFIG))?
+        .arg(file(alloc, TRACE))?;
     Command::new(alloc, "apctl")
         .subcommand_required(true)
         .subcommand(check)?
@@ -63,15 +75,16 @@ fn refusal(kind: ErrorKind) -> Fault {
     }
 }
 
-/// The task of words that were accepted.
+/// The task of words that were accepted. None for another subcommand than those of [`command`].
 fn matched<'a>(matches: &ArgMatches<'a>) -> Option<Task<'a>> {
     let (name, files) = matches.subcommand()?;
-    let config = files.get_str("CONFIG")?;
+    let config = files.get_str(CONFIG)?;
     match name {
-        "check" => Some(Task::Check { config }),
-        _ => Some(Task::Run {
+        CHECK => Some(Task::Check { config }),
+        RUN => Some(Task::Run {
             config,
-            trace: files.get_str("TRACE")?,
+            trace: files.get_str(TRACE)?,
         }),
+        _ => None,
     }
 }
