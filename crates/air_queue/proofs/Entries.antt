@@ -5,12 +5,12 @@ use Rattle.std.proofs.lemmas.Bool.{eq-eqb, ne_eqb}
 use Rattle.std.specs.Cmp.{nat_cmp_total, unsigned_tied}
 use Rattle.air_queue.specs.Passes.{TakenIn}
 
-pub get-here : (done : TakenIn) (place : ℕ) (pushed : List (List ℕ)) → finite.get (finite.insert done place pushed) place ≡ Some pushed
-get-here done place pushed =
-    finite.get-insert nat_cmp_total done place pushed place
-    ∙ ap (λ b. cond b (Some pushed) (finite.get done place)) (unsigned_tied place place ∙ eq-eqb place place refl)
+pub get-here : (taken_in : TakenIn) (place : ℕ) (pushed : List (List ℕ)) → finite.get (finite.insert taken_in place pushed) place ≡ Some pushed
+get-here taken_in place pushed =
+    finite.get-insert nat_cmp_total taken_in place pushed place
+    ∙ ap (λ b. cond b (Some pushed) (finite.get taken_in place)) (unsigned_tied place place ∙ eq-eqb place place refl)
 
-pub get-other : (done : TakenIn) (place : ℕ) (pushed : List (List ℕ)) (other : ℕ) → (other ≡ place → ⊥) → finite.get (finite.insert done place pushed) other ≡ finite.get done other
-get-other done place pushed other ne =
-    finite.get-insert nat_cmp_total done place pushed other
-    ∙ ap (λ b. cond b (Some pushed) (finite.get done other)) (unsigned_tied other place ∙ ne_eqb other place ne)
+pub get-other : (taken_in : TakenIn) (place : ℕ) (pushed : List (List ℕ)) (other : ℕ) → (other ≡ place → ⊥) → finite.get (finite.insert taken_in place pushed) other ≡ finite.get taken_in other
+get-other taken_in place pushed other ne =
+    finite.get-insert nat_cmp_total taken_in place pushed other
+    ∙ ap (λ b. cond b (Some pushed) (finite.get taken_in other)) (unsigned_tied other place ∙ ne_eqb other place ne)

@@ -1,16 +1,12 @@
 -- Items of one network among items.
-use Rattle.std.proofs.Common.{◌≡◌, ℕ, ◌+◌, ◌<◌, List, [], ◌∷◌, ◌++◌, map, filter, refl, ap, ◌∙◌, arith}
+use Rattle.std.proofs.Common.{◌≡◌, ℕ, ◌+◌, ◌<◌, List, [], ◌∷◌, ◌++◌, refl, ap, ◌∙◌, arith}
 use Rattle.std.specs.Prelude.{All}
 use Rattle.std.proofs.lemmas.Bool.{eq-eqb, ne_eqb}
-use Rattle.std.proofs.lemmas.List.{append-nil, map-append}
-use Rattle.std.proofs.lemmas.List.Elements.{filter-append, All-head, All-tail, All-weaker}
+use Rattle.std.proofs.lemmas.List.{append-nil}
+use Rattle.std.proofs.lemmas.List.Elements.{All-head, All-tail, All-weaker}
 use Rattle.bss_core.specs.Radio.{items_of}
 use Rattle.bss_core.specs.declared.step.AirItem.{AirItem}
-
-pub items_of-append : (place : ℕ) (xs ys : List AirItem) → items_of place (xs ++ ys) ≡ items_of place xs ++ items_of place ys
-items_of-append place xs ys =
-    ap (map (λ (item : AirItem). item.octets)) (filter-append _ xs ys)
-    ∙ map-append (λ (item : AirItem). item.octets) (filter _ xs) (filter _ ys)
+use Rattle.bss_core.proofs.RadioFrames.{items_of-append}
 
 -- one item more of the network, and of another
 pub items_of-here : (place : ℕ) (items : List AirItem) (item : AirItem) → item.place ≡ place → items_of place (items ++ item ∷ []) ≡ items_of place items ++ item.octets ∷ []
@@ -35,6 +31,6 @@ items_of-none place (item ∷ items) below =
     let ne : item.place ≡ place → ⊥ = λ e. let lt = All-head (λ (x : AirItem). x.place < place) item items below in absurd (omega (arith, e, lt)) in
     rw (ne_eqb item.place place ne) (items_of-none place items (All-tail (λ (x : AirItem). x.place < place) item items below))
 
-pub below_more : (next : ℕ) (items : List AirItem) → All (λ item. item.place < next) items → All (λ item. item.place < next + 1) items
-below_more next items below =
-    All-weaker (λ (x : AirItem). x.place < next) (λ (x : AirItem). x.place < next + 1) (λ x lt. omega arith) items below
+pub below_more : (networks : ℕ) (items : List AirItem) → All (λ item. item.place < networks) items → All (λ item. item.place < networks + 1) items
+below_more networks items below =
+    All-weaker (λ (x : AirItem). x.place < networks) (λ (x : AirItem). x.place < networks + 1) (λ x lt. omega arith) items below

@@ -12,7 +12,7 @@ use Rattle.crossbeam_queue.proofs.Lists.{at_set, set_here, set_else, at_longer, 
 use Rattle.bss_core.specs.Radio.{items_of}
 use Rattle.bss_core.specs.declared.step.AirItem.{AirItem}
 use Rattle.air_queue.specs.Passes.{TakenIn}
-use Rattle.air_queue.specs.Rule.{IsKept, IsNetworkAt, IsRadioWith, Accounts, pushed_by, next_of, done_of, fresh, giving, given, pushing, leaving, taking_in}
+use Rattle.air_queue.specs.Rule.{IsKept, IsNetworkAt, IsRadioWith, Accounts, pushed_by, networks_of, taken_in_of, fresh, giving, given, pushing, leaving, taking_in}
 use Rattle.air_queue.specs.declared.known.Known.{Known}
 use Rattle.air_queue.specs.declared.known.Known.TheVariants.{Network, Radio, Spent}
 use Rattle.air_queue.proofs.Items.{items_of-here, items_of-other, items_of-none, below_more}
@@ -39,27 +39,27 @@ at_more (x ∷ xs) a b (suc i) e = ⊎_elim (λ t. inl t) (λ t. inr (ap suc t.0
 
 abbrev kind : Known → ℕ
 kind (Network place pushed) = 0
-kind (Radio left next done) = 1
+kind (Radio left networks taken_in) = 1
 kind Spent = 2
 
 abbrev place_of : Known → ℕ
 place_of (Network place pushed) = place
-place_of (Radio left next done) = 0
+place_of (Radio left networks taken_in) = 0
 place_of Spent = 0
 
 abbrev left_of : Known → List AirItem
 left_of (Network place pushed) = []
-left_of (Radio left next done) = left
+left_of (Radio left networks taken_in) = left
 left_of Spent = []
 
-radio-network : (left : List AirItem) (next : ℕ) (done : TakenIn) (place : ℕ) (pushed : List (List ℕ)) → Radio left next done ≡ Network place pushed → ⊥
-radio-network left next done place pushed e = let h : 1 ≡ 0 = ap kind e in absurd (omega (arith, h))
+radio-network : (left : List AirItem) (networks : ℕ) (taken_in : TakenIn) (place : ℕ) (pushed : List (List ℕ)) → Radio left networks taken_in ≡ Network place pushed → ⊥
+radio-network left networks taken_in place pushed e = let h : 1 ≡ 0 = ap kind e in absurd (omega (arith, h))
 
 spent-network : (place : ℕ) (pushed : List (List ℕ)) → Spent ≡ Network place pushed → ⊥
 spent-network place pushed e = let h : 2 ≡ 0 = ap kind e in absurd (omega (arith, h))
 
-spent-radio : (left : List AirItem) (next : ℕ) (done : TakenIn) → Spent ≡ Radio left next done → ⊥
-spent-radio left next done e = let h : 2 ≡ 1 = ap kind e in absurd (omega (arith, h))
+spent-radio : (left : List AirItem) (networks : ℕ) (taken_in : TakenIn) → Spent ≡ Radio left networks taken_in → ⊥
+spent-radio left networks taken_in e = let h : 2 ≡ 1 = ap kind e in absurd (omega (arith, h))
 
 abbrev count : Option (List (List ℕ)) → ℕ
 count None = 0
@@ -82,8 +82,8 @@ All_at P (y ∷ xs) x ys all = All_at P xs x ys (All-tail P y (xs ++ x ∷ ys) a
 pub begins : IsKept [] (fresh ∷ [])
 begins = record {
   left = [];
-  next = 0;
-  done = finite.empty;
+  networks = 0;
+  taken_in = finite.empty;
   all = [];
   parts = refl;
   radio = 0;
@@ -92,7 +92,7 @@ begins = record {
   seat = λ place. 0;
   net_pass = λ place below none. absurd (omega (arith, below));
   one_net_pass = λ number place pushed at. absurd (alone number place pushed at);
-  taken_in = λ place pushed is. absurd (some-none pushed (sym is ∙ finite.get-empty _ place));
+  taken_in_pass = λ place pushed is. absurd (some-none pushed (sym is ∙ finite.get-empty _ place));
   placed = All-nil _;
 }
   where
@@ -115,7 +115,7 @@ network_pushes n port place pushed item here items passes room h at = (w, kept, 
     all : List AirItem
     all = h.all ++ item ∷ []
 
-    mine : (port ≡ h.seat place) × (place < h.next) × (finite.get h.done place ≡ None) × (pushed ≡ items_of place h.all)
+    mine : (port ≡ h.seat place) × (place < h.networks) × (finite.get h.taken_in place ≡ None) × (pushed ≡ items_of place h.all)
     mine = h.one_net_pass port place pushed at
 
     now : pushed ++ item.octets ∷ [] ≡ items_of place all
@@ -125,12 +125,12 @@ network_pushes n port place pushed item here items passes room h at = (w, kept, 
     other q ne = items_of-other q h.all item (λ e. ne (sym e ∙ here))
 
     not_radio : h.radio ≡ port → ⊥
-    not_radio e = radio-network h.left h.next h.done place pushed (one_value passes port _ _ (subst (λ k. get_elem? passes k ≡ some (Radio h.left h.next h.done)) e h.radio_pass) at)
+    not_radio e = radio-network h.left h.networks h.taken_in place pushed (one_value passes port _ _ (subst (λ k. get_elem? passes k ≡ some (Radio h.left h.networks h.taken_in)) e h.radio_pass) at)
 
     not_seat : (q : ℕ) → (q ≡ place → ⊥) → (fs : List (List ℕ)) → get_elem? passes (h.seat q) ≡ some (Network q fs) → h.seat q ≡ port → ⊥
     not_seat q ne fs there e = ne (ap place_of (one_value passes port _ _ (subst (λ k. get_elem? passes k ≡ some (Network q fs)) e there) at))
 
-    net_pass : (q : ℕ) → q < h.next → finite.get h.done q ≡ None → get_elem? (set passes port w) (h.seat q) ≡ some (Network q (items_of q all))
+    net_pass : (q : ℕ) → q < h.networks → finite.get h.taken_in q ≡ None → get_elem? (set passes port w) (h.seat q) ≡ some (Network q (items_of q all))
     net_pass q below none =
         elim (cases_eq q place) [
           | inl e ↦
@@ -143,12 +143,12 @@ network_pushes n port place pushed item here items passes room h at = (w, kept, 
               ∙ ap (λ (fs : List (List ℕ)). some (Network q fs)) (sym (other q ne))
         ]
 
-    one_net_pass : (number q : ℕ) (fs : List (List ℕ)) → get_elem? (set passes port w) number ≡ some (Network q fs) → (number ≡ h.seat q) × (q < h.next) × (finite.get h.done q ≡ None) × (fs ≡ items_of q all)
+    one_net_pass : (number q : ℕ) (fs : List (List ℕ)) → get_elem? (set passes port w) number ≡ some (Network q fs) → (number ≡ h.seat q) × (q < h.networks) × (finite.get h.taken_in q ≡ None) × (fs ≡ items_of q all)
     one_net_pass number q fs there =
         elim (at_set passes port number w (Network q fs) there) [
           | inl t ↦
               let e : place ≡ q = ap place_of t.1 in
-              subst (λ k. (number ≡ h.seat k) × (k < h.next) × (finite.get h.done k ≡ None) × (fs ≡ items_of k all)) e
+              subst (λ k. (number ≡ h.seat k) × (k < h.networks) × (finite.get h.taken_in k ≡ None) × (fs ≡ items_of k all)) e
               (t.0 ∙ mine.0, mine.1, mine.2, sym (ap pushed_by t.1) ∙ now)
           | inr t ↦
               let old = h.one_net_pass number q fs t.1 in
@@ -156,16 +156,16 @@ network_pushes n port place pushed item here items passes room h at = (w, kept, 
               (old.0, old.1, old.2, old.3 ∙ sym (other q ne))
         ]
 
-    taken_in : (q : ℕ) (fs : List (List ℕ)) → finite.get h.done q ≡ Some fs → (q < h.next) × (fs ≡ items_of q all)
-    taken_in q fs is =
-        let ne : q ≡ place → ⊥ = λ e. some-none fs (sym is ∙ ap (finite.get h.done) e ∙ mine.2) in
-        ((h.taken_in q fs is).0, (h.taken_in q fs is).1 ∙ sym (other q ne))
+    taken_in_pass : (q : ℕ) (fs : List (List ℕ)) → finite.get h.taken_in q ≡ Some fs → (q < h.networks) × (fs ≡ items_of q all)
+    taken_in_pass q fs is =
+        let ne : q ≡ place → ⊥ = λ e. some-none fs (sym is ∙ ap (finite.get h.taken_in) e ∙ mine.2) in
+        ((h.taken_in_pass q fs is).0, (h.taken_in_pass q fs is).1 ∙ sym (other q ne))
 
     kept : IsKept (items ++ item ∷ []) (set passes port w)
     kept = record {
       left = h.left;
-      next = h.next;
-      done = h.done;
+      networks = h.networks;
+      taken_in = h.taken_in;
       all = all;
       parts = ap (λ (xs : List AirItem). xs ++ item ∷ []) h.parts ∙ append_assoc h.left items (item ∷ []);
       radio = h.radio;
@@ -178,51 +178,51 @@ network_pushes n port place pushed item here items passes room h at = (w, kept, 
       seat = h.seat;
       net_pass = net_pass;
       one_net_pass = one_net_pass;
-      taken_in = taken_in;
-      placed = All-push (λ (x : AirItem). x.place < h.next) h.all item h.placed (subst (λ k. k < h.next) (sym here) mine.1);
+      taken_in_pass = taken_in_pass;
+      placed = All-push (λ (x : AirItem). x.place < h.networks) h.all item h.placed (subst (λ k. k < h.networks) (sym here) mine.1);
     }
 
 pub pushes : (n port : ℕ) (v : Known) (item : AirItem) → IsNetworkAt item.place v → Pushes IsKept n port v item (λ w. w ≡ pushing v item)
 pushes n port (Network place pushed) item here = network_pushes n port place pushed item (sym here)
-pushes n port (Radio left next done) item here = absurd here
+pushes n port (Radio left networks taken_in) item here = absurd here
 pushes n port Spent item here = absurd here
 
 -- ---- a pop that takes
 
-radio_pops : (port : ℕ) (left : List AirItem) (next : ℕ) (done : TakenIn) → Pops IsKept port (Radio left next done) (λ item w. (w ≡ leaving (Radio left next done) item) × (item.place < next))
-radio_pops port left next done item items passes h at = (w, kept, (refl, below))
+radio_pops : (port : ℕ) (left : List AirItem) (networks : ℕ) (taken_in : TakenIn) → Pops IsKept port (Radio left networks taken_in) (λ item w. (w ≡ leaving (Radio left networks taken_in) item) × (item.place < networks))
+radio_pops port left networks taken_in item items passes h at = (w, kept, (refl, below))
   where
     w : Known
-    w = Radio (left ++ item ∷ []) next done
+    w = Radio (left ++ item ∷ []) networks taken_in
 
     mine : port ≡ h.radio
-    mine = h.one_radio port left next done at
+    mine = h.one_radio port left networks taken_in at
 
-    same : Radio left next done ≡ Radio h.left h.next h.done
-    same = one_value passes port _ _ at (subst (λ k. get_elem? passes k ≡ some (Radio h.left h.next h.done)) (sym mine) h.radio_pass)
+    same : Radio left networks taken_in ≡ Radio h.left h.networks h.taken_in
+    same = one_value passes port _ _ at (subst (λ k. get_elem? passes k ≡ some (Radio h.left h.networks h.taken_in)) (sym mine) h.radio_pass)
 
     parts : h.all ≡ (left ++ item ∷ []) ++ items
     parts = h.parts ∙ ap (λ (xs : List AirItem). xs ++ item ∷ items) (sym (ap left_of same)) ∙ sym (append_assoc left (item ∷ []) items)
 
-    below : item.place < next
+    below : item.place < networks
     below =
-        let lt = All_at (λ (x : AirItem). x.place < h.next) h.left item items (subst (All (λ (x : AirItem). x.place < h.next)) h.parts h.placed) in
-        subst (λ k. item.place < k) (sym (ap next_of same)) lt
+        let lt = All_at (λ (x : AirItem). x.place < h.networks) h.left item items (subst (All (λ (x : AirItem). x.place < h.networks)) h.parts h.placed) in
+        subst (λ k. item.place < k) (sym (ap networks_of same)) lt
 
     not_seat : (q : ℕ) (fs : List (List ℕ)) → get_elem? passes (h.seat q) ≡ some (Network q fs) → h.seat q ≡ port → ⊥
-    not_seat q fs there e = radio-network left next done q fs (one_value passes port _ _ at (subst (λ k. get_elem? passes k ≡ some (Network q fs)) e there))
+    not_seat q fs there e = radio-network left networks taken_in q fs (one_value passes port _ _ at (subst (λ k. get_elem? passes k ≡ some (Network q fs)) e there))
 
     kept : IsKept items (set passes port w)
     kept = record {
       left = left ++ item ∷ [];
-      next = h.next;
-      done = h.done;
+      networks = h.networks;
+      taken_in = h.taken_in;
       all = h.all;
       parts = parts;
       radio = port;
       radio_pass =
           set_here passes port w (within passes port _ at)
-          ∙ ap (λ (v : Known). some (Radio (left ++ item ∷ []) (next_of v) (done_of v))) same;
+          ∙ ap (λ (v : Known). some (Radio (left ++ item ∷ []) (networks_of v) (taken_in_of v))) same;
       one_radio =
           λ number out given taken there. ⊎_elim
           (λ t. t.0)
@@ -234,139 +234,139 @@ radio_pops port left next done item items passes h at = (w, kept, (refl, below))
           set_else passes port (h.seat q) w (not_seat q _ there) ∙ there;
       one_net_pass =
           λ number q fs there. ⊎_elim
-          (λ t. absurd (radio-network _ next done q fs t.1))
+          (λ t. absurd (radio-network _ networks taken_in q fs t.1))
           (λ t. h.one_net_pass number q fs t.1)
           (at_set passes port number w (Network q fs) there);
-      taken_in = h.taken_in;
+      taken_in_pass = h.taken_in_pass;
       placed = h.placed;
     }
 
-pub pops : (port : ℕ) (left : List AirItem) (v : Known) → IsRadioWith left v → Pops IsKept port v (λ item w. (w ≡ leaving v item) × (item.place < next_of v))
+pub pops : (port : ℕ) (left : List AirItem) (v : Known) → IsRadioWith left v → Pops IsKept port v (λ item w. (w ≡ leaving v item) × (item.place < networks_of v))
 pops port left (Network place pushed) is = absurd is
-pops port left (Radio out next done) is = radio_pops port out next done
+pops port left (Radio out networks taken_in) is = radio_pops port out networks taken_in
 pops port left Spent is = absurd is
 
 -- ---- a network is given its pass
 
-radio_gives : (port : ℕ) (left : List AirItem) (next : ℕ) (done : TakenIn) → Forks IsKept port (Radio left next done) (Radio left (next + 1) done) (Network next [])
-radio_gives port left next done items passes h at = kept
+radio_gives : (port : ℕ) (left : List AirItem) (networks : ℕ) (taken_in : TakenIn) → Forks IsKept port (Radio left networks taken_in) (Radio left (networks + 1) taken_in) (Network networks [])
+radio_gives port left networks taken_in items passes h at = kept
   where
     mine : port ≡ h.radio
-    mine = h.one_radio port left next done at
+    mine = h.one_radio port left networks taken_in at
 
-    same : Radio h.left h.next h.done ≡ Radio left next done
-    same = one_value passes port _ _ (subst (λ k. get_elem? passes k ≡ some (Radio h.left h.next h.done)) (sym mine) h.radio_pass) at
+    same : Radio h.left h.networks h.taken_in ≡ Radio left networks taken_in
+    same = one_value passes port _ _ (subst (λ k. get_elem? passes k ≡ some (Radio h.left h.networks h.taken_in)) (sym mine) h.radio_pass) at
 
     w : Known
-    w = Radio left (next + 1) done
+    w = Radio left (networks + 1) taken_in
 
     new : Known
-    new = Network next []
+    new = Network networks []
 
     changed : List Known
     changed = set passes port w
 
-    next_is : h.next ≡ next
-    next_is = ap next_of same
+    networks_same : h.networks ≡ networks
+    networks_same = ap networks_of same
 
     long : length changed ≡ length passes
     long = length-set passes port w
 
     seat : ℕ → ℕ
-    seat q = if q == next then length passes else h.seat q
+    seat q = if q == networks then length passes else h.seat q
 
-    seat_new : seat next ≡ length passes
-    seat_new = cond-true (eqb next next) _ _ (eq-eqb next next refl)
+    seat_new : seat networks ≡ length passes
+    seat_new = cond-true (eqb networks networks) _ _ (eq-eqb networks networks refl)
 
-    seat_old : (q : ℕ) → (q ≡ next → ⊥) → seat q ≡ h.seat q
-    seat_old q ne = cond-false (eqb q next) _ _ (ne_eqb q next ne)
+    seat_old : (q : ℕ) → (q ≡ networks → ⊥) → seat q ≡ h.seat q
+    seat_old q ne = cond-false (eqb q networks) _ _ (ne_eqb q networks ne)
 
-    none_yet : [] ≡ items_of next h.all
-    none_yet = sym (items_of-none next h.all (subst (λ k. All (λ (x : AirItem). x.place < k) h.all) next_is h.placed))
+    none_yet : [] ≡ items_of networks h.all
+    none_yet = sym (items_of-none networks h.all (subst (λ k. All (λ (x : AirItem). x.place < k) h.all) networks_same h.placed))
 
-    not_taken : finite.get h.done next ≡ None
-    not_taken = absent (finite.get h.done next) refl
+    not_taken : finite.get h.taken_in networks ≡ None
+    not_taken = absent (finite.get h.taken_in networks) refl
       where
-        absent : (o : Option (List (List ℕ))) → finite.get h.done next ≡ o → finite.get h.done next ≡ None
+        absent : (o : Option (List (List ℕ))) → finite.get h.taken_in networks ≡ o → finite.get h.taken_in networks ≡ None
         absent None e = e
-        absent (Some fs) e = let lt = (h.taken_in next fs e).0 in absurd (omega (arith, lt, next_is))
+        absent (Some fs) e = let lt = (h.taken_in_pass networks fs e).0 in absurd (omega (arith, lt, networks_same))
 
     not_seat : (q : ℕ) (fs : List (List ℕ)) → get_elem? passes (h.seat q) ≡ some (Network q fs) → h.seat q ≡ port → ⊥
-    not_seat q fs there e = radio-network left next done q fs (one_value passes port _ _ at (subst (λ k. get_elem? passes k ≡ some (Network q fs)) e there))
+    not_seat q fs there e = radio-network left networks taken_in q fs (one_value passes port _ _ at (subst (λ k. get_elem? passes k ≡ some (Network q fs)) e there))
 
-    net_pass : (q : ℕ) → q < next + 1 → finite.get h.done q ≡ None → get_elem? (changed ++ new ∷ []) (seat q) ≡ some (Network q (items_of q h.all))
+    net_pass : (q : ℕ) → q < networks + 1 → finite.get h.taken_in q ≡ None → get_elem? (changed ++ new ∷ []) (seat q) ≡ some (Network q (items_of q h.all))
     net_pass q below none =
-        elim (cases_eq q next) [
+        elim (cases_eq q networks) [
           | inl e ↦
               subst (λ k. get_elem? (changed ++ new ∷ []) (seat k) ≡ some (Network k (items_of k h.all))) (sym e)
-              (at_last changed new (seat next) (long ∙ sym seat_new) ∙ ap (λ (fs : List (List ℕ)). some (Network next fs)) none_yet)
+              (at_last changed new (seat networks) (long ∙ sym seat_new) ∙ ap (λ (fs : List (List ℕ)). some (Network networks fs)) none_yet)
           | inr ne ↦
-              let there = h.net_pass q (omega (arith, below, ne, next_is)) none in
+              let there = h.net_pass q (omega (arith, below, ne, networks_same)) none in
               subst (λ k. get_elem? (changed ++ new ∷ []) k ≡ some (Network q (items_of q h.all))) (sym (seat_old q ne))
               (at_longer changed (new ∷ []) (h.seat q) _ (set_else passes port (h.seat q) w (not_seat q _ there) ∙ there))
         ]
 
-    one_net_pass : (number q : ℕ) (fs : List (List ℕ)) → get_elem? (changed ++ new ∷ []) number ≡ some (Network q fs) → (number ≡ seat q) × (q < next + 1) × (finite.get h.done q ≡ None) × (fs ≡ items_of q h.all)
+    one_net_pass : (number q : ℕ) (fs : List (List ℕ)) → get_elem? (changed ++ new ∷ []) number ≡ some (Network q fs) → (number ≡ seat q) × (q < networks + 1) × (finite.get h.taken_in q ≡ None) × (fs ≡ items_of q h.all)
     one_net_pass number q fs there =
         elim (at_more changed new (Network q fs) number there) [
           | inl t ↦
               elim (at_set passes port number w (Network q fs) t) [
-                | inl u ↦ absurd (radio-network left (next + 1) done q fs u.1)
+                | inl u ↦ absurd (radio-network left (networks + 1) taken_in q fs u.1)
                 | inr u ↦
                     let old = h.one_net_pass number q fs u.1 in
                     let lt = old.1 in
-                    let ne : q ≡ next → ⊥ = λ e. absurd (omega (arith, lt, e, next_is)) in
-                    (old.0 ∙ sym (seat_old q ne), omega (arith, lt, next_is), old.2, old.3)
+                    let ne : q ≡ networks → ⊥ = λ e. absurd (omega (arith, lt, e, networks_same)) in
+                    (old.0 ∙ sym (seat_old q ne), omega (arith, lt, networks_same), old.2, old.3)
               ]
           | inr t ↦
-              let e : next ≡ q = ap place_of t.1 in
-              subst (λ k. (number ≡ seat k) × (k < next + 1) × (finite.get h.done k ≡ None) × (fs ≡ items_of k h.all)) e
+              let e : networks ≡ q = ap place_of t.1 in
+              subst (λ k. (number ≡ seat k) × (k < networks + 1) × (finite.get h.taken_in k ≡ None) × (fs ≡ items_of k h.all)) e
               (t.0 ∙ long ∙ sym seat_new, omega arith, not_taken, sym (ap pushed_by t.1) ∙ none_yet)
         ]
 
     kept : IsKept items (changed ++ new ∷ [])
     kept = record {
       left = h.left;
-      next = next + 1;
-      done = h.done;
+      networks = networks + 1;
+      taken_in = h.taken_in;
       all = h.all;
       parts = h.parts;
       radio = port;
       radio_pass =
-          at_longer changed (new ∷ []) port _ (set_here passes port w (within passes port _ at) ∙ ap (λ (v : Known). some (Radio (left_of v) (next + 1) (done_of v))) (sym same));
+          at_longer changed (new ∷ []) port _ (set_here passes port w (within passes port _ at) ∙ ap (λ (v : Known). some (Radio (left_of v) (networks + 1) (taken_in_of v))) (sym same));
       one_radio =
           λ number out given taken there. ⊎_elim
           (λ t. ⊎_elim (λ u. u.0) (λ u. h.one_radio number out given taken u.1 ∙ sym mine) (at_set passes port number w (Radio out given taken) t))
-          (λ t. absurd (radio-network out given taken next [] (sym t.1)))
+          (λ t. absurd (radio-network out given taken networks [] (sym t.1)))
           (at_more changed new (Radio out given taken) number there);
       seat = seat;
       net_pass = net_pass;
       one_net_pass = one_net_pass;
-      taken_in = λ q fs is. let old = h.taken_in q fs is in let lt = old.0 in (omega (arith, lt, next_is), old.1);
-      placed = below_more next h.all (subst (λ k. All (λ (x : AirItem). x.place < k) h.all) next_is h.placed);
+      taken_in_pass = λ q fs is. let old = h.taken_in_pass q fs is in let lt = old.0 in (omega (arith, lt, networks_same), old.1);
+      placed = below_more networks h.all (subst (λ k. All (λ (x : AirItem). x.place < k) h.all) networks_same h.placed);
     }
 
 pub gives : (port : ℕ) (left : List AirItem) (v : Known) → IsRadioWith left v → Forks IsKept port v (giving v) (given v)
 gives port left (Network place pushed) is = absurd is
-gives port left (Radio out next done) is = radio_gives port out next done
+gives port left (Radio out networks taken_in) is = radio_gives port out networks taken_in
 gives port left Spent is = absurd is
 
 -- ---- a network's pass is taken in
 
-radio_takes : (port : ℕ) (left : List AirItem) (next : ℕ) (done : TakenIn) (other place : ℕ) (pushed : List (List ℕ)) → Merges IsKept port (Radio left next done) other (Network place pushed) (Radio left next (finite.insert done place pushed)) Spent
-radio_takes port left next done other place pushed items passes h at apart there = kept
+radio_takes : (port : ℕ) (left : List AirItem) (networks : ℕ) (taken_in : TakenIn) (other place : ℕ) (pushed : List (List ℕ)) → Merges IsKept port (Radio left networks taken_in) other (Network place pushed) (Radio left networks (finite.insert taken_in place pushed)) Spent
+radio_takes port left networks taken_in other place pushed items passes h at apart there = kept
   where
     mine : port ≡ h.radio
-    mine = h.one_radio port left next done at
+    mine = h.one_radio port left networks taken_in at
 
-    same : Radio h.left h.next h.done ≡ Radio left next done
-    same = one_value passes port _ _ (subst (λ k. get_elem? passes k ≡ some (Radio h.left h.next h.done)) (sym mine) h.radio_pass) at
+    same : Radio h.left h.networks h.taken_in ≡ Radio left networks taken_in
+    same = one_value passes port _ _ (subst (λ k. get_elem? passes k ≡ some (Radio h.left h.networks h.taken_in)) (sym mine) h.radio_pass) at
 
     w : Known
-    w = Radio left next (finite.insert done place pushed)
+    w = Radio left networks (finite.insert taken_in place pushed)
 
     more : TakenIn
-    more = finite.insert h.done place pushed
+    more = finite.insert h.taken_in place pushed
 
     changed : List Known
     changed = set passes port w
@@ -374,58 +374,58 @@ radio_takes port left next done other place pushed items passes h at apart there
     was : get_elem? passes other ≡ some (Network place pushed)
     was = ⊎_elim (λ t. absurd (apart t.0)) (λ t. t.1) (at_set passes port other w (Network place pushed) there)
 
-    theirs : (other ≡ h.seat place) × (place < h.next) × (finite.get h.done place ≡ None) × (pushed ≡ items_of place h.all)
+    theirs : (other ≡ h.seat place) × (place < h.networks) × (finite.get h.taken_in place ≡ None) × (pushed ≡ items_of place h.all)
     theirs = h.one_net_pass other place pushed was
 
     not_port : (q : ℕ) (fs : List (List ℕ)) → get_elem? passes (h.seat q) ≡ some (Network q fs) → h.seat q ≡ port → ⊥
-    not_port q fs seen e = radio-network left next done q fs (one_value passes port _ _ at (subst (λ k. get_elem? passes k ≡ some (Network q fs)) e seen))
+    not_port q fs seen e = radio-network left networks taken_in q fs (one_value passes port _ _ at (subst (λ k. get_elem? passes k ≡ some (Network q fs)) e seen))
 
     not_other : (q : ℕ) → (q ≡ place → ⊥) → (fs : List (List ℕ)) → get_elem? passes (h.seat q) ≡ some (Network q fs) → h.seat q ≡ other → ⊥
     not_other q ne fs seen e = ne (ap place_of (one_value passes other _ _ (subst (λ k. get_elem? passes k ≡ some (Network q fs)) e seen) was))
 
-    net_pass : (q : ℕ) → q < h.next → finite.get more q ≡ None → get_elem? (set changed other Spent) (h.seat q) ≡ some (Network q (items_of q h.all))
+    net_pass : (q : ℕ) → q < h.networks → finite.get more q ≡ None → get_elem? (set changed other Spent) (h.seat q) ≡ some (Network q (items_of q h.all))
     net_pass q below none =
-        let ne : q ≡ place → ⊥ = λ e. some-none pushed (sym (get-here h.done place pushed) ∙ ap (finite.get more) (sym e) ∙ none) in
-        let seen = h.net_pass q below (sym (get-other h.done place pushed q ne) ∙ none) in
+        let ne : q ≡ place → ⊥ = λ e. some-none pushed (sym (get-here h.taken_in place pushed) ∙ ap (finite.get more) (sym e) ∙ none) in
+        let seen = h.net_pass q below (sym (get-other h.taken_in place pushed q ne) ∙ none) in
         set_else changed other (h.seat q) Spent (not_other q ne _ seen)
         ∙ set_else passes port (h.seat q) w (not_port q _ seen)
         ∙ seen
 
-    one_net_pass : (number q : ℕ) (fs : List (List ℕ)) → get_elem? (set changed other Spent) number ≡ some (Network q fs) → (number ≡ h.seat q) × (q < h.next) × (finite.get more q ≡ None) × (fs ≡ items_of q h.all)
+    one_net_pass : (number q : ℕ) (fs : List (List ℕ)) → get_elem? (set changed other Spent) number ≡ some (Network q fs) → (number ≡ h.seat q) × (q < h.networks) × (finite.get more q ≡ None) × (fs ≡ items_of q h.all)
     one_net_pass number q fs seen =
         elim (at_set changed other number Spent (Network q fs) seen) [
           | inl t ↦ absurd (spent-network q fs t.1)
           | inr t ↦
               elim (at_set passes port number w (Network q fs) t.1) [
-                | inl u ↦ absurd (radio-network left next _ q fs u.1)
+                | inl u ↦ absurd (radio-network left networks _ q fs u.1)
                 | inr u ↦
                     let old = h.one_net_pass number q fs u.1 in
                     let ne : q ≡ place → ⊥ = λ e. t.0 (old.0 ∙ ap h.seat e ∙ sym theirs.0) in
-                    (old.0, old.1, get-other h.done place pushed q ne ∙ old.2, old.3)
+                    (old.0, old.1, get-other h.taken_in place pushed q ne ∙ old.2, old.3)
               ]
         ]
 
-    taken_in : (q : ℕ) (fs : List (List ℕ)) → finite.get more q ≡ Some fs → (q < h.next) × (fs ≡ items_of q h.all)
-    taken_in q fs is =
+    taken_in_pass : (q : ℕ) (fs : List (List ℕ)) → finite.get more q ≡ Some fs → (q < h.networks) × (fs ≡ items_of q h.all)
+    taken_in_pass q fs is =
         elim (cases_eq q place) [
           | inl e ↦
-              let eq : fs ≡ pushed = one_some fs pushed (sym is ∙ ap (finite.get more) e ∙ get-here h.done place pushed) in
-              subst (λ k. (k < h.next) × (fs ≡ items_of k h.all)) (sym e) (theirs.1, eq ∙ theirs.3)
-          | inr ne ↦ h.taken_in q fs (sym (get-other h.done place pushed q ne) ∙ is)
+              let eq : fs ≡ pushed = one_some fs pushed (sym is ∙ ap (finite.get more) e ∙ get-here h.taken_in place pushed) in
+              subst (λ k. (k < h.networks) × (fs ≡ items_of k h.all)) (sym e) (theirs.1, eq ∙ theirs.3)
+          | inr ne ↦ h.taken_in_pass q fs (sym (get-other h.taken_in place pushed q ne) ∙ is)
         ]
 
     kept : IsKept items (set changed other Spent)
     kept = record {
       left = h.left;
-      next = h.next;
-      done = more;
+      networks = h.networks;
+      taken_in = more;
       all = h.all;
       parts = h.parts;
       radio = port;
       radio_pass =
           set_else changed other port Spent (λ e. apart (sym e))
           ∙ set_here passes port w (within passes port _ at)
-          ∙ ap (λ (v : Known). some (Radio (left_of v) (next_of v) (finite.insert (done_of v) place pushed))) (sym same);
+          ∙ ap (λ (v : Known). some (Radio (left_of v) (networks_of v) (finite.insert (taken_in_of v) place pushed))) (sym same);
       one_radio =
           λ number out given taken seen. ⊎_elim
           (λ t. absurd (spent-radio out given taken t.1))
@@ -434,38 +434,38 @@ radio_takes port left next done other place pushed items passes h at apart there
       seat = h.seat;
       net_pass = net_pass;
       one_net_pass = one_net_pass;
-      taken_in = taken_in;
+      taken_in_pass = taken_in_pass;
       placed = h.placed;
     }
 
 pub takes_in : (port : ℕ) (left : List AirItem) (v : Known) (other place : ℕ) (u : Known) → IsRadioWith left v → IsNetworkAt place u → Merges IsKept port v other u (taking_in v u) Spent
 takes_in port left (Network place' pushed) other place u is at = absurd is
-takes_in port left (Radio out next done) other place (Network place' pushed) is at = radio_takes port out next done other place' pushed
-takes_in port left (Radio out next done) other place (Radio out' next' done') is at = absurd at
-takes_in port left (Radio out next done) other place Spent is at = absurd at
+takes_in port left (Radio out networks taken_in) other place (Network place' pushed) is at = radio_takes port out networks taken_in other place' pushed
+takes_in port left (Radio out networks taken_in) other place (Radio out' networks' taken_in') is at = absurd at
+takes_in port left (Radio out networks taken_in) other place Spent is at = absurd at
 takes_in port left Spent other place u is at = absurd is
 
 -- ---- what the radio's pass learns
 
-radio_learns : (port : ℕ) (left : List AirItem) (next : ℕ) (done : TakenIn) → Learns IsKept port (Radio left next done) (Accounts (Radio left next done))
-radio_learns port left next done items passes h at = accounts
+radio_learns : (port : ℕ) (left : List AirItem) (networks : ℕ) (taken_in : TakenIn) → Learns IsKept port (Radio left networks taken_in) (Accounts (Radio left networks taken_in))
+radio_learns port left networks taken_in items passes h at = accounts
   where
     mine : port ≡ h.radio
-    mine = h.one_radio port left next done at
+    mine = h.one_radio port left networks taken_in at
 
-    same : Radio h.left h.next h.done ≡ Radio left next done
-    same = one_value passes port _ _ (subst (λ k. get_elem? passes k ≡ some (Radio h.left h.next h.done)) (sym mine) h.radio_pass) at
+    same : Radio h.left h.networks h.taken_in ≡ Radio left networks taken_in
+    same = one_value passes port _ _ (subst (λ k. get_elem? passes k ≡ some (Radio h.left h.networks h.taken_in)) (sym mine) h.radio_pass) at
 
     parts : h.all ≡ left ++ items
     parts = h.parts ∙ ap (λ (v : Known). left_of v ++ items) same
 
-    accounts : Accounts (Radio left next done) items
+    accounts : Accounts (Radio left networks taken_in) items
     accounts = (
-      subst (λ (x : ℕ × List AirItem). All (λ (item : AirItem). item.place < x.0) x.1) (λ i. (next_of (same i), parts i)) h.placed,
-      λ place pushed is. (h.taken_in place pushed (ap (λ (v : Known). finite.get (done_of v) place) same ∙ is)).1 ∙ ap (items_of place) parts,
+      subst (λ (x : ℕ × List AirItem). All (λ (item : AirItem). item.place < x.0) x.1) (λ i. (networks_of (same i), parts i)) h.placed,
+      λ place pushed is. (h.taken_in_pass place pushed (ap (λ (v : Known). finite.get (taken_in_of v) place) same ∙ is)).1 ∙ ap (items_of place) parts,
     )
 
 pub learns : (port : ℕ) (left : List AirItem) (v : Known) → IsRadioWith left v → Learns IsKept port v (Accounts v)
 learns port left (Network place pushed) is = absurd is
-learns port left (Radio out next done) is = radio_learns port out next done
+learns port left (Radio out networks taken_in) is = radio_learns port out networks taken_in
 learns port left Spent is = absurd is

@@ -9,7 +9,7 @@ use Rattle.crossbeam_queue.specs.Fifo.{Merges}
 use Rattle.bss_core.specs.Radio.{items_of}
 use Rattle.bss_core.specs.declared.step.AirItem.{AirItem}
 use Rattle.air_queue.specs.Passes.{TakenIn, NetPassView}
-use Rattle.air_queue.specs.Rule.{IsKept, IsNetworkAt, IsRadio, IsRadioWith, Accounts, AllTaken, pushed_by, next_of, done_of, taking_in, after_taking}
+use Rattle.air_queue.specs.Rule.{IsKept, IsNetworkAt, IsRadio, IsRadioWith, Accounts, AllTaken, pushed_by, networks_of, taken_in_of, taking_in, after_taking}
 use Rattle.air_queue.specs.declared.known.Known.{Known}
 use Rattle.air_queue.specs.declared.known.Known.TheVariants.{Network, Radio, Spent}
 use Rattle.air_queue.proofs.Counts.{same_count}
@@ -20,42 +20,42 @@ use Rattle.air_queue.proofs.RuleSteps.{takes_in}
 
 pub network_is : (place : ℕ) (v : Known) → IsNetworkAt place v → v ≡ Network place (pushed_by v)
 network_is place (Network at pushed) is = ap (λ k. Network k pushed) is
-network_is place (Radio left next done) is = absurd is
+network_is place (Radio left networks taken_in) is = absurd is
 network_is place Spent is = absurd is
 
-pub radio_is : (out : List AirItem) (v : Known) → IsRadioWith out v → v ≡ Radio out (next_of v) (done_of v)
+pub radio_is : (out : List AirItem) (v : Known) → IsRadioWith out v → v ≡ Radio out (networks_of v) (taken_in_of v)
 radio_is out (Network place pushed) is = absurd is
-radio_is out (Radio left next done) is = ap (λ l. Radio l next done) is
+radio_is out (Radio left networks taken_in) is = ap (λ l. Radio l networks taken_in) is
 radio_is out Spent is = absurd is
 
 pub is_radio : (out : List AirItem) (v : Known) → IsRadioWith out v → IsRadio v
 is_radio out (Network place pushed) is = absurd is
-is_radio out (Radio left next done) is = tt
+is_radio out (Radio left networks taken_in) is = tt
 is_radio out Spent is = absurd is
 
 pub radio-taking : (v u : Known) → IsRadio v → IsRadio (taking_in v u)
 radio-taking (Network place pushed) u is = absurd is
-radio-taking (Radio left next done) (Network place pushed) is = tt
-radio-taking (Radio left next done) (Radio out given taken) is = tt
-radio-taking (Radio left next done) Spent is = tt
+radio-taking (Radio left networks taken_in) (Network place pushed) is = tt
+radio-taking (Radio left networks taken_in) (Radio out given taken) is = tt
+radio-taking (Radio left networks taken_in) Spent is = tt
 radio-taking Spent u is = absurd is
 
 -- a pass of the radio takes in one of a network
 pub takes : (port : ℕ) (v : Known) (other place : ℕ) (u : Known) → IsRadio v → IsNetworkAt place u → Merges IsKept port v other u (taking_in v u) Spent
 takes port (Network at pushed) other place u is here = absurd is
-takes port (Radio left next done) other place u is here = takes_in port left (Radio left next done) other place u refl here
+takes port (Radio left networks taken_in) other place u is here = takes_in port left (Radio left networks taken_in) other place u refl here
 takes port Spent other place u is here = absurd is
 
 -- ---- passes in order of place
 
 -- what is there of each network once these passes were taken in
 abbrev all_taken : TakenIn → List NetPassView → TakenIn
-all_taken done [] = done
-all_taken done (pass ∷ passes) = all_taken (finite.insert done pass.place pass.pushed) passes
+all_taken taken_in [] = taken_in
+all_taken taken_in (pass ∷ passes) = all_taken (finite.insert taken_in pass.place pass.pushed) passes
 
-after_taking-is : (left : List AirItem) (next : ℕ) (done : TakenIn) (passes : List NetPassView) → after_taking (Radio left next done) passes ≡ Radio left next (all_taken done passes)
-after_taking-is left next done [] = refl
-after_taking-is left next done (pass ∷ passes) = after_taking-is left next (finite.insert done pass.place pass.pushed) passes
+after_taking-is : (left : List AirItem) (networks : ℕ) (taken_in : TakenIn) (passes : List NetPassView) → after_taking (Radio left networks taken_in) passes ≡ Radio left networks (all_taken taken_in passes)
+after_taking-is left networks taken_in [] = refl
+after_taking-is left networks taken_in (pass ∷ passes) = after_taking-is left networks (finite.insert taken_in pass.place pass.pushed) passes
 
 abbrev Placed : ℕ → ℕ → List NetPassView → Type 0
 Placed first count passes = map (λ pass. pass.place) passes ≡ range_with_len first count
@@ -76,82 +76,82 @@ next_placed first (suc count) pass passes is = record {
 }
 
 -- those that follow leave what was taken in of the places before
-taken-before : (first count : ℕ) (passes : List NetPassView) (done : TakenIn) (place : ℕ) → Placed first count passes → place < first → finite.get (all_taken done passes) place ≡ finite.get done place
-taken-before first count [] done place is lt = refl
-taken-before first count (pass ∷ passes) done place is lt =
+taken-before : (first count : ℕ) (passes : List NetPassView) (taken_in : TakenIn) (place : ℕ) → Placed first count passes → place < first → finite.get (all_taken taken_in passes) place ≡ finite.get taken_in place
+taken-before first count [] taken_in place is lt = refl
+taken-before first count (pass ∷ passes) taken_in place is lt =
     let n = next_placed first count pass passes is in
     let here = n.here in
-    taken-before (first + 1) n.fewer passes (finite.insert done pass.place pass.pushed) place n.rest (omega (arith, lt))
-    ∙ get-other done pass.place pass.pushed place (λ e. absurd (omega (arith, e, here, lt)))
+    taken-before (first + 1) n.fewer passes (finite.insert taken_in pass.place pass.pushed) place n.rest (omega (arith, lt))
+    ∙ get-other taken_in pass.place pass.pushed place (λ e. absurd (omega (arith, e, here, lt)))
 
-taken-first : (first count : ℕ) (pass : NetPassView) (passes : List NetPassView) (done : TakenIn) → Placed first count (pass ∷ passes) → finite.get (all_taken done (pass ∷ passes)) pass.place ≡ Some pass.pushed
-taken-first first count pass passes done is =
+taken-first : (first count : ℕ) (pass : NetPassView) (passes : List NetPassView) (taken_in : TakenIn) → Placed first count (pass ∷ passes) → finite.get (all_taken taken_in (pass ∷ passes)) pass.place ≡ Some pass.pushed
+taken-first first count pass passes taken_in is =
     let n = next_placed first count pass passes is in
     let here = n.here in
-    taken-before (first + 1) n.fewer passes (finite.insert done pass.place pass.pushed) pass.place n.rest (omega (arith, here))
-    ∙ get-here done pass.place pass.pushed
+    taken-before (first + 1) n.fewer passes (finite.insert taken_in pass.place pass.pushed) pass.place n.rest (omega (arith, here))
+    ∙ get-here taken_in pass.place pass.pushed
 
-taken-each : (first count : ℕ) (passes : List NetPassView) (done : TakenIn) → Placed first count passes → AllByRecursion (λ pass. finite.get (all_taken done passes) pass.place ≡ Some pass.pushed) passes
-taken-each first count [] done is = tt
-taken-each first count (pass ∷ passes) done is =
+taken-each : (first count : ℕ) (passes : List NetPassView) (taken_in : TakenIn) → Placed first count passes → AllByRecursion (λ pass. finite.get (all_taken taken_in passes) pass.place ≡ Some pass.pushed) passes
+taken-each first count [] taken_in is = tt
+taken-each first count (pass ∷ passes) taken_in is =
     let n = next_placed first count pass passes is in
-    (taken-first first count pass passes done is, taken-each (first + 1) n.fewer passes (finite.insert done pass.place pass.pushed) n.rest)
+    (taken-first first count pass passes taken_in is, taken-each (first + 1) n.fewer passes (finite.insert taken_in pass.place pass.pushed) n.rest)
 
-taken-all : (first count : ℕ) (passes : List NetPassView) (done : TakenIn) (place : ℕ) → Placed first count passes → first ≤ place → place < first + count → IsSome (finite.get (all_taken done passes) place)
-taken-all first zero [] done place is le lt = absurd (omega (arith, le, lt))
-taken-all first (suc count) [] done place is le lt = let h = ap length is in absurd (omega (arith, h))
-taken-all first count (pass ∷ passes) done place is le lt =
+taken-all : (first count : ℕ) (passes : List NetPassView) (taken_in : TakenIn) (place : ℕ) → Placed first count passes → first ≤ place → place < first + count → IsSome (finite.get (all_taken taken_in passes) place)
+taken-all first zero [] taken_in place is le lt = absurd (omega (arith, le, lt))
+taken-all first (suc count) [] taken_in place is le lt = let h = ap length is in absurd (omega (arith, h))
+taken-all first count (pass ∷ passes) taken_in place is le lt =
     let n = next_placed first count pass passes is in
     let one = n.one in
     let here = n.here in
     elim (cases_eq place first) [
       | inl e ↦
-          let at : finite.get (all_taken done (pass ∷ passes)) place ≡ Some pass.pushed = ap (finite.get (all_taken done (pass ∷ passes))) (e ∙ sym here) ∙ taken-first first count pass passes done is in
+          let at : finite.get (all_taken taken_in (pass ∷ passes)) place ≡ Some pass.pushed = ap (finite.get (all_taken taken_in (pass ∷ passes))) (e ∙ sym here) ∙ taken-first first count pass passes taken_in is in
           subst IsSome (sym at) refl
       | inr ne ↦
-          taken-all (first + 1) n.fewer passes (finite.insert done pass.place pass.pushed) place n.rest (omega (arith, le, ne)) (omega (arith, lt, one))
+          taken-all (first + 1) n.fewer passes (finite.insert taken_in pass.place pass.pushed) place n.rest (omega (arith, le, ne)) (omega (arith, lt, one))
     ]
 
 -- ---- all passes are in
 
-taken_new : (left : List AirItem) (next : ℕ) (passes : List NetPassView) → Placed 0 next passes → AllTaken (after_taking (Radio left next finite.empty) passes)
-taken_new left next passes is =
-    subst AllTaken (sym (after_taking-is left next finite.empty passes))
-    (λ place lt. taken-all 0 next passes finite.empty place is (omega arith) (omega (arith, lt)))
+taken_new : (left : List AirItem) (networks : ℕ) (passes : List NetPassView) → Placed 0 networks passes → AllTaken (after_taking (Radio left networks finite.empty) passes)
+taken_new left networks passes is =
+    subst AllTaken (sym (after_taking-is left networks finite.empty passes))
+    (λ place lt. taken-all 0 networks passes finite.empty place is (omega arith) (omega (arith, lt)))
 
-pub all_in : (out : List AirItem) (v : Known) (passes : List NetPassView) → IsRadioWith out v → done_of v ≡ finite.empty → Placed 0 (next_of v) passes → AllTaken (after_taking v passes)
+pub all_in : (out : List AirItem) (v : Known) (passes : List NetPassView) → IsRadioWith out v → taken_in_of v ≡ finite.empty → Placed 0 (networks_of v) passes → AllTaken (after_taking v passes)
 all_in out v passes is new placed =
-    let e : v ≡ Radio out (next_of v) finite.empty = radio_is out v is ∙ ap (Radio out (next_of v)) new in
-    subst (λ u. AllTaken (after_taking u passes)) (sym e) (taken_new out (next_of v) passes placed)
+    let e : v ≡ Radio out (networks_of v) finite.empty = radio_is out v is ∙ ap (Radio out (networks_of v)) new in
+    subst (λ u. AllTaken (after_taking u passes)) (sym e) (taken_new out (networks_of v) passes placed)
 
 pub left_in : (out : List AirItem) (v : Known) (passes : List NetPassView) → IsRadioWith out v → IsRadioWith out (after_taking v passes)
 left_in out v passes is =
-    subst (IsRadioWith out) (sym (ap (λ u. after_taking u passes) (radio_is out v is) ∙ after_taking-is out (next_of v) (done_of v) passes)) refl
+    subst (IsRadioWith out) (sym (ap (λ u. after_taking u passes) (radio_is out v is) ∙ after_taking-is out (networks_of v) (taken_in_of v) passes)) refl
 
-pub next_in : (out : List AirItem) (v : Known) (passes : List NetPassView) → IsRadioWith out v → next_of (after_taking v passes) ≡ next_of v
-next_in out v passes is = ap next_of (ap (λ u. after_taking u passes) (radio_is out v is) ∙ after_taking-is out (next_of v) (done_of v) passes)
+pub networks_in : (out : List AirItem) (v : Known) (passes : List NetPassView) → IsRadioWith out v → networks_of (after_taking v passes) ≡ networks_of v
+networks_in out v passes is = ap networks_of (ap (λ u. after_taking u passes) (radio_is out v is) ∙ after_taking-is out (networks_of v) (taken_in_of v) passes)
 
 -- what left is of each network what its pass pushed
-whole : (out : List AirItem) (next : ℕ) (done : TakenIn) (passes : List NetPassView) → Accounts (Radio out next done) [] → AllByRecursion (λ pass. finite.get done pass.place ≡ Some pass.pushed) passes → AllByRecursion (λ pass. items_of pass.place out ≡ pass.pushed) passes
-whole out next done [] account each = tt
-whole out next done (pass ∷ passes) account each =
-    (ap (items_of pass.place) (sym (append-nil out)) ∙ sym (account.1 pass.place pass.pushed each.0), whole out next done passes account each.1)
+whole : (out : List AirItem) (networks : ℕ) (taken_in : TakenIn) (passes : List NetPassView) → Accounts (Radio out networks taken_in) [] → AllByRecursion (λ pass. finite.get taken_in pass.place ≡ Some pass.pushed) passes → AllByRecursion (λ pass. items_of pass.place out ≡ pass.pushed) passes
+whole out networks taken_in [] account each = tt
+whole out networks taken_in (pass ∷ passes) account each =
+    (ap (items_of pass.place) (sym (append-nil out)) ∙ sym (account.1 pass.place pass.pushed each.0), whole out networks taken_in passes account each.1)
 
-pub whole_in : (before out : List AirItem) (v : Known) (passes : List NetPassView) → IsRadioWith before v → done_of v ≡ finite.empty → Placed 0 (next_of v) passes → Accounts (Radio out (next_of (after_taking v passes)) (done_of (after_taking v passes))) [] → AllByRecursion (λ pass. items_of pass.place out ≡ pass.pushed) passes
+pub whole_in : (before out : List AirItem) (v : Known) (passes : List NetPassView) → IsRadioWith before v → taken_in_of v ≡ finite.empty → Placed 0 (networks_of v) passes → Accounts (Radio out (networks_of (after_taking v passes)) (taken_in_of (after_taking v passes))) [] → AllByRecursion (λ pass. items_of pass.place out ≡ pass.pushed) passes
 whole_in before out v passes is new placed account =
-    let e = ap (λ u. after_taking u passes) (radio_is before v is ∙ ap (Radio before (next_of v)) new) ∙ after_taking-is before (next_of v) finite.empty passes in
-    whole out (next_of v) (all_taken finite.empty passes) passes
-    (subst (λ u. Accounts (Radio out (next_of u) (done_of u)) []) e account)
-    (taken-each 0 (next_of v) passes finite.empty placed)
+    let e = ap (λ u. after_taking u passes) (radio_is before v is ∙ ap (Radio before (networks_of v)) new) ∙ after_taking-is before (networks_of v) finite.empty passes in
+    whole out (networks_of v) (all_taken finite.empty passes) passes
+    (subst (λ u. Accounts (Radio out (networks_of u) (taken_in_of u)) []) e account)
+    (taken-each 0 (networks_of v) passes finite.empty placed)
 
-pub placed_in : (before out : List AirItem) (v : Known) (passes : List NetPassView) → IsRadioWith before v → Accounts (Radio out (next_of (after_taking v passes)) (done_of (after_taking v passes))) [] → All (λ item. item.place < next_of v) out
+pub placed_in : (before out : List AirItem) (v : Known) (passes : List NetPassView) → IsRadioWith before v → Accounts (Radio out (networks_of (after_taking v passes)) (taken_in_of (after_taking v passes))) [] → All (λ item. item.place < networks_of v) out
 placed_in before out v passes is account =
-    subst (λ (x : ℕ × List AirItem). All (λ item. item.place < x.0) x.1) (λ i. (next_in before v passes is i, append-nil out i)) account.0
+    subst (λ (x : ℕ × List AirItem). All (λ item. item.place < x.0) x.1) (λ i. (networks_in before v passes is i, append-nil out i)) account.0
 
 -- ---- nothing remains
 
-pub accounts_as : (out : List AirItem) (next : ℕ) (done : TakenIn) (v : Known) (queued : List AirItem) → IsRadioWith out v → next_of v ≡ next → done_of v ≡ done → Accounts v queued → Accounts (Radio out next done) queued
-accounts_as out next done v queued is e f account =
+pub accounts_as : (out : List AirItem) (networks : ℕ) (taken_in : TakenIn) (v : Known) (queued : List AirItem) → IsRadioWith out v → networks_of v ≡ networks → taken_in_of v ≡ taken_in → Accounts v queued → Accounts (Radio out networks taken_in) queued
+accounts_as out networks taken_in v queued is e f account =
     subst (λ u. Accounts u queued) (radio_is out v is ∙ (λ i. Radio out (e i) (f i))) account
 
 no_items : (items : List AirItem) → length items ≡ 0 → items ≡ []
@@ -163,11 +163,11 @@ some_pushed None is = absurd (false≢true is)
 some_pushed (Some pushed) is = (pushed, refl)
 
 -- once as many left as had left and were queued, nothing is queued
-pub nothing_queued : (next : ℕ) (done : TakenIn) (before out queued now : List AirItem) → ((place : ℕ) → place < next → IsSome (finite.get done place)) → Accounts (Radio before next done) queued → Accounts (Radio out next done) now → length before + length queued ≡ length out → Accounts (Radio out next done) []
-nothing_queued next done before out queued now taken first last long =
+pub nothing_queued : (networks : ℕ) (taken_in : TakenIn) (before out queued now : List AirItem) → ((place : ℕ) → place < networks → IsSome (finite.get taken_in place)) → Accounts (Radio before networks taken_in) queued → Accounts (Radio out networks taken_in) now → length before + length queued ≡ length out → Accounts (Radio out networks taken_in) []
+nothing_queued networks taken_in before out queued now taken first last long =
     let same : length (before ++ queued) ≡ length (out ++ now) =
-    same_count next (before ++ queued) (out ++ now) first.0 last.0
-    (λ place lt. let p = some_pushed (finite.get done place) (taken place lt) in sym (first.1 place p.0 p.1) ∙ last.1 place p.0 p.1) in
+    same_count networks (before ++ queued) (out ++ now) first.0 last.0
+    (λ place lt. let p = some_pushed (finite.get taken_in place) (taken place lt) in sym (first.1 place p.0 p.1) ∙ last.1 place p.0 p.1) in
     let a = length-append before queued in
     let b = length-append out now in
-    subst (Accounts (Radio out next done)) (no_items now (omega (arith, same, a, b, long))) last
+    subst (Accounts (Radio out networks taken_in)) (no_items now (omega (arith, same, a, b, long))) last

@@ -1,4 +1,4 @@
--- What contracts see of the air queue and of the passes to it.
+-- What contracts see of the air queue and of the passes to it (profile).
 use Rattle.std.specs.Prelude.{ℕ, ◌≡◌, refl, List, [], ◌++◌, map}
 use Rattle.std.specs.List.{AllByRecursion, range_with_len}
 use Rattle.std.specs.Ordering.{nat_cmp}
@@ -31,8 +31,8 @@ pub record NetPassView : Type 0 where
 pub record RadioPassView : Type 0 where
   pub name : QueueName
   pub left : List AirItem
-  pub next : ℕ
-  pub done : TakenIn
+  pub networks : ℕ
+  pub taken_in : TakenIn
   pub spare : ℕ
 
 -- how proofs tell such passes apart: by their fields, one after the other
@@ -47,8 +47,8 @@ abbrev pub radio_pass_code : Coded RadioPassView
 radio_pass_code =
     code_by (QueueName × (List AirItem × (ℕ × (TakenIn × ℕ))))
     (coded× table_id_coded (coded× (coded_list item_code) (coded× coded_ℕ (coded× taken_in_code coded_ℕ))))
-    (λ p. (p.name, (p.left, (p.next, (p.done, p.spare)))))
-    (λ p. record { name = p.0; left = p.1.0; next = p.1.1.0; done = p.1.1.1.0; spare = p.1.1.1.1 })
+    (λ p. (p.name, (p.left, (p.networks, (p.taken_in, p.spare)))))
+    (λ p. record { name = p.0; left = p.1.0; networks = p.1.1.0; taken_in = p.1.1.1.0; spare = p.1.1.1.1 })
     (λ _. refl)
 
 -- ---- the passes of a new queue
@@ -65,8 +65,8 @@ abbrev pub fresh_radio : QueueName → ℕ → ℕ → RadioPassView
 fresh_radio name networks spare = record {
   name = name;
   left = [];
-  next = networks;
-  done = finite.empty;
+  networks = networks;
+  taken_in = finite.empty;
   spare = spare;
 }
 

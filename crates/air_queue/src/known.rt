@@ -1,4 +1,4 @@
-//! What a pass knows of the queue, for proofs alone: no value of these types is made.
+//! What a pass knows of the queue (*profile*), for proofs alone: no value of these types is made.
 
 use bss_core::AirItem;
 use mac_frame::Octets;
@@ -35,9 +35,9 @@ pub enum Known {
         /// What left, in order.
         left: LinkedList<AirItem>,
         /// How many networks were given a pass.
-        next: usize,
+        networks: usize,
         /// What was taken in of them.
-        done: TakenIn,
+        taken_in: TakenIn,
     },
     /// A network's pass that was taken in: nothing.
     Spent,

@@ -1,11 +1,12 @@
 //! The air queue: each network's frames, once and in order, on their way to the transmitter.
 //!
-//! Any number of threads push and one pops, at once and with no lock: a frame goes in by the network's own
-//! [`NetPass`] and leaves by the one [`RadioPass`]. However their steps fall, what left of a network and then what is
-//! queued of it is what its pass pushed, each frame once and in its order, and nothing else is there
-//! (`specs/Rule.antt`); [`AirQueue::take_in`] shows it, once all passes are back. That a thread gets on, or when, is
-//! promised by nothing here, nor that a push which gives its frame back found the queue full, or a pop that answers
-//! `false` found it empty: tests show it.
+//! Up to eight threads push, one for each network's pass, and one pops, all at the same time: a frame goes in by the
+//! network's own [`NetPass`] and leaves by the one [`RadioPass`] (*profile*; a frame is one of IEEE Std 802.11-2016,
+//! 9.2). However their steps fall, what left of a network and then what is queued of it is what its pass pushed, each
+//! frame once and in its order, and nothing else is there (`specs/Rule.antt`); [`AirQueue::take_in`] shows it, once all
+//! passes are back. A call may wait for other threads. That a thread gets on, or when, is promised by nothing here, nor
+//! that a push which gives its frame back found the queue full, or a pop that answers `false` found it empty: tests show
+//! it.
 //!
 //! Which frames are pushed, and when, is left to the crates above.
 #![tactic(auto)]

@@ -1,26 +1,27 @@
-//! The queue: made with its passes, pushed to, popped from, and taken in.
+//! The queue: made with its passes, pushed to, popped from, and taken in (*profile*).
 
-ghost use Rattle.std.specs.Prelude.{◌≡◌, ◌+◌, ◌<◌, ◌≤◌, ◌++◌, [], ◌∷◌, vec_len, vec_capacity, IfOk, OnOk, IfErr, MatchBool, MatchResult};
+ghost use Rattle.std.specs.Prelude.{◌≡◌, ◌+◌, ◌<◌, ◌≤◌, ◌++◌, [], ◌∷◌, vec_len, vec_capacity, IfOk, OnOk, IfErr, MatchBool};
 ghost use Rattle.std.specs.FinMap as finite;
-ghost use Rattle.crossbeam_queue.specs.Passes.{view as known_by, IsPassOf, IsSamePass, ruled_capacity};
+ghost use Rattle.crossbeam_queue.specs.Passes.{view as known_by, IsPassOf, IsSamePass};
 ghost use Rattle.bss_core.specs.declared.step.AirItem.{AirItem};
 ghost use Rattle.air_queue.specs.Passes.{fresh_passes, fresh_radio};
-ghost use Rattle.air_queue.specs.Rule.{IsRadioWith, Accounts, next_of, done_of};
+ghost use Rattle.air_queue.specs.Rule.{IsRadioWith, Accounts, networks_of, taken_in_of};
 ghost use Rattle.air_queue.specs.declared.known.Known.TheVariants.{Radio};
 
 use crate::pass::{NetPass, RadioPass};
-use crate::rule::{Give, Leave, Line, Push, Ticket};
+use crate::rule::{Give, Leave, Push, QueuePass, RuledQueue};
 use bss_core::{AirItem, MAX_NETWORKS, MAX_QUEUE};
 use mac_frame::NoMemory;
 use std::alloc::Global;
 use std::marker::Model;
 use std::sync::Wait;
 
-/// A queue of frames that threads share by reference. Contracts see its name, which its passes have too, and how many
-/// frames it holds at most; what it holds another thread may change at any moment, so no contract tells.
+/// A queue of whole frames (IEEE Std 802.11-2016, 9.2) that threads share by reference (*profile*). Contracts see its
+/// name, which its passes have too, and how many frames it holds at most; what it holds another thread may change at any
+/// moment, so no contract tells.
 #[derive(Drop)]
 pub struct AirQueue {
-    pub(crate) line: Line,
+    pub(crate) queue: RuledQueue,
 }
 
 impl Model for AirQueue {
@@ -29,13 +30,13 @@ impl Model for AirQueue {
 
     ghost Value = { QueueView };
 
-    ghost view = { λ q. record { name = q.line.table.shared.table_id; capacity = ruled_capacity q.line } };
+    ghost view = { λ q. record { name = q.queue.table.shared.table_id; capacity = ruled_capacity q.queue } };
 }
 
 impl AirQueue {
-    /// An empty queue of a capacity, 1 to [`MAX_QUEUE`], with a pass for each of so many networks, 1 to
-    /// [`MAX_NETWORKS`], in order of place, and the radio's pass. Nothing was pushed and nothing left. `NoMemory` where
-    /// a growth was refused.
+    /// An empty queue of a capacity in frames, 1 to [`MAX_QUEUE`], with a pass for each of so many networks, 1 to
+    /// [`MAX_NETWORKS`], in order of place, and the radio's pass (*profile*). Nothing was pushed and nothing left.
+    /// `NoMemory` where a growth was refused.
     pub fn open(
         alloc: Global,
         capacity: u16,
@@ -48,17 +49,18 @@ impl AirQueue {
         ensures radio { IfOk result (λ r. r.2 ≡ fresh_radio r.0.name networks r.2.spare) }
     {
         let room = Vec::with_capacity(alloc, networks)?;
-        let (line, ticket) = Line::ruled(alloc, usize::from(capacity))?;
-        let (nets, ticket) = give_passes(&line, ticket, room, networks);
+        let (queue, queue_pass) = RuledQueue::ruled(alloc, usize::from(capacity))?;
+        let (nets, queue_pass) = give_passes(&queue, queue_pass, room, networks);
         let radio = RadioPass {
             left: Vec::new(alloc),
-            ticket,
+            queue_pass,
         };
-        Ok((AirQueue { line }, nets, radio))
+        Ok((AirQueue { queue }, nets, radio))
     }
 
-    /// Puts a frame at the end of the queue, by its network's pass. The frame comes back only if the queue was full at
-    /// one moment of the call, which tests show; then the pass has pushed nothing. Takes no memory.
+    /// Puts a frame at the end of the queue, by its network's pass (*profile*). The frame comes back only if the queue was
+    /// full at one moment of the call, which tests show; then the pass has pushed nothing. It may wait for other threads.
+    /// It takes no memory.
     pub fn push<R: Wait>(&self, rt: &R, pass: &mut NetPass, item: AirItem) -> Result<(), AirItem>
         requires queue { pass.old.name ≡ self.now.name }
         requires place { item.place ≡ pass.old.place }
@@ -66,66 +68,67 @@ impl AirQueue {
         ensures ok { OnOk result (pass.new.pushed ≡ pass.old.pushed ++ item.octets ∷ []) }
         ensures err { IfErr result (λ back. (back ≡ item) × (pass.new.pushed ≡ pass.old.pushed)) }
     {
-        self.line.push_as::<Push, R>(rt, &mut pass.ticket, item)
+        self.queue
+            .push_as::<Push, R>(rt, &mut pass.queue_pass, item)
     }
 
-    /// Takes the first frame of the queue, which is the last that left then. `false` only if the queue was empty at
-    /// one moment of the call, which tests show; then nothing has changed. Takes no memory, but uses room that
-    /// [`RadioPass::reserve`] made.
+    /// Takes the first frame of the queue, which is the last that left then (*profile*). `false` only if the queue was
+    /// empty at one moment of the call, which tests show; then nothing has changed. It may wait for other threads. It takes
+    /// no memory, but uses room that [`RadioPass::reserve`] made.
     pub fn pop<R: Wait>(&self, rt: &R, pass: &mut RadioPass) -> bool
         requires queue { pass.old.name ≡ self.now.name }
         requires room { 1 ≤ pass.old.spare }
         ensures name { pass.new.name ≡ pass.old.name }
-        ensures networks { (pass.new.next ≡ pass.old.next) × (pass.new.done ≡ pass.old.done) }
+        ensures networks { (pass.new.networks ≡ pass.old.networks) × (pass.new.taken_in ≡ pass.old.taken_in) }
         ensures left { MatchBool result
-            ((item : AirItem) × (item.place < pass.old.next) × (pass.new.left ≡ pass.old.left ++ item ∷ []) × (pass.new.spare + 1 ≡ pass.old.spare))
+            ((item : AirItem) × (item.place < pass.old.networks) × (pass.new.left ≡ pass.old.left ++ item ∷ []) × (pass.new.spare + 1 ≡ pass.old.spare))
             (pass.new ≡ pass.old) }
     {
-        pop_into(rt, &self.line, &mut pass.ticket, &mut pass.left)
+        pop_into(rt, &self.queue, &mut pass.queue_pass, &mut pass.left)
     }
 }
 
 /// Gives each network its pass, in order of place.
 fn give_passes(
-    line: &Line,
-    ticket: Ticket,
+    queue: &RuledQueue,
+    queue_pass: QueuePass,
     room: Vec<NetPass>,
     networks: usize,
-) -> (Vec<NetPass>, Ticket)
-    requires queue { IsPassOf line.now ticket }
-    requires radio { known_by ticket ≡ Radio [] 0 finite.empty }
+) -> (Vec<NetPass>, QueuePass)
+    requires queue { IsPassOf queue.now queue_pass }
+    requires radio { known_by queue_pass ≡ Radio [] 0 finite.empty }
     requires room { (room.items ≡ []) × (vec_len room ≡ 0) × (networks ≤ vec_capacity room) }
-    ensures queue { IsPassOf line.now result.1 }
+    ensures queue { IsPassOf queue.now result.1 }
     ensures radio { known_by result.1 ≡ Radio [] networks finite.empty }
-    ensures passes { result.0.items ≡ fresh_passes line.now.table.shared.table_id networks }
+    ensures passes { result.0.items ≡ fresh_passes queue.now.table.shared.table_id networks }
 {
-    let mut ticket = ticket;
+    let mut queue_pass = queue_pass;
     let mut nets = room;
     for place in 0..networks {
-        let theirs = line.another::<Give>(&mut ticket);
+        let theirs = queue.another::<Give>(&mut queue_pass);
         nets.push_reserved(NetPass::new(place, theirs));
     }
-    (nets, ticket)
+    (nets, queue_pass)
 }
 
 /// Takes the first frame of the queue into the list of what left.
 pub(crate) fn pop_into<R: Wait>(
     rt: &R,
-    line: &Line,
-    ticket: &mut Ticket,
+    queue: &RuledQueue,
+    queue_pass: &mut QueuePass,
     left: &mut Vec<AirItem>,
 ) -> bool
-    requires queue { IsPassOf line.now ticket.old }
-    requires radio { IsRadioWith left.old.items (known_by ticket.old) }
+    requires queue { IsPassOf queue.now queue_pass.old }
+    requires radio { IsRadioWith left.old.items (known_by queue_pass.old) }
     requires room { vec_len left.old < vec_capacity left.old }
-    ensures queue { IsSamePass ticket.old ticket.new }
-    ensures radio { IsRadioWith left.new.items (known_by ticket.new) }
-    ensures networks { (next_of (known_by ticket.new) ≡ next_of (known_by ticket.old)) × (done_of (known_by ticket.new) ≡ done_of (known_by ticket.old)) }
+    ensures queue { IsSamePass queue_pass.old queue_pass.new }
+    ensures radio { IsRadioWith left.new.items (known_by queue_pass.new) }
+    ensures networks { (networks_of (known_by queue_pass.new) ≡ networks_of (known_by queue_pass.old)) × (taken_in_of (known_by queue_pass.new) ≡ taken_in_of (known_by queue_pass.old)) }
     ensures left { MatchBool result
-        ((item : AirItem) × (item.place < next_of (known_by ticket.old)) × (left.new.items ≡ left.old.items ++ item ∷ []) × (vec_len left.new ≡ vec_len left.old + 1) × (vec_capacity left.new ≡ vec_capacity left.old))
-        ((known_by ticket.new ≡ known_by ticket.old) × (left.new ≡ left.old) × Accounts (known_by ticket.old) []) }
+        ((item : AirItem) × (item.place < networks_of (known_by queue_pass.old)) × (left.new.items ≡ left.old.items ++ item ∷ []) × (vec_len left.new ≡ vec_len left.old + 1) × (vec_capacity left.new ≡ vec_capacity left.old))
+        ((known_by queue_pass.new ≡ known_by queue_pass.old) × (left.new ≡ left.old) × Accounts (known_by queue_pass.old) []) }
 {
-    match line.pop_as::<Leave, R>(rt, ticket) {
+    match queue.pop_as::<Leave, R>(rt, queue_pass) {
         Some(item) => {
             left.push_reserved(item);
             true

@@ -1,10 +1,10 @@
 //! The rule of the queue and the kinds of step, for proofs alone: no value of these types is made.
 //!
-//! The rule is `IsKept` of `specs/Rule.antt`. A push that finds the queue full and a pop that finds it empty change no
-//! pass.
+//! The rule is `IsKept` of `specs/Rule.antt` (*profile*). A push that finds the queue full and a pop that finds it
+//! empty change no pass.
 
 ghost use Rattle.std.specs.Prelude.{◌≡◌, ◌<◌, ⊤};
-ghost use Rattle.air_queue.specs.Rule.{IsKept, Accounts, fresh, giving, given, pushing, leaving, next_of, taking_in};
+ghost use Rattle.air_queue.specs.Rule.{IsKept, Accounts, fresh, giving, given, pushing, leaving, networks_of, taking_in};
 ghost use Rattle.air_queue.specs.declared.known.Known.TheVariants.{Spent};
 
 use crate::known::Known;
@@ -12,11 +12,11 @@ use bss_core::AirItem;
 use crossbeam_queue::protocol::{Join, Lesson, Outcome, Protocol, Split};
 use crossbeam_queue::{Pass, RuledArrayQueue};
 
-/// The ruled queue.
-pub type Line = RuledArrayQueue<AirItem, Known, Rule>;
+/// The queue, under the rule.
+pub type RuledQueue = RuledArrayQueue<AirItem, Known, Rule>;
 
 /// A pass to it.
-pub type Ticket = Pass<AirItem, Known>;
+pub type QueuePass = Pass<AirItem, Known>;
 
 /// The rule.
 pub struct Rule;
@@ -60,7 +60,7 @@ impl Lesson<AirItem, Known> for Push {
 pub struct Leave;
 
 impl Outcome<AirItem, Known> for Leave {
-    ghost then = { λ v item w. (w ≡ leaving v item) × (item.place < next_of v) };
+    ghost then = { λ v item w. (w ≡ leaving v item) × (item.place < networks_of v) };
 }
 
 impl Lesson<AirItem, Known> for Leave {

@@ -1,4 +1,4 @@
-//! The end of a queue: all passes are back, and what remains is taken out.
+//! The end of a queue: all passes are back, and what remains is taken out (*profile*).
 
 ghost use Rattle.std.specs.Prelude.{◌≡◌, ◌+◌, ◌<◌, ◌≤◌, [], All, vec_len, vec_capacity, IfOk, IfErr};
 ghost use Rattle.std.specs.List.{AllByRecursion};
@@ -6,24 +6,24 @@ ghost use Rattle.std.specs.FinMap as finite;
 ghost use Rattle.crossbeam_queue.specs.Passes.{view as known_by, IsPassOf, IsSamePass, ruled_capacity};
 ghost use Rattle.bss_core.specs.Radio.{items_of};
 ghost use Rattle.air_queue.specs.Passes.{AllThere, BeginsWith};
-ghost use Rattle.air_queue.specs.Rule.{IsRadio, IsRadioWith, AllTaken, Accounts, next_of, done_of, taking_in, after_taking};
+ghost use Rattle.air_queue.specs.Rule.{IsRadio, IsRadioWith, AllTaken, Accounts, networks_of, taken_in_of, taking_in, after_taking};
 ghost use Rattle.air_queue.specs.declared.known.Known.TheVariants.{Network, Radio};
 
 use crate::pass::{NetPass, RadioPass};
 use crate::queue::{AirQueue, pop_into};
-use crate::rule::{Leave, Line, TakeIn, Ticket};
+use crate::rule::{Leave, QueuePass, RuledQueue, TakeIn};
 use bss_core::AirItem;
 use mac_frame::List;
 use std::sync::Wait;
 
-/// All that was ever pushed to a queue.
+/// All that was ever pushed to a queue (*profile*).
 #[derive(Drop)]
 pub struct Left {
     /// The frames, in the order in which they left.
     pub items: List<AirItem>,
 }
 
-/// A growth was refused: the queue and its passes, as they were.
+/// A growth was refused: the queue and its passes, as they were (*profile*).
 #[derive(Drop)]
 pub struct TakeInFault {
     /// The queue.
@@ -37,7 +37,7 @@ pub struct TakeInFault {
 impl AirQueue {
     /// Ends the queue, once all its passes are back, those of the networks in order of place: takes out what remains,
     /// so that the answer begins with what had left and has of each network what its pass pushed, in that order, and
-    /// nothing else. Where a growth was refused, it hands all back unchanged.
+    /// nothing else (*profile*). Where a growth was refused, it hands all back unchanged. It may wait for other threads.
     pub fn take_in<R: Wait>(
         self,
         rt: &R,
@@ -45,27 +45,27 @@ impl AirQueue {
         nets: Vec<NetPass>,
     ) -> Result<Left, TakeInFault>
         requires radio { radio.name ≡ self.name }
-        requires new { radio.done ≡ finite.empty }
-        requires nets { AllThere self.name radio.next nets.items }
+        requires new { radio.taken_in ≡ finite.empty }
+        requires nets { AllThere self.name radio.networks nets.items }
         ensures begins { IfOk result (λ left. BeginsWith radio.left left.items) }
         ensures whole { IfOk result (λ left. AllByRecursion (λ pass. items_of pass.place left.items ≡ pass.pushed) nets.items) }
-        ensures nothing_else { IfOk result (λ left. All (λ item. item.place < radio.next) left.items) }
+        ensures nothing_else { IfOk result (λ left. All (λ item. item.place < radio.networks) left.items) }
         ensures fault { IfErr result (λ fault. (fault.queue ≡ self) × (fault.radio ≡ radio) × (fault.nets ≡ nets.items)) }
     {
-        let AirQueue { line } = self;
+        let AirQueue { queue } = self;
         let RadioPass {
             mut left,
-            mut ticket,
+            mut queue_pass,
         } = radio;
-        if left.reserve(line.capacity()).is_err() {
+        if left.reserve(queue.capacity()).is_err() {
             return Err(TakeInFault {
-                queue: AirQueue { line },
-                radio: RadioPass { left, ticket },
+                queue: AirQueue { queue },
+                radio: RadioPass { left, queue_pass },
                 nets: List::from_vec(nets),
             });
         }
-        take_passes(&line, &mut ticket, nets);
-        drain(rt, &line, &mut ticket, &mut left);
+        take_passes(&queue, &mut queue_pass, nets);
+        drain(rt, &queue, &mut queue_pass, &mut left);
         Ok(Left {
             items: List::from_vec(left),
         })
@@ -73,47 +73,47 @@ impl AirQueue {
 }
 
 /// Takes the passes of the networks in.
-fn take_passes(line: &Line, ticket: &mut Ticket, nets: Vec<NetPass>)
-    requires queue { IsPassOf line.now ticket.old }
-    requires radio { IsRadio (known_by ticket.old) }
-    requires nets { AllByRecursion (λ pass. pass.name ≡ line.now.table.shared.table_id) nets.items }
-    ensures queue { IsSamePass ticket.old ticket.new }
-    ensures radio { known_by ticket.new ≡ after_taking (known_by ticket.old) nets.items }
+fn take_passes(queue: &RuledQueue, queue_pass: &mut QueuePass, nets: Vec<NetPass>)
+    requires queue { IsPassOf queue.now queue_pass.old }
+    requires radio { IsRadio (known_by queue_pass.old) }
+    requires nets { AllByRecursion (λ pass. pass.name ≡ queue.now.table.shared.table_id) nets.items }
+    ensures queue { IsSamePass queue_pass.old queue_pass.new }
+    ensures radio { known_by queue_pass.new ≡ after_taking (known_by queue_pass.old) nets.items }
 {
     for net in nets {
-        take_pass(line, ticket, net);
+        take_pass(queue, queue_pass, net);
     }
 }
 
 /// Takes the pass of a network in.
-fn take_pass(line: &Line, ticket: &mut Ticket, net: NetPass)
-    requires queue { IsPassOf line.now ticket.old }
-    requires radio { IsRadio (known_by ticket.old) }
-    requires net { net.name ≡ line.now.table.shared.table_id }
-    ensures queue { IsSamePass ticket.old ticket.new }
-    ensures radio { known_by ticket.new ≡ taking_in (known_by ticket.old) (Network net.place net.pushed) }
+fn take_pass(queue: &RuledQueue, queue_pass: &mut QueuePass, net: NetPass)
+    requires queue { IsPassOf queue.now queue_pass.old }
+    requires radio { IsRadio (known_by queue_pass.old) }
+    requires net { net.name ≡ queue.now.table.shared.table_id }
+    ensures queue { IsSamePass queue_pass.old queue_pass.new }
+    ensures radio { known_by queue_pass.new ≡ taking_in (known_by queue_pass.old) (Network net.place net.pushed) }
 {
     let NetPass {
         place: _,
-        ticket: theirs,
+        queue_pass: theirs,
     } = net;
-    line.absorb::<TakeIn>(ticket, theirs);
+    queue.absorb::<TakeIn>(queue_pass, theirs);
 }
 
 /// Takes all out that is queued, once the passes of the networks are in, so that nobody pushes.
-fn drain<R: Wait>(rt: &R, line: &Line, ticket: &mut Ticket, left: &mut Vec<AirItem>)
-    requires queue { IsPassOf line.now ticket.old }
-    requires radio { IsRadioWith left.old.items (known_by ticket.old) }
-    requires taken { AllTaken (known_by ticket.old) }
-    requires room { vec_len left.old + ruled_capacity line.now ≤ vec_capacity left.old }
+fn drain<R: Wait>(rt: &R, queue: &RuledQueue, queue_pass: &mut QueuePass, left: &mut Vec<AirItem>)
+    requires queue { IsPassOf queue.now queue_pass.old }
+    requires radio { IsRadioWith left.old.items (known_by queue_pass.old) }
+    requires taken { AllTaken (known_by queue_pass.old) }
+    requires room { vec_len left.old + ruled_capacity queue.now ≤ vec_capacity left.old }
     ensures begins { BeginsWith left.old.items left.new.items }
-    ensures account { Accounts (Radio left.new.items (next_of (known_by ticket.old)) (done_of (known_by ticket.old))) [] }
+    ensures account { Accounts (Radio left.new.items (networks_of (known_by queue_pass.old)) (taken_in_of (known_by queue_pass.old))) [] }
 {
-    let all = left.len() + line.len_as::<Leave, R>(rt, ticket);
+    let all = left.len() + queue.len_as::<Leave, R>(rt, queue_pass);
     while left.len() < all {
-        if !pop_into(rt, line, ticket, left) {
+        if !pop_into(rt, queue, queue_pass, left) {
             return;
         }
     }
-    line.learn_as::<Leave>(ticket);
+    queue.learn_as::<Leave>(queue_pass);
 }

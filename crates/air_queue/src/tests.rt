@@ -1,8 +1,8 @@
-//! Frames through a queue, on one thread and on three.
+//! Frames through a queue, of eight networks, and on one thread and on three.
 
-ghost use Rattle.std.specs.Prelude.{◌≡◌, ◌≤◌, [], ◌∷◌, IfOk};
+ghost use Rattle.std.specs.Prelude.{◌≡◌, ◌≤◌, IfOk};
 ghost use Rattle.std.specs.FinMap as finite;
-ghost use Rattle.air_queue.specs.Passes.{fresh_pass, fresh_passes};
+ghost use Rattle.air_queue.specs.Passes.{AllThere, fresh_pass};
 
 use crate::{AirQueue, Left, NetPass, RadioPass};
 use bss_core::AirItem;
@@ -35,7 +35,7 @@ fn open_two(
     requires { (1 ≤ capacity) × (capacity ≤ 4096) }
     ensures first { IfOk result (λ r. r.1 ≡ fresh_pass r.0.name 0) }
     ensures second { IfOk result (λ r. r.2 ≡ fresh_pass r.0.name 1) }
-    ensures radio { IfOk result (λ r. (r.3.name ≡ r.0.name) × (r.3.next ≡ 2) × (r.3.done ≡ finite.empty)) }
+    ensures radio { IfOk result (λ r. (r.3.name ≡ r.0.name) × (r.3.networks ≡ 2) × (r.3.taken_in ≡ finite.empty)) }
 {
     let (queue, mut nets, radio) = AirQueue::open(alloc, capacity, 2)?;
     let second = nets.pop();
@@ -57,7 +57,7 @@ fn end_two<R: Wait>(
 ) -> Result<Left, NoMemory>
     requires first { (first.name ≡ queue.name) × (first.place ≡ 0) }
     requires second { (second.name ≡ queue.name) × (second.place ≡ 1) }
-    requires radio { (radio.name ≡ queue.name) × (radio.next ≡ 2) × (radio.done ≡ finite.empty) }
+    requires radio { (radio.name ≡ queue.name) × (radio.networks ≡ 2) × (radio.taken_in ≡ finite.empty) }
 {
     let mut nets = Vec::with_capacity(alloc, 2)?;
     nets.push_reserved(first);
@@ -102,6 +102,53 @@ fn an_empty_queue_gives_nothing(rt: HostRuntime) -> Result<(), Fail> {
     Ok(())
 }
 
+/// Pushes a frame of one octet, the network's place, by its pass. Where the frame comes back, it is missing in the end.
+fn push_place<R: Wait>(
+    rt: &R,
+    alloc: Global,
+    queue: &AirQueue,
+    mut pass: NetPass,
+) -> Result<NetPass, NoMemory>
+    requires { pass.name ≡ queue.now.name }
+    ensures { IfOk result (λ back. (back.name ≡ pass.name) × (back.place ≡ pass.place)) }
+{
+    let place = pass.place();
+    let frame = item(alloc, place, u8::try_from(place).unwrap_or(u8::MAX))?;
+    let _ = queue.push(rt, &mut pass, frame);
+    Ok(pass)
+}
+
+/// Does so by the pass of each of eight networks.
+fn push_each<R: Wait>(
+    rt: &R,
+    alloc: Global,
+    queue: &AirQueue,
+    nets: Vec<NetPass>,
+) -> Result<Vec<NetPass>, NoMemory>
+    requires { AllThere queue.now.name 8 nets.items }
+    ensures { IfOk result (λ back. AllThere queue.now.name 8 back.items) }
+{
+    let mut back = Vec::new(alloc);
+    for pass in nets {
+        back.push(push_place(rt, alloc, queue, pass)?)?;
+    }
+    Ok(back)
+}
+
+#[test]
+fn eight_networks_push(rt: HostRuntime) -> Result<(), Fail> {
+    let (queue, nets, radio) = AirQueue::open(rt.alloc(), 4096, 8)?;
+    let nets = push_each(&rt, rt.alloc(), &queue, nets)?;
+    let left = queue.take_in(&rt, radio, nets).map_err(|_fault| NoMemory)?;
+    let items = left.items.as_slice();
+    assert_eq!(rt; items.len(), 8);
+    for (item, octet) in items.iter().zip(0..8u8) {
+        assert_eq!(rt; item.place, usize::from(octet));
+        assert_eq!(rt; item.octets.as_slice(), [octet].as_slice());
+    }
+    Ok(())
+}
+
 /// Pushes a frame, and tries again while it comes back. Whether the queue took it in time.
 fn push_in_time<R: Wait>(rt: &R, queue: &AirQueue, pass: &mut NetPass, item: AirItem) -> bool
     requires queue { pass.old.name ≡ queue.now.name }
@@ -138,7 +185,7 @@ fn push_all<R: Wait>(rt: &R, alloc: Global, queue: &AirQueue, mut pass: NetPass)
 /// Pops while there is room, and tries again while the queue is empty.
 fn pop_all<R: Wait>(rt: &R, queue: &AirQueue, mut radio: RadioPass) -> RadioPass
     requires { radio.name ≡ queue.now.name }
-    ensures { (result.name ≡ radio.name) × (result.next ≡ radio.next) × (result.done ≡ radio.done) }
+    ensures { (result.name ≡ radio.name) × (result.networks ≡ radio.networks) × (result.taken_in ≡ radio.taken_in) }
 {
     for _ in 0..TURNS {
         if radio.spare() == 0 {
@@ -162,10 +209,10 @@ fn push_and_pop<R: Threads + Wait + Sync>(
 ) -> ((NetPass, u8), ((NetPass, u8), RadioPass))
     requires first { (first.name ≡ queue.now.name) × (first.place ≡ 0) }
     requires second { (second.name ≡ queue.now.name) × (second.place ≡ 1) }
-    requires radio { (radio.name ≡ queue.now.name) × (radio.next ≡ 2) × (radio.done ≡ finite.empty) }
+    requires radio { (radio.name ≡ queue.now.name) × (radio.networks ≡ 2) × (radio.taken_in ≡ finite.empty) }
     ensures first { (result.0.0.name ≡ queue.now.name) × (result.0.0.place ≡ 0) }
     ensures second { (result.1.0.0.name ≡ queue.now.name) × (result.1.0.0.place ≡ 1) }
-    ensures radio { (result.1.1.name ≡ queue.now.name) × (result.1.1.next ≡ 2) × (result.1.1.done ≡ finite.empty) }
+    ensures radio { (result.1.1.name ≡ queue.now.name) × (result.1.1.networks ≡ 2) × (result.1.1.taken_in ≡ finite.empty) }
 {
     thread::join(
         rt,
@@ -175,9 +222,9 @@ fn push_and_pop<R: Threads + Wait + Sync>(
         { push_all(rt, alloc, queue, first) },
         move ||
             requires second { (second.name ≡ queue.now.name) × (second.place ≡ 1) }
-            requires radio { (radio.name ≡ queue.now.name) × (radio.next ≡ 2) × (radio.done ≡ finite.empty) }
+            requires radio { (radio.name ≡ queue.now.name) × (radio.networks ≡ 2) × (radio.taken_in ≡ finite.empty) }
             ensures second { (result.0.0.name ≡ queue.entry.now.name) × (result.0.0.place ≡ 1) }
-            ensures radio { (result.1.name ≡ queue.entry.now.name) × (result.1.next ≡ 2) × (result.1.done ≡ finite.empty) }
+            ensures radio { (result.1.name ≡ queue.entry.now.name) × (result.1.networks ≡ 2) × (result.1.taken_in ≡ finite.empty) }
         { push_beside(rt, alloc, queue, second, radio) },
     )
 }
@@ -191,9 +238,9 @@ fn push_beside<R: Threads + Wait + Sync>(
     radio: RadioPass,
 ) -> ((NetPass, u8), RadioPass)
     requires second { (second.name ≡ queue.now.name) × (second.place ≡ 1) }
-    requires radio { (radio.name ≡ queue.now.name) × (radio.next ≡ 2) × (radio.done ≡ finite.empty) }
+    requires radio { (radio.name ≡ queue.now.name) × (radio.networks ≡ 2) × (radio.taken_in ≡ finite.empty) }
     ensures second { (result.0.0.name ≡ queue.now.name) × (result.0.0.place ≡ 1) }
-    ensures radio { (result.1.name ≡ queue.now.name) × (result.1.next ≡ 2) × (result.1.done ≡ finite.empty) }
+    ensures radio { (result.1.name ≡ queue.now.name) × (result.1.networks ≡ 2) × (result.1.taken_in ≡ finite.empty) }
 {
     thread::join(
         rt,
@@ -202,8 +249,8 @@ fn push_beside<R: Threads + Wait + Sync>(
             ensures { (result.0.name ≡ queue.entry.now.name) × (result.0.place ≡ 1) }
         { push_all(rt, alloc, queue, second) },
         move ||
-            requires { (radio.name ≡ queue.now.name) × (radio.next ≡ 2) × (radio.done ≡ finite.empty) }
-            ensures { (result.name ≡ queue.entry.now.name) × (result.next ≡ 2) × (result.done ≡ finite.empty) }
+            requires { (radio.name ≡ queue.now.name) × (radio.networks ≡ 2) × (radio.taken_in ≡ finite.empty) }
+            ensures { (result.name ≡ queue.entry.now.name) × (result.networks ≡ 2) × (result.taken_in ≡ finite.empty) }
         { pop_all(rt, queue, radio) },
     )
 }

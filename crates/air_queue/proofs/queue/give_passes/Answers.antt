@@ -11,7 +11,7 @@ another-theirs-requires-clause-rule c = gives _ [] _ (subst (IsRadioWith []) (sy
 pub loop-place-preserved : goal.loop-place-preserved
 loop-place-preserved c =
     let place = c.loop-place.place in
-    let name = c.args.line.now.table.shared.table_id in
+    let name = c.args.queue.now.table.shared.table_id in
     let i = c.loop-place.invariant in
     let theirs = c.another-theirs.ensures in
     let put = c.push_reserved.ensures in

@@ -8,7 +8,7 @@ use Rattle.air_queue.proofs.queue.give_passes.Given as goal
 -- the passes of the places up to here were given
 abbrev pub invariant-loop-place : goal.invariant-loop-place
 invariant-loop-place l =
-    IsPassOf l.line l.ticket × (view l.ticket ≡ Radio [] l.place finite.empty)
-    × (l.nets.items ≡ fresh_passes l.line.table.shared.table_id l.place)
+    IsPassOf l.queue l.queue_pass × (view l.queue_pass ≡ Radio [] l.place finite.empty)
+    × (l.nets.items ≡ fresh_passes l.queue.table.shared.table_id l.place)
     × (vec_len l.nets ≡ l.place)
     × (l.networks ≤ vec_capacity l.nets)

@@ -7,8 +7,8 @@ use Rattle.air_queue.proofs.taking.take_passes.Given as goal
 
 abbrev pub invariant-loop-net : goal.invariant-loop-net
 invariant-loop-net l = record {
-  same : IsSamePass l.fn.ticket l.ticket;
-  radio : IsRadio (view l.ticket);
-  named : AllByRecursion (λ pass. pass.name ≡ l.line.table.shared.table_id) (into_iter_items l.net-iterator);
-  taken : after_taking (view l.ticket) (into_iter_items l.net-iterator) ≡ after_taking (view l.fn.ticket) l.fn.nets.items;
+  same : IsSamePass l.fn.queue_pass l.queue_pass;
+  radio : IsRadio (view l.queue_pass);
+  named : AllByRecursion (λ pass. pass.name ≡ l.queue.table.shared.table_id) (into_iter_items l.net-iterator);
+  taken : after_taking (view l.queue_pass) (into_iter_items l.net-iterator) ≡ after_taking (view l.fn.queue_pass) l.fn.nets.items;
 }

@@ -2,4 +2,4 @@ use Rattle.std.proofs.Common.{◌≡◌}
 use Rattle.air_queue.proofs.tests.pop_all.Given as goal
 
 abbrev pub invariant-loop : goal.invariant-loop
-invariant-loop g l = (l.radio.name ≡ l.fn.radio.name) × (l.radio.next ≡ l.fn.radio.next) × (l.radio.done ≡ l.fn.radio.done)
+invariant-loop g l = (l.radio.name ≡ l.fn.radio.name) × (l.radio.networks ≡ l.fn.radio.networks) × (l.radio.taken_in ≡ l.fn.radio.taken_in)
