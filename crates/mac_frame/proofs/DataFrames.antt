@@ -2,12 +2,13 @@
 use Rattle.std.proofs.Common.{◌≡◌, ℕ, ◌≤◌, Bool, length, true, false, not, ◌&&◌, ◌||◌, ◌==◌, if◌then◌else◌, List, drop, Ok, refl, sym, ◌∙◌, ap, subst}
 use Rattle.std.specs.Cmp.Lexicographic.{bytes_decides}
 use Rattle.std.proofs.lemmas.Bool.{eq-eqb, eqb-true, not_from_true, not_from_false, not-true, not-false, and_from, and_parts, or_left, or_right}
-use Rattle.mac_frame.specs.FrameControl.{data_type, is_to_ds}
+use Rattle.mac_frame.specs.FrameControl.{is_data, is_to_ds}
 use Rattle.mac_frame.specs.Header.{Fields, control_at, address_at, addressed_to, is_refused, is_from_station, is_to_network, is_too_long}
 use Rattle.mac_frame.specs.Data.{data_subtype, null_subtype, IsData, IsMsdu, IsNull, is_data_read, msdu_at, null_at, data_of}
 use Rattle.mac_frame.specs.Rx.{Frame, Msdu, Null}
 use Rattle.mac_frame.specs.Frame.{IsFrame}
 use Rattle.mac_frame.specs.declared.frame_control.FrameControl.{FrameControl}
+use Rattle.mac_frame.proofs.FrameTypes.{where_is_data}
 use Rattle.mac_frame.proofs.Headers.{placed, fields_at, Passes, passes, headed, unless_faulty_none, unless_faulty_read}
 
 -- what is told of a frame that is Data, or isn't
@@ -19,7 +20,6 @@ told_at msdu x = if msdu then msdu_at x else null_at x
 -- what the tests before those of a data frame say of it, and what is read of it
 pub record IsRead (bss x : List ℕ) (f : Frame) : Type 0 where
   pub passes : Passes bss x
-  pub type : (control_at x).kind ≡ data_type
   pub kind : is_data_read (control_at x) ≡ true
   pub frame : data_of bss x ≡ Ok f
 
@@ -37,7 +37,7 @@ read_where_data bss x f d subtype =
       address = not_from_true _ (and_from _ _ t.station receiver);
       too_long = t.fits;
     }) in
-    record { passes = t; type = kind; kind = and_from _ _ (eq-eqb (control_at x).kind data_type kind) subtype; frame = read }
+    record { passes = t; kind = and_from (is_data (control_at x).kind) _ (ap is_data kind) subtype; frame = read }
 
 pub read_where_msdu : (bss x from : List ℕ) (doze : Bool) (to body : List ℕ) → IsMsdu bss x from doze to body → IsRead bss x (Msdu from doze to body)
 read_where_msdu bss x from doze to body w =
@@ -92,7 +92,7 @@ frame_where_read bss x long version read f e =
     let address = and_parts (is_from_station bss x) (is_to_network bss x) (not-false _ n.address) in
     let d : IsData bss x (fields_at x) = record {
       headed = headed bss x (record { long = long; version = version; refused = n.refused; station = address.0; fits = n.too_long });
-      type = eqb-true (control_at x).kind data_type kind.0;
+      type = where_is_data (control_at x).kind kind.0;
       to_ds = direction.0;
       from_ds = not-true _ direction.1;
       to_network = (bytes_decides (addressed_to x) bss).0 address.1;

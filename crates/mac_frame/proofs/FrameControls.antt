@@ -2,13 +2,14 @@
 use Rattle.std.proofs.Common.{◌≡◌, ℕ, ◌^◌, ◌<◌, Bool, true, false, ◌==◌, ap, ◌∙◌, arith}
 use Rattle.std.specs.Int.{from_bool}
 use Rattle.std.proofs.lemmas.Nat.{from_le_bytes-to_le_bytes_2}
-use Rattle.mac_frame.specs.FrameControl.{bits, has_bit, control_in, control_of, number_of, octets_of}
+use Rattle.mac_frame.specs.FrameControl.{type_number, type_of, bits, has_bit, control_in, control_of, number_of, octets_of}
 use Rattle.mac_frame.specs.declared.frame_control.FrameControl.{FrameControl}
+use Rattle.mac_frame.proofs.FrameTypes.{type_of-type_number, type_number_fits}
 
 -- what the fields of a Frame Control are below
 record Fits (c : FrameControl) : Type 0 where
   version : c.version < 4
-  kind : c.kind < 4
+  kind : type_number c.kind < 4
   subtype : c.subtype < 16
   to_ds : from_bool c.to_ds < 2
   from_ds : from_bool c.from_ds < 2
@@ -23,10 +24,10 @@ is_bit : (b : Bool) → from_bool b < 2
 is_bit true = omega arith
 is_bit false = omega arith
 
-fitting : (c : FrameControl) → c.version < 4 → c.kind < 4 → c.subtype < 16 → Fits c
-fitting c version kind subtype = record {
+fitting : (c : FrameControl) → c.version < 4 → c.subtype < 16 → Fits c
+fitting c version subtype = record {
   version = version;
-  kind = kind;
+  kind = type_number_fits c.kind;
   subtype = subtype;
   to_ds = is_bit c.to_ds;
   from_ds = is_bit c.from_ds;
@@ -48,8 +49,11 @@ module _ (c : FrameControl) (w : Fits c) where
   version_is : bits (number_of c) 0 2 ≡ c.version
   version_is = omega arith
 
-  kind_is : bits (number_of c) 2 2 ≡ c.kind
-  kind_is = omega arith
+  type_bits : bits (number_of c) 2 2 ≡ type_number c.kind
+  type_bits = omega arith
+
+  kind_is : type_of (bits (number_of c) 2 2) ≡ c.kind
+  kind_is = ap type_of type_bits ∙ type_of-type_number c.kind
 
   subtype_is : bits (number_of c) 4 4 ≡ c.subtype
   subtype_is = omega arith
@@ -97,7 +101,7 @@ module _ (c : FrameControl) (w : Fits c) where
   }
 
 -- what was written is read again
-pub control_of-octets_of : (c : FrameControl) → c.version < 4 → c.kind < 4 → c.subtype < 16 → control_of (octets_of c) ≡ c
-control_of-octets_of c version kind subtype =
-    let w = fitting c version kind subtype in
+pub control_of-octets_of : (c : FrameControl) → c.version < 4 → c.subtype < 16 → control_of (octets_of c) ≡ c
+control_of-octets_of c version subtype =
+    let w = fitting c version subtype in
     ap control_in (from_le_bytes-to_le_bytes_2 (number_of c) (number_fits c w)) ∙ control_in-number_of c w

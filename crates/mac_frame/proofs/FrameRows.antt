@@ -150,8 +150,8 @@ pub version_3_is_refused : frame_of network (frame 0x43 0 broadcast station broa
 version_3_is_refused = refl
 
 -- type 3, with the subtype of a probe request
-pub the_reserved_type_is_refused : frame_of network (frame 0x4c 0 broadcast station broadcast 0 elements) ≡ Err Kind
-the_reserved_type_is_refused = refl
+pub an_extension_frame_is_refused : frame_of network (frame 0x4c 0 broadcast station broadcast 0 elements) ≡ Err Kind
+an_extension_frame_is_refused = refl
 
 -- ---- the relation, field by field
 

@@ -3,7 +3,7 @@ use Rattle.std.proofs.Common.{◌≡◌, ℕ, ◌+◌, ◌<◌, ◌≤◌, ◌�
 use Rattle.std.proofs.lemmas.Bool.{eq-eqb, eqb-true, le-ltb, ltb-false, not_from_true, not-false, or_from, or_parts, and_left, and_right, and_parts, and_cases, false≢true}
 use Rattle.std.proofs.lemmas.List.{get_or-drop}
 use Rattle.mac_frame.specs.Address.{broadcast}
-use Rattle.mac_frame.specs.FrameControl.{management_type, control_type, data_type}
+use Rattle.mac_frame.specs.FrameControl.{is_management, is_control, is_data}
 use Rattle.mac_frame.specs.Header.{control_at, addressed_to}
 use Rattle.mac_frame.specs.Management.{IsProbeRequest, IsIndividual, is_management_read, management_of}
 use Rattle.mac_frame.specs.Data.{is_data_read, data_of}
@@ -11,9 +11,12 @@ use Rattle.mac_frame.specs.PsPoll.{is_ps_poll_read, ps_poll_of}
 use Rattle.mac_frame.specs.Frame.{Frame, Mgmt, Msdu, Null, Poll, shown, IsFrame, is_short, frame_of}
 use Rattle.mac_frame.specs.declared.frame.Rx.{Rx}
 use Rattle.mac_frame.specs.declared.frame_control.FrameControl.{FrameControl}
+use Rattle.mac_frame.specs.declared.frame_control.FrameType.{FrameType}
+use Rattle.mac_frame.specs.declared.frame_control.FrameType.TheVariants.{Management, Control, Data}
 use Rattle.mac_frame.specs.declared.frame.Unread.{Unread}
 use Rattle.mac_frame.specs.declared.frame.Unread.TheVariants.{Short, Version, Kind}
-use Rattle.mac_frame.proofs.Headers.{Passes, placed, not_taken}
+use Rattle.mac_frame.proofs.FrameTypes.{where_is_management, where_is_control, where_is_data}
+use Rattle.mac_frame.proofs.Headers.{placed, not_taken}
 use Rattle.mac_frame.proofs.ManagementFrames as management
 use Rattle.mac_frame.proofs.DataFrames as data_frames
 use Rattle.mac_frame.proofs.PsPollFrames as polls
@@ -21,35 +24,34 @@ use Rattle.mac_frame.proofs.PsPollFrames as polls
 -- ---- the first tests
 
 -- a string with a header of 24 octets is long enough
-not_short : (bss x : List ℕ) → Passes bss x → is_short x ≡ false
-not_short bss x t =
-    let long = t.long in
+not_short : (x : List ℕ) → 24 ≤ length x → is_short x ≡ false
+not_short x long =
     or_from _ _ (le-ltb (length x) 16 (omega arith)) (and_left _ _ (le-ltb (length x) 24 (omega arith)))
 
 -- a control frame with a header of 16 octets is
-no_short_control : (x : List ℕ) → 16 ≤ length x → (control_at x).kind ≡ control_type → is_short x ≡ false
+no_short_control : (x : List ℕ) → 16 ≤ length x → (control_at x).kind ≡ Control → is_short x ≡ false
 no_short_control x long type =
-    or_from _ _ (le-ltb (length x) 16 long) (and_right _ _ (not_from_true _ (eq-eqb (control_at x).kind control_type type)))
+    or_from _ _ (le-ltb (length x) 16 long) (and_right _ _ (not_from_true (is_control (control_at x).kind) (ap is_control type)))
 
 sixteen : (x : List ℕ) → is_short x ≡ false → 16 ≤ length x
 sixteen x short =
-    ltb-false (length x) 16 (or_parts (ltb (length x) 16) (ltb (length x) 24 && not ((control_at x).kind == control_type)) short).0
+    ltb-false (length x) 16 (or_parts (ltb (length x) 16) (ltb (length x) 24 && not (is_control (control_at x).kind)) short).0
 
 -- a frame that is no control frame has a header of 24 octets
-twenty_four : (x : List ℕ) → is_short x ≡ false → ((control_at x).kind == control_type) ≡ false → 24 ≤ length x
+twenty_four : (x : List ℕ) → is_short x ≡ false → is_control (control_at x).kind ≡ false → 24 ≤ length x
 twenty_four x short other =
-    let parts = or_parts (ltb (length x) 16) (ltb (length x) 24 && not ((control_at x).kind == control_type)) short in
-    let not_control : not ((control_at x).kind == control_type) ≡ true = ap not other in
+    let parts = or_parts (ltb (length x) 16) (ltb (length x) 24 && not (is_control (control_at x).kind)) short in
+    let not_control : not (is_control (control_at x).kind) ≡ true = ap not other in
     ltb-false (length x) 24 (⊎_elim (λ e. e) (λ e. absurd (false≢true (sym e ∙ not_control))) (and_cases _ _ parts.1))
 
 -- ---- the kinds
 
 -- a frame of another type is none of these
-no_management : (x : List ℕ) (type : ℕ) → (control_at x).kind ≡ type → (type == management_type) ≡ false → is_management_read (control_at x) ≡ false
-no_management x type is other = and_left _ _ (ap (λ (k : ℕ). k == management_type) is ∙ other)
+no_management : (x : List ℕ) (type : FrameType) → (control_at x).kind ≡ type → is_management type ≡ false → is_management_read (control_at x) ≡ false
+no_management x type is other = and_left _ _ (ap is_management is ∙ other)
 
-no_data : (x : List ℕ) (type : ℕ) → (control_at x).kind ≡ type → (type == data_type) ≡ false → is_data_read (control_at x) ≡ false
-no_data x type is other = and_left _ _ (ap (λ (k : ℕ). k == data_type) is ∙ other)
+no_data : (x : List ℕ) (type : FrameType) → (control_at x).kind ≡ type → is_data type ≡ false → is_data_read (control_at x) ≡ false
+no_data x type is other = and_left _ _ (ap is_data is ∙ other)
 
 -- the function, by the answers of its tests
 abbrev ladder : (short version is_management is_data is_poll : Bool) (m d p : Result Frame Unread) → Result Frame Unread
@@ -66,16 +68,26 @@ taken : (b : Bool) (r s : Result Frame Unread) (f : Frame) → (if b then r else
 taken true r s f e = inl (refl, e)
 taken false r s f e = inr (refl, e)
 
--- a PS-Poll frame is read as no other kind
+-- a data frame and a PS-Poll frame are read as no other kind
+pub read_as_data : (bss x : List ℕ) (c : FrameControl) → c ≡ control_at x → 24 ≤ length x → c.version ≡ 0 → is_data_read c ≡ true → frame_of bss x ≡ data_of bss x
+read_as_data bss x c same long zero_version read =
+    let version_is : (control_at x).version ≡ 0 = ap (λ (d : FrameControl). d.version) (sym same) ∙ zero_version in
+    let data_is : is_data_read (control_at x) ≡ true = ap is_data_read (sym same) ∙ read in
+    let type = where_is_data (control_at x).kind (and_parts _ _ data_is).0 in
+    let short = not_short x long in
+    let version = not_from_true _ (eq-eqb (control_at x).version 0 version_is) in
+    let other = no_management x Data type refl in
+    λ i. ladder (short i) (version i) (other i) (data_is i) (is_ps_poll_read (control_at x)) (management_of bss x) (data_of bss x) (ps_poll_of bss x)
+
 pub read_as_poll : (bss x : List ℕ) (c : FrameControl) → c ≡ control_at x → 16 ≤ length x → c.version ≡ 0 → is_ps_poll_read c ≡ true → frame_of bss x ≡ ps_poll_of bss x
 read_as_poll bss x c same long zero_version poll =
     let version_is : (control_at x).version ≡ 0 = ap (λ (d : FrameControl). d.version) (sym same) ∙ zero_version in
     let poll_is : is_ps_poll_read (control_at x) ≡ true = ap is_ps_poll_read (sym same) ∙ poll in
-    let type = eqb-true (control_at x).kind control_type (and_parts _ _ poll_is).0 in
+    let type = where_is_control (control_at x).kind (and_parts _ _ poll_is).0 in
     let short = no_short_control x long type in
     let version = not_from_true _ (eq-eqb (control_at x).version 0 version_is) in
-    let other = no_management x control_type type refl in
-    let another = no_data x control_type type refl in
+    let other = no_management x Control type refl in
+    let another = no_data x Control type refl in
     λ i. ladder (short i) (version i) (other i) (another i) (poll_is i) (management_of bss x) (data_of bss x) (ps_poll_of bss x)
 
 -- ---- a frame is what the function gives
@@ -84,20 +96,14 @@ read_as_poll bss x c same long zero_version poll =
 module _ (bss x : List ℕ) (f : Frame) where
   management_is_read : management.IsRead bss x f → frame_of bss x ≡ Ok f
   management_is_read r =
-      let short = not_short bss x r.passes in
+      let short = not_short x r.passes.long in
       let version = not_from_true _ (eq-eqb (control_at x).version 0 r.passes.version) in
       let here : frame_of bss x ≡ management_of bss x =
       λ i. ladder (short i) (version i) (r.kind i) (is_data_read (control_at x)) (is_ps_poll_read (control_at x)) (management_of bss x) (data_of bss x) (ps_poll_of bss x) in
       here ∙ r.frame
 
   data_is_read : data_frames.IsRead bss x f → frame_of bss x ≡ Ok f
-  data_is_read r =
-      let short = not_short bss x r.passes in
-      let version = not_from_true _ (eq-eqb (control_at x).version 0 r.passes.version) in
-      let other = no_management x data_type r.type refl in
-      let here : frame_of bss x ≡ data_of bss x =
-      λ i. ladder (short i) (version i) (other i) (r.kind i) (is_ps_poll_read (control_at x)) (management_of bss x) (data_of bss x) (ps_poll_of bss x) in
-      here ∙ r.frame
+  data_is_read r = read_as_data bss x (control_at x) refl r.passes.long r.passes.version r.kind ∙ r.frame
 
   poll_is_read : polls.IsRead bss x f → frame_of bss x ≡ Ok f
   poll_is_read r = read_as_poll bss x (control_at x) refl r.long r.version r.kind ∙ r.frame
@@ -115,8 +121,8 @@ is_read bss x (Poll from aid) w =
 -- ---- what the function gives is a frame
 
 -- by the type, no control frame
-no_control : (x : List ℕ) (type : ℕ) → ((control_at x).kind == type) ≡ true → (type == control_type) ≡ false → ((control_at x).kind == control_type) ≡ false
-no_control x type is other = ap (λ (k : ℕ). k == control_type) (eqb-true (control_at x).kind type is) ∙ other
+no_control : (x : List ℕ) (type : FrameType) → (control_at x).kind ≡ type → is_control type ≡ false → is_control (control_at x).kind ≡ false
+no_control x type is other = ap is_control is ∙ other
 
 pub is_a_frame : (bss x : List ℕ) (f : Frame) → frame_of bss x ≡ Ok f → IsFrame bss x f
 is_a_frame bss x f e =
@@ -125,11 +131,11 @@ is_a_frame bss x f e =
     let zero_version = eqb-true (control_at x).version 0 (not-false _ version.0) in
     elim (taken (is_management_read (control_at x)) (management_of bss x) _ f version.1) [
       | inl m ↦
-          let long = twenty_four x short.0 (no_control x management_type (and_parts _ _ m.0).0 refl) in
+          let long = twenty_four x short.0 (no_control x Management (where_is_management (control_at x).kind (and_parts _ _ m.0).0) refl) in
           management.frame_where_read bss x long zero_version m.0 f m.1
       | inr m ↦ elim (taken (is_data_read (control_at x)) (data_of bss x) _ f m.1) [
         | inl d ↦
-            let long = twenty_four x short.0 (no_control x data_type (and_parts _ _ d.0).0 refl) in
+            let long = twenty_four x short.0 (no_control x Data (where_is_data (control_at x).kind (and_parts _ _ d.0).0) refl) in
             data_frames.frame_where_read bss x long zero_version d.0 f d.1
         | inr d ↦ elim (taken (is_ps_poll_read (control_at x)) (ps_poll_of bss x) (Err Kind) f d.1) [
           | inl p ↦ polls.frame_where_read bss x (sixteen x short.0) zero_version p.0 f p.1

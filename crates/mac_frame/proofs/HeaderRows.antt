@@ -2,8 +2,8 @@
 use Rattle.std.proofs.Common.{◌≡◌, ℕ, List, [], ◌∷◌, take, refl}
 use Rattle.mac_frame.specs.Header.{sequence_control}
 use Rattle.std.specs.Int.{w16, to_le_bytes}
-use Rattle.mac_frame.specs.Management.{association_request_subtype, association_response_subtype, reassociation_request_subtype, reassociation_response_subtype, probe_request_subtype, probe_response_subtype, disassociation_subtype, authentication_subtype, deauthentication_subtype, management_header, capability}
-use Rattle.mac_frame.specs.declared.management.TheConstants.{ASSOCIATION_REQUEST, ASSOCIATION_RESPONSE, AUTHENTICATION, CAPABILITY, DEAUTHENTICATION, DISASSOCIATION, PROBE_REQUEST, PROBE_RESPONSE, REASSOCIATION_REQUEST, REASSOCIATION_RESPONSE}
+use Rattle.mac_frame.specs.Management.{association_request_subtype, association_response_subtype, reassociation_request_subtype, reassociation_response_subtype, probe_request_subtype, probe_response_subtype, beacon_subtype, disassociation_subtype, authentication_subtype, deauthentication_subtype, management_header, capability}
+use Rattle.mac_frame.specs.declared.management.TheConstants.{ASSOCIATION_REQUEST, ASSOCIATION_RESPONSE, AUTHENTICATION, BEACON, CAPABILITY, DEAUTHENTICATION, DISASSOCIATION, PROBE_REQUEST, PROBE_RESPONSE, REASSOCIATION_REQUEST, REASSOCIATION_RESPONSE}
 use Rattle.mac_frame.proofs.Samples.{network, station}
 
 abbrev probe_response : List ℕ
@@ -39,6 +39,9 @@ the_probe_request_is_the_standards = refl
 
 pub the_probe_response_is_the_standards : PROBE_RESPONSE ≡ probe_response_subtype
 the_probe_response_is_the_standards = refl
+
+pub the_beacon_is_the_standards : BEACON ≡ beacon_subtype
+the_beacon_is_the_standards = refl
 
 pub the_association_request_is_the_standards : ASSOCIATION_REQUEST ≡ association_request_subtype
 the_association_request_is_the_standards = refl

@@ -4,12 +4,13 @@ use Rattle.std.specs.Cmp.Lexicographic.{bytes_decides}
 use Rattle.std.specs.Str.{bytes_eq}
 use Rattle.std.proofs.lemmas.Bool.{eq-eqb, eqb-true, false_from_ne_true, false≢true, not_from_true, not-false, and_from, and_parts, or_from, or_left, or_right, or_parts}
 use Rattle.mac_frame.specs.Address.{broadcast, is_bss_or_broadcast}
-use Rattle.mac_frame.specs.FrameControl.{management_type, has_direction}
+use Rattle.mac_frame.specs.FrameControl.{is_management, has_direction}
 use Rattle.mac_frame.specs.Header.{Fields, control_at, address_at, addressed_to, is_refused, is_from_station, is_too_long}
 use Rattle.mac_frame.specs.Management.{probe_request_subtype, is_individual_subtype, IsProbeRequest, IsIndividual, IsMgmt, is_management_read, is_probe_addressed, is_individually_addressed, is_management_addressed, mgmt_at, management_of}
 use Rattle.mac_frame.specs.Rx.{Frame, Mgmt}
 use Rattle.mac_frame.specs.Frame.{IsFrame}
 use Rattle.mac_frame.specs.declared.frame_control.FrameControl.{FrameControl}
+use Rattle.mac_frame.proofs.FrameTypes.{where_is_management}
 use Rattle.mac_frame.proofs.Addresses.{tested_where_one, is_one_where_tested}
 use Rattle.mac_frame.proofs.Headers.{IsPlaced, placed, fields_at, Passes, passes, headed, unless_faulty_none, unless_faulty_read}
 
@@ -97,7 +98,7 @@ read_where_frame bss x subtype from to_all body w =
     let frame_is : mgmt_at x ≡ Mgmt subtype from to_all body = λ i. Mgmt (subtype_is i) (from_is i) (to_all_is i) (body_is i) in
     record {
       passes = t;
-      kind = and_from _ _ (eq-eqb (control_at x).kind management_type kind) a.subtype;
+      kind = and_from (is_management (control_at x).kind) _ (ap is_management kind) a.subtype;
       frame = read ∙ ap Ok frame_is;
     }
 
@@ -114,7 +115,7 @@ frame_where_read bss x long version read f e =
       fields = fields_at x;
       management = record {
         headed = headed bss x (record { long = long; version = version; refused = n.refused; station = address.0; fits = n.too_long });
-        type = eqb-true (control_at x).kind management_type kind.0;
+        type = where_is_management (control_at x).kind kind.0;
         to_ds = direction.0;
         from_ds = direction.1;
       };

@@ -4,12 +4,13 @@ use Rattle.std.specs.Cmp.Lexicographic.{bytes_decides}
 use Rattle.std.proofs.lemmas.Bool.{eq-eqb, eqb-true, not_from_true, not-false, and_from, and_parts, or_from, or_parts}
 use Rattle.std.proofs.lemmas.List.{length-take-le, take-append-drop}
 use Rattle.mac_frame.specs.Address.{is_station}
-use Rattle.mac_frame.specs.FrameControl.{control_type, control_of, has_refused_flags, has_direction}
+use Rattle.mac_frame.specs.FrameControl.{is_control, control_of, has_refused_flags, has_direction}
 use Rattle.mac_frame.specs.Header.{control_at, address_at, addressed_to, is_from_station, is_to_network}
 use Rattle.mac_frame.specs.PsPoll.{ps_poll_subtype, aid_of, PollFields, spelled_poll, IsPolled, IsPsPoll, is_ps_poll_read, aid_at, poll_at, ps_poll_of}
 use Rattle.mac_frame.specs.Rx.{Frame, Poll}
 use Rattle.mac_frame.specs.Frame.{IsFrame}
 use Rattle.mac_frame.specs.declared.frame_control.FrameControl.{FrameControl}
+use Rattle.mac_frame.proofs.FrameTypes.{where_is_control}
 use Rattle.mac_frame.proofs.Cells.{cells, is_its_cells}
 use Rattle.mac_frame.proofs.Headers.{part_length, is_station_where, where_is_station, unless_faulty_none, unless_faulty_read}
 
@@ -100,7 +101,7 @@ read_where_frame bss x from aid w =
     record {
       long = omega arith;
       version = ap (λ (c : FrameControl). c.version) p.control ∙ h.version;
-      kind = and_from _ _ (eq-eqb (control_at x).kind control_type kind) (eq-eqb (control_at x).subtype ps_poll_subtype which);
+      kind = and_from (is_control (control_at x).kind) _ (ap is_control kind) (eq-eqb (control_at x).subtype ps_poll_subtype which);
       frame = read ∙ ap Ok frame_is;
     }
 
@@ -125,7 +126,7 @@ frame_where_read bss x long version read f e =
         bssid = part_length x 6 4 (omega arith);
         transmitter = part_length x 6 10 (omega arith);
         version = version;
-        type = eqb-true (control_at x).kind control_type kind.0;
+        type = where_is_control (control_at x).kind kind.0;
         subtype = eqb-true (control_at x).subtype ps_poll_subtype kind.1;
         to_ds = direction.0;
         from_ds = direction.1;

@@ -1,11 +1,12 @@
 -- Data frames with three addresses (IEEE Std 802.11-2016, 9.3.2.1): those that a station sends to the access point, and the
 -- header of one from it.
 use Rattle.std.specs.Prelude.{ℕ, ◌≡◌, Bool, true, false, not, ◌==◌, ◌&&◌, ◌||◌, List, drop, Result, if◌then◌else◌}
-use Rattle.mac_frame.specs.FrameControl.{data_type, control_of, is_to_ds, plain}
+use Rattle.mac_frame.specs.FrameControl.{is_data, control_of, is_to_ds, plain}
 use Rattle.mac_frame.specs.Header.{Fields, IsHeaded, control_at, address_at, is_refused, is_from_station, is_to_network, is_too_long, unless_faulty, header}
 use Rattle.mac_frame.specs.Rx.{Frame, Msdu, Null}
 use Rattle.mac_frame.specs.declared.frame.Unread.{Unread}
 use Rattle.mac_frame.specs.declared.frame_control.FrameControl.{FrameControl}
+use Rattle.mac_frame.specs.declared.frame_control.FrameType.TheVariants as types
 
 -- ---- subtypes (9.2.4.1.3)
 
@@ -23,7 +24,7 @@ null_subtype = 4
 -- BSSID, and Address 3, the destination, may be any address.
 pub record IsData (bss x : List ℕ) (f : Fields) : Type 0 where
   pub headed : IsHeaded bss x f
-  pub type : (control_of f.control).kind ≡ data_type
+  pub type : (control_of f.control).kind ≡ types.Data
   pub to_ds : (control_of f.control).to_ds ≡ true
   pub from_ds : (control_of f.control).from_ds ≡ false
   pub to_network : f.address_1 ≡ bss
@@ -50,7 +51,7 @@ pub record IsNull (bss x from : List ℕ) (doze : Bool) : Type 0 where
 
 -- a data frame that is read
 abbrev pub is_data_read : FrameControl → Bool
-is_data_read c = c.kind == data_type && (c.subtype == data_subtype || c.subtype == null_subtype)
+is_data_read c = is_data c.kind && (c.subtype == data_subtype || c.subtype == null_subtype)
 
 -- what the octets tell at their places
 abbrev pub msdu_at : List ℕ → Frame
@@ -69,7 +70,7 @@ data_of bss x =
 
 -- Frame Control of a Data frame from the distribution system, which says whether more is kept for its receiver
 abbrev pub data_control : Bool → FrameControl
-data_control more = record (plain data_type data_subtype) { from_ds = true; more_data = more }
+data_control more = record (plain types.Data data_subtype) { from_ds = true; more_data = more }
 
 -- the header of a Data frame from the access point: Address 1 the destination, Address 2 the BSSID, Address 3 the source
 abbrev pub data_header : (to bss source : List ℕ) (sequence : ℕ) (more : Bool) → List ℕ

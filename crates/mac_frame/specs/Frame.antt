@@ -1,7 +1,7 @@
 -- The frames that are read (IEEE Std 802.11-2016, 9.2.3, 9.2.4 and 9.3): which string of octets is which frame for a
 -- network, and the first fault of a string that is none.
 use Rattle.std.specs.Prelude.{ℕ, Bool, not, nat_lt, ◌==◌, ◌&&◌, ◌||◌, List, length, Result, Err, if◌then◌else◌}
-use Rattle.mac_frame.specs.FrameControl.{control_type}
+use Rattle.mac_frame.specs.FrameControl.{is_control}
 use Rattle.mac_frame.specs.Header.{control_at}
 use Rattle.mac_frame.specs.Management.{IsMgmt, is_management_read, management_of}
 use Rattle.mac_frame.specs.Data.{IsMsdu, IsNull, is_data_read, data_of}
@@ -19,7 +19,7 @@ IsFrame bss x (Poll from aid) = IsPsPoll bss x from aid
 
 -- too short for a header: 16 octets in a control frame, 24 in any other
 abbrev pub is_short : List ℕ → Bool
-is_short x = nat_lt (length x) 16 || (nat_lt (length x) 24 && not ((control_at x).kind == control_type))
+is_short x = nat_lt (length x) 16 || (nat_lt (length x) 24 && not (is_control (control_at x).kind))
 
 -- the frame that a string is for the network, or its first fault
 abbrev pub frame_of : List ℕ → List ℕ → Result Frame Unread

@@ -1,19 +1,46 @@
 -- Frame Control (IEEE Std 802.11-2016, 9.2.4.1), the first field of every frame: its two octets as one number, of
 -- which the first octet is the low one, and the fields that stand in it.
-use Rattle.std.specs.Prelude.{ℕ, ◌+◌, ◌*◌, ◌/◌, ◌%◌, ◌^◌, Bool, false, not, ◌==◌, ◌&&◌, ◌||◌, List}
+use Rattle.std.specs.Prelude.{ℕ, ◌+◌, ◌*◌, ◌/◌, ◌%◌, ◌^◌, Bool, true, false, not, ◌==◌, ◌&&◌, ◌||◌, List, if◌then◌else◌}
 use Rattle.std.specs.Int.{w16, from_bool, from_le_bytes, to_le_bytes}
 use Rattle.mac_frame.specs.declared.frame_control.FrameControl.{FrameControl}
+use Rattle.mac_frame.specs.declared.frame_control.FrameType.{FrameType}
+use Rattle.mac_frame.specs.declared.frame_control.FrameType.TheVariants.{Management, Control, Data, Extension}
 
 -- ---- types (9.2.4.1.3)
 
-abbrev pub management_type : ℕ
-management_type = 0
+-- the number that the two bits of a type are
+abbrev pub type_number : FrameType → ℕ
+type_number Management = 0
+type_number Control = 1
+type_number Data = 2
+type_number Extension = 3
 
-abbrev pub control_type : ℕ
-control_type = 1
+-- the type of two bits
+abbrev pub type_of : ℕ → FrameType
+type_of number =
+    if number == 0 then Management
+    else if number == 1 then Control
+    else if number == 2 then Data
+    else Extension
 
-abbrev pub data_type : ℕ
-data_type = 2
+-- the type is this one
+abbrev pub is_management : FrameType → Bool
+is_management Management = true
+is_management Control = false
+is_management Data = false
+is_management Extension = false
+
+abbrev pub is_control : FrameType → Bool
+is_control Management = false
+is_control Control = true
+is_control Data = false
+is_control Extension = false
+
+abbrev pub is_data : FrameType → Bool
+is_data Management = false
+is_data Control = false
+is_data Data = true
+is_data Extension = false
 
 -- ---- the table: the lowest bit of each field, and how many it has where that is not one (9.2.4.1.1)
 
@@ -73,7 +100,7 @@ has_bit number place = bits number place 1 == 1
 abbrev pub control_in : ℕ → FrameControl
 control_in number = record {
   version = bits number version_bit version_width;
-  kind = bits number type_bit type_width;
+  kind = type_of (bits number type_bit type_width);
   subtype = bits number subtype_bit subtype_width;
   to_ds = has_bit number to_ds_bit;
   from_ds = has_bit number from_ds_bit;
@@ -106,7 +133,7 @@ is_to_ds c = c.to_ds && not c.from_ds
 -- the number of the fields, each at its place
 abbrev pub number_of : FrameControl → ℕ
 number_of c =
-    c.version * 2 ^ version_bit + c.kind * 2 ^ type_bit + c.subtype * 2 ^ subtype_bit
+    c.version * 2 ^ version_bit + type_number c.kind * 2 ^ type_bit + c.subtype * 2 ^ subtype_bit
     + from_bool c.to_ds * 2 ^ to_ds_bit
     + from_bool c.from_ds * 2 ^ from_ds_bit
     + from_bool c.more_fragments * 2 ^ more_fragments_bit
@@ -121,7 +148,7 @@ abbrev pub octets_of : FrameControl → List ℕ
 octets_of c = to_le_bytes w16 (number_of c)
 
 -- version 0, a type and a subtype, and every bit after them 0
-abbrev pub plain : ℕ → ℕ → FrameControl
+abbrev pub plain : FrameType → ℕ → FrameControl
 plain type subtype = record {
   version = 0;
   kind = type;

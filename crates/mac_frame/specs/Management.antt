@@ -3,11 +3,12 @@ use Rattle.std.specs.Prelude.{ℕ, ◌≡◌, ◌⊎◌, Bool, true, false, not,
 use Rattle.std.specs.Int.{w16, to_le_bytes}
 use Rattle.std.specs.Str.{bytes_eq}
 use Rattle.mac_frame.specs.Address.{broadcast, is_bss_or_broadcast}
-use Rattle.mac_frame.specs.FrameControl.{management_type, control_of, has_direction, plain}
+use Rattle.mac_frame.specs.FrameControl.{is_management, control_of, has_direction, plain}
 use Rattle.mac_frame.specs.Header.{Fields, IsHeaded, control_at, address_at, addressed_to, is_refused, is_from_station, is_to_network, is_too_long, unless_faulty, header}
 use Rattle.mac_frame.specs.Rx.{Frame, Mgmt}
 use Rattle.mac_frame.specs.declared.frame.Unread.{Unread}
 use Rattle.mac_frame.specs.declared.frame_control.FrameControl.{FrameControl}
+use Rattle.mac_frame.specs.declared.frame_control.FrameType.TheVariants as types
 
 -- ---- subtypes (9.2.4.1.3)
 
@@ -28,6 +29,9 @@ probe_request_subtype = 4
 
 abbrev pub probe_response_subtype : ℕ
 probe_response_subtype = 5
+
+abbrev pub beacon_subtype : ℕ
+beacon_subtype = 8
 
 abbrev pub disassociation_subtype : ℕ
 disassociation_subtype = 10
@@ -51,7 +55,7 @@ is_individual_subtype subtype =
 -- and of its network, is left to each.
 pub record IsManagement (bss x : List ℕ) (f : Fields) : Type 0 where
   pub headed : IsHeaded bss x f
-  pub type : (control_of f.control).kind ≡ management_type
+  pub type : (control_of f.control).kind ≡ types.Management
   pub to_ds : (control_of f.control).to_ds ≡ false
   pub from_ds : (control_of f.control).from_ds ≡ false
 
@@ -81,7 +85,7 @@ pub record IsMgmt (bss x : List ℕ) (subtype : ℕ) (from : List ℕ) (to_all :
 
 -- a management frame that is read
 abbrev pub is_management_read : FrameControl → Bool
-is_management_read c = c.kind == management_type && (c.subtype == probe_request_subtype || is_individual_subtype c.subtype)
+is_management_read c = is_management c.kind && (c.subtype == probe_request_subtype || is_individual_subtype c.subtype)
 
 -- Address 1 and Address 3 of a probe request
 abbrev pub is_probe_addressed : List ℕ → List ℕ → Bool
@@ -111,7 +115,7 @@ management_of bss x =
 
 -- the header of a management frame (9.3.3.2): Address 1 the receiver, Address 2 and Address 3 the BSSID
 abbrev pub management_header : ℕ → List ℕ → List ℕ → ℕ → List ℕ
-management_header subtype to bss sequence = header (plain management_type subtype) to bss bss sequence
+management_header subtype to bss sequence = header (plain types.Management subtype) to bss bss sequence
 
 -- Capability Information (9.4.1.4): ESS alone
 abbrev pub capability : List ℕ

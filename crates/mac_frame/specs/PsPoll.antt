@@ -3,11 +3,12 @@
 use Rattle.std.specs.Prelude.{ℕ, ◌≡◌, ◌≢◌, Bool, false, not, ◌==◌, ◌&&◌, List, ◌++◌, length, take, drop, Result}
 use Rattle.std.specs.Int.{w16, from_le_bytes}
 use Rattle.mac_frame.specs.Address.{is_group}
-use Rattle.mac_frame.specs.FrameControl.{control_type, bits, control_of, has_refused_flags, has_direction}
+use Rattle.mac_frame.specs.FrameControl.{is_control, bits, control_of, has_refused_flags, has_direction}
 use Rattle.mac_frame.specs.Header.{control_at, address_at, is_from_station, is_to_network, unless_faulty}
 use Rattle.mac_frame.specs.Rx.{Frame, Poll}
 use Rattle.mac_frame.specs.declared.frame.Unread.{Unread}
 use Rattle.mac_frame.specs.declared.frame_control.FrameControl.{FrameControl}
+use Rattle.mac_frame.specs.declared.frame_control.FrameType.TheVariants as types
 
 -- its subtype (9.2.4.1.3)
 abbrev pub ps_poll_subtype : ℕ
@@ -38,7 +39,7 @@ pub record IsPolled (bss x : List ℕ) (f : PollFields) : Type 0 where
   pub bssid : length f.bssid ≡ 6
   pub transmitter : length f.transmitter ≡ 6
   pub version : (control_of f.control).version ≡ 0
-  pub type : (control_of f.control).kind ≡ control_type
+  pub type : (control_of f.control).kind ≡ types.Control
   pub subtype : (control_of f.control).subtype ≡ ps_poll_subtype
   pub to_ds : (control_of f.control).to_ds ≡ false
   pub from_ds : (control_of f.control).from_ds ≡ false
@@ -60,7 +61,7 @@ pub record IsPsPoll (bss x from : List ℕ) (aid : ℕ) : Type 0 where
 
 -- a control frame that is read
 abbrev pub is_ps_poll_read : FrameControl → Bool
-is_ps_poll_read c = c.kind == control_type && c.subtype == ps_poll_subtype
+is_ps_poll_read c = is_control c.kind && c.subtype == ps_poll_subtype
 
 -- the identifier at its place
 abbrev pub aid_at : List ℕ → ℕ

@@ -7,7 +7,7 @@ ghost use Rattle.hex.specs.Hex.{hex_digit_value};
 use std::fmt;
 use std::marker::Model;
 
-/// The address of a station or of a network (its BSSID). Contracts see it as its six octets.
+/// The address of a station, or of a network, its BSSID (9.2.4.3). Contracts see it as its six octets.
 #[derive(Clone, Copy, Debug, PartialEq, Eq, PartialOrd, Ord, Hash)]
 pub struct MacAddr {
     octets: [u8; 6],
@@ -22,7 +22,10 @@ impl Model for MacAddr {
 }
 
 impl MacAddr {
-    /// The address of six octets, the first of them sent first.
+    /// The broadcast address, which is all stations' and the wildcard BSSID (9.2.4.3).
+    pub const BROADCAST: MacAddr = MacAddr { octets: [0xff; 6] };
+
+    /// The address of six octets, the first of them sent first (9.2.4.3.2).
     pub fn new(octets: [u8; 6]) -> MacAddr
         ensures { result ≡ octets }
     {
@@ -48,7 +51,7 @@ impl MacAddr {
     pub fn is_broadcast(self) -> bool
         ensures { IsTrue result ↔ (self ≡ broadcast) }
     {
-        self.octets == [0xff; 6]
+        self == MacAddr::BROADCAST
     }
 
     /// The address that a text spells: six pairs of hexadecimal digits of either case with `:` between

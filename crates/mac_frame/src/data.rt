@@ -8,7 +8,7 @@ ghost use Rattle.mac_frame.specs.Rx.{shown};
 
 use crate::address::MacAddr;
 use crate::frame::{Rx, Unread};
-use crate::frame_control::{DATA, FrameControl};
+use crate::frame_control::{FrameControl, FrameType};
 use crate::header::{
     HEADER_LEN, address_2, address_3, append_header, body_of, is_from_station, is_refused,
     is_to_network, is_too_long,
@@ -26,7 +26,8 @@ const NULL_SUBTYPE: u8 = 4;
 pub fn is_data_read(control: FrameControl) -> bool
     ensures { result ≡ is_data_read control }
 {
-    control.kind == DATA && (control.subtype == DATA_SUBTYPE || control.subtype == NULL_SUBTYPE)
+    control.kind == FrameType::Data
+        && (control.subtype == DATA_SUBTYPE || control.subtype == NULL_SUBTYPE)
 }
 
 /// The data frame that a string of octets is for the network `bss`, or its first fault after that of its kind
@@ -65,8 +66,8 @@ pub fn data_of(bss: MacAddr, control: FrameControl, frame: &[u8]) -> Result<Rx<'
 }
 
 /// Appends the header of a Data frame (9.3.2.1) from the network `bss` to a receiver, with the address of the station that the
-/// unit comes from and a sequence number. `more` says that more is kept for the receiver (More Data, 9.2.4.1.8). After
-/// `NoMemory` `out` is as it was.
+/// unit comes from and a sequence number below 4096 (9.2.4.4.2). `more` says that more is kept for the receiver (More Data,
+/// 9.2.4.1.8). After `NoMemory` `out` is as it was.
 pub fn write_msdu(
     out: &mut Octets,
     to: MacAddr,
@@ -82,7 +83,7 @@ pub fn write_msdu(
     let control = FrameControl {
         from_ds: true,
         more_data: more,
-        ..FrameControl::plain(DATA, DATA_SUBTYPE)
+        ..FrameControl::plain(FrameType::Data, DATA_SUBTYPE)
     };
     append_header(out, control, to, bss, source, seq)
 }

@@ -1,11 +1,11 @@
 //! Frames heard on the air (IEEE Std 802.11-2016, 9.2.3 and 9.3): which strings of octets are which frame.
 
-ghost use Rattle.std.specs.Prelude.{◌≡◌, ◌<◌, ◌≤◌, length, Ok, Err, IsOkAnd, IfOk, MatchResult};
+ghost use Rattle.std.specs.Prelude.{◌≡◌, Ok, Err, IsOkAnd, IfOk, MatchResult};
 ghost use Rattle.mac_frame.specs.Frame.{Frame, IsFrame, shown, frame_of};
 
 use crate::address::MacAddr;
 use crate::data::{data_of, is_data_read};
-use crate::frame_control::CONTROL;
+use crate::frame_control::FrameType;
 use crate::header::{CONTROL_HEADER_LEN, HEADER_LEN, control_at};
 use crate::management::{is_management_read, management_of};
 use crate::ps_poll::{is_ps_poll_read, ps_poll_of};
@@ -15,7 +15,7 @@ use crate::ps_poll::{is_ps_poll_read, ps_poll_of};
 pub enum Rx<'a> {
     /// A management frame (9.3.3).
     Mgmt {
-        /// Which management frame it is (9.2.4.1.3).
+        /// Which management frame it is, a number below 16 (9.2.4.1.3).
         subtype: u8,
         /// Address 2, the station that sent it.
         from: MacAddr,
@@ -74,7 +74,7 @@ pub enum Unread {
 }
 
 /// The frame that a string of octets is for the network `bss` (9.2.3, 9.3), or the first fault in the order of
-/// [`Unread`] (*profile*). The faults are all but [`Unread::Body`].
+/// [`Unread`] (*profile*). The faults are all but [`Unread::Body`]. It takes no memory.
 pub fn decode(bss: MacAddr, frame: &[u8]) -> Result<Rx<'_>, Unread>
     // What is read is this frame; what is this frame is read.
     ensures frame { IfOk result (λ rx. IsFrame bss frame.now (shown rx)) }
@@ -88,7 +88,7 @@ pub fn decode(bss: MacAddr, frame: &[u8]) -> Result<Rx<'_>, Unread>
         return Err(Unread::Short);
     }
     let control = control_at(frame);
-    if frame.len() < HEADER_LEN && control.kind != CONTROL {
+    if frame.len() < HEADER_LEN && control.kind != FrameType::Control {
         return Err(Unread::Short);
     }
     if control.version != 0 {

@@ -1,17 +1,8 @@
 //! Frame Control (IEEE Std 802.11-2016, 9.2.4.1), the first field of every frame, read and written by one table of
 //! its bits.
 
-ghost use Rattle.std.specs.Prelude.{◌≡◌, ◌*◌, ◌^◌, ◌<◌, ◌≤◌};
-ghost use Rattle.mac_frame.specs.FrameControl.{bits, has_bit, control_of, has_refused_flags, has_direction, is_to_ds, octets_of, plain};
-
-/// The type of a management frame (9.2.4.1.3).
-pub const MANAGEMENT: u8 = 0;
-
-/// The type of a control frame (9.2.4.1.3).
-pub const CONTROL: u8 = 1;
-
-/// The type of a data frame (9.2.4.1.3).
-pub const DATA: u8 = 2;
+ghost use Rattle.std.specs.Prelude.{◌≡◌, ◌^◌, ◌<◌};
+ghost use Rattle.mac_frame.specs.FrameControl.{type_number, type_of, bits, has_bit, control_of, has_refused_flags, has_direction, is_to_ds, octets_of, plain};
 
 // Where each field stands in the number of the two octets, the first of which is the low one (9.2.4.1.1).
 
@@ -37,13 +28,53 @@ const PROTECTED_FRAME: u32 = 14;
 
 const ORDER: u32 = 15;
 
+/// The type of a frame (9.2.4.1.3).
+#[derive(Clone, Copy, PartialEq, Eq)]
+pub enum FrameType {
+    /// Management frames (9.3.3).
+    Management,
+    /// Control frames (9.3.1).
+    Control,
+    /// Data frames (9.3.2).
+    Data,
+    /// Extension frames (9.3.4), of which none is read.
+    Extension,
+}
+
+impl FrameType {
+    /// The type that two bits say; any greater number is taken for an extension.
+    fn from_bits(number: u16) -> FrameType
+        ensures { result ≡ type_of number }
+    {
+        match number {
+            0 => FrameType::Management,
+            1 => FrameType::Control,
+            2 => FrameType::Data,
+            _ => FrameType::Extension,
+        }
+    }
+
+    /// Its two bits.
+    fn to_bits(self) -> u16
+        ensures value { result ≡ type_number self }
+        ensures small { result < 4 }
+    {
+        match self {
+            FrameType::Management => 0,
+            FrameType::Control => 1,
+            FrameType::Data => 2,
+            FrameType::Extension => 3,
+        }
+    }
+}
+
 /// A Frame Control field.
 #[derive(Clone, Copy)]
 pub struct FrameControl {
     /// Protocol Version, 0 in every frame that is read or sent (9.2.4.1.2).
     pub version: u8,
     /// Type (9.2.4.1.3).
-    pub kind: u8,
+    pub kind: FrameType,
     /// Subtype (9.2.4.1.3).
     pub subtype: u8,
     /// To DS (9.2.4.1.4).
@@ -66,7 +97,7 @@ pub struct FrameControl {
 
 impl FrameControl {
     /// Version 0, this type and subtype, and every bit after them 0.
-    pub fn plain(kind: u8, subtype: u8) -> FrameControl
+    pub fn plain(kind: FrameType, subtype: u8) -> FrameControl
         ensures { result ≡ plain kind subtype }
     {
         FrameControl {
@@ -91,7 +122,7 @@ impl FrameControl {
         let number = u16::from_le_bytes(octets);
         FrameControl {
             version: bits(number, PROTOCOL_VERSION, 2) as u8,
-            kind: bits(number, TYPE, 2) as u8,
+            kind: FrameType::from_bits(bits(number, TYPE, 2)),
             subtype: bits(number, SUBTYPE, 4) as u8,
             to_ds: has_bit(number, TO_DS),
             from_ds: has_bit(number, FROM_DS),
@@ -107,14 +138,13 @@ impl FrameControl {
     /// The two octets of the field, the first of them sent first.
     pub fn to_octets(self) -> [u8; 2]
         requires version { self.version < 4 }
-        requires kind { self.kind < 4 }
         requires subtype { self.subtype < 16 }
         ensures octets { result ≡ octets_of self }
         // What was written is read again.
         ensures read { control_of result ≡ self }
     {
         let number = (u16::from(self.version) << PROTOCOL_VERSION)
-            + (u16::from(self.kind) << TYPE)
+            + (self.kind.to_bits() << TYPE)
             + (u16::from(self.subtype) << SUBTYPE)
             + (u16::from(self.to_ds) << TO_DS)
             + (u16::from(self.from_ds) << FROM_DS)

@@ -18,10 +18,10 @@ pub const HEADER_LEN: usize = 24;
 pub const CONTROL_HEADER_LEN: usize = 16;
 
 /// How many octets follow a header at most (9.2.4.7.1).
-const MAX_BODY_LEN: usize = 2304;
+pub const MAX_BODY_LEN: usize = 2304;
 
 /// How many octets an address has (9.2.4.3.2).
-const ADDRESS_LEN: usize = 6;
+pub const ADDRESS_LEN: usize = 6;
 
 /// Where Frame Control stands (9.2.3).
 const FRAME_CONTROL: usize = 0;
@@ -70,18 +70,18 @@ pub fn address_3(frame: &[u8]) -> MacAddr
     address_at(frame, ADDRESS_3)
 }
 
-/// The six octets of a frame from a place on, as an address.
-fn address_at(frame: &[u8], place: usize) -> MacAddr
-    requires { place + 6 ≤ length frame.now }
-    ensures { result ≡ address_at frame.now place }
+/// The six octets of a string from a place on, counted from 0, as an address (9.2.4.3.2). The string has that many from there.
+pub fn address_at(octets: &[u8], place: usize) -> MacAddr
+    requires { place + ADDRESS_LEN ≤ length octets.now }
+    ensures { result ≡ address_at octets.now place }
 {
     MacAddr::new([
-        frame[place],
-        frame[place + 1],
-        frame[place + 2],
-        frame[place + 3],
-        frame[place + 4],
-        frame[place + 5],
+        octets[place],
+        octets[place + 1],
+        octets[place + 2],
+        octets[place + 3],
+        octets[place + 4],
+        octets[place + 5],
     ])
 }
 
@@ -157,7 +157,6 @@ pub fn append_header(
     seq: u16,
 ) -> Result<(), NoMemory>
     requires version { control.version < 4 }
-    requires kind { control.kind < 4 }
     requires subtype { control.subtype < 16 }
     requires seq { seq < 4096 }
     ensures ok { OnOk result (out.new ≡ out.old ++ header control address_1 address_2 address_3 seq) }

@@ -22,13 +22,13 @@ mod ps_poll;
 pub use address::MacAddr;
 pub use data::write_msdu;
 pub use frame::{Rx, Unread, decode};
-pub use header::{HEADER_LEN, addressed};
+pub use header::{ADDRESS_LEN, HEADER_LEN, MAX_BODY_LEN, address_at, addressed};
 pub use item_list::List;
 pub use laws::{body_has_octets, frame_is_addressed, hearing, one_frame};
 pub use management::{
-    ASSOCIATION_REQUEST, ASSOCIATION_RESPONSE, AUTHENTICATION, CAPABILITY, DEAUTHENTICATION,
-    DISASSOCIATION, PROBE_REQUEST, PROBE_RESPONSE, REASSOCIATION_REQUEST, REASSOCIATION_RESPONSE,
-    write_mgmt,
+    ASSOCIATION_REQUEST, ASSOCIATION_RESPONSE, AUTHENTICATION, BEACON, CAPABILITY,
+    DEAUTHENTICATION, DISASSOCIATION, PROBE_REQUEST, PROBE_RESPONSE, REASSOCIATION_REQUEST,
+    REASSOCIATION_RESPONSE, write_mgmt,
 };
 pub use memory::NoMemory;
 pub use octet_string::Octets;

@@ -8,7 +8,7 @@ ghost use Rattle.mac_frame.specs.Rx.{shown};
 
 use crate::address::MacAddr;
 use crate::frame::{Rx, Unread};
-use crate::frame_control::{FrameControl, MANAGEMENT};
+use crate::frame_control::{FrameControl, FrameType};
 use crate::header::{
     HEADER_LEN, address_1, address_2, address_3, append_header, body_of, is_from_station,
     is_refused, is_to_network, is_too_long,
@@ -34,6 +34,9 @@ pub const PROBE_REQUEST: u8 = 4;
 /// The subtype of a probe response (9.2.4.1.3).
 pub const PROBE_RESPONSE: u8 = 5;
 
+/// The subtype of a beacon (9.2.4.1.3).
+pub const BEACON: u8 = 8;
+
 /// The subtype of a disassociation (9.2.4.1.3).
 pub const DISASSOCIATION: u8 = 10;
 
@@ -50,7 +53,7 @@ pub const CAPABILITY: u16 = 1;
 pub fn is_management_read(control: FrameControl) -> bool
     ensures { result ≡ is_management_read control }
 {
-    control.kind == MANAGEMENT
+    control.kind == FrameType::Management
         && (control.subtype == PROBE_REQUEST || is_individual_subtype(control.subtype))
 }
 
@@ -124,8 +127,8 @@ fn is_individually_addressed(bss: MacAddr, frame: &[u8]) -> bool
     is_to_network(bss, frame) && address_3(frame) == bss
 }
 
-/// Appends the header of a management frame (9.3.3.2) of this subtype, to a receiver, from the network `bss`,
-/// with a sequence number. After `NoMemory` `out` is as it was.
+/// Appends the header of a management frame (9.3.3.2) of this subtype, below 16 (9.2.4.1.3), to a receiver, from the network
+/// `bss`, with a sequence number below 4096 (9.2.4.4.2). After `NoMemory` `out` is as it was.
 pub fn write_mgmt(
     out: &mut Octets,
     subtype: u8,
@@ -138,6 +141,6 @@ pub fn write_mgmt(
     ensures ok { OnOk result (out.new ≡ out.old ++ management_header subtype to bss seq) }
     ensures err { OnErr result (out.new ≡ out.old) }
 {
-    let control = FrameControl::plain(MANAGEMENT, subtype);
+    let control = FrameControl::plain(FrameType::Management, subtype);
     append_header(out, control, to, bss, bss, seq)
 }

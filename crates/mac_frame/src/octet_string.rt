@@ -62,6 +62,18 @@ impl Octets {
         Ok(())
     }
 
+    /// Appends two parts, one after the other, or neither of them. After `NoMemory` the string is as it was.
+    pub fn append_both(&mut self, first: &[u8], second: &[u8]) -> Result<(), NoMemory>
+        ensures ok { OnOk result (self.new ≡ self.old ++ first.now ++ second.now) }
+        ensures err { OnErr result (self.new ≡ self.old) }
+    {
+        let len = self.as_slice().len();
+        self.reserve(first.len() + second.len())?;
+        self.append(first)?;
+        let written = self.append(second);
+        self.roll_back(len, written)
+    }
+
     /// Keeps the first `len` octets: all of them where there are fewer.
     pub fn truncate(&mut self, len: usize)
         ensures { self.new ≡ take len self.old }

@@ -7,7 +7,7 @@ ghost use Rattle.mac_frame.specs.Rx.{shown};
 
 use crate::address::MacAddr;
 use crate::frame::{Rx, Unread};
-use crate::frame_control::{CONTROL, FrameControl, bits};
+use crate::frame_control::{FrameControl, FrameType, bits};
 use crate::header::{CONTROL_HEADER_LEN, address_2, is_from_station, is_to_network};
 
 /// The subtype of a PS-Poll frame (9.2.4.1.3).
@@ -23,7 +23,7 @@ const AID_BITS: u32 = 14;
 pub fn is_ps_poll_read(control: FrameControl) -> bool
     ensures { result ≡ is_ps_poll_read control }
 {
-    control.kind == CONTROL && control.subtype == PS_POLL
+    control.kind == FrameType::Control && control.subtype == PS_POLL
 }
 
 /// The PS-Poll frame that a string of octets is for the network `bss`, or its first fault after that of its kind

@@ -20,6 +20,14 @@ fn octets_are_copied_appended_and_cut(rt: HostRuntime) -> Result<(), Fail> {
 }
 
 #[test]
+fn two_parts_are_appended_in_their_order(rt: HostRuntime) -> Result<(), Fail> {
+    let mut octets = Octets::from_slice(rt.alloc(), &[1])?;
+    octets.append_both(&[2, 3], &[4])?;
+    assert_eq!(rt; octets.as_slice(), [1, 2, 3, 4].as_slice());
+    Ok(())
+}
+
+#[test]
 fn octets_are_their_vector(rt: HostRuntime) -> Result<(), Fail> {
     let octets = Octets::from_vec([1u8, 2].to_vec(rt.alloc())?);
     assert_eq!(rt; octets.as_slice(), [1, 2].as_slice());
@@ -75,7 +83,8 @@ fn a_probe_request_is_read(rt: HostRuntime) -> Result<(), Fail> {
         0x00, 0x00, // an empty SSID
     ];
     let all = addressed(&frame).ok_or("no address")?;
-    assert!(rt; all.is_broadcast());
+    assert_eq!(rt; all, MacAddr::BROADCAST);
+    assert_eq!(rt; address_at(&frame, 10), MacAddr::new(STATION));
     let rx = match decode(MacAddr::new(NETWORK), &frame) {
         Ok(rx) => rx,
         Err(fault) => panic!(rt; "{fault:?}"),

@@ -1,16 +1,16 @@
-use Rattle.std.proofs.Common.{◌≡◌, Ok, Err, MatchResult, sym, ◌∙◌, subst, rules}
+use Rattle.std.proofs.Common.{◌≡◌, ◌≤◌, length, Ok, Err, MatchResult, sym, ◌∙◌, subst, rules}
 use Rattle.mac_frame.specs.Frame.{shown}
 use Rattle.mac_frame.specs.declared.frame.Unread.TheVariants.{Short, Version, Kind}
-use Rattle.mac_frame.proofs.Frames.{none_at_fault, read_as_poll, reads_a_frame, reads_each_frame}
+use Rattle.mac_frame.proofs.Frames.{none_at_fault, read_as_data, read_as_poll, reads_a_frame, reads_each_frame}
 use Rattle.mac_frame.proofs.frame.decode.Goals as goal
 
 -- ---- what no kind is looked at for
 
-pub returns-then-control-ne-CONTROL-clause-fault : goal.returns-then-control-ne-CONTROL-clause-fault
-returns-then-control-ne-CONTROL-clause-fault c = search rules
+pub returns-then-ne-clause-fault : goal.returns-then-ne-clause-fault
+returns-then-ne-clause-fault c = search rules
 
-pub returns-then-control-ne-CONTROL-clause-only : goal.returns-then-control-ne-CONTROL-clause-only
-returns-then-control-ne-CONTROL-clause-only c f w = none_at_fault c.args.bss c.args.frame.now f Short (returns-then-control-ne-CONTROL-clause-fault c) w
+pub returns-then-ne-clause-only : goal.returns-then-ne-clause-only
+returns-then-ne-clause-only c f w = none_at_fault c.args.bss c.args.frame.now f Short (returns-then-ne-clause-fault c) w
 
 pub returns-then-control-ne0-clause-fault : goal.returns-then-control-ne0-clause-fault
 returns-then-control-ne0-clause-fault c = search rules
@@ -30,7 +30,11 @@ pub returns-then-is_management_read-clause-only : goal.returns-then-is_managemen
 returns-then-is_management_read-clause-only c = reads_each_frame c.args.bss c.args.frame.now _ (returns-then-is_management_read-clause-fault c)
 
 pub returns-then-is_data_read-clause-fault : goal.returns-then-is_data_read-clause-fault
-returns-then-is_data_read-clause-fault c = search rules
+returns-then-is_data_read-clause-fault c =
+    let read = sym c.is_data_read.ensures ∙ c.if-is_data_read.true in
+    let long : 24 ≤ length c.args.frame.now = search rules in
+    let same = read_as_data c.args.bss c.args.frame.now c.control_at-control.result c.control_at-control.ensures long c.if-control-ne0.false read in
+    subst (λ r. MatchResult c.data_of.result (λ rx. r ≡ Ok (shown rx)) (λ fault. r ≡ Err fault)) (sym same) c.data_of.ensures
 
 pub returns-then-is_data_read-clause-frame : goal.returns-then-is_data_read-clause-frame
 returns-then-is_data_read-clause-frame c = reads_a_frame c.args.bss c.args.frame.now _ (returns-then-is_data_read-clause-fault c)

@@ -9,4 +9,4 @@ returns-clause-octets c = search rules
 pub returns-clause-read : goal.returns-clause-read
 returns-clause-read c =
     ap control_of (returns-clause-octets c)
-    ∙ control_of-octets_of c.args.self c.requires.version c.requires.kind c.requires.subtype
+    ∙ control_of-octets_of c.args.self c.requires.version c.requires.subtype
