@@ -1,6 +1,5 @@
 -- What the definitions say of some bodies.
-use Rattle.std.proofs.Common.{◌≡◌, [], ◌∷◌, Some, None, refl}
-use Rattle.std.proofs.Common.{◌++◌, arith}
+use Rattle.std.proofs.Common.{◌≡◌, [], ◌∷◌, ◌++◌, Some, None, refl, arith}
 use Rattle.std.specs.Prelude.{replicate}
 use Rattle.elements.specs.Elements.{IsElements, elements_within, elements_of, first_of, element}
 use Rattle.elements.specs.Rates.{supported_rates, extended_rates, rates_of}
@@ -64,10 +63,10 @@ an_element_of_255_octets_is_read : elements_of (0xdd ∷ 0xff ∷ replicate 255 
 unfolding elements_of elements_within
 an_element_of_255_octets_is_read = refl
 
--- the one after it passes the end
-an_element_of_254_octets_says_255 : elements_of (0xdd ∷ 0xff ∷ replicate 254 7) ≡ None
+-- its Length says one octet more than follow
+an_element_of_255_octets_passes_the_end_of_254 : elements_of (0xdd ∷ 0xff ∷ replicate 254 7) ≡ None
 unfolding elements_of elements_within
-an_element_of_254_octets_says_255 = refl
+an_element_of_255_octets_passes_the_end_of_254 = refl
 
 one_element_id_may_stand_twice : elements_of (0 ∷ 1 ∷ 97 ∷ 0 ∷ 1 ∷ 98 ∷ []) ≡ Some ((0, 97 ∷ []) ∷ (0, 98 ∷ []) ∷ [])
 unfolding elements_of elements_within

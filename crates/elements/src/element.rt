@@ -19,7 +19,7 @@ pub const DSSS_PARAMETER_SET: u8 = 3;
 /// The element ID of Extended Supported Rates (9.4.2.13).
 pub const EXTENDED_SUPPORTED_RATES: u8 = 50;
 
-/// One element.
+/// One element (9.4.2.1).
 #[derive(Clone, Copy, Debug)]
 pub struct Element<'a> {
     /// The element ID (9.4.2.1, Table 9-77).
@@ -28,11 +28,11 @@ pub struct Element<'a> {
     pub body: &'a [u8],
 }
 
-/// An element's length passes the end of the body, or a last octet stands alone.
+/// An element's length passes the end of the body, or a last octet stands alone (9.4.2.1).
 #[derive(Clone, Copy, Debug, PartialEq, Eq)]
 pub struct Overrun;
 
-/// The elements of a body that are still to come. Contracts see them as pairs of an element ID and its octets.
+/// The elements of a body that are still to come (9.4.2.1). Contracts see them as pairs of an element ID and its octets.
 #[derive(Debug, Drop)]
 pub struct Elements<'a> {
     rest: &'a [u8],
@@ -64,8 +64,8 @@ impl<'a> Elements<'a> {
         Ok(Elements { rest: body })
     }
 
-    /// The Information field of the first element with this element ID, if there is one (which of several counts is
-    /// *profile*).
+    /// The Information field of the first element with this element ID, if there is one (9.4.2.1; which of several counts is
+    /// *profile*). It takes no memory.
     pub fn first(&self, id: u8) -> Option<&'a [u8]>
         ensures { option_map (λ body. body.now) result ≡ first_of id self.now }
     {
@@ -122,16 +122,14 @@ fn split_element(body: &[u8]) -> Option<(Element<'_>, &[u8])>
     Some((Element { id: *id, body }, others))
 }
 
-/// Appends an element with this element ID and Information field (9.4.2.1). After `NoMemory` `out` is as it was.
+/// Appends an element with this element ID and Information field, of at most 255 octets (9.4.2.1). After `NoMemory` `out` is as
+/// it was.
 pub fn write_element(out: &mut Octets, id: u8, body: &[u8]) -> Result<(), NoMemory>
     requires { length body.now ≤ 255 }
     ensures ok { OnOk result (out.new ≡ out.old ++ element id body.now) }
     ensures err { OnErr result (out.new ≡ out.old) }
 {
-    let len = out.as_slice().len();
-    out.append(&[id, body.len() as u8])?;
-    let written = out.append(body);
-    out.roll_back(len, written)
+    out.append_both(&[id, body.len() as u8], body)
 }
 
 /// A body is one list of elements at most, and reading gives it exactly where there is one (9.4.2.1).

@@ -13,7 +13,9 @@ pub use element::{
     DSSS_PARAMETER_SET, EXTENDED_SUPPORTED_RATES, Element, Elements, Overrun, SSID,
     SUPPORTED_RATES, one_list, write_element,
 };
-pub use rates::{BASIC_RATE, write_extended_rates, write_rates, write_supported_rates};
+pub use rates::{
+    BASIC_RATE, is_rate_among, units_of, write_extended_rates, write_rates, write_supported_rates,
+};
 
 #[cfg(test)]
 mod tests;

@@ -1,7 +1,7 @@
 //! Rates, in two elements (IEEE Std 802.11-2016, 9.4.2.3 and 9.4.2.13): whether a body has one, and those of a network.
 
 ghost use Rattle.std.specs.Prelude.{◌≡◌, ◌++◌, ◌≤◌, length, option_map, OnOk, OnErr};
-ghost use Rattle.elements.specs.Rates.{is_rate_among, is_in_element, has_rate, supported_rates, extended_rates, rates_of};
+ghost use Rattle.elements.specs.Rates.{units_of, is_rate_among, is_in_element, has_rate, supported_rates, extended_rates, rates_of};
 
 use crate::element::{EXTENDED_SUPPORTED_RATES, Elements, SUPPORTED_RATES, write_element};
 use mac_frame::{NoMemory, Octets};
@@ -14,7 +14,7 @@ const MAX_SUPPORTED_RATES: usize = 8;
 
 impl Elements<'_> {
     /// Whether the first Supported Rates or the first Extended Supported Rates has a rate, each basic or not (9.4.2.3,
-    /// 9.4.2.13; which of several elements counts is *profile*).
+    /// 9.4.2.13; which of several elements counts is *profile*). It takes no memory.
     pub fn has_rate(&self, rate: u8) -> bool
         ensures { result ≡ has_rate rate self.now }
     {
@@ -27,22 +27,24 @@ impl Elements<'_> {
 fn is_in_element(rate: u8, element: Option<&[u8]>) -> bool
     ensures { result ≡ is_in_element rate (option_map (λ rates. rates.now) element.entry) }
 {
-    match element {
-        Some(rates) => is_rate_among(rate, rates),
-        None => false,
-    }
+    element.is_some_and(|rates| is_rate_among(rate, rates))
 }
 
-/// Whether a rate is among these, each basic or not.
-fn is_rate_among(rate: u8, rates: &[u8]) -> bool
+/// Whether a rate is among these, each basic or not (9.4.2.3). It takes any octets and no memory.
+pub fn is_rate_among(rate: u8, rates: &[u8]) -> bool
     ensures { result ≡ is_rate_among rate rates.now }
 {
-    rates
-        .iter()
-        .any(|other| other % BASIC_RATE == rate % BASIC_RATE)
+    rates.iter().any(|other| units_of(*other) == units_of(rate))
 }
 
-/// Appends the first eight rates in Supported Rates (9.4.2.3). After `NoMemory` `out` is as it was.
+/// A rate in units of 500 kb/s, 0 to 127, without the bit that marks a basic rate (9.4.2.3). It takes any octet.
+pub fn units_of(rate: u8) -> u8
+    ensures { result ≡ units_of rate }
+{
+    rate % BASIC_RATE
+}
+
+/// Appends the first eight rates in Supported Rates, or all where there are fewer (9.4.2.3). After `NoMemory` `out` is as it was.
 pub fn write_supported_rates(out: &mut Octets, rates: &[u8]) -> Result<(), NoMemory>
     ensures ok { OnOk result (out.new ≡ out.old ++ supported_rates rates.now) }
     ensures err { OnErr result (out.new ≡ out.old) }
@@ -51,8 +53,8 @@ pub fn write_supported_rates(out: &mut Octets, rates: &[u8]) -> Result<(), NoMem
     write_element(out, SUPPORTED_RATES, first)
 }
 
-/// Appends the rates after the eighth, if there are any, in Extended Supported Rates (9.4.2.13).
-/// After `NoMemory` `out` is as it was.
+/// Appends the rates after the eighth, if there are any, in Extended Supported Rates (9.4.2.13), of at most 16 rates in all
+/// (*profile*). After `NoMemory` `out` is as it was.
 pub fn write_extended_rates(out: &mut Octets, rates: &[u8]) -> Result<(), NoMemory>
     requires { length rates.now ≤ 16 }
     ensures ok { OnOk result (out.new ≡ out.old ++ extended_rates rates.now) }
@@ -65,8 +67,8 @@ pub fn write_extended_rates(out: &mut Octets, rates: &[u8]) -> Result<(), NoMemo
     write_element(out, EXTENDED_SUPPORTED_RATES, others)
 }
 
-/// Appends the rates of a network: the first eight in Supported Rates, the rest, if any, in Extended Supported Rates
-/// (9.4.2.3, 9.4.2.13). After `NoMemory` `out` is as it was.
+/// Appends the 1 to 16 rates of a network (*profile*): the first eight in Supported Rates, the rest, if any, in Extended
+/// Supported Rates (9.4.2.3, 9.4.2.13). After `NoMemory` `out` is as it was.
 pub fn write_rates(out: &mut Octets, rates: &[u8]) -> Result<(), NoMemory>
     requires some { 1 ≤ length rates.now }
     requires few { length rates.now ≤ 16 }

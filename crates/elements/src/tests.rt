@@ -1,7 +1,8 @@
 //! Calls with ample memory, and one run of the reader.
 
 use crate::{
-    Elements, Overrun, write_element, write_extended_rates, write_rates, write_supported_rates,
+    Elements, Overrun, is_rate_among, units_of, write_element, write_extended_rates, write_rates,
+    write_supported_rates,
 };
 use mac_frame::Octets;
 use std::test::Fail;
@@ -69,5 +70,7 @@ fn rates_of_both_elements_are_there(rt: HostRuntime) -> Result<(), Fail> {
     let elements = Elements::new(&[1, 3, 0x02, 0x0b, 0x96, 50, 1, 0x04])?;
     assert!(rt; elements.has_rate(0x82) && elements.has_rate(0x16) && elements.has_rate(0x84));
     assert!(rt; !elements.has_rate(0x0c) && !elements.has_rate(0x8c));
+    assert!(rt; is_rate_among(0x82, &NINE_RATES) && !is_rate_among(0x30, &NINE_RATES[..8]));
+    assert_eq!(rt; units_of(0x96), 0x16);
     Ok(())
 }
