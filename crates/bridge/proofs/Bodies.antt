@@ -1,14 +1,12 @@
 -- A frame comes back from the air, and a body from the wire.
-use Rattle.std.proofs.Common.{Bool, false, None, inl, inr, [], length-drop, ◌≡◌, ℕ, ◌+◌, ◌^◌, ◌<◌, ◌≤◌, true, leb, List, ◌++◌, length, take, drop, get_or, slice_index, Option, Some, Ok, option_map, if◌then◌else◌, refl, sym, ◌∙◌, ap, subst, arith, length-append, append_assoc, ◌⊎◌, ⊎_elim}
-use Rattle.std.specs.Int.{w16, to_be_bytes, from_be_bytes}
-use Rattle.std.specs.Str.{bytes_eq}
+use Rattle.std.proofs.Common.{Bool, false, None, inl, inr, [], length-drop, ◌≡◌, ℕ, ◌+◌, ◌^◌, ◌<◌, ◌≤◌, true, leb, List, ◌++◌, length, take, drop, slice_index, Some, Ok, option_map, if◌then◌else◌, refl, sym, ◌∙◌, ap, subst, arith, length-append, append_assoc, ◌⊎◌, ⊎_elim}
+use Rattle.std.specs.Int.{w16, to_be_bytes}
 use Rattle.std.proofs.lemmas.Bool.{le-leb, leb-true, and_from, and_parts, cases_lt}
 use Rattle.std.proofs.lemmas.List.{get_or-append-add, get_or_append_left, get_or_past, take_at, append-nil, drop-drop, take-append-drop, length-take-le}
 use Rattle.std.specs.Cmp.Lexicographic.{bytes_decides}
 use Rattle.std.proofs.lemmas.Nat.{be_bytes_2, from_be_bytes-to_be_bytes_2}
-use Rattle.bridge.specs.declared.ethernet.Kind.{Kind}
 use Rattle.bridge.specs.declared.ethernet.Kind.TheVariants.{Typed, Sized}
-use Rattle.bridge.specs.Ethernet.{Ethernet, number, is_type, is_length, IsParted, IsTyped, IsSized, IsOfKind, ethernet_of}
+use Rattle.bridge.specs.Ethernet.{Ethernet, number, is_type, is_length, IsTyped, IsSized, IsOfKind, ethernet_of}
 use Rattle.bridge.specs.Encapsulation.{rfc1042_header, body_of, on_air, on_wire, type_of, names_type, number_and_payload, Carries}
 use Rattle.bridge.proofs.Frames.{is_a_frame}
 

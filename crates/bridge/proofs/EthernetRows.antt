@@ -1,6 +1,5 @@
 -- What the definitions say of some strings.
-use Rattle.std.proofs.Common.{◌≡◌, ℕ, List, [], ◌∷◌, replicate, take, Result, Ok, Err, refl, arith}
-use Rattle.mac_frame.specs.declared.frame.Unread.{Unread}
+use Rattle.std.proofs.Common.{◌≡◌, ℕ, List, [], ◌∷◌, replicate, take, Ok, Err, refl, arith}
 use Rattle.mac_frame.specs.declared.frame.Unread.TheVariants.{Short, Body, TooLong}
 use Rattle.bridge.specs.declared.ethernet.Kind.{Kind}
 use Rattle.bridge.specs.declared.ethernet.Kind.TheVariants.{Typed, Sized}

@@ -1,13 +1,13 @@
 -- A string is an Ethernet frame, by the concatenation of its fields, exactly where the tests in their order find no fault.
-use Rattle.std.proofs.Common.{◌≡◌, ℕ, ◌+◌, ◌<◌, ◌≤◌, ◌⊎◌, inl, inr, Bool, true, false, ltb, leb, List, ◌++◌, length, take, drop, Result, Ok, Err, MatchResult, IfOk, IsOkAnd, if◌then◌else◌, refl, sym, ◌∙◌, ap, subst, ⊎_elim, arith, length-drop, length-append, append_assoc}
+use Rattle.std.proofs.Common.{◌≡◌, ℕ, ◌+◌, ◌≤◌, ◌⊎◌, inl, inr, Bool, true, false, ltb, List, ◌++◌, length, take, drop, Result, Ok, Err, if◌then◌else◌, refl, sym, ◌∙◌, ap, subst, ⊎_elim, arith, length-append, append_assoc}
 use Rattle.std.proofs.lemmas.Bool.{le-ltb, le-leb, lt-leb, leb-true, ltb-false, and_from, and_parts}
 use Rattle.std.proofs.lemmas.List.{length-take-le, take-append-drop, take_at, drop_at, drop-drop}
 use Rattle.mac_frame.specs.declared.frame.Unread.{Unread}
 use Rattle.mac_frame.specs.declared.frame.Unread.TheVariants.{Short, Body, TooLong}
-use Rattle.bridge.specs.declared.ethernet.Ether.{Ether}
+use Rattle.mac_frame.proofs.Headers.{part_length}
 use Rattle.bridge.specs.declared.ethernet.Kind.{Kind}
 use Rattle.bridge.specs.declared.ethernet.Kind.TheVariants.{Typed, Sized}
-use Rattle.bridge.specs.Ethernet.{Ethernet, shown, number, is_type, is_length, IsParted, IsTyped, IsSized, IsOfKind, IsEthernet, number_of, rest_of, frame_at, typed_of, sized_of, ethernet_of}
+use Rattle.bridge.specs.Ethernet.{Ethernet, number, is_type, is_length, IsParted, IsOfKind, IsEthernet, number_of, rest_of, frame_at, typed_of, sized_of, ethernet_of}
 
 -- ---- where the fields stand
 
@@ -35,9 +35,6 @@ placed y to source n rest p =
       number_is = ap number field ∙ p.number_is;
       rest_is = at_14;
     }
-
-part_length : (y : List ℕ) (n place : ℕ) → place + n ≤ length y → length (take n (drop place y)) ≡ n
-part_length y n place h = length-take-le n (drop place y) (omega (arith, length-drop place y))
 
 -- a string of 14 octets and more has these fields
 pub parted : (y : List ℕ) → 14 ≤ length y → IsParted y (take 6 y) (take 6 (drop 6 y)) (number_of y) (rest_of y)

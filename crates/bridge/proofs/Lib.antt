@@ -1,4 +1,3 @@
-pub mod Cells
 pub mod Frames
 pub mod Bodies
 pub mod Samples

@@ -6,20 +6,23 @@ ghost use Rattle.bridge.specs.Ethernet.{Ethernet, ethernet_of, shown};
 ghost use Rattle.bridge.specs.Encapsulation.{rfc1042_header, on_air, names_type, number_and_payload, on_wire, Carries};
 
 use crate::ethernet::{Ether, HEADER_LEN, Kind, MAX_LENGTH, MIN_LENGTH, MIN_TYPE};
-use mac_frame::{MacAddr, NoMemory, Octets};
+use mac_frame::{MAX_BODY_LEN, MacAddr, NoMemory, Octets};
 
 /// The header of a unit that names a type (RFC 1042): both service access points AA, unnumbered information (03), and the
 /// organization code 00-00-00. The type follows it.
 const RFC1042_HEADER: [u8; 6] = [0xaa, 0xaa, 0x03, 0x00, 0x00, 0x00];
 
+/// How many octets the header of a unit that names a type has, with the type (RFC 1042).
+pub const RFC1042_LEN: usize = RFC1042_HEADER.len() + 2;
+
 /// Appends the body of the 802.11 frame that carries an Ethernet frame: the RFC 1042 header, the type and the payload where
-/// it names a type, and else the payload alone. After `NoMemory` `out` is as it was.
+/// it names a type, and else the payload alone, whatever its length is (RFC 1042). After `NoMemory` `out` is as it was.
 pub fn to_air(out: &mut Octets, ether: &Ether<'_>) -> Result<(), NoMemory>
     ensures ok { OnOk result (out.new ≡ out.old ++ on_air (shown ether.now)) }
     ensures err { OnErr result (out.new ≡ out.old) }
 {
     match ether.kind {
-        Kind::Typed(number) => append_both(out, &typed_header(number), ether.payload),
+        Kind::Typed(number) => out.append_both(&typed_header(number), ether.payload),
         Kind::Sized => out.append(ether.payload),
     }
 }
@@ -43,12 +46,12 @@ pub fn to_wire(
     let Some((number, payload)) = number_and_payload(body) else {
         return Ok(false);
     };
-    append_both(out, &ethernet_header(to, source, number), payload)?;
+    out.append_both(&ethernet_header(to, source, number), payload)?;
     Ok(true)
 }
 
 /// The RFC 1042 header with a type.
-fn typed_header(number: u16) -> [u8; 8]
+fn typed_header(number: u16) -> [u8; RFC1042_LEN]
     ensures { result ≡ rfc1042_header ++ to_be_bytes w16 number }
 {
     let [a, b, c, d, e, f] = RFC1042_HEADER;
@@ -83,18 +86,6 @@ fn ethernet_header(to: MacAddr, source: MacAddr, number: u16) -> [u8; HEADER_LEN
     [a, b, c, d, e, f, g, h, i, j, k, l, high, low]
 }
 
-/// Appends two strings, or neither: after `NoMemory` `out` is as it was.
-fn append_both(out: &mut Octets, first: &[u8], second: &[u8]) -> Result<(), NoMemory>
-    ensures ok { OnOk result (out.new ≡ out.old ++ first.now ++ second.now) }
-    ensures err { OnErr result (out.new ≡ out.old) }
-{
-    let len = out.as_slice().len();
-    out.reserve(first.len() + second.len())?;
-    out.append(first)?;
-    let written = out.append(second);
-    out.roll_back(len, written)
-}
-
 /// A frame that was read comes back from the air: as it was where it names a type, and without its padding where it names
 /// its length, unless its payload begins as a body that names a type does (RFC 1042).
 pub fn frame_comes_back()
@@ -105,9 +96,9 @@ pub fn frame_comes_back()
         → on_wire w.to w.source (on_air w) ≡ Some (take (14 + length w.payload) y) }
 {}
 
-/// What carries a body on the wire is an Ethernet frame between the same stations, whose body on the air is the same
-/// (RFC 1042).
+/// What carries a body, of at most 2304 octets (IEEE Std 802.11-2016, 9.2.4.7.1), on the wire between two addresses of six octets
+/// is an Ethernet frame between the same, whose body on the air is the same (RFC 1042).
 pub fn body_comes_back()
     ensures { (y to source body : List ℕ) → length to ≡ 6 → length source ≡ 6 → ((place : ℕ) → slice_index body place < 256)
-        → length body ≤ 2304 → on_wire to source body ≡ Some y → Carries y to source body }
+        → length body ≤ MAX_BODY_LEN → on_wire to source body ≡ Some y → Carries y to source body }
 {}

@@ -1,9 +1,10 @@
 //! Ethernet frames (IEEE Std 802.3, 3.1.1 and 3.2): which strings of octets are which frame.
 
-ghost use Rattle.std.specs.Prelude.{◌≡◌, ◌+◌, ◌<◌, ◌≤◌, ◌↔◌, List, ℕ, length, take, drop, Ok, Err, IsOkAnd, IfOk, MatchResult};
+ghost use Rattle.std.specs.Prelude.{◌≡◌, ◌<◌, ◌≤◌, ◌↔◌, List, ℕ, length, take, Ok, Err, IsOkAnd, IfOk, MatchResult};
 ghost use Rattle.bridge.specs.Ethernet.{Ethernet, IsEthernet, ethernet_of, shown};
 
-use mac_frame::{MacAddr, Unread};
+use crate::encapsulation::RFC1042_LEN;
+use mac_frame::{ADDRESS_LEN, MAX_BODY_LEN, MacAddr, Unread, address_at};
 
 /// The least number of the Length/Type field that is a type (IEEE Std 802.3, 3.2.6).
 pub const MIN_TYPE: u16 = 0x0600;
@@ -14,23 +15,32 @@ pub const MIN_LENGTH: u16 = 3;
 /// The greatest number of the Length/Type field that is a length (IEEE Std 802.3, 3.2.6).
 pub const MAX_LENGTH: u16 = 1500;
 
+/// Where the destination address stands (IEEE Std 802.3, 3.1.1).
+const DESTINATION: usize = 0;
+
+/// Where the source address stands.
+const SOURCE: usize = DESTINATION + ADDRESS_LEN;
+
+/// Where the Length/Type field stands, of two octets, the high one first.
+const LENGTH_OR_TYPE: usize = SOURCE + ADDRESS_LEN;
+
 /// How many octets stand before the payload: two addresses and the Length/Type field.
-pub const HEADER_LEN: usize = 14;
+pub const HEADER_LEN: usize = LENGTH_OR_TYPE + 2;
 
-/// How many octets the payload of a typed frame has at most: on the air eight octets are put before it, and a body has at most
-/// 2304 (IEEE Std 802.11-2016, 9.2.4.7.1).
-const MAX_TYPED_LEN: usize = 2296;
+/// How many octets the payload of a typed frame has at most: on the air the RFC 1042 header and the type are put before it, and
+/// the body of a frame has a limit (IEEE Std 802.11-2016, 9.2.4.7.1).
+const MAX_TYPED_LEN: usize = MAX_BODY_LEN - RFC1042_LEN;
 
-/// What the Length/Type field of a frame says.
+/// What the Length/Type field of a frame says (IEEE Std 802.3, 3.2.6).
 #[derive(Clone, Copy, Debug, PartialEq, Eq)]
 pub enum Kind {
     /// A type, from 0x0600 on.
     Typed(u16),
-    /// The length of the payload, 3 to 1500.
+    /// The length of the payload, 3 to 1500 (that shorter ones are not read is *profile*).
     Sized,
 }
 
-/// An Ethernet frame. Its payload is a part of the string that it was read from.
+/// An Ethernet frame (IEEE Std 802.3, 3.1.1). Its payload is a part of the string that it was read from.
 #[derive(Clone, Copy, Debug)]
 pub struct Ether<'a> {
     /// The destination address.
@@ -61,15 +71,15 @@ impl<'a> Ether<'a> {
             return Err(Unread::Short);
         }
         let (header, rest) = octets.split_at(HEADER_LEN);
-        let number = u16::from_be_bytes([header[12], header[13]]);
+        let number = u16::from_be_bytes([header[LENGTH_OR_TYPE], header[LENGTH_OR_TYPE + 1]]);
         let (kind, payload) = match number {
             MIN_TYPE.. => (Kind::Typed(number), typed_payload(rest)?),
             MIN_LENGTH..=MAX_LENGTH => (Kind::Sized, sized_payload(rest, usize::from(number))?),
             _ => return Err(Unread::Body),
         };
         Ok(Ether {
-            to: address_at(header, 0),
-            source: address_at(header, 6),
+            to: address_at(header, DESTINATION),
+            source: address_at(header, SOURCE),
             kind,
             payload,
         })
@@ -79,8 +89,8 @@ impl<'a> Ether<'a> {
 /// The payload of a frame that names a type: all that follows.
 fn typed_payload(rest: &[u8]) -> Result<&[u8], Unread>
     ensures { MatchResult result
-        (λ payload. (payload.now ≡ rest.now) × (length rest.now ≤ 2296))
-        (λ fault. (fault ≡ Unread.TooLong) × (2296 < length rest.now)) }
+        (λ payload. (payload.now ≡ rest.now) × (length rest.now ≤ MAX_TYPED_LEN))
+        (λ fault. (fault ≡ Unread.TooLong) × (MAX_TYPED_LEN < length rest.now)) }
 {
     if rest.len() > MAX_TYPED_LEN {
         return Err(Unread::TooLong);
@@ -95,21 +105,6 @@ fn sized_payload(rest: &[u8], len: usize) -> Result<&[u8], Unread>
         (λ fault. (fault ≡ Unread.Body) × (length rest.now < len)) }
 {
     rest.get(..len).ok_or(Unread::Body)
-}
-
-/// The six octets of a string from a place on, as an address.
-fn address_at(octets: &[u8], place: usize) -> MacAddr
-    requires { place + 6 ≤ length octets.now }
-    ensures { result ≡ take 6 (drop place octets.now) }
-{
-    MacAddr::new([
-        octets[place],
-        octets[place + 1],
-        octets[place + 2],
-        octets[place + 3],
-        octets[place + 4],
-        octets[place + 5],
-    ])
 }
 
 /// A string is at most one Ethernet frame, which is the one that the tests in their order give (IEEE Std 802.3, 3.2).

@@ -13,5 +13,5 @@ mod ethernet;
 #[cfg(test)]
 mod tests;
 
-pub use encapsulation::{body_comes_back, frame_comes_back, to_air, to_wire};
+pub use encapsulation::{RFC1042_LEN, body_comes_back, frame_comes_back, to_air, to_wire};
 pub use ethernet::{Ether, Kind, one_ethernet_frame};

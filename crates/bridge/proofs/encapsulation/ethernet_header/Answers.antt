@@ -1,5 +1,5 @@
-use Rattle.std.proofs.Common.{◌≡◌, List, [], ◌∷◌, ◌++◌, length, slice_index, sym, ap, ◌∙◌, rules}
-use Rattle.bridge.proofs.Cells.{cells, is_its_cells}
+use Rattle.std.proofs.Common.{◌≡◌, ◌++◌, length, sym, ap, ◌∙◌, rules}
+use Rattle.mac_frame.proofs.Cells.{cells, is_its_cells}
 use Rattle.bridge.proofs.encapsulation.ethernet_header.Goals as goal
 
 pub returns : goal.returns
