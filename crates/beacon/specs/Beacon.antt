@@ -1,14 +1,11 @@
 -- What a network announces of itself in a beacon (IEEE Std 802.11-2016, 9.3.3.3), octet by octet.
 use Rattle.std.specs.Prelude.{ℕ, ◌-◌, ◌%◌, Bool, ◌==◌, ◌&&◌, List, ◌++◌}
 use Rattle.mac_frame.specs.Address.{broadcast}
+pub use Rattle.mac_frame.specs.Management.{beacon_subtype}
 use Rattle.mac_frame.specs.Management.{management_header}
 use Rattle.elements.specs.Rates.{extended_rates}
 use Rattle.tim.specs.Tim.{tim_octets}
 use Rattle.beacon.specs.Advert.{Announced, fixed_fields, network_elements}
-
--- the subtype of a beacon (9.2.4.1.3)
-abbrev pub beacon_subtype : ℕ
-beacon_subtype = 8
 
 -- DTIM Count (9.4.2.6): how many beacons come before the next DTIM, 0 in a DTIM. The beacon at clock 1 is one (profile).
 unfoldable pub dtim_count : ℕ → ℕ → ℕ

@@ -27,7 +27,7 @@ pub struct Advert<'a> {
     pub channel: u8,
     /// The beacon interval in time units of 1024 microseconds (9.4.1.3).
     pub interval: u16,
-    /// How many beacon intervals have begun since the network was made.
+    /// How many beacon intervals have begun since the network was made (*profile*).
     pub clock: u32,
     /// The sequence number of the frame, below 4096 (9.2.4.4.2).
     pub seq: u16,

@@ -7,18 +7,17 @@ ghost use Rattle.beacon.specs.Beacon.{beacon, beacon_body, beacon_tim, dtim_coun
 
 use crate::advert::{Advert, FIXED_LEN, append_fixed_fields, append_network_elements};
 use elements::write_extended_rates;
-use mac_frame::{MacAddr, NoMemory, Octets, write_mgmt};
+use mac_frame::{BEACON, MacAddr, NoMemory, Octets, write_mgmt};
 use tim::{Bitmap, write_tim};
-
-/// The subtype of a beacon (9.2.4.1.3).
-const BEACON: u8 = 8;
 
 /// The octets of a TIM with one octet of the virtual bitmap, the fewest that it has (9.4.2.6).
 const LEAST_TIM_LEN: usize = 6;
 
-/// Appends a whole beacon to the broadcast address (9.3.3.3). `period` is the DTIM period: one of so many beacons is a DTIM.
-/// `group` tells whether units for the group are kept, which the TIM of a DTIM alone shows; `bits` has the association
-/// identifiers of the stations for which units are kept. After `NoMemory` `out` is as it was.
+/// Appends a whole beacon to the broadcast address (9.3.3.3), of a network whose clock is at least 1, with an SSID of at most 32
+/// octets (9.4.2.2), 1 to 16 rates (*profile*) and a sequence number below 4096 (9.2.4.4.2). `period`, at least 1, is the DTIM
+/// period: one of so many beacons is a DTIM (9.4.2.6). `group` tells whether units for the group are kept, which the TIM of a
+/// DTIM alone shows; `bits` has the association identifiers of the stations for which units are kept. After `NoMemory` `out` is
+/// as it was.
 pub fn write_beacon(
     out: &mut Octets,
     advert: &Advert<'_>,
@@ -37,7 +36,7 @@ pub fn write_beacon(
 {
     let len = out.as_slice().len();
     out.reserve(FIXED_LEN + LEAST_TIM_LEN + advert.ssid.len() + advert.rates.len())?;
-    write_mgmt(out, BEACON, MacAddr::new([0xff; 6]), advert.bss, advert.seq)?;
+    write_mgmt(out, BEACON, MacAddr::BROADCAST, advert.bss, advert.seq)?;
     let written = append_body(out, advert, period, group, bits);
     out.roll_back(len, written)
 }
