@@ -31,8 +31,8 @@ mod unit;
 pub use bss::{Bss, Refusal};
 pub use checking::{is_taken, rates_fit};
 pub use config::{
-    ConfigFault, MAX_CHANNEL, MAX_EVENTS, MAX_KNOWN, MAX_NETWORKS, MAX_QUEUE, MAX_QUOTA,
-    MAX_RATE, MAX_RATES, MAX_SSID_LEN, MAX_STATIONS, NetConfig, RadioConfig,
+    ConfigFault, MAX_CHANNEL, MAX_EVENTS, MAX_KNOWN, MAX_NETWORKS, MAX_QUEUE, MAX_QUOTA, MAX_RATE,
+    MAX_RATES, MAX_SSID_LEN, MAX_STATIONS, NetConfig, RadioConfig,
 };
 pub use event::{Event, hears};
 pub use laws::{checked_networks, one_step, reachable, sent_frames, two_worlds};

@@ -32,9 +32,9 @@ returns-in-Now-clause-ok c =
     let sent : (bss : List ℕ) → Reply = λ bss. sending r (unit_frame bss false u) in
     where-ok c.send_unit.result
     (λ is. delivered s u r n Now c.requires.awake c.requires.none_arrives (sym c.in-Now.is ∙ c.delivery_of.ensures)
-        ∙ after-sent r n (unit_frame s.network.bssid false u)
-        ∙ ap (λ (t : Setting). after_reply (sent t.network.bssid) n) (sym c.setting.ensures.setting)
-        ∙ ap (λ (q : Reply). after_reply q n) (sym is))
+    ∙ after-sent r n (unit_frame s.network.bssid false u)
+    ∙ ap (λ (t : Setting). after_reply (sent t.network.bssid) n) (sym c.setting.ensures.setting)
+    ∙ ap (λ (q : Reply). after_reply q n) (sym is))
     c.send_unit.ensures.ok
 
 pub returns-in-Kept-clause-ok : goal.returns-in-Kept-clause-ok
