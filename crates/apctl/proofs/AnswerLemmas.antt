@@ -5,7 +5,7 @@ use Rattle.bss_core.specs.declared.config.RadioConfig.{RadioConfig}
 use Rattle.bss_core.specs.declared.section.Section.{Section}
 use Rattle.trace.specs.declared.configuration.fault.ConfigTextFault.{ConfigTextFault}
 use Rattle.trace.specs.declared.configuration.fault.ConfigTextFault.TheVariants as config
-use Rattle.workers.specs.declared.line.Line.{Line}
+use Rattle.bss_core.specs.declared.line.Line.{Line}
 use Rattle.trace.specs.declared.fault.TraceTextFault.{TraceTextFault}
 use Rattle.trace.specs.declared.fault.TraceTextFault.TheVariants as trace
 use Rattle.trace.specs.declared.report.ReportFault.{ReportFault}

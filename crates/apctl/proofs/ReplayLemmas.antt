@@ -6,9 +6,9 @@ use Rattle.mac_frame.specs.Hearing.{is_heard}
 use Rattle.bss_core.specs.declared.config.NetConfig.{NetConfig}
 use Rattle.bss_core.specs.declared.event.Event.{Event}
 use Rattle.bss_core.specs.declared.event.Event.TheVariants as event
-use Rattle.workers.specs.Lines.{heard_of, heard, own_events, taken_of}
-use Rattle.workers.specs.declared.line.Line.{Line}
-use Rattle.workers.specs.declared.line.Line.TheVariants.{Air, Wire, Tick}
+use Rattle.bss_core.specs.Lines.{heard_of, heard, own_events, taken_of}
+use Rattle.bss_core.specs.declared.line.Line.{Line}
+use Rattle.bss_core.specs.declared.line.Line.TheVariants.{Air, Wire, Tick}
 
 -- a line has one event at most
 cond_length : (b : Bool) (e : Event) → length (cond b (e ∷ []) []) ≤ 1

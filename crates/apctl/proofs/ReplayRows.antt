@@ -4,9 +4,9 @@ use Rattle.bss_core.specs.Section.{section_of}
 use Rattle.bss_core.specs.declared.config.NetConfig.{NetConfig}
 use Rattle.bss_core.specs.declared.event.Event.TheVariants as event
 use Rattle.bss_core.proofs.Samples.{bssid, station, network, setting, radio, probe, probe_for_another}
-use Rattle.workers.specs.Lines.{heard, own_events}
+use Rattle.bss_core.specs.Lines.{heard, own_events}
 use Rattle.apctl.specs.Replay.{sections_of}
-use Rattle.workers.specs.declared.line.Line.TheVariants.{Air, Wire, Tick}
+use Rattle.bss_core.specs.declared.line.Line.TheVariants.{Air, Wire, Tick}
 
 -- an acknowledgement to the network, of ten octets
 abbrev to_the_network : List ℕ

@@ -18,8 +18,8 @@ use Rattle.bss_core.specs.declared.config.RadioConfig.{RadioConfig}
 use Rattle.bss_core.specs.declared.event.Event.{Event}
 use Rattle.bss_core.specs.declared.section.Section.{Section}
 use Rattle.bss_core.specs.declared.setting.Setting.{Setting}
-use Rattle.workers.specs.Lines.{own_events, taken_of}
-use Rattle.workers.specs.declared.line.Line.{Line}
+use Rattle.bss_core.specs.Lines.{own_events, taken_of}
+use Rattle.bss_core.specs.declared.line.Line.{Line}
 use Rattle.apctl.specs.Replay.{left_at, none_left, IsDrained, TakesLine, sections_of, sections_at}
 use Rattle.apctl.proofs.ReplayLemmas.{own_events-push}
 

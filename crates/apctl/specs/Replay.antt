@@ -10,8 +10,8 @@ use Rattle.bss_core.specs.Section.{section_of}
 use Rattle.bss_core.specs.declared.config.RadioConfig.{RadioConfig}
 use Rattle.bss_core.specs.declared.event.Event.{Event}
 use Rattle.bss_core.specs.declared.section.Section.{Section}
-use Rattle.workers.specs.declared.line.Line.{Line}
-use Rattle.workers.specs.Lines.{own_events, taken_of}
+use Rattle.bss_core.specs.declared.line.Line.{Line}
+use Rattle.bss_core.specs.Lines.{own_events, taken_of}
 
 -- the section of each network, in order of place: alone with its own events of the lines
 abbrev pub sections_of : RadioConfig → List Line → List Section

@@ -3,7 +3,7 @@
 ghost use Rattle.std.specs.Prelude.{◌≡◌, ◌<◌, ◌+◌, ℕ, [], false, None, IsTrue, IfSome, IfNone, IfOk, OnOk, length};
 ghost use Rattle.bss_core.specs.Configuration.{fault_of};
 ghost use Rattle.bss_core.specs.RadioView.{fresh_radio, view_at};
-ghost use Rattle.workers.specs.declared.line.Line.TheVariants as Lines;
+ghost use Rattle.bss_core.specs.declared.line.Line.TheVariants as Lines;
 ghost use Rattle.trace.specs.Sinks.{MayFail};
 ghost use Rattle.apctl.specs.Answer.{Ends, answer_of};
 ghost use Rattle.apctl.specs.Faults.{failures_of_text};
@@ -12,12 +12,11 @@ ghost use Rattle.apctl.specs.Replay.{IsDrained, TakesAt, TakesLine, sections_of,
 use crate::left::Left;
 use crate::text_fault::TextFault;
 use bss_core::{
-    Event, Handed, OpenFault, Radio, RadioConfig, Refusal, Section, hears, sent_frames,
+    Event, Handed, Line, OpenFault, Radio, RadioConfig, Refusal, Section, hears, sent_frames,
 };
 use mac_frame::{List, NoMemory, Octets};
 use std::alloc::Global;
 use trace::{Sink, read_config, read_trace, write_report};
-use workers::Line;
 
 /// Reads a configuration and a trace, lets each network take what it hears of the trace's lines, in order, and
 /// lets every frame leave as soon as it waits; then appends the report of all networks to what `out` has taken.

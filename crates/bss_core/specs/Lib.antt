@@ -11,4 +11,5 @@ pub mod Replies
 pub mod Radio
 pub mod RadioView
 pub mod Running
+pub mod Lines
 pub mod Worlds

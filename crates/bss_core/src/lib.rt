@@ -19,6 +19,7 @@ mod event;
 mod frames;
 mod keeping;
 mod laws;
+mod line;
 mod radio;
 mod reply;
 mod running;
@@ -36,6 +37,7 @@ pub use config::{
 };
 pub use event::{Event, hears};
 pub use laws::{checked_networks, one_step, reachable, sent_frames, two_worlds};
+pub use line::Line;
 pub use radio::{OpenFault, Radio};
 pub use running::{RunResult, run};
 pub use section::{Counts, Section, StationRow};

@@ -5,7 +5,7 @@ use Rattle.hex.proofs.OnLiterals.{hex_on_literals}
 use Rattle.bss_core.specs.declared.config.RadioConfig.{RadioConfig}
 use Rattle.bss_core.proofs.Samples.{network, radio}
 use Rattle.trace.specs.TraceText.{lines_of, lines_from}
-use Rattle.workers.specs.declared.line.Line.TheVariants.{Air, Wire, Tick}
+use Rattle.bss_core.specs.declared.line.Line.TheVariants.{Air, Wire, Tick}
 use Rattle.trace.specs.declared.fault.TraceFault.{TraceFault}
 
 abbrev tab : List ℕ

@@ -9,7 +9,7 @@ use Rattle.std.specs.Option.{option_to_list}
 use Rattle.bss_core.specs.declared.config.RadioConfig.{RadioConfig}
 use Rattle.trace.specs.Faults.{◌>>=◌}
 use Rattle.trace.specs.TraceText.{is_space, digits_of, without_spaces_at_start, line_of, lines_from}
-use Rattle.workers.specs.declared.line.Line.{Line}
+use Rattle.bss_core.specs.declared.line.Line.{Line}
 use Rattle.trace.specs.declared.fault.TraceFault.{TraceFault}
 use Rattle.trace.proofs.TextLemmas.{around_line_feed, prefix_lacks, lacks_from_none, cut-ended, cut-last}
 

@@ -10,8 +10,8 @@ use Rattle.hex.specs.declared.error.FromHexError.TheVariants.{OutOfMemory}
 use Rattle.mac_frame.specs.Address.{address_of}
 use Rattle.bss_core.specs.declared.config.NetConfig.{NetConfig}
 use Rattle.bss_core.specs.declared.config.RadioConfig.{RadioConfig}
-use Rattle.workers.specs.declared.line.Line.{Line}
-use Rattle.workers.specs.declared.line.Line.TheVariants.{Air, Wire, Tick}
+use Rattle.bss_core.specs.declared.line.Line.{Line}
+use Rattle.bss_core.specs.declared.line.Line.TheVariants.{Air, Wire, Tick}
 use Rattle.trace.specs.Faults.{◌>>=◌}
 use Rattle.trace.specs.declared.fault.TraceFault.{TraceFault}
 use Rattle.trace.specs.declared.fault.TraceTextFault.{TraceTextFault}

@@ -8,11 +8,10 @@ ghost use Rattle.hex.specs.Hex.{decode_of};
 
 use crate::fault::LineFault;
 use crate::text::place_of;
-use bss_core::{NetConfig, RadioConfig};
+use bss_core::{Line, NetConfig, RadioConfig};
 use mac_frame::{MacAddr, Octets};
 use std::alloc::{AllocError, Global};
 use std::str;
-use workers::Line;
 
 /// The most octets of a string.
 const MAX_OCTETS: usize = 4096;

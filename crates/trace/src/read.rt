@@ -10,9 +10,8 @@ ghost use Rattle.trace.specs.TraceText.{line_of, lines_of, trace_fault};
 use crate::fault::{LineFault, TraceTextFault};
 use crate::line::{read_content, without_spaces_at_end};
 use crate::text::place_of;
-use bss_core::RadioConfig;
+use bss_core::{Line, RadioConfig};
 use std::alloc::Global;
-use workers::Line;
 
 /// The most lines of a text.
 const MAX_LINES: u32 = 1_000_000;

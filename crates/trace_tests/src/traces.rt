@@ -1,9 +1,8 @@
-use bss_core::{NetConfig, RadioConfig};
+use bss_core::{Line, NetConfig, RadioConfig};
 use mac_frame::{List, MacAddr, Octets};
 use std::alloc::{AllocError, Global};
 use std::test::Fail;
 use trace::{TraceFault, TraceTextFault, read_trace};
-use workers::Line;
 
 /// A network whose address ends with this octet.
 fn network(alloc: Global, last: u8) -> NetConfig {

@@ -1,10 +1,8 @@
-//! What happens to the networks of a radio, as whoever hears it says it.
+//! What several threads will share of a radio: today the type [`Line`] alone, which `bss_core` has and this crate gives on.
 //!
-//! It has the type [`Line`] alone, and the definitions of which lines a network hears and which of them it takes.
+//! Its definitions stand beside it: which lines a network hears, and which of them it takes. Nothing else is promised yet.
 //!
 //! Who takes the lines, and when, is left to the crates above.
 #![tactic(auto)]
 
-mod line;
-
-pub use line::Line;
+pub use bss_core::Line;

@@ -2,7 +2,7 @@ use Rattle.std.proofs.Common.{◌≡◌, ◌++◌, ℕ, ◌<◌, length}
 use Rattle.std.specs.Vec.Iter.{into_iter_items}
 use Rattle.bss_core.specs.Radio.{network_at}
 use Rattle.bss_core.specs.RadioView.{view_at}
-use Rattle.workers.specs.Lines.{own_events}
+use Rattle.bss_core.specs.Lines.{own_events}
 use Rattle.apctl.specs.Replay.{IsDrained}
 use Rattle.apctl.proofs.replay.replay.Given as goal
 

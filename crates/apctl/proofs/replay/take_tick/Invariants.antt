@@ -1,4 +1,4 @@
-use Rattle.workers.specs.declared.line.Line.TheVariants.{Tick}
+use Rattle.bss_core.specs.declared.line.Line.TheVariants.{Tick}
 use Rattle.apctl.specs.Replay.{IsDrained}
 use Rattle.apctl.proofs.LineSteps.{TakesBelow}
 use Rattle.apctl.proofs.replay.take_tick.Given as goal

@@ -1,5 +1,5 @@
 use Rattle.std.proofs.Common.{◌≡◌, ◌+◌, List, Ok, Some, ap, sym, ◌∙◌, arith}
-use Rattle.workers.specs.declared.line.Line.{Line}
+use Rattle.bss_core.specs.declared.line.Line.{Line}
 use Rattle.trace.specs.TraceText.{line_of, lines_from}
 use Rattle.trace.proofs.TraceSteps.{said_after, said-more}
 use Rattle.std.specs.Str.Lines.{lines}

@@ -4,8 +4,8 @@ use Rattle.mac_frame.specs.Hearing.{is_heard}
 use Rattle.bss_core.specs.declared.config.NetConfig.{NetConfig}
 use Rattle.bss_core.specs.declared.event.Event.{Event}
 use Rattle.bss_core.specs.declared.event.Event.TheVariants as event
-use Rattle.workers.specs.declared.line.Line.{Line}
-use Rattle.workers.specs.declared.line.Line.TheVariants as line
+use Rattle.bss_core.specs.declared.line.Line.{Line}
+use Rattle.bss_core.specs.declared.line.Line.TheVariants as line
 
 -- The event of a line, where the network with this place and this BSSID hears it: a string on the air by its Address 1,
 -- a frame on the wire by the place that it names, and every tick.
