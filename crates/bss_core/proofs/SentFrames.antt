@@ -9,7 +9,7 @@ use Rattle.association.specs.Request.{Request, Probe, Auth, Assoc, Disassoc, Dea
 use Rattle.association.specs.Asked.{class_of}
 use Rattle.association.specs.Status.{success}
 use Rattle.association.specs.Authentication.{authentication}
-use Rattle.association.specs.Association.{association_response}
+use Rattle.association.specs.Joining.{association_response}
 use Rattle.association.specs.Leaving.{notice_frame}
 use Rattle.station_state.specs.ClassFault.{class_fault}
 use Rattle.station_state.specs.declared.class.Notice.{Notice}

@@ -24,7 +24,7 @@ pub use data::write_msdu;
 pub use frame::{Rx, Unread, decode};
 pub use header::{ADDRESS_LEN, HEADER_LEN, MAX_BODY_LEN, address_at, addressed};
 pub use item_list::List;
-pub use laws::{body_has_octets, frame_is_addressed, hearing, one_frame};
+pub use laws::{address_comes_back, body_has_octets, frame_is_addressed, hearing, one_frame};
 pub use management::{
     ASSOCIATION_REQUEST, ASSOCIATION_RESPONSE, AUTHENTICATION, BEACON, CAPABILITY,
     DEAUTHENTICATION, DISASSOCIATION, PROBE_REQUEST, PROBE_RESPONSE, REASSOCIATION_REQUEST,
@@ -32,6 +32,7 @@ pub use management::{
 };
 pub use memory::NoMemory;
 pub use octet_string::Octets;
+pub use ps_poll::AID_HIGH_BITS;
 
 #[cfg(test)]
 mod tests;
