@@ -27,8 +27,8 @@ pub use item_list::List;
 pub use laws::{address_comes_back, body_has_octets, frame_is_addressed, hearing, one_frame};
 pub use management::{
     ASSOCIATION_REQUEST, ASSOCIATION_RESPONSE, AUTHENTICATION, BEACON, CAPABILITY,
-    DEAUTHENTICATION, DISASSOCIATION, PROBE_REQUEST, PROBE_RESPONSE, REASSOCIATION_REQUEST,
-    REASSOCIATION_RESPONSE, write_mgmt,
+    DEAUTHENTICATION, DISASSOCIATION, MAX_AID, PROBE_REQUEST, PROBE_RESPONSE,
+    REASSOCIATION_REQUEST, REASSOCIATION_RESPONSE, write_mgmt,
 };
 pub use memory::NoMemory;
 pub use octet_string::Octets;

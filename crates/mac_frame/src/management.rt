@@ -51,6 +51,9 @@ pub const DEAUTHENTICATION: u8 = 12;
 /// Capability Information as it is sent: ESS alone (9.4.1.4).
 pub const CAPABILITY: u16 = 1;
 
+/// The greatest association identifier (9.4.1.8). The least is 1.
+pub const MAX_AID: u16 = 2007;
+
 /// Whether a frame is a management frame of a subtype that is read (9.2.4.1.3).
 pub fn is_management_read(control: FrameControl) -> bool
     ensures { result ≡ is_management_read control }
