@@ -9,13 +9,14 @@ ghost use Rattle.bss_core.specs.declared.config.RadioConfig.{RadioConfig};
 ghost use Rattle.bss_core.specs.declared.event.Event.{Event};
 ghost use Rattle.bss_core.specs.declared.radio.step.Step.{Step};
 ghost use Rattle.bss_core.specs.Radio.{after_steps, items_of, sections_after};
-ghost use Rattle.bss_core.specs.State.{sent_by};
+ghost use Rattle.bss_core.specs.BssView.{sent_by};
 ghost use Rattle.bss_core.specs.Worlds.{AreAlike, AreCutFromOne};
 
-/// What holds of every network that events make of an empty one, where its configuration has no fault: what it keeps and
-/// what it lost are together two units at most for each event that it took.
+/// What holds of every network that events make of an empty one, where its configuration has no fault: what it keeps
+/// and what it lost are together two units at most for each event that it took.
 pub fn reachable()
-    ensures { (s : Setting) (es : List Event) → network_fault s.network ≡ None → IsSoundNetwork s (length es) (2 * length es) (alone s es) }
+    ensures { (s : Setting) (es : List Event) → network_fault s.network ≡ None
+        → IsSoundNetwork s (length es) (2 * length es) (alone s es) }
 {}
 
 /// A network alone begins empty, and each further event is one further step.
@@ -33,7 +34,8 @@ pub fn checked_networks()
 
 /// The frames that a network sent stay, in their order: those of a further event come after them.
 pub fn sent_frames()
-    ensures { (s : Setting) (es : List Event) (e : Event) → (alone s (es ++ e ∷ [])).air ≡ (alone s es).air ++ sent_by s es e }
+    ensures { (s : Setting) (es : List Event) (e : Event)
+        → (alone s (es ++ e ∷ [])).air ≡ (alone s es).air ++ sent_by s es e }
 {}
 
 /// No network of a radio can touch another. Whatever two radios are and whatever happens to them: where a network of

@@ -1,12 +1,15 @@
 //! A network of an access point, alone, and a radio of several (IEEE Std 802.11-2016, 11.1 to 11.3).
 //!
-//! A [`Bss`] is a deterministic state machine: it takes events and keeps what it sends in a list; it has no
-//! socket, no clock and no thread. It promises that its table, its counts and its wired frames are what its
-//! configuration and its history give, by the definition `alone`, in which no other network, no queue and no thread
-//! stands; and that [`Bss::take`] appends to the frames that wait exactly those that the event adds to the frames
-//! of `alone`. Which frames wait depends besides on what [`Bss::take_front`] took out and on what
-//! [`Bss::give_back`] put back, which may be any octets. [`RadioConfig::check`] says which configurations are
-//! sound.
+//! Three names to know first: a [`Bss`] is one network, a [`Radio`] is several networks and the queue of frames that are
+//! about to leave, and [`run`] makes a list of steps with a radio and ends in a section for each network.
+//!
+//! A network is a deterministic state machine: it takes events and keeps what it sends in a list; it has no socket, no
+//! clock and no thread. It promises that its table, its counts and its wired frames are what its configuration and its
+//! history give, by the definition `alone`, in which no other network, no queue and no thread stands; and that
+//! [`Bss::take`] appends to the frames that wait exactly those that the event adds to the frames of `alone`. Which
+//! frames wait depends besides on what [`Bss::take_front`] took out and on what [`Bss::give_back`] put back, which may
+//! be any octets. A radio promises that none of its networks reaches another, and that no frame is lost or doubled on
+//! its way. [`RadioConfig::check`] says which configurations are sound.
 //!
 //! When frames leave, and where events come from, is left to the crates above.
 #![tactic(auto)]
@@ -16,8 +19,6 @@ mod bss;
 mod checking;
 mod config;
 mod event;
-mod frames;
-mod keeping;
 mod laws;
 mod limits;
 mod line;
@@ -26,7 +27,6 @@ mod reply;
 mod section;
 mod setting;
 mod stations;
-mod unit;
 
 pub use bss::{Bss, Refusal};
 pub use checking::{is_taken, rates_fit, stations_fit};

@@ -4,7 +4,7 @@ use Rattle.std.proofs.lemmas.Result.{err_from_is_err_and}
 use Rattle.bss_core.specs.Radio.{RadioState, after_steps, sections_after, items_of, waiting_at}
 use Rattle.bss_core.specs.RadioView.{RadioView}
 use Rattle.bss_core.specs.Running.{IsAt, sections_with}
-use Rattle.bss_core.specs.State.{State}
+use Rattle.bss_core.specs.BssView.{BssView}
 use Rattle.bss_core.specs.declared.config.RadioConfig.{RadioConfig}
 use Rattle.bss_core.specs.declared.radio.OpenFault.{OpenFault}
 use Rattle.bss_core.specs.declared.radio.OpenFault.TheVariants.{Config}
@@ -53,7 +53,7 @@ returns-clause-sections c =
     let steps : List Step = c.args.steps.now in
     let radio : RadioView = c.loop-step.radio in
     let left : List AirItem = c.loop-step.left.items in
-    let networks : List State = c.into_parts-networks.result.0 in
+    let networks : List BssView = c.into_parts-networks.result.0 in
     let parts = c.into_parts-networks.ensures in
     let all : take c.loop-step.step-index steps ≡ steps = take_all c.loop-step.step-index steps c.loop-step-test.false in
     let at = subst (λ (xs : List Step). IsAt (after_steps radio.config xs) radio left) all c.loop-step.invariant.at in

@@ -1,7 +1,7 @@
 use Rattle.std.proofs.Common.{◌≡◌, ◌+◌, ◌≤◌, ◌++◌, length}
 use Rattle.std.specs.Vec.Iter.{into_iter_items}
 use Rattle.std.specs.VecDeque.{deque_len, deque_capacity}
-use Rattle.bss_core.proofs.frames.Frames.append_to.Given as goal
+use Rattle.bss_core.proofs.reply.frames.Frames.append_to.Given as goal
 
 abbrev pub invariant-loop-frame : goal.invariant-loop-frame
 invariant-loop-frame l = record {

@@ -6,14 +6,14 @@ use Rattle.bss_core.specs.declared.event.Event.{Event}
 
 -- its setting, the events that it took, the frames that wait to leave, and whether there is a slot for one to be
 -- given back; its table, its counts and its wired frames are those of `alone` of the setting and the history
-pub record State : Type 0 where
+pub record BssView : Type 0 where
   pub setting : Setting
   pub history : List Event
   pub waiting : List (List ℕ)
   pub has_slot : Bool
 
 -- the network of a state
-abbrev pub network_of : State → Network
+abbrev pub network_of : BssView → Network
 network_of s = alone s.setting s.history
 
 -- the frames that an event adds to those that a network sent
@@ -26,7 +26,7 @@ wired_by s es e = drop (length (alone s es).wire) (alone s (es ++ e ∷ [])).wir
 
 -- what a network keeps of itself: a bounded history, and what its history makes of it but for the frames that it
 -- sent on the air
-pub record Keeps (s : Setting) (history : List Event) (kept : Network) : Type 0 where
+pub record IsAfterHistory (s : Setting) (history : List Event) (kept : Network) : Type 0 where
   pub bounded : length history ≤ s.network.max_events
   pub sound : network_fault s.network ≡ None
   pub same : record (alone s history) { air = [] } ≡ kept

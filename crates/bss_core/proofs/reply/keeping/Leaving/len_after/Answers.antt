@@ -1,10 +1,10 @@
-use Rattle.std.proofs.Common.{◌≡◌, ℕ, ◌-◌, List, length, ap, ◌∙◌, arith}
+use Rattle.std.proofs.Common.{◌≡◌, ℕ, List, length, ap, ◌∙◌, arith}
 use Rattle.std.specs.Prelude.{min}
 use Rattle.powersave.specs.Keep.{Entry, units_for, without_all, without_oldest}
 use Rattle.bss_core.specs.Replies.{without}
-use Rattle.bss_core.specs.declared.keeping.Leaving.{Leaving}
+use Rattle.bss_core.specs.declared.reply.keeping.Leaving.{Leaving}
 use Rattle.bss_core.proofs.UnitsKept.{length-parted, length-oldest}
-use Rattle.bss_core.proofs.keeping.Leaving.len_after.Goals as goal
+use Rattle.bss_core.proofs.reply.keeping.Leaving.len_after.Goals as goal
 
 pub overflow_sub-result : goal.overflow_sub-result
 overflow_sub-result c = omega (arith, c.count_for.ensures, c.len-in-All.ensures, length-parted c.in-All.whom c.args.keep.now.entries)

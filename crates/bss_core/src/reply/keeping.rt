@@ -79,7 +79,10 @@ impl Keeping {
 
 /// Takes out the units that leave.
 fn leave(leaving: Leaving, keep: &mut Keep)
-    ensures { keep.new ≡ record keep.old { entries = without leaving keep.old.entries; reserved = room_after leaving keep.old.reserved } }
+    ensures { keep.new ≡ record keep.old {
+      entries = without leaving keep.old.entries;
+      reserved = room_after leaving keep.old.reserved;
+    } }
 {
     match leaving {
         Leaving::Nothing => {}
