@@ -3,11 +3,12 @@
 
 .PHONY: run try try-check test wrong bench apctl
 
-# What `run` and `try` give to the program, a configuration and a trace: a file, named from the folder in which make runs.
+# What `run` and `try` give to the program, a configuration and a trace: a file, named from the folder in which make
+# runs.
 INPUT = examples/three_networks_over_some_intervals/input
 
-# Proves what the program stands on, builds it and runs it. Lines on standard error tell how far it is; the report is all
-# that stands on standard output, and comes last.
+# Proves what the program stands on, builds it and runs it. Lines on standard error tell how far it is; the report is
+# all that stands on standard output, and comes last.
 run: apctl
 	@build/apctl < "$(INPUT)"
 
@@ -19,14 +20,14 @@ try:
 try-check:
 	@.ci/try "$(CONFIG)"
 
-# The gate. Proves every crate from nothing, tries each edit of crates/*/must-fail, runs each test, runs the program that
-# was built of what was proved over the examples and with one growth after another refused, and finds edits of wrong/
-# that can't be applied. The last line is 'N passed, M failed'.
+# The gate. Proves every crate from nothing, tries each edit of crates/*/must-fail, runs each test, runs the program
+# that was built of what was proved over the examples and with one growth after another refused, and finds edits of
+# wrong/ that can't be applied. The last line is 'N passed, M failed'.
 test:
 	@.ci/gate
 
-# Tries the wrong bodies of wrong/, which the gate doesn't try: all, or with NAME=bss_core those of one crate, as many at
-# a time as there are processors, or with JOBS=2 two. The last line is 'N refused, M not'.
+# Tries the wrong bodies of wrong/, which the gate doesn't try: all, or with NAME=bss_core those of one crate, as many
+# at a time as there are processors, or with JOBS=2 two. The last line is 'N refused, M not'.
 wrong:
 	@JOBS="$(JOBS)" wrong/try $(NAME)
 
