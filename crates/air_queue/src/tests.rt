@@ -16,7 +16,7 @@ use std::thread::Threads;
 /// How many frames each thread pushes.
 const FRAMES: u8 = 100;
 
-/// How often each thread tries at most.
+/// How often a thread tries to push one frame at most, and how often one tries to pop in all.
 const TURNS: u32 = 1_000_000;
 
 /// A frame of one octet.
