@@ -1,21 +1,28 @@
 -- Texts that are put one after the other.
 use Rattle.std.proofs.Common.{◌≡◌, ℕ, ◌+◌, ◌<◌, ◌≤◌, List, [], ◌∷◌, ◌++◌, Option, Result, Ok, Err, length, take, drop, get_or, refl, sym, ap, ◌∙◌, subst, append-nil, take-append-drop, arith}
 use Rattle.std.specs.Prelude.{flat_map}
-use Rattle.std.specs.Result.{IsErrAnd, OnOk, OnErr}
+use Rattle.std.specs.Result.{IsErrAnd, OnOk}
 use Rattle.std.specs.Io.KnownBytes.{Appends}
 use Rattle.std.proofs.lemmas.Result.{on_ok_weaker, on_err_weaker}
 use Rattle.std.proofs.lemmas.List.{take_more, take_all}
 use Rattle.std.proofs.lemmas.List.Concat.{flat_map-append}
 use Rattle.trace.specs.Buffers.{Puts}
-use Rattle.trace.specs.Sinks.{AppendsPrefix}
+use Rattle.trace.specs.Endings.{AppendsPrefix, Ends}
+use Rattle.trace.specs.Sinks.{report_ending}
 use Rattle.trace.specs.declared.report.ReportFault.{ReportFault}
-use Rattle.trace.specs.declared.report.ReportFault.TheVariants.{NoMemory}
+use Rattle.trace.specs.declared.report.ReportFault.TheVariants.{Write, NoMemory}
 use Rattle.trace.specs.declared.report.buffer.Buffered.{Buffered}
 use Rattle.trace.proofs.SinkSteps.{Delivers-nothing, Delivers-then, Stops-second, Stops-first, Stops-between, Appends-delivered, AppendsPrefix-stopped}
 
 -- a text was put, and no write failed
 abbrev pub HasPut : {W : Type 0} → (W → Option (List ℕ)) → (W → ℕ) → Buffered W → Buffered W → List ℕ → Type 0
 HasPut taken failed old new text = Puts taken failed (Ok tt) old new text
+
+-- after either fault a prefix of the text is there
+Ends-prefix : (fault : ReportFault) {old new : Option (List ℕ)} {text : List ℕ}
+    → AppendsPrefix old new text → Ends report_ending (Err {T = Unit} fault) (Ok text) old new
+Ends-prefix Write part = part
+Ends-prefix NoMemory part = part
 
 -- ---- the texts of items, as lists
 
@@ -84,19 +91,18 @@ module _ {W : Type 0} {taken : W → Option (List ℕ)} {failed : W → ℕ} whe
   -- ---- the whole way, from an empty piece
 
   -- a text was put in part
-  pub Puts-stopped : {fault : ReportFault} {a b : Buffered W} {t : List ℕ} → Puts taken failed (Err fault) a b t → a.piece.now.items ≡ []
-      → AppendsPrefix (taken a.sink.now) (taken b.sink.now) t
-  Puts-stopped d empty = AppendsPrefix-stopped d.err empty
+  pub Puts-stopped : (r : Result Unit ReportFault) {fault : ReportFault} {a b : Buffered W} {t : List ℕ}
+      → IsErrAnd r (λ e. e ≡ fault) → Puts taken failed (Err fault) a b t → a.piece.now.items ≡ []
+      → Ends report_ending r (Ok t) (taken a.sink.now) (taken b.sink.now)
+  Puts-stopped (Ok x) bad d empty = absurd bad
+  Puts-stopped (Err e) same d empty = Ends-prefix e (AppendsPrefix-stopped d.err empty)
 
   -- a text was put, and then the piece was written
-  pub Puts-flushed : (r : Result Unit ReportFault) {a b c : Buffered W} {t : List ℕ} → HasPut taken failed a b t → Puts taken failed r b c [] → OnOk r (c.piece.now.items ≡ [])
-      → a.piece.now.items ≡ [] → OnOk r (Appends (taken a.sink.now) (taken c.sink.now) t) × OnErr r (AppendsPrefix (taken a.sink.now) (taken c.sink.now) t)
+  pub Puts-flushed : (r : Result Unit ReportFault) {a b c : Buffered W} {t : List ℕ}
+      → HasPut taken failed a b t → Puts taken failed r b c [] → OnOk r (c.piece.now.items ≡ []) → a.piece.now.items ≡ []
+      → Ends report_ending r (Ok t) (taken a.sink.now) (taken c.sink.now)
   Puts-flushed (Ok x) {a} {c = c} {t} d e written empty =
-      (subst (Appends (taken a.sink.now) (taken c.sink.now)) (append-nil t) (Appends-delivered (Delivers-then d.ok e.ok) empty written), tt)
+      subst (Appends (taken a.sink.now) (taken c.sink.now)) (append-nil t) (Appends-delivered (Delivers-then d.ok e.ok) empty written)
   Puts-flushed (Err x) {a} {c = c} {t} d e written empty =
-      (tt, subst (AppendsPrefix (taken a.sink.now) (taken c.sink.now)) (append-nil t) (AppendsPrefix-stopped (Stops-second d.ok e.err) empty))
-
--- a fact that holds in any case
-pub OnErr-always : {T E P : Type 0} (r : Result T E) → P → OnErr r P
-OnErr-always (Ok x) h = tt
-OnErr-always (Err e) h = h
+      Ends-prefix x
+      (subst (AppendsPrefix (taken a.sink.now) (taken c.sink.now)) (append-nil t) (AppendsPrefix-stopped (Stops-second d.ok e.err) empty))

@@ -8,7 +8,8 @@ use Rattle.toml.specs.declared.value.Value.{Value}
 use Rattle.toml.proofs.Views.{items_view-drop}
 use Rattle.bss_core.specs.declared.config.NetConfig.{NetConfig}
 use Rattle.bss_core.specs.declared.config.ConfigFault.{ConfigFault}
-use Rattle.trace.specs.Faults.{◌>>=◌, IsFaultOf}
+use Rattle.trace.specs.Endings.{Ending, Well, Refused, WriteFailed, OutOfMemory, IsFaultOf}
+use Rattle.trace.specs.Faults.{◌>>=◌}
 use Rattle.trace.specs.ConfigurationText.{tables_in, network_of_table, networks_of}
 
 -- the networks so far, and those that are still to be read after them
@@ -59,8 +60,10 @@ module _ (vs : List Value) (i : ℕ) (v : Value) (within : i < length vs) (here 
   so_far-network done ms network is read = rw (from_here, tables_in-table _ _ ms (sym is), read) (moved done network _)
 
   -- a table with a fault
-  pub so_far-fault : (done : List NetConfig) (ms : Members) (fault : Option ConfigFault) → Some ms ≡ as_table (view v)
-      → IsFaultOf (network_of_table done ms) fault → IsFaultOf (so_far done (items_view (drop i vs))) fault
+  pub so_far-fault : (done : List NetConfig) (ms : Members) (end : Ending ConfigFault) → Some ms ≡ as_table (view v)
+      → IsFaultOf (network_of_table done ms) end → IsFaultOf (so_far done (items_view (drop i vs))) end
   unfolding so_far
-  so_far-fault done ms (Some fault) is read = rw (from_here, tables_in-table _ _ ms (sym is), read) refl
-  so_far-fault done ms None is read = tt
+  so_far-fault done ms (Refused fault) is read = rw (from_here, tables_in-table _ _ ms (sym is), read) refl
+  so_far-fault done ms Well is read = tt
+  so_far-fault done ms WriteFailed is read = tt
+  so_far-fault done ms OutOfMemory is read = tt

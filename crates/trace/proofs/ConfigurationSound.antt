@@ -9,9 +9,10 @@ use Rattle.bss_core.specs.Configuration.{channel_fits, interval_fits, queue_fits
 use Rattle.bss_core.specs.declared.config.NetConfig.{NetConfig}
 use Rattle.bss_core.specs.declared.config.RadioConfig.{RadioConfig}
 use Rattle.bss_core.specs.declared.config.ConfigFault.{ConfigFault}
-use Rattle.trace.specs.declared.configuration.fault.ConfigTextFault.{ConfigTextFault}
-use Rattle.trace.specs.Faults.{◌>>=◌, Gives}
-use Rattle.trace.specs.ConfigurationText.{demand, passing, natural, octets_of_digits, text_at, array_at, number_at, bssid_at, ssid_at, rates_at, network_of_table, networks_of, are_tables, tables_in, networks_at, is_listed, document_of, radio_of, configuration_of, config_fault}
+use Rattle.trace.specs.Endings.{Gives}
+use Rattle.trace.specs.Faults.{◌>>=◌, read_ending}
+use Rattle.trace.specs.declared.read_fault.ReadFault.{ReadFault}
+use Rattle.trace.specs.ConfigurationText.{demand, passing, natural, octets_of_digits, text_at, array_at, number_at, bssid_at, ssid_at, rates_at, network_of_table, networks_of, are_tables, tables_in, networks_at, is_listed, document_of, radio_of, configuration_of}
 
 -- ---- what holds of what was read
 
@@ -132,6 +133,6 @@ pub configuration_is_sound : (text : List ℕ) (c : RadioConfig) → configurati
 configuration_is_sound text c is = IfOk-at_ok (λ found. fault_of found ≡ None) is (configuration_reads text).reads
 
 -- the same of what was answered for a document
-pub sound_from_exact : (top : Members) (answer : Result RadioConfig ConfigTextFault) → Gives (λ c. c) config_fault answer (radio_of top) → IfOk answer (λ c. fault_of c ≡ None)
+pub sound_from_exact : (top : Members) (answer : Result RadioConfig (ReadFault ConfigFault)) → Gives (λ c. c) read_ending answer (radio_of top) → IfOk answer (λ c. fault_of c ≡ None)
 sound_from_exact top (Ok c) exact = IfOk-at_ok (λ found. fault_of found ≡ None) exact (radio_reads top).reads
 sound_from_exact top (Err fault) exact = tt

@@ -3,7 +3,7 @@ use Rattle.std.proofs.Common.{◌≡◌, ℕ, ◌-◌, List, [], ◌++◌, Optio
 use Rattle.std.proofs.lemmas.List.{take_rest}
 use Rattle.std.specs.Io.KnownBytes.{Appends}
 use Rattle.std.proofs.KnownBytes.{Appends-nil, Appends-trans}
-use Rattle.trace.specs.Sinks.{AppendsPrefix}
+use Rattle.trace.specs.Endings.{AppendsPrefix}
 use Rattle.trace.specs.Buffers.{Delivers, Stops}
 
 -- ---- a text that is written part by part

@@ -13,8 +13,6 @@ use Rattle.bss_core.specs.declared.config.NetConfig.{NetConfig}
 use Rattle.bss_core.specs.declared.config.RadioConfig.{RadioConfig}
 use Rattle.bss_core.specs.declared.config.ConfigFault.{ConfigFault}
 use Rattle.trace.specs.Faults.{◌>>=◌}
-use Rattle.trace.specs.declared.configuration.fault.ConfigTextFault.{ConfigTextFault}
-use Rattle.trace.specs.declared.configuration.fault.ConfigTextFault.TheVariants as outcome
 
 -- ---- tests
 
@@ -145,10 +143,3 @@ unfoldable pub configuration_of : List ℕ → Result RadioConfig ConfigFault
 configuration_of text = do
   top ← ok_or (document_of text) (of_radio 1)
   radio_of top
-
--- ---- what a function answers
-
--- the fault that an error names, none where memory ran out
-abbrev pub config_fault : ConfigTextFault → Option ConfigFault
-config_fault (outcome.At fault) = Some fault
-config_fault outcome.NoMemory = None

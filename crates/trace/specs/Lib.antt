@@ -1,5 +1,6 @@
 pub mod Texts
 pub mod Faults
+pub mod Endings
 pub mod ConfigurationText
 pub mod TraceText
 pub mod Sinks

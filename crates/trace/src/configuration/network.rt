@@ -2,8 +2,9 @@
 
 ghost use Rattle.std.specs.Prelude.{◌≡◌, nat_le, [], IfOk, option_map, option_copied};
 ghost use Rattle.toml.specs.View.{array_view, table_view, items_view};
-ghost use Rattle.trace.specs.Faults.{Gives};
-ghost use Rattle.trace.specs.ConfigurationText.{config_fault, bssid_at, ssid_at, rates_at, network_of_table, networks_of, networks_at, are_tables, tables_in};
+ghost use Rattle.trace.specs.Endings.{Gives};
+ghost use Rattle.trace.specs.Faults.{read_ending};
+ghost use Rattle.trace.specs.ConfigurationText.{bssid_at, ssid_at, rates_at, network_of_table, networks_of, networks_at, are_tables, tables_in};
 
 use crate::configuration::fault::{ConfigTextFault, at_network};
 use crate::configuration::values::{array_at, number_at, text_at};
@@ -47,7 +48,7 @@ pub(super) fn read_networks(
     alloc: Global,
     values: &[Value],
 ) -> Result<Vec<NetConfig>, ConfigTextFault>
-    ensures { Gives (λ networks. networks.items) config_fault result (networks_of [] (tables_in (items_view values.now))) }
+    ensures { Gives (λ networks. networks.items) read_ending result (networks_of [] (tables_in (items_view values.now))) }
 {
     let mut networks = Vec::new(alloc);
     for value in values {
@@ -66,7 +67,7 @@ fn read_network(
     earlier: &[NetConfig],
     table: &Table,
 ) -> Result<NetConfig, ConfigTextFault>
-    ensures { Gives (λ network. network) config_fault result (network_of_table earlier.now (table_view table.now)) }
+    ensures { Gives (λ network. network) read_ending result (network_of_table earlier.now (table_view table.now)) }
 {
     let place = earlier.len();
     let bssid = bssid_at(earlier, table).ok_or(at_network(8, place))?;
