@@ -3,13 +3,13 @@
 //! It is all that the program does without words, but for its streams and the line of a fault.
 
 ghost use Rattle.std.specs.Prelude.{◌≡◌, ◌+◌, IfOk, IfErr, IfSome};
+ghost use Rattle.trace.specs.Endings.{failures_of};
 ghost use Rattle.trace.specs.Sinks.{MayFail};
-ghost use Rattle.apctl.specs.Faults.{IsOfFile, failures_of_run};
+ghost use Rattle.apctl.specs.Faults.{IsOfFile, run_ending};
 ghost use Rattle.apctl.specs.Input.{EndsInput};
 
 use crate::fault::Fault;
-use crate::joined::split_joined;
-use crate::replay::run_text;
+use replay::{run_text, split_joined};
 use std::alloc::Global;
 use std::io::{ErrorKind, Read};
 use trace::Sink;
@@ -17,7 +17,7 @@ use trace::Sink;
 /// How many octets are read at a time.
 const READ_AT_ONCE: usize = 65536;
 
-/// The name of standard input in the line of a fault (*profile*).
+/// The name of standard input in the line of a fault.
 const STANDARD_INPUT: &str = "-";
 
 /// Reads a configuration and a trace in one text, to the end of the reader, and appends the report of them to what
@@ -28,7 +28,7 @@ const STANDARD_INPUT: &str = "-";
 pub fn run_input<R: Read, W: Sink>(alloc: Global, reader: &mut R, out: &mut W) -> Result<(), Fault>
     requires { MayFail (W.failed out.old) }
     ensures ends { EndsInput result (R.remaining reader.old) (W.taken out.old) (W.taken out.new) }
-    ensures failures { W.failed out.new ≡ W.failed out.old + failures_of_run result }
+    ensures failures { W.failed out.new ≡ W.failed out.old + failures_of run_ending result }
 {
     let input = read_all(alloc, reader, STANDARD_INPUT)?;
     let (config, trace) = split_joined(input.as_slice());
@@ -43,11 +43,11 @@ pub fn read_all<R: Read>(alloc: Global, reader: &mut R, name: &str) -> Result<Ve
     ensures err { IfErr result (IsOfFile name.now) }
 {
     let mut input = Vec::new(alloc);
-    let mut piece = [0; READ_AT_ONCE];
+    let mut piece = vec![in alloc; 0; READ_AT_ONCE]?;
     for _ in 0..u32::MAX {
-        match reader.read(&mut piece) {
+        match reader.read(piece.as_mut_slice()) {
             Ok(0) => return Ok(input),
-            Ok(count) => input.extend_from_slice(&piece[..count])?,
+            Ok(count) => input.extend_from_slice(&piece.as_slice()[..count])?,
             Err(error) if error.kind() == ErrorKind::Interrupted => {}
             Err(_) => return Err(Fault::of_file(alloc, name)),
         }

@@ -1,13 +1,12 @@
 -- What each part of a run leaves, as the end of the whole.
-use Rattle.std.proofs.Common.{◌≡◌, ℕ, List, [], Option, Result, Ok, Err, refl, sym, ap, ◌∙◌, subst}
-use Rattle.std.proofs.KnownBytes.{Appends-nil, Keeps-refl}
-use Rattle.std.specs.Io.KnownBytes.{Appends}
+use Rattle.std.proofs.Common.{◌≡◌, ℕ, List, Option, Result, Ok, Err, ap, ◌∙◌}
+use Rattle.std.proofs.KnownBytes.{Keeps-refl}
 use Rattle.bss_core.specs.declared.config.RadioConfig.{RadioConfig}
 use Rattle.bss_core.specs.declared.config.ConfigFault.{ConfigFault}
 use Rattle.bss_core.specs.declared.section.Section.{Section}
 use Rattle.bss_core.specs.declared.line.Line.{Line}
 use Rattle.trace.specs.ConfigurationText.{configuration_of}
-use Rattle.trace.specs.Endings.{AppendsPrefix, IsFaultOf, EndsSo, Ends, Well, WriteFailed, OutOfMemory}
+use Rattle.trace.specs.Endings.{IsFaultOf, Ends}
 use Rattle.trace.specs.Faults.{read_ending}
 use Rattle.trace.specs.Report.{report_text}
 use Rattle.trace.specs.Sinks.{report_ending}
@@ -17,28 +16,16 @@ use Rattle.trace.specs.declared.read_fault.ReadFault.{ReadFault}
 use Rattle.trace.specs.declared.read_fault.ReadFault.TheVariants as reads
 use Rattle.trace.specs.declared.report.ReportFault.{ReportFault}
 use Rattle.trace.specs.declared.report.ReportFault.TheVariants as reports
+use Rattle.trace.proofs.EndingLemmas.{nothing_written, part_written, part_kept}
 use Rattle.replay.specs.Answer.{answered, replayed, answer_of, text_ending, of_config, of_trace, of_report}
 use Rattle.replay.specs.Replay.{sections_of}
 use Rattle.replay.specs.declared.fault.TextFault.{TextFault}
 
--- memory ran out before anything was written
-pub nothing_written : (answer : Result (List ℕ) TextFault) (known : Option (List ℕ)) → EndsSo OutOfMemory answer known known
-nothing_written (Ok text) known = record { written = []; rest = text; in_order = refl; taken = Appends-nil known }
-nothing_written (Err fault) known = Keeps-refl known
-
--- the whole text was written
-pub whole_written : (answer : Result (List ℕ) TextFault) (text : List ℕ) (old new : Option (List ℕ)) → answer ≡ Ok text → Appends old new text → EndsSo Well answer old new
-whole_written answer text old new is written = subst (λ (a : Result (List ℕ) TextFault). EndsSo Well a old new) (sym is) written
-
--- a part of it was written before a write failed
-pub part_written : (answer : Result (List ℕ) TextFault) (text : List ℕ) (old new : Option (List ℕ)) → answer ≡ Ok text → AppendsPrefix old new text → EndsSo WriteFailed answer old new
-part_written answer text old new is written = subst (λ (a : Result (List ℕ) TextFault). EndsSo WriteFailed a old new) (sym is) written
-
 -- a report that was cut short
 pub report_ends : (e : ReportFault) (text : List ℕ) (answer : Result (List ℕ) TextFault) (old new : Option (List ℕ)) → answer ≡ Ok text
     → Ends report_ending (Err {T = Unit} e) (Ok text) old new → Ends text_ending (Err {T = Unit} (of_report e)) answer old new
-report_ends reports.Write text answer old new is part = subst (λ (a : Result (List ℕ) TextFault). EndsSo WriteFailed a old new) (sym is) part
-report_ends reports.NoMemory text answer old new is part = subst (λ (a : Result (List ℕ) TextFault). EndsSo OutOfMemory a old new) (sym is) part
+report_ends reports.Write text answer old new is part = part_written answer text old new is part
+report_ends reports.NoMemory text answer old new is part = part_kept answer text old new is part
 
 -- ---- the two texts
 

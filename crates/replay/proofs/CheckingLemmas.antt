@@ -8,9 +8,9 @@ use Rattle.trace.specs.Endings.{IsFaultOf, Ends}
 use Rattle.trace.specs.Faults.{read_ending}
 use Rattle.trace.specs.declared.read_fault.ReadFault.{ReadFault}
 use Rattle.trace.specs.declared.read_fault.ReadFault.TheVariants.{At, NoMemory}
+use Rattle.trace.proofs.EndingLemmas.{nothing_written}
 use Rattle.replay.specs.Answer.{text_ending, of_config}
 use Rattle.replay.specs.Checking.{count_line, checked, check_of}
-use Rattle.replay.proofs.AnswerLemmas.{nothing_written}
 
 -- a fault of the configuration
 pub fault_ends : (e : ReadFault ConfigFault) (text : List ℕ) (old : Option (List ℕ)) → IsFaultOf (configuration_of text) (read_ending e)

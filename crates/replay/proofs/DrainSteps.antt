@@ -1,14 +1,11 @@
 -- The frames that wait at a place leave, one at a time.
-use Rattle.std.proofs.Common.{◌≡◌, ℕ, ◌<◌, ◌++◌, ◌∷◌, [], List, length, set, sym, ap, ◌∙◌, arith, inl, inr, append_assoc}
+use Rattle.std.proofs.Common.{◌≡◌, ℕ, ◌<◌, ◌++◌, ◌∷◌, [], List, length, set, sym, ap, ◌∙◌, arith, inl, inr}
+use Rattle.std.proofs.Common.{append_assoc}
 use Rattle.std.proofs.lemmas.Bool.{cases_lt}
 use Rattle.std.proofs.lemmas.List.{set-set, set-get_or, length-set, get_or-set_same, get_or_past}
 use Rattle.bss_core.specs.RadioView.{NetworkView, RadioView, unused, view_at}
 use Rattle.replay.specs.Frames.{FrameLists, sent_at}
-use Rattle.replay.specs.Replay.{SendsOne}
-
--- the radio with these frames waiting at a place
-abbrev pub with_waiting : RadioView → ℕ → List (List ℕ) → RadioView
-with_waiting r place frames = record r { networks = set r.networks place (record (view_at r place) { waiting = frames }) }
+use Rattle.replay.specs.Replay.{SendsOne, with_waiting}
 
 -- a place where a frame waits is one of the radio's
 pub place_there : (r : RadioView) (place : ℕ) (frame : List ℕ) (rest : List (List ℕ)) → (view_at r place).waiting ≡ frame ∷ rest → place < length r.networks

@@ -1,5 +1,7 @@
 -- The parts of a text, where the lines before a place are known to be other ones than `---`.
-use Rattle.std.proofs.Common.{◌≡◌, subst, ℕ, ◌<◌, ◌≤◌, ◌+◌, ◌-◌, true, false, Some, None, List, [], ◌∷◌, ◌++◌, length, take, drop, ap, sym, ◌∙◌, append_assoc, append-nil, take_at, take-append-drop, length-take, length-drop, length-append, arith}
+use Rattle.std.proofs.Common.{◌≡◌, subst, ℕ, ◌<◌, ◌≤◌, ◌+◌, ◌-◌, true, false, Some, None, List, [], ◌∷◌, ◌++◌, length}
+use Rattle.std.proofs.Common.{take, drop, ap, sym, ◌∙◌, append_assoc, append-nil, take_at, take-append-drop}
+use Rattle.std.proofs.Common.{length-take, length-drop, length-append, arith}
 use Rattle.std.proofs.lemmas.List.{drop-drop, take_rest}
 use Rattle.std.proofs.lemmas.List.Quantifiers.{position-Some}
 use Rattle.std.specs.List.{position}
@@ -7,7 +9,8 @@ use Rattle.trace.specs.Texts.{is_line_feed, LacksLineFeed, ended}
 use Rattle.replay.specs.Joined.{IsJoined, is_separator, joined_parts}
 use Rattle.replay.proofs.JoinedParts.{IsJoined-joined_parts}
 use Rattle.trace.proofs.TextLemmas.{around_line_feed, prefix_lacks, lacks_from_none}
-use Rattle.replay.proofs.JoinedLines.{joined_parts-separator, joined_parts-other, joined_parts-last_separator, joined_parts-last_other}
+use Rattle.replay.proofs.JoinedLines.{joined_parts-separator, joined_parts-other, joined_parts-last_separator}
+use Rattle.replay.proofs.JoinedLines.{joined_parts-last_other}
 
 -- The octets before start are other lines than `---`: they go before the first part of the rest.
 pub record AreOthersTo (text : List ℕ) (start : ℕ) : Type 0 where

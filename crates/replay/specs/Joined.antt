@@ -22,14 +22,18 @@ joined_parts text = if list_any is_separator (cut text) then parts_of (cut text)
 -- whole lines, each ended by LF, of which none is `---`
 abbrev pub AreOtherLines : List ℕ → Type 0
 AreOtherLines octets =
-    (lines : List (List ℕ)) × (octets ≡ flat_map ended lines) × All (λ line. LacksLineFeed line × (line ≢ separator)) lines
+    (lines : List (List ℕ))
+    × (octets ≡ flat_map ended lines)
+    × All (λ line. LacksLineFeed line × (line ≢ separator)) lines
 
 -- no line of the text is `---`
 abbrev pub LacksSeparator : List ℕ → Type 0
 LacksSeparator text = All (λ line. line ≢ separator) (cut text)
 
--- The text is other whole lines, `---`, and then LF and the second part, or nothing more. Or no line of it is `---`, and it is all the first part.
+-- The text is other whole lines, `---`, and then LF and the second part, or nothing more. Or no line of it is `---`,
+-- and it is all the first part.
 unfoldable pub IsJoined : List ℕ → List ℕ → List ℕ → Type 0
 IsJoined text before after =
-    (AreOtherLines before × ((text ≡ before ++ separator ++ 10 ∷ after) ⊎ ((text ≡ before ++ separator) × (after ≡ []))))
+    (AreOtherLines before
+    × ((text ≡ before ++ separator ++ 10 ∷ after) ⊎ ((text ≡ before ++ separator) × (after ≡ []))))
     ⊎ (LacksSeparator text × (before ≡ text) × (after ≡ []))

@@ -1,5 +1,6 @@
 -- What a trace makes of the networks of a configuration: each network takes what it hears, alone.
-use Rattle.std.specs.Prelude.{ℕ, ◌<◌, ◌≡◌, ◌≢◌, ◌++◌, nat_lt, Bool, true, false, List, [], ◌∷◌, length, map, slice_set, None, if◌then◌else◌}
+use Rattle.std.specs.Prelude.{ℕ, ◌<◌, ◌≤◌, ◌≡◌, ◌≢◌, ◌++◌, nat_lt, Bool, true, false, List, [], ◌∷◌, length, map}
+use Rattle.std.specs.Prelude.{slice_set, None, if◌then◌else◌}
 use Rattle.std.specs.List.{range_with_len}
 use Rattle.bss_core.specs.Configuration.{fault_of}
 use Rattle.mac_frame.specs.Hearing.{is_heard}
@@ -17,24 +18,33 @@ use Rattle.replay.specs.Frames.{FrameLists, sent_at, sends_more}
 -- the section of each network, in order of place: alone with its own events of the lines
 abbrev pub sections_of : RadioConfig → List Line → List Section
 sections_of c lines =
-    map (λ place. section_of (setting_at c place) (own_events place (network_at c place) lines)) (range_with_len 0 (length c.networks))
+    map (λ place. section_of (setting_at c place) (own_events place (network_at c place) lines))
+    (range_with_len 0 (length c.networks))
 
 -- ---- a radio between two lines
 
+-- these frames wait at a place
+abbrev pub with_waiting : RadioView → ℕ → List (List ℕ) → RadioView
+with_waiting r place frames = record r {
+  networks = slice_set r.networks place (record (view_at r place) { waiting = frames });
+}
+
 -- nothing waits at a place
 abbrev pub emptied : ℕ → RadioView → RadioView
-emptied place r = record r { networks = slice_set r.networks place (record (view_at r place) { waiting = [] }) }
+emptied place r = with_waiting r place []
 
 -- the first frame that waits at a place left
-pub record SendsOne (place : ℕ) (old : RadioView) (old_sent : FrameLists) (new : RadioView) (new_sent : FrameLists) : Type 0 where
+pub record SendsOne (place : ℕ) (old : RadioView) (old_sent : FrameLists) (new : RadioView) (new_sent : FrameLists) :
+    Type 0 where
   pub frame : List ℕ
   pub rest : List (List ℕ)
   pub waiting : (view_at old place).waiting ≡ frame ∷ rest
-  pub radio : new ≡ record old { networks = slice_set old.networks place (record (view_at old place) { waiting = rest }) }
+  pub radio : new ≡ with_waiting old place rest
   pub sent : new_sent ≡ sends_more old_sent place (frame ∷ [])
 
 -- none waits there, and nothing changed
-pub record SendsNone (place : ℕ) (old : RadioView) (old_sent : FrameLists) (new : RadioView) (new_sent : FrameLists) : Type 0 where
+pub record SendsNone (place : ℕ) (old : RadioView) (old_sent : FrameLists) (new : RadioView) (new_sent : FrameLists) :
+    Type 0 where
   pub waiting : (view_at old place).waiting ≡ []
   pub radio : new ≡ old
   pub sent : new_sent ≡ old_sent
@@ -61,7 +71,9 @@ pub record TakesAt (place : ℕ) (event : Event) (old new : RadioView) : Type 0 
   pub config : new.config ≡ old.config
   pub there : (view_at new place).history
       ≡ (view_at old place).history
-      ++ (if nat_lt (length (view_at old place).history) (network_at old.config place).max_events then event ∷ [] else [])
+      ++ (if nat_lt (length (view_at old place).history) (network_at old.config place).max_events
+      then event ∷ []
+      else [])
   pub others : (other : ℕ) → other ≢ place → (view_at new other).history ≡ (view_at old other).history
 
 -- each network took what it hears of a line
@@ -77,10 +89,16 @@ pub record TakesLine (line : Line) (old new : RadioView) : Type 0 where
 abbrev pub is_heard_at : RadioView → ℕ → List ℕ → Bool
 is_heard_at r place x = is_heard (network_at r.config place).bssid x
 
+-- no network from a place on hears it
+abbrev pub IsUnheardFrom : RadioView → ℕ → List ℕ → Type 0
+IsUnheardFrom r first x =
+    (place : ℕ) → first ≤ place → place < length r.config.networks → is_heard_at r place x ≡ false
+
 -- the section of each network with what it took and the frames that left
 abbrev pub sections_at : RadioView → List Section
 sections_at r =
-    map (λ place. section_of (setting_at r.config place) (view_at r place).history) (range_with_len 0 (length r.config.networks))
+    map (λ place. section_of (setting_at r.config place) (view_at r place).history)
+    (range_with_len 0 (length r.config.networks))
 
 -- ---- a radio after some lines
 

@@ -1,11 +1,12 @@
 //! A radio whose frames all leave before the next line.
 
-ghost use Rattle.std.specs.Prelude.{◌≡◌, ◌<◌, ◌+◌, ℕ, [], false, None, IsTrue, IfSome, IfNone, IfOk, OnOk, length};
+ghost use Rattle.std.specs.Prelude.{◌≡◌, ◌<◌, ◌+◌, [], None, IsTrue, IfSome, IfNone, IfOk, OnOk, length};
 ghost use Rattle.bss_core.specs.Configuration.{fault_of};
 ghost use Rattle.bss_core.specs.RadioView.{fresh_radio, view_at};
 ghost use Rattle.bss_core.specs.declared.line.Line.TheVariants as Lines;
 ghost use Rattle.replay.specs.Frames.{sends_more};
-ghost use Rattle.replay.specs.Replay.{IsDrained, TakesAt, TakesLine, sections_at, is_heard_at, emptied, SendsFirst};
+ghost use Rattle.replay.specs.Replay.{IsDrained, TakesAt, TakesLine, sections_at, is_heard_at, IsUnheardFrom, emptied};
+ghost use Rattle.replay.specs.Replay.{SendsFirst};
 
 use crate::sent::SentFrames;
 use bss_core::{
@@ -37,7 +38,8 @@ impl DrainedRadio {
     /// Takes a line in each network that hears it, in order of place, and lets their frames leave.
     pub fn take_line(&mut self, line: Line) -> Result<(), NoMemory>
         requires { IsDrained self.old.radio self.old.sent }
-        ensures { OnOk result (IsDrained self.new.radio self.new.sent × TakesLine line self.old.radio self.new.radio) }
+        ensures { OnOk result (IsDrained self.new.radio self.new.sent
+            × TakesLine line self.old.radio self.new.radio) }
     {
         match line {
             Line::Air(octets) => self.take_octets(octets),
@@ -50,7 +52,8 @@ impl DrainedRadio {
     /// their frames leave. It is copied for each of them but the last, into which it moves.
     fn take_octets(&mut self, octets: Octets) -> Result<(), NoMemory>
         requires { IsDrained self.old.radio self.old.sent }
-        ensures { OnOk result (IsDrained self.new.radio self.new.sent × TakesLine (Lines.Air octets) self.old.radio self.new.radio) }
+        ensures { OnOk result (IsDrained self.new.radio self.new.sent
+            × TakesLine (Lines.Air octets) self.old.radio self.new.radio) }
     {
         let Some(last) = self.last_hearer(octets.as_slice()) else {
             return Ok(());
@@ -68,7 +71,8 @@ impl DrainedRadio {
     /// Nothing happens where there is no network.
     fn take_wired(&mut self, place: usize, octets: Octets) -> Result<(), NoMemory>
         requires { IsDrained self.old.radio self.old.sent }
-        ensures { OnOk result (IsDrained self.new.radio self.new.sent × TakesLine (Lines.Wire place octets) self.old.radio self.new.radio) }
+        ensures { OnOk result (IsDrained self.new.radio self.new.sent
+            × TakesLine (Lines.Wire place octets) self.old.radio self.new.radio) }
     {
         if place >= self.radio.networks() {
             return Ok(());
@@ -79,7 +83,8 @@ impl DrainedRadio {
     /// Begins a beacon interval in each network, in order of place, and lets their frames leave.
     fn take_tick(&mut self) -> Result<(), NoMemory>
         requires { IsDrained self.old.radio self.old.sent }
-        ensures { OnOk result (IsDrained self.new.radio self.new.sent × TakesLine Lines.Tick self.old.radio self.new.radio) }
+        ensures { OnOk result (IsDrained self.new.radio self.new.sent
+            × TakesLine Lines.Tick self.old.radio self.new.radio) }
     {
         for place in 0..self.radio.networks() {
             self.take_event(place, Event::Tick)?;
@@ -97,9 +102,10 @@ impl DrainedRadio {
 
     /// The last network in order of place that hears a string of octets, if one does.
     fn last_hearer(&self, octets: &[u8]) -> Option<usize>
-        ensures last { IfSome result (λ last. (last < length self.now.radio.config.networks) × IsTrue (is_heard_at self.now.radio last octets.now)
-            × ((place : ℕ) → last < place → place < length self.now.radio.config.networks → is_heard_at self.now.radio place octets.now ≡ false)) }
-        ensures none { IfNone result ((place : ℕ) → place < length self.now.radio.config.networks → is_heard_at self.now.radio place octets.now ≡ false) }
+        ensures last { IfSome result (λ last. (last < length self.now.radio.config.networks)
+            × IsTrue (is_heard_at self.now.radio last octets.now)
+            × IsUnheardFrom self.now.radio (last + 1) octets.now) }
+        ensures none { IfNone result (IsUnheardFrom self.now.radio 0 octets.now) }
     {
         let mut after = self.radio.networks();
         while after > 0 {
@@ -115,7 +121,8 @@ impl DrainedRadio {
     fn take_event(&mut self, place: usize, event: Event) -> Result<(), NoMemory>
         requires there { place < length self.old.radio.config.networks }
         requires drained { IsDrained self.old.radio self.old.sent }
-        ensures { OnOk result (IsDrained self.new.radio self.new.sent × TakesAt place event self.old.radio self.new.radio) }
+        ensures { OnOk result (IsDrained self.new.radio self.new.sent
+            × TakesAt place event self.old.radio self.new.radio) }
     {
         sent_frames();
         match self.radio.take(place, event) {
@@ -132,20 +139,22 @@ impl DrainedRadio {
         requires whole { length self.old.sent ≡ length self.old.radio.config.networks }
         requires queue { self.old.radio.queue ≡ [] }
         ensures radio { OnOk result (self.new.radio ≡ emptied place self.old.radio) }
-        ensures sent { OnOk result (self.new.sent ≡ sends_more self.old.sent place (view_at self.old.radio place).waiting) }
+        ensures sent { OnOk result (self.new.sent
+            ≡ sends_more self.old.sent place (view_at self.old.radio place).waiting) }
     {
         while self.send_first(place)? {}
         Ok(())
     }
 
-    /// Lets the first frame that waits at a place leave through the air queue, which is empty. Answers whether there was
-    /// one.
+    /// Lets the first frame that waits at a place leave through the air queue, which is empty. Answers whether there
+    /// was one.
     fn send_first(&mut self, place: usize) -> Result<bool, NoMemory>
         requires sound { fault_of self.old.radio.config ≡ None }
         requires there { place < length self.old.radio.config.networks }
         requires whole { length self.old.sent ≡ length self.old.radio.config.networks }
         requires queue { self.old.radio.queue ≡ [] }
-        ensures { IfOk result (λ sent. SendsFirst sent place self.old.radio self.old.sent self.new.radio self.new.sent) }
+        ensures { IfOk result (λ sent.
+            SendsFirst sent place self.old.radio self.old.sent self.new.radio self.new.sent) }
     {
         if self.radio.hand(place) != Handed::Moved {
             return Ok(false);

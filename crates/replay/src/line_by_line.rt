@@ -11,10 +11,11 @@ use mac_frame::NoMemory;
 use std::alloc::Global;
 use std::marker::Model;
 
-/// The networks of a configuration, which take one line after another. Between two lines no frame waits: of each network
-/// all that it sent has left.
+/// The networks of a configuration, which take one line after another. Between two lines no frame waits: of each
+/// network all that it sent has left.
 ///
-/// Contracts see the radio; or none, once memory ran out while a line was taken, after which each call answers `NoMemory`.
+/// Contracts see the radio; or none, once memory ran out while a line was taken, after which each call answers
+/// `NoMemory`.
 #[derive(Drop)]
 pub struct Replay {
     radio: Option<DrainedRadio>,

@@ -8,8 +8,8 @@ use mac_frame::{NoMemory, Octets};
 use std::alloc::Global;
 use std::marker::Model;
 
-/// The frames that left the air queue, for each network by its place, the first of them first. Contracts see it as a list
-/// of lists.
+/// The frames that left the air queue, for each network by its place, the first of them first. Contracts see it as a
+/// list of lists.
 #[derive(Debug, Drop)]
 pub struct SentFrames {
     frames: Vec<Vec<Octets>>,

@@ -1,5 +1,6 @@
 -- Texts that are put one after the other.
-use Rattle.std.proofs.Common.{◌≡◌, ℕ, ◌+◌, ◌<◌, ◌≤◌, List, [], ◌∷◌, ◌++◌, Option, Result, Ok, Err, length, take, drop, get_or, refl, sym, ap, ◌∙◌, subst, append-nil, take-append-drop, arith}
+use Rattle.std.proofs.Common.{◌≡◌, ℕ, ◌+◌, ◌<◌, ◌≤◌, List, [], ◌∷◌, ◌++◌, Option, Result, Ok, Err, length, take, drop}
+use Rattle.std.proofs.Common.{get_or, refl, sym, ap, ◌∙◌, subst, append-nil, take-append-drop, arith}
 use Rattle.std.specs.Prelude.{flat_map}
 use Rattle.std.specs.Result.{IsErrAnd, OnOk}
 use Rattle.std.specs.Io.KnownBytes.{Appends}
@@ -10,19 +11,15 @@ use Rattle.trace.specs.Buffers.{Puts}
 use Rattle.trace.specs.Endings.{AppendsPrefix, Ends}
 use Rattle.trace.specs.Sinks.{report_ending}
 use Rattle.trace.specs.declared.report.ReportFault.{ReportFault}
-use Rattle.trace.specs.declared.report.ReportFault.TheVariants.{Write, NoMemory}
+use Rattle.trace.specs.declared.report.ReportFault.TheVariants.{NoMemory}
 use Rattle.trace.specs.declared.report.buffer.Buffered.{Buffered}
-use Rattle.trace.proofs.SinkSteps.{Delivers-nothing, Delivers-then, Stops-second, Stops-first, Stops-between, Appends-delivered, AppendsPrefix-stopped}
+use Rattle.trace.proofs.EndingLemmas.{Ends-prefix}
+use Rattle.trace.proofs.SinkSteps.{Delivers-nothing, Delivers-then, Stops-second, Stops-first, Stops-between}
+use Rattle.trace.proofs.SinkSteps.{Appends-delivered, AppendsPrefix-stopped}
 
 -- a text was put, and no write failed
 abbrev pub HasPut : {W : Type 0} → (W → Option (List ℕ)) → (W → ℕ) → Buffered W → Buffered W → List ℕ → Type 0
 HasPut taken failed old new text = Puts taken failed (Ok tt) old new text
-
--- after either fault a prefix of the text is there
-Ends-prefix : (fault : ReportFault) {old new : Option (List ℕ)} {text : List ℕ}
-    → AppendsPrefix old new text → Ends report_ending (Err {T = Unit} fault) (Ok text) old new
-Ends-prefix Write part = part
-Ends-prefix NoMemory part = part
 
 -- ---- the texts of items, as lists
 

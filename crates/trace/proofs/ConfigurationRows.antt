@@ -5,7 +5,8 @@ use Rattle.std.specs.Str.{chars, is_utf8}
 use Rattle.toml.proofs.OnLiterals.{toml_on_literals}
 use Rattle.hex.proofs.OnLiterals.{hex_on_literals}
 use Rattle.bss_core.specs.Configuration.{of_radio, of_network}
-use Rattle.trace.specs.ConfigurationText.{number_at, text_at, array_at, bssid_at, ssid_at, rates_at, network_of_table, is_listed, networks_at, radio_of, document_of, configuration_of}
+use Rattle.trace.specs.ConfigurationText.{number_at, text_at, array_at, bssid_at, ssid_at, rates_at, network_of_table}
+use Rattle.trace.specs.ConfigurationText.{is_listed, networks_at, radio_of, document_of, configuration_of}
 
 -- what is opened to compute the configuration of a text
 unfoldable pub configuration_on_literals : ⊤

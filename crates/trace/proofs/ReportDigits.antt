@@ -1,5 +1,6 @@
 -- Octets as digits, part by part.
-use Rattle.std.proofs.Common.{◌≡◌, ℕ, ◌/◌, ◌%◌, List, [], ◌∷◌, ◌++◌, slice_index, take, drop, refl, sym, ap, ◌∙◌, take-append-drop, append_assoc}
+use Rattle.std.proofs.Common.{◌≡◌, ℕ, ◌/◌, ◌%◌, List, [], ◌∷◌, ◌++◌, slice_index, take, drop, refl, sym, ap, ◌∙◌}
+use Rattle.std.proofs.Common.{take-append-drop, append_assoc}
 use Rattle.hex.specs.Hex.{encode_with, encode_lower, lower_digits}
 
 encode_with-append : (t xs ys : List ℕ) → encode_with t (xs ++ ys) ≡ encode_with t xs ++ encode_with t ys

@@ -1,5 +1,5 @@
--- How a call ends that reads, writes or takes memory, and what hangs on it (profile): what it says of a text that was read,
--- what its sink took, and how often its sink failed. Each type of errors has one function that says how a call ended with it.
+-- How a call ends that reads, writes or takes memory, and what hangs on it: what it says of a text that was read, what
+-- its sink took, and how often its sink failed. Each type of errors has one function that says how a call ended with it.
 use Rattle.std.specs.Prelude.{ℕ, ◌≡◌, List, ◌++◌, Option, Result, Ok, Err, MatchResult, IsOkAnd}
 use Rattle.std.specs.Io.KnownBytes.{Appends, Keeps}
 
@@ -45,7 +45,8 @@ EndsSo WriteFailed answer old new = IsOkAnd answer (λ text. AppendsPrefix old n
 EndsSo OutOfMemory answer old new = MatchResult answer (λ text. AppendsPrefix old new text) (λ _. Keeps old new)
 
 -- what the sink took of a call that answers this
-abbrev pub Ends : {A E F : Type 0} → (E → Ending F) → Result A E → Result (List ℕ) F → Option (List ℕ) → Option (List ℕ) → Type 0
+abbrev pub Ends : {A E F : Type 0}
+    → (E → Ending F) → Result A E → Result (List ℕ) F → Option (List ℕ) → Option (List ℕ) → Type 0
 Ends named result answer old new = EndsSo (ending_of named result) answer old new
 
 -- ---- how often its sink failed

@@ -1,4 +1,4 @@
--- Faults of a text that is read (profile).
+-- Faults of a text that is read.
 use Rattle.std.specs.Prelude.{Result, Ok, Err}
 use Rattle.trace.specs.Endings.{Ending, Refused, OutOfMemory}
 use Rattle.trace.specs.declared.read_fault.ReadFault.{ReadFault}

@@ -1,3 +1,4 @@
+-- All that stands here is the profile's.
 pub mod Texts
 pub mod Faults
 pub mod Endings

@@ -1,4 +1,4 @@
--- What is known of writers and of their failures (profile).
+-- What is known of writers and of their failures.
 use Rattle.std.specs.Prelude.{ℕ, ◌^◌, ◌<◌}
 use Rattle.trace.specs.Endings.{Ending, WriteFailed, OutOfMemory}
 use Rattle.trace.specs.declared.report.ReportFault.{ReportFault}
@@ -9,8 +9,8 @@ pub record CountedWriter (T : Type 0) : Type 0 where
   pub inner : T
   pub failures : ℕ
 
--- What each call on a sink asks for (profile): fewer than 2 ^ 63 failures so far. Their number is a u64, and a call stops
--- at its first failure, so that there is room to count that one.
+-- What each call on a sink asks for: fewer than 2 ^ 63 failures so far. Their number is a u64, and a call stops at its
+-- first failure, so that there is room to count that one.
 abbrev pub MayFail : ℕ → Type 0
 MayFail failures = failures < 2 ^ 63
 

@@ -4,7 +4,9 @@ ghost use Rattle.std.specs.Prelude.{◌≡◌, IfOk};
 ghost use Rattle.trace.specs.Endings.{Gives};
 ghost use Rattle.trace.specs.Faults.{read_ending};
 ghost use Rattle.mac_frame.specs.Address.{address_of};
-ghost use Rattle.trace.specs.TraceText.{is_skipped, without_spaces_at_end, without_spaces_at_start, first_word, after_first_word, digits_of, octets_of, within_limit, place_with, place_named, wired_line, line_with, content_of};
+ghost use Rattle.trace.specs.TraceText.{is_skipped, without_spaces_at_end, without_spaces_at_start, first_word};
+ghost use Rattle.trace.specs.TraceText.{after_first_word, digits_of, octets_of, within_limit, place_with, place_named};
+ghost use Rattle.trace.specs.TraceText.{wired_line, line_with, content_of};
 ghost use Rattle.hex.specs.Hex.{decode_of};
 
 use crate::fault::LineFault;
@@ -62,7 +64,11 @@ fn line_with(
 }
 
 /// The line of an address and a frame that came over the wire to its network.
-fn wired_line(alloc: Global, config: &RadioConfig, text: &[u8]) -> Result<Line, ReadFault<LineFault>>
+fn wired_line(
+    alloc: Global,
+    config: &RadioConfig,
+    text: &[u8],
+) -> Result<Line, ReadFault<LineFault>>
     ensures { Gives (λ line. line) read_ending result (wired_line config.now text.now) }
 {
     let (address, frame) = split_word(text);

@@ -18,7 +18,8 @@
 ghost use Rattle.std.specs.Prelude.{◌≡◌, ◌+◌, ◌≤◌, ◌++◌, Ok, length, flat_map, string_bytes, IfOk};
 ghost use Rattle.hex.specs.Hex.{encode_lower};
 ghost use Rattle.trace.specs.Endings.{Ends, failures_of};
-ghost use Rattle.trace.specs.Report.{report_text, section_text, network_line, counts_line, station_line, mode_text, frame_line};
+ghost use Rattle.trace.specs.Report.{report_text, section_text, network_line, counts_line, station_line, mode_text};
+ghost use Rattle.trace.specs.Report.{frame_line};
 ghost use Rattle.trace.specs.Sinks.{MayFail, report_ending};
 ghost use Rattle.trace.specs.Buffers.{Puts};
 ghost use Rattle.trace.specs.declared.report.ReportFault.TheVariants.{Write, NoMemory};

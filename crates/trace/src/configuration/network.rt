@@ -4,7 +4,8 @@ ghost use Rattle.std.specs.Prelude.{◌≡◌, nat_le, [], IfOk, option_map, opt
 ghost use Rattle.toml.specs.View.{array_view, table_view, items_view};
 ghost use Rattle.trace.specs.Endings.{Gives};
 ghost use Rattle.trace.specs.Faults.{read_ending};
-ghost use Rattle.trace.specs.ConfigurationText.{bssid_at, ssid_at, rates_at, network_of_table, networks_of, networks_at, are_tables, tables_in};
+ghost use Rattle.trace.specs.ConfigurationText.{bssid_at, ssid_at, rates_at, network_of_table, networks_of};
+ghost use Rattle.trace.specs.ConfigurationText.{networks_at, are_tables, tables_in};
 
 use crate::configuration::fault::{ConfigTextFault, at_network};
 use crate::configuration::values::{array_at, number_at, text_at};
@@ -48,7 +49,8 @@ pub(super) fn read_networks(
     alloc: Global,
     values: &[Value],
 ) -> Result<Vec<NetConfig>, ConfigTextFault>
-    ensures { Gives (λ networks. networks.items) read_ending result (networks_of [] (tables_in (items_view values.now))) }
+    ensures { Gives (λ networks. networks.items) read_ending result
+        (networks_of [] (tables_in (items_view values.now))) }
 {
     let mut networks = Vec::new(alloc);
     for value in values {

@@ -1,7 +1,7 @@
 use Rattle.std.proofs.Common.{◌≡◌, length, ap, ◌∙◌}
 use Rattle.std.proofs.lemmas.Result.{err_from_is_err_and}
 use Rattle.replay.specs.Checking.{count_line}
-use Rattle.replay.proofs.AnswerLemmas.{nothing_written, part_written, whole_written}
+use Rattle.trace.proofs.EndingLemmas.{nothing_written, part_written, whole_written}
 use Rattle.replay.proofs.CheckingLemmas.{fault_ends, check_of-read}
 use Rattle.replay.proofs.checking.check_text.Goals as goal
 

@@ -1,6 +1,7 @@
 -- Each exit, and the step, by what is known of the lines before `start`.
 use Rattle.std.proofs.Common.{sym}
-use Rattle.replay.proofs.JoinedSteps.{AreOthersTo-more, ArePartsOf-separator, ArePartsOf-last_separator, ArePartsOf-last_other}
+use Rattle.replay.proofs.JoinedSteps.{AreOthersTo-more, ArePartsOf-separator, ArePartsOf-last_separator}
+use Rattle.replay.proofs.JoinedSteps.{ArePartsOf-last_other}
 use Rattle.replay.proofs.joined.split_joined.Goals as goal
 
 pub loop-len-preserved : goal.loop-len-preserved

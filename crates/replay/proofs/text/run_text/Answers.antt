@@ -1,7 +1,8 @@
 use Rattle.std.proofs.Common.{◌≡◌, ◌∙◌}
 use Rattle.std.proofs.lemmas.Result.{err_from_is_err_and}
 use Rattle.replay.specs.Replay.{sections_of}
-use Rattle.replay.proofs.AnswerLemmas.{config_ends, trace_ends, answer_of-sections, nothing_written, report_ends, whole_written}
+use Rattle.trace.proofs.EndingLemmas.{nothing_written, whole_written}
+use Rattle.replay.proofs.AnswerLemmas.{config_ends, trace_ends, answer_of-sections, report_ends}
 use Rattle.replay.proofs.text.run_text.Goals as goal
 
 pub returns-in_err-config-clause-ends : goal.returns-in_err-config-clause-ends

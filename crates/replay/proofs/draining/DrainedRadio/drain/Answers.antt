@@ -2,8 +2,8 @@ use Rattle.std.proofs.Common.{◌≡◌, ℕ, ◌<◌, ◌++◌, [], List, lengt
 use Rattle.std.proofs.lemmas.List.{set-get_or}
 use Rattle.bss_core.specs.RadioView.{view_at}
 use Rattle.replay.specs.Frames.{sent_at}
-use Rattle.replay.specs.Replay.{SendsFirst}
-use Rattle.replay.proofs.DrainSteps.{drains-one, one_less, with_waiting, with_waiting-same}
+use Rattle.replay.specs.Replay.{SendsFirst, with_waiting}
+use Rattle.replay.proofs.DrainSteps.{drains-one, one_less, with_waiting-same}
 use Rattle.replay.proofs.draining.DrainedRadio.drain.Goals as goal
 
 pub loop-init : goal.loop-init
