@@ -7,7 +7,7 @@ use Rattle.bss_core.specs.RadioView.{RadioView, NetworkView, unused, view_at, se
 use Rattle.bss_core.specs.State.{State, sent_by}
 use Rattle.bss_core.specs.declared.bss.Refusal.{Refusal}
 use Rattle.bss_core.specs.declared.event.Event.{Event}
-use Rattle.bss_core.specs.declared.step.AirItem.{AirItem}
+use Rattle.bss_core.specs.declared.radio.step.AirItem.{AirItem}
 use Rattle.bss_core.proofs.RadioKeeps.{setting-at, radio-changed}
 
 -- the network at a place, as the radio shows it

@@ -9,9 +9,9 @@ use Rattle.bss_core.specs.Radio.{names_network, network_at, setting_at, Place, u
 use Rattle.bss_core.specs.State.{sent_by}
 use Rattle.bss_core.specs.declared.config.RadioConfig.{RadioConfig}
 use Rattle.bss_core.specs.declared.event.Event.{Event}
-use Rattle.bss_core.specs.declared.step.AirItem.{AirItem}
-use Rattle.bss_core.specs.declared.step.Step.{Step}
-use Rattle.bss_core.specs.declared.step.Step.TheVariants.{Take, Hand, Leave}
+use Rattle.bss_core.specs.declared.radio.step.AirItem.{AirItem}
+use Rattle.bss_core.specs.declared.radio.step.Step.{Step}
+use Rattle.bss_core.specs.declared.radio.step.Step.TheVariants.{Take, Hand, Leave}
 use Rattle.bss_core.proofs.SentFrames.{air-push}
 use Rattle.bss_core.proofs.RadioSteps.{at_each_place, after_steps-follow, events-part}
 

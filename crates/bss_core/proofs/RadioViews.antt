@@ -1,14 +1,15 @@
 -- What contracts see of a radio: as it opens.
 use Rattle.std.proofs.Common.{◌≡◌, ℕ, List, [], ◌∷◌, map, None, refl, sym, ap, subst, ◌∙◌, arith}
 use Rattle.std.proofs.lemmas.List.{length-map, get_or-map}
+use Rattle.bss_core.specs.Lists.{IsSuffix}
 use Rattle.bss_core.specs.Configuration.{fault_of}
 use Rattle.bss_core.specs.Network.{Setting, alone}
 use Rattle.bss_core.specs.Radio.{network_at, setting_at}
-use Rattle.bss_core.specs.RadioView.{NetworkView, unused, view_at, settings_of, shown, opened, config_of, radio_of, IsSuffix, IsSoundRadio, fresh_radio}
+use Rattle.bss_core.specs.RadioView.{NetworkView, unused, view_at, settings_of, shown, opened, config_of, radio_of, IsSoundRadio, fresh_radio}
 use Rattle.bss_core.specs.State.{State}
 use Rattle.bss_core.specs.declared.config.NetConfig.{NetConfig}
 use Rattle.bss_core.specs.declared.config.RadioConfig.{RadioConfig}
-use Rattle.bss_core.specs.declared.step.AirItem.{AirItem}
+use Rattle.bss_core.specs.declared.radio.step.AirItem.{AirItem}
 
 -- ---- networks that open
 

@@ -4,15 +4,15 @@ use Rattle.std.specs.List.{enumerate_from}
 use Rattle.std.proofs.lemmas.List.{append_assoc, length_push, length-map, get_or-map}
 use Rattle.std.proofs.lemmas.List.FromFn.{fill_by_all, length-enumerate_from, get_or-enumerate_from}
 use Rattle.bss_core.specs.Network.{Setting, alone, table_of, counts_of}
-use Rattle.bss_core.specs.Radio.{setting_in, setting_at, no_network, items_of, after_steps, waiting_at, part_of, sections_of}
+use Rattle.bss_core.specs.Radio.{setting_in, setting_at, no_network, items_of, after_steps, waiting_at, part_of, sections_after}
 use Rattle.bss_core.specs.RadioView.{RadioView, NetworkView, unused, view_at, settings_of, shown}
 use Rattle.bss_core.specs.Running.{IsAt, section_with, frames_of, sections_with}
 use Rattle.bss_core.specs.Section.{section_of}
 use Rattle.bss_core.specs.State.{State}
 use Rattle.bss_core.specs.declared.event.Event.{Event}
 use Rattle.bss_core.specs.declared.section.Section.{Section}
-use Rattle.bss_core.specs.declared.step.AirItem.{AirItem}
-use Rattle.bss_core.specs.declared.step.Step.{Step}
+use Rattle.bss_core.specs.declared.radio.step.AirItem.{AirItem}
+use Rattle.bss_core.specs.declared.radio.step.Step.{Step}
 use Rattle.bss_core.proofs.RadioFrames.{frames-alone}
 use Rattle.bss_core.proofs.RadioSteps.{events-part}
 
@@ -41,7 +41,7 @@ section-at r steps gone place s within h setting shows =
     section-by s (setting_at r.config place) (part_of r.config place steps) (frames_of gone r.queue place s) setting history frames
 
 -- every network ends with its section, in order of place
-pub ended-sections : (r : RadioView) (steps : List Step) (gone : List AirItem) (states : List State) → IsAt (after_steps r.config steps) r gone → map (λ (s : State). s.setting) states ≡ settings_of r.config → map shown states ≡ r.networks → sections_with gone r.queue states ≡ sections_of r.config steps
+pub ended-sections : (r : RadioView) (steps : List Step) (gone : List AirItem) (states : List State) → IsAt (after_steps r.config steps) r gone → map (λ (s : State). s.setting) states ≡ settings_of r.config → map shown states ≡ r.networks → sections_with gone r.queue states ≡ sections_after r.config steps
 ended-sections r steps gone states h settings views = fill_by_all (λ place. section_of (setting_at r.config place) (part_of r.config place steps)) _ count (section_of (setting_at r.config 0) []) (all_sections ∙ all_states) each
   where
     count : ℕ

@@ -1,3 +1,4 @@
+pub mod Lists
 pub mod Configuration
 pub mod Stations
 pub mod StationsKept

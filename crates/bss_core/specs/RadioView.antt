@@ -2,15 +2,16 @@
 use Rattle.std.specs.Prelude.{ℕ, ◌<◌, ◌≤◌, ◌≡◌, All, List, [], ◌∷◌, ◌++◌, length, map, slice_set, false, None}
 use Rattle.std.specs.List.{slice_index_or}
 use Rattle.bss_core.specs.Configuration.{fault_of}
+use Rattle.bss_core.specs.Lists.{IsSuffix}
 use Rattle.bss_core.specs.Network.{Setting, alone}
 use Rattle.bss_core.specs.Radio.{setting_in, setting_at, items_of}
 use Rattle.bss_core.specs.State.{State, sent_by}
 use Rattle.bss_core.specs.declared.config.NetConfig.{NetConfig}
 use Rattle.bss_core.specs.declared.config.RadioConfig.{RadioConfig}
 use Rattle.bss_core.specs.declared.event.Event.{Event}
-use Rattle.bss_core.specs.declared.step.AirItem.{AirItem}
-use Rattle.bss_core.specs.declared.step.Handed.{Handed}
-use Rattle.bss_core.specs.declared.step.Handed.TheVariants.{Moved, Nothing, QueueFull}
+use Rattle.bss_core.specs.declared.radio.step.AirItem.{AirItem}
+use Rattle.bss_core.specs.declared.radio.step.Handed.{Handed}
+use Rattle.bss_core.specs.declared.radio.step.Handed.TheVariants.{Moved, Nothing, QueueFull}
 
 -- of one network, the events that it took and the frames that wait; all else is what `alone` gives of its setting and
 -- its events
@@ -64,10 +65,6 @@ opened channel interval n = record {
 }
 
 -- ---- what a radio keeps
-
--- the second list ends with the first
-abbrev pub IsSuffix : List (List ℕ) → List (List ℕ) → Type 0
-IsSuffix xs ys = (before : List (List ℕ)) × (before ++ xs ≡ ys)
 
 pub record IsSoundRadio (r : RadioView) : Type 0 where
   pub accepted : fault_of r.config ≡ None

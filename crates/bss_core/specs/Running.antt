@@ -6,7 +6,7 @@ use Rattle.bss_core.specs.Radio.{RadioState, place_at, waiting_at, items_of}
 use Rattle.bss_core.specs.RadioView.{RadioView, view_at}
 use Rattle.bss_core.specs.State.{State, network_of}
 use Rattle.bss_core.specs.declared.section.Section.{Section}
-use Rattle.bss_core.specs.declared.step.AirItem.{AirItem}
+use Rattle.bss_core.specs.declared.radio.step.AirItem.{AirItem}
 
 -- a radio that runs is at this state, and these items have left it
 pub record IsAt (s : RadioState) (r : RadioView) (gone : List AirItem) : Type 0 where

@@ -12,8 +12,9 @@ ghost use Rattle.bss_core.specs.Running.{section_with};
 ghost use Rattle.association.specs.Request.{request_of};
 ghost use Rattle.bss_core.specs.declared.bss.Refusal.TheVariants as refusals;
 
-use crate::config::{MAX_EVENTS, NetConfig};
+use crate::config::NetConfig;
 use crate::event::Event;
+use crate::limits::MAX_EVENTS;
 use crate::reply::Reply;
 use crate::section::{Counts, Section, StationRow};
 use crate::setting::Setting;

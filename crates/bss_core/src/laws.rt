@@ -7,8 +7,8 @@ ghost use Rattle.bss_core.specs.Network.{Setting, alone, empty_network, step};
 ghost use Rattle.bss_core.specs.Sound.{IsSoundNetwork};
 ghost use Rattle.bss_core.specs.declared.config.RadioConfig.{RadioConfig};
 ghost use Rattle.bss_core.specs.declared.event.Event.{Event};
-ghost use Rattle.bss_core.specs.declared.step.Step.{Step};
-ghost use Rattle.bss_core.specs.Radio.{after_steps, items_of, sections_of};
+ghost use Rattle.bss_core.specs.declared.radio.step.Step.{Step};
+ghost use Rattle.bss_core.specs.Radio.{after_steps, items_of, sections_after};
 ghost use Rattle.bss_core.specs.State.{sent_by};
 ghost use Rattle.bss_core.specs.Worlds.{AreAlike, AreCutFromOne};
 
@@ -41,7 +41,7 @@ pub fn sent_frames()
 /// sections are the same, and of the frames that left one list begins with the other.
 pub fn two_worlds()
     ensures sections { (c d : RadioConfig) (steps others : List Step) (p q : ℕ) → AreAlike c d steps others p q →
-        slice_get (sections_of c steps) p ≡ slice_get (sections_of d others) q }
+        slice_get (sections_after c steps) p ≡ slice_get (sections_after d others) q }
     ensures left { (c d : RadioConfig) (steps others : List Step) (p q : ℕ) → AreAlike c d steps others p q →
         AreCutFromOne (items_of p (after_steps c steps).left) (items_of q (after_steps d others).left) }
 {}

@@ -19,27 +19,26 @@ mod event;
 mod frames;
 mod keeping;
 mod laws;
+mod limits;
 mod line;
 mod radio;
 mod reply;
-mod running;
 mod section;
 mod setting;
 mod stations;
-mod step;
 mod unit;
 
 pub use bss::{Bss, Refusal};
-pub use checking::{is_taken, rates_fit};
-pub use config::{
-    ConfigFault, MAX_CHANNEL, MAX_EVENTS, MAX_KNOWN, MAX_NETWORKS, MAX_QUEUE, MAX_QUOTA, MAX_RATE,
-    MAX_RATES, MAX_SSID_LEN, MAX_STATIONS, NetConfig, RadioConfig,
-};
+pub use checking::{is_taken, rates_fit, stations_fit};
+pub use config::{ConfigFault, NetConfig, RadioConfig};
 pub use event::{Event, hears};
 pub use laws::{checked_networks, one_step, reachable, sent_frames, two_worlds};
+pub use limits::{
+    CHANNEL_LIMITS, DTIM_LIMITS, EVENT_LIMITS, INTERVAL_LIMITS, KNOWN_LIMITS, Limits, MAX_EVENTS,
+    MAX_NETWORKS, MAX_QUEUE, MAX_RATE, MAX_RATES, MAX_SSID_LEN, MAX_STATIONS, QUEUE_LIMITS,
+    QUOTA_LIMITS, STATION_LIMITS, count_fits, ssid_fits,
+};
 pub use line::Line;
-pub use radio::{OpenFault, Radio};
-pub use running::{RunResult, run};
+pub use radio::{AirItem, Handed, OpenFault, Radio, RunResult, Step, run};
 pub use section::{Counts, Section, StationRow};
 pub use setting::Setting;
-pub use step::{AirItem, Handed, Step};

@@ -2,10 +2,11 @@ use Rattle.std.proofs.Common.{◌≡◌, ◌≤◌, ◌<◌, ◌++◌, ◌∷◌
 use Rattle.std.specs.Prelude.{All}
 use Rattle.std.proofs.lemmas.List.{length-map, length-append}
 use Rattle.std.proofs.lemmas.List.Elements.{All-push}
+use Rattle.bss_core.specs.Lists.{IsSuffix}
 use Rattle.bss_core.specs.Radio.{items_of}
-use Rattle.bss_core.specs.RadioView.{RadioView, IsSuffix, view_at, radio_of, IsSoundRadio, moved}
+use Rattle.bss_core.specs.RadioView.{RadioView, view_at, radio_of, IsSoundRadio, moved}
 use Rattle.bss_core.specs.State.{State, network_of}
-use Rattle.bss_core.specs.declared.step.AirItem.{AirItem}
+use Rattle.bss_core.specs.declared.radio.step.AirItem.{AirItem}
 use Rattle.bss_core.proofs.RadioFrames.{items_of-other}
 use Rattle.bss_core.proofs.RadioChanges.{moved-shown}
 use Rattle.bss_core.proofs.RadioKeeps.{radio-changed, sound-network, settings-changed, last-at, handed-last}

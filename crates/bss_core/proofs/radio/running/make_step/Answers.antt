@@ -2,11 +2,11 @@ use Rattle.std.proofs.Common.{◌≡◌, ◌++◌, ◌∷◌, [], List, arith, r
 use Rattle.bss_core.specs.Radio.{after_steps}
 use Rattle.bss_core.specs.RadioView.{RadioView}
 use Rattle.bss_core.specs.Running.{IsAt}
-use Rattle.bss_core.specs.declared.step.AirItem.{AirItem}
-use Rattle.bss_core.specs.declared.step.Step.{Step}
-use Rattle.bss_core.specs.declared.step.Step.TheVariants.{Hand, Leave}
+use Rattle.bss_core.specs.declared.radio.step.AirItem.{AirItem}
+use Rattle.bss_core.specs.declared.radio.step.Step.{Step}
+use Rattle.bss_core.specs.declared.radio.step.Step.TheVariants.{Hand, Leave}
 use Rattle.bss_core.proofs.RunSteps.{is_at-handed, is_at-hand_nowhere, is_at-left, is_at-none_left}
-use Rattle.bss_core.proofs.running.make_step.Goals as goal
+use Rattle.bss_core.proofs.radio.running.make_step.Goals as goal
 
 pub returns-then-place-networks-clause-made : goal.returns-then-place-networks-clause-made
 returns-then-place-networks-clause-made c before h =

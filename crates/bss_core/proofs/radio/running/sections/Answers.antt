@@ -4,9 +4,9 @@ use Rattle.std.specs.Vec.Iter.{into_iter_items}
 use Rattle.bss_core.specs.Running.{section_with, frames_of}
 use Rattle.bss_core.specs.State.{State}
 use Rattle.bss_core.specs.declared.section.Section.{Section}
-use Rattle.bss_core.specs.declared.step.AirItem.{AirItem}
+use Rattle.bss_core.specs.declared.radio.step.AirItem.{AirItem}
 use Rattle.bss_core.proofs.RunSections.{ended-next}
-use Rattle.bss_core.proofs.running.sections.Goals as goal
+use Rattle.bss_core.proofs.radio.running.sections.Goals as goal
 
 pub loop-network-preserved : goal.loop-network-preserved
 loop-network-preserved c =

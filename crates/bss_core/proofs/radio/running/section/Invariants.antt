@@ -1,5 +1,5 @@
 use Rattle.std.proofs.Common.{◌≡◌, ◌++◌, length}
-use Rattle.bss_core.proofs.running.section.Given as goal
+use Rattle.bss_core.proofs.radio.running.section.Given as goal
 
 abbrev pub invariant-loop-octets : goal.invariant-loop-octets
 invariant-loop-octets l = record {

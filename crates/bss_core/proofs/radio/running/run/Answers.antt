@@ -1,19 +1,19 @@
 use Rattle.std.proofs.Common.{◌≡◌, ◌+◌, ◌++◌, ◌∷◌, [], List, ℕ, take, Err, sym, ap, subst, ◌∙◌}
 use Rattle.std.proofs.lemmas.List.{take_more, take_all}
 use Rattle.std.proofs.lemmas.Result.{err_from_is_err_and}
-use Rattle.bss_core.specs.Radio.{RadioState, after_steps, sections_of, items_of, waiting_at}
+use Rattle.bss_core.specs.Radio.{RadioState, after_steps, sections_after, items_of, waiting_at}
 use Rattle.bss_core.specs.RadioView.{RadioView}
 use Rattle.bss_core.specs.Running.{IsAt, sections_with}
 use Rattle.bss_core.specs.State.{State}
 use Rattle.bss_core.specs.declared.config.RadioConfig.{RadioConfig}
 use Rattle.bss_core.specs.declared.radio.OpenFault.{OpenFault}
 use Rattle.bss_core.specs.declared.radio.OpenFault.TheVariants.{Config}
-use Rattle.bss_core.specs.declared.step.AirItem.{AirItem}
-use Rattle.bss_core.specs.declared.step.Step.{Step}
+use Rattle.bss_core.specs.declared.radio.step.AirItem.{AirItem}
+use Rattle.bss_core.specs.declared.radio.step.Step.{Step}
 use Rattle.bss_core.proofs.RadioFrames.{frames-alone}
 use Rattle.bss_core.proofs.RunSections.{ended-sections}
 use Rattle.bss_core.proofs.RunSteps.{is_at-first}
-use Rattle.bss_core.proofs.running.run.Goals as goal
+use Rattle.bss_core.proofs.radio.running.run.Goals as goal
 
 pub returns-in_err-radio-clause-fault : goal.returns-in_err-radio-clause-fault
 returns-in_err-radio-clause-fault c fault =
@@ -61,7 +61,7 @@ returns-clause-sections c =
     ∙ ap (λ (items : List AirItem). sections_with items c.as_slice-2.result.now networks) c.as_slice.ensures.value
     ∙ ap (λ (items : List AirItem). sections_with left items networks) (c.as_slice-2.ensures ∙ parts.queue)
     ∙ ended-sections radio steps left networks at parts.settings parts.networks
-    ∙ ap (λ (d : RadioConfig). sections_of d steps) c.loop-step.invariant.config
+    ∙ ap (λ (d : RadioConfig). sections_after d steps) c.loop-step.invariant.config
 
 pub returns-clause-frames : goal.returns-clause-frames
 returns-clause-frames c place within =

@@ -2,7 +2,7 @@ use Rattle.std.proofs.Common.{◌≡◌, ◌++◌, length, map}
 use Rattle.std.specs.List.{enumerate_from}
 use Rattle.std.specs.Vec.Iter.{into_iter_items}
 use Rattle.bss_core.specs.Running.{section_with, frames_of, sections_with}
-use Rattle.bss_core.proofs.running.sections.Given as goal
+use Rattle.bss_core.proofs.radio.running.sections.Given as goal
 
 -- the sections so far, and those of the networks that are to come
 abbrev pub invariant-loop-network : goal.invariant-loop-network

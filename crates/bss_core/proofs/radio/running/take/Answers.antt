@@ -3,9 +3,9 @@ use Rattle.bss_core.specs.Radio.{RadioState, network_at, after_steps}
 use Rattle.bss_core.specs.RadioView.{RadioView, view_at, took}
 use Rattle.bss_core.specs.Running.{IsAt}
 use Rattle.bss_core.specs.declared.event.Event.{Event}
-use Rattle.bss_core.specs.declared.step.Step.TheVariants.{Take}
+use Rattle.bss_core.specs.declared.radio.step.Step.TheVariants.{Take}
 use Rattle.bss_core.proofs.RunSteps.{is_at-took, is_at-full, is_at-nowhere}
-use Rattle.bss_core.proofs.running.take.Goals as goal
+use Rattle.bss_core.proofs.radio.running.take.Goals as goal
 
 pub returns-then-place-networks-clause-made : goal.returns-then-place-networks-clause-made
 returns-then-place-networks-clause-made c before left h =

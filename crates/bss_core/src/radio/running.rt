@@ -3,18 +3,17 @@
 ghost use Rattle.std.specs.Prelude.{◌≡◌, ◌≢◌, ◌↔◌, ◌++◌, ◌∷◌, [], ◌<◌, ℕ, List, Some, Err, IfOk, OnOk, length};
 ghost use Rattle.bss_core.specs.Configuration.{fault_of};
 ghost use Rattle.bss_core.specs.Network.{alone};
-ghost use Rattle.bss_core.specs.Radio.{after_steps, setting_at, waiting_at, part_of, items_of, sections_of};
+ghost use Rattle.bss_core.specs.Radio.{after_steps, setting_at, waiting_at, part_of, items_of, sections_after};
 ghost use Rattle.bss_core.specs.Running.{IsAt, section_with, frames_of, sections_with};
 ghost use Rattle.bss_core.specs.declared.config.ConfigFault.{ConfigFault};
-ghost use Rattle.bss_core.specs.declared.step.Step.{Step};
-ghost use Rattle.bss_core.specs.declared.step.Step.TheVariants as steps;
+ghost use Rattle.bss_core.specs.declared.radio.step.Step.{Step};
+ghost use Rattle.bss_core.specs.declared.radio.step.Step.TheVariants as steps;
 
 use crate::bss::{Bss, Refusal};
 use crate::config::RadioConfig;
 use crate::event::Event;
-use crate::radio::{OpenFault, Radio};
+use crate::radio::{AirItem, OpenFault, Radio, Step};
 use crate::section::Section;
-use crate::step::{AirItem, Step};
 use mac_frame::{List, NoMemory, Octets};
 use std::alloc::Global;
 
@@ -42,7 +41,7 @@ pub fn run(alloc: Global, config: RadioConfig, steps: &[Step]) -> Result<RunResu
     ensures queued { IfOk result (λ run. run.queued ≡ (after_steps config steps.now).queue) }
 
     // The section of each network is that of the network alone, with its own events.
-    ensures sections { IfOk result (λ run. run.sections ≡ sections_of config steps.now) }
+    ensures sections { IfOk result (λ run. run.sections ≡ sections_after config steps.now) }
 
     // Of each network, the frames that left, those that are queued and those that wait are all that it sends alone.
     ensures frames { IfOk result (λ run. (place : ℕ) → place < length config.networks →
