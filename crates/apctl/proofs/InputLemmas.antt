@@ -15,8 +15,10 @@ use Rattle.apctl.specs.declared.fault.Fault.TheVariants.{Config, Trace, Words, M
 use Rattle.std.specs.Prelude.{codes}
 
 -- the run of two texts, with the program's faults
-as_run : (end : Result Unit TextFault) (answer : Result (List ℕ) TextFault) (old new : Option (List ℕ)) → Ends text_ending end answer old new
-    → Ends run_ending (result_map_both (λ u. u) of_texts end) (result_map_both (λ report. report) of_texts answer) old new
+as_run : (end : Result Unit TextFault) (answer : Result (List ℕ) TextFault) (old new : Option (List ℕ))
+    → Ends text_ending end answer old new
+    → Ends run_ending (result_map_both (λ u. u) of_texts end) (result_map_both (λ report. report) of_texts answer) old
+    new
 as_run (Ok u) (Ok text) old new h = h
 as_run (Ok u) (Err fault) old new h = absurd h
 as_run (Err (replay.Config fault)) answer old new h = (ap (result_map_both (λ report. report) of_texts) h.0, h.1)
@@ -27,17 +29,20 @@ as_run (Err replay.NoMemory) (Ok text) old new h = h
 as_run (Err replay.NoMemory) (Err fault) old new h = h
 
 -- the text was read, and its run ended with a fault
-pub fault_ends : (e : TextFault) (input : List ℕ) (left old new : Option (List ℕ)) → IfSome left (λ octets. input ≡ octets)
+pub fault_ends : (e : TextFault) (input : List ℕ) (left old new : Option (List ℕ))
+    → IfSome left (λ octets. input ≡ octets)
     → Ends text_ending (Err {T = Unit} e) (answer_of (joined_parts input).0 (joined_parts input).1) old new
     → EndsInput (Err (of_texts e)) left old new
-fault_ends (replay.Config fault) input left old new read h = (input, read, as_run (Err (replay.Config fault)) _ old new h)
+fault_ends (replay.Config fault) input left old new read h =
+    (input, read, as_run (Err (replay.Config fault)) _ old new h)
 fault_ends (replay.Trace fault) input left old new read h = (input, read, as_run (Err (replay.Trace fault)) _ old new h)
 fault_ends replay.Write input left old new read h = (input, read, as_run (Err replay.Write) _ old new h)
 fault_ends replay.NoMemory input left old new read h = (input, read, as_run (Err replay.NoMemory) _ old new h)
 
 -- the text was read, and its run ended well
 pub well_ends : (input : List ℕ) (left old new : Option (List ℕ)) → IfSome left (λ octets. input ≡ octets)
-    → Ends text_ending (Ok tt) (answer_of (joined_parts input).0 (joined_parts input).1) old new → EndsInput (Ok tt) left old new
+    → Ends text_ending (Ok tt) (answer_of (joined_parts input).0 (joined_parts input).1) old new → EndsInput (Ok tt)
+    left old new
 well_ends input left old new read h = (input, read, as_run (Ok tt) _ old new h)
 
 -- memory ran out before all was read

@@ -22,7 +22,8 @@ one_at_most place bss (Wire named x) = cond_length (eqb named place) (event.Wire
 one_at_most place bss Tick = omega arith
 
 -- the prefix of a list with at most one item more
-take-push : (m : ℕ) (xs ys : List Event) → length ys ≤ 1 → take m (xs ++ ys) ≡ take m xs ++ cond (ltb (length (take m xs)) m) ys []
+take-push : (m : ℕ) (xs ys : List Event) → length ys ≤ 1
+    → take m (xs ++ ys) ≡ take m xs ++ cond (ltb (length (take m xs)) m) ys []
 take-push m xs ys one =
     elim (cases_lt (length xs) m) [
       | inl lt ↦
@@ -39,7 +40,8 @@ pub own_events-none : (place : ℕ) (n : NetConfig) → own_events place n [] �
 own_events-none place n = take_all n.max_events [] (omega arith)
 
 -- the events of one more line
-pub own_events-push : (place : ℕ) (n : NetConfig) (ls : List Line) (l : Line) → own_events place n (ls ++ l ∷ []) ≡ own_events place n ls ++ taken_of place n (own_events place n ls) l
+pub own_events-push : (place : ℕ) (n : NetConfig) (ls : List Line) (l : Line)
+    → own_events place n (ls ++ l ∷ []) ≡ own_events place n ls ++ taken_of place n (own_events place n ls) l
 own_events-push place n ls l =
     ap (take n.max_events) (sym (flat_map_more (heard_of place n.bssid) [] ls l))
     ∙ take-push n.max_events (heard place n.bssid ls) (heard_of place n.bssid l) (one_at_most place n.bssid l)

@@ -1,5 +1,6 @@
 -- What is answered to the octets of a configuration and of a trace.
 use Rattle.std.specs.Prelude.{ℕ, List, Result, Ok, Err}
+use Rattle.bss_core.specs.Lines.{sections_of_lines}
 use Rattle.bss_core.specs.declared.config.RadioConfig.{RadioConfig}
 use Rattle.bss_core.specs.declared.config.ConfigFault.{ConfigFault}
 use Rattle.bss_core.specs.declared.line.Line.{Line}
@@ -12,13 +13,12 @@ use Rattle.trace.specs.declared.read_fault.ReadFault.{ReadFault}
 use Rattle.trace.specs.declared.read_fault.ReadFault.TheVariants as reads
 use Rattle.trace.specs.declared.report.ReportFault.{ReportFault}
 use Rattle.trace.specs.declared.report.ReportFault.TheVariants as reports
-use Rattle.replay.specs.Replay.{sections_of}
 use Rattle.replay.specs.declared.fault.TextFault.{TextFault}
 use Rattle.replay.specs.declared.fault.TextFault.TheVariants.{Config, Trace, NoMemory, Write}
 
 -- the report of what a trace says to the networks of a configuration, or the trace's fault
 abbrev pub replayed : RadioConfig → Result (List Line) TraceFault → Result (List ℕ) TextFault
-replayed c (Ok lines) = Ok (report_text (sections_of c lines))
+replayed c (Ok lines) = Ok (report_text (sections_of_lines c lines))
 replayed c (Err fault) = Err (Trace fault)
 
 abbrev pub answered : Result RadioConfig ConfigFault → List ℕ → Result (List ℕ) TextFault

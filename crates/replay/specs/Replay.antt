@@ -1,25 +1,17 @@
 -- What a trace makes of the networks of a configuration: each network takes what it hears, alone.
 use Rattle.std.specs.Prelude.{ℕ, ◌<◌, ◌≤◌, ◌≡◌, ◌≢◌, ◌++◌, nat_lt, Bool, true, false, List, [], ◌∷◌, length, map}
 use Rattle.std.specs.Prelude.{slice_set, None, if◌then◌else◌}
-use Rattle.std.specs.List.{range_with_len}
 use Rattle.bss_core.specs.Configuration.{fault_of}
 use Rattle.mac_frame.specs.Hearing.{is_heard}
 use Rattle.bss_core.specs.Network.{alone}
-use Rattle.bss_core.specs.Radio.{network_at, setting_at}
+use Rattle.bss_core.specs.Radio.{network_at, setting_at, sections_of}
 use Rattle.bss_core.specs.RadioView.{RadioView, view_at}
-use Rattle.bss_core.specs.Section.{section_of}
 use Rattle.bss_core.specs.declared.config.RadioConfig.{RadioConfig}
 use Rattle.bss_core.specs.declared.event.Event.{Event}
 use Rattle.bss_core.specs.declared.section.Section.{Section}
 use Rattle.bss_core.specs.declared.line.Line.{Line}
 use Rattle.bss_core.specs.Lines.{own_events, taken_of}
 use Rattle.replay.specs.Frames.{FrameLists, sent_at, sends_more}
-
--- the section of each network, in order of place: alone with its own events of the lines
-abbrev pub sections_of : RadioConfig → List Line → List Section
-sections_of c lines =
-    map (λ place. section_of (setting_at c place) (own_events place (network_at c place) lines))
-    (range_with_len 0 (length c.networks))
 
 -- ---- a radio between two lines
 
@@ -96,9 +88,7 @@ IsUnheardFrom r first x =
 
 -- the section of each network with what it took and the frames that left
 abbrev pub sections_at : RadioView → List Section
-sections_at r =
-    map (λ place. section_of (setting_at r.config place) (view_at r place).history)
-    (range_with_len 0 (length r.config.networks))
+sections_at r = sections_of r.config (λ place. (view_at r place).history)
 
 -- ---- a radio after some lines
 

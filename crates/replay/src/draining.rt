@@ -9,9 +9,7 @@ ghost use Rattle.replay.specs.Replay.{IsDrained, TakesAt, TakesLine, sections_at
 ghost use Rattle.replay.specs.Replay.{SendsFirst};
 
 use crate::sent::SentFrames;
-use bss_core::{
-    Event, Handed, Line, OpenFault, Radio, RadioConfig, Refusal, Section, hears, sent_frames,
-};
+use bss_core::{Event, Handed, Line, Radio, RadioConfig, Refusal, Section, hears, sent_frames};
 use mac_frame::{List, NoMemory, Octets};
 use std::alloc::Global;
 
@@ -30,7 +28,7 @@ impl DrainedRadio {
         requires { fault_of config ≡ None }
         ensures { IfOk result (λ drained. (drained.radio ≡ fresh_radio config) × IsDrained drained.radio drained.sent) }
     {
-        let radio = open(alloc, config)?;
+        let radio = Radio::of_checked(alloc, config)?;
         let sent = SentFrames::new(alloc, radio.networks())?;
         Ok(DrainedRadio { alloc, radio, sent })
     }
@@ -176,18 +174,5 @@ impl DrainedRadio {
             sections.push(network.into_section(List::from_vec(air))?)?;
         }
         Ok(sections)
-    }
-}
-
-/// The radio of a configuration without a fault.
-fn open(alloc: Global, config: RadioConfig) -> Result<Radio, NoMemory>
-    requires { fault_of config ≡ None }
-    ensures { IfOk result (λ radio. radio ≡ fresh_radio config) }
-{
-    match Radio::new(alloc, config) {
-        Ok(radio) => Ok(radio),
-        Err(OpenFault::NoMemory) => Err(NoMemory),
-        Err(OpenFault::Config(_)) => unreachable!(),
-        Err(OpenFault::Callers) => unreachable!(),
     }
 }

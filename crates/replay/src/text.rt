@@ -2,10 +2,10 @@
 
 ghost use Rattle.std.specs.Prelude.{◌≡◌, ◌+◌, None, IfOk};
 ghost use Rattle.bss_core.specs.Configuration.{fault_of};
+ghost use Rattle.bss_core.specs.Lines.{sections_of_lines};
 ghost use Rattle.trace.specs.Endings.{Ends, failures_of};
 ghost use Rattle.trace.specs.Sinks.{MayFail};
 ghost use Rattle.replay.specs.Answer.{answer_of, text_ending};
-ghost use Rattle.replay.specs.Replay.{sections_of};
 
 use crate::fault::TextFault;
 use crate::line_by_line::Replay;
@@ -40,7 +40,7 @@ pub fn run_text<W: Sink>(
 /// The section of each network, in order of place: each takes what it hears of the lines.
 fn replay(alloc: Global, config: RadioConfig, lines: Vec<Line>) -> Result<Vec<Section>, NoMemory>
     requires { fault_of config ≡ None }
-    ensures { IfOk result (λ sections. sections.items ≡ sections_of config lines.items) }
+    ensures { IfOk result (λ sections. sections.items ≡ sections_of_lines config lines.items) }
 {
     let mut replay = Replay::new(alloc, config)?;
     for line in lines {

@@ -18,7 +18,8 @@ unfoldable pub so_far : List NetConfig → Items → Result (List NetConfig) Con
 so_far done ds = networks_of done (tables_in ds) >>= (λ more. Ok (done ++ more))
 
 -- the first item is a table, or it is left out
-tables_in-table : (d : Data) (ds : Items) (ms : Members) → as_table d ≡ Some ms → tables_in (item d ds) ≡ ms ∷ tables_in ds
+tables_in-table : (d : Data) (ds : Items) (ms : Members) → as_table d ≡ Some ms
+    → tables_in (item d ds) ≡ ms ∷ tables_in ds
 tables_in-table (table ms) ds other is = ap (λ t. t ∷ tables_in ds) (same_Some _ _ is)
 tables_in-table d ds other is = absurd (none-some _ is)
 
@@ -28,17 +29,20 @@ tables_in-other d ds is = refl
 
 -- one more network, before the others or after those so far
 moved : (done : List NetConfig) (network : NetConfig) (read : Result (List NetConfig) ConfigFault)
-    → ((read >>= (λ more. Ok (network ∷ more))) >>= (λ more. Ok (done ++ more))) ≡ (read >>= (λ more. Ok ((done ++ network ∷ []) ++ more)))
+    → ((read >>= (λ more. Ok (network ∷ more))) >>= (λ more. Ok (done ++ more)))
+    ≡ (read >>= (λ more. Ok ((done ++ network ∷ []) ++ more)))
 moved done network (Ok more) = ap Ok (sym (append_assoc done (network ∷ []) more))
 moved done network (Err fault) = refl
 
 pub so_far-start : (ds : Items) → so_far [] ds ≡ networks_of [] (tables_in ds)
 unfolding so_far
 so_far-start ds =
-    elim (networks_of [] (tables_in ds)) as (λ read. (read >>= (λ more. Ok ([] ++ more))) ≡ read) [ Ok more ↦ refl | Err fault ↦ refl ]
+    elim (networks_of [] (tables_in ds)) as (λ read. (read >>= (λ more. Ok ([] ++ more))) ≡ read)
+    [ Ok more ↦ refl | Err fault ↦ refl ]
 
 -- at the end there are those so far
-pub so_far-end : (done : List NetConfig) (vs : List Value) (i : ℕ) → length vs ≤ i → so_far done (items_view (drop i vs)) ≡ Ok done
+pub so_far-end : (done : List NetConfig) (vs : List Value) (i : ℕ) → length vs ≤ i
+    → so_far done (items_view (drop i vs)) ≡ Ok done
 unfolding so_far
 so_far-end done vs i past = at_drop_all (λ xs. so_far done (items_view xs)) vs i past ∙ ap Ok (append-nil done)
 

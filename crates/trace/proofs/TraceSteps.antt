@@ -60,7 +60,8 @@ lines_last text e some = ap lines_of_parts (cut-last text (lacks_from_none text 
 -- ---- spaces at the start
 
 -- a space is dropped
-pub space_first : (text : List ℕ) → 0 < length text → get_or text 0 0 ≡ 32 → without_spaces_at_start text ≡ without_spaces_at_start (drop 1 text)
+pub space_first : (text : List ℕ) → 0 < length text → get_or text 0 0 ≡ 32
+    → without_spaces_at_start text ≡ without_spaces_at_start (drop 1 text)
 space_first [] some e = absurd (omega arith)
 space_first (x ∷ xs) some e = rw (eq-eqb x 32 e, one-add) refl
 
@@ -88,14 +89,21 @@ said_after before (Ok later) = Ok (before ++ later)
 said_after before (Err fault) = Err fault
 
 -- a line that says something stands before what the later lines say
-pub said-more : (config : RadioConfig) (number : ℕ) (line : List ℕ) (rest : List (List ℕ)) (before : List Line) (said : Line) → line_of config number line ≡ Ok (Some said)
-    → said_after before (lines_from config number (line ∷ rest)) ≡ said_after (before ++ said ∷ []) (lines_from config (number + 1) rest)
+pub said-more : (config : RadioConfig) (number : ℕ) (line : List ℕ) (rest : List (List ℕ)) (before : List Line)
+    (said : Line)
+    → line_of config number line ≡ Ok (Some said)
+    → said_after before (lines_from config number (line ∷ rest)) ≡ said_after (before ++ said ∷ [])
+    (lines_from config (number + 1) rest)
 said-more config number line rest before said e =
-    ap (λ (spoken : Result (Option Line) TraceFault). said_after before (spoken >>= λ o. later >>= λ ls. Ok (option_to_list o ++ ls))) e ∙ onto later
+    ap
+    (λ (spoken : Result (Option Line) TraceFault). said_after before (spoken >>= λ o. later >>= λ ls. Ok (option_to_list o ++ ls)))
+    e
+    ∙ onto later
   where
     later : Result (List Line) TraceFault
     later = lines_from config (number + 1) rest
 
-    onto : (r : Result (List Line) TraceFault) → said_after before (r >>= λ ls. Ok (said ∷ ls)) ≡ said_after (before ++ said ∷ []) r
+    onto : (r : Result (List Line) TraceFault)
+        → said_after before (r >>= λ ls. Ok (said ∷ ls)) ≡ said_after (before ++ said ∷ []) r
     onto (Ok ls) = ap (λ (all : List Line). Ok all) (sym (append_assoc before (said ∷ []) ls))
     onto (Err fault) = refl

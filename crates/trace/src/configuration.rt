@@ -17,7 +17,7 @@ mod network;
 mod values;
 
 use crate::read_fault::ReadFault;
-use bss_core::{MAX_CHANNEL, MAX_QUEUE, RadioConfig};
+use bss_core::{CHANNEL_LIMITS, INTERVAL_LIMITS, Limits, QUEUE_LIMITS, RadioConfig};
 pub use fault::ConfigTextFault;
 use fault::at_radio;
 use keys::is_listed;
@@ -26,6 +26,9 @@ use network::{networks_at, read_networks};
 use std::alloc::Global;
 use toml::Table;
 use values::number_at;
+
+/// The versions of configurations that are read.
+const VERSIONS: Limits = Limits { least: 1, most: 1 };
 
 /// The configuration that a text writes in TOML: all its keys are there, and no others.
 ///
@@ -57,13 +60,13 @@ fn read_document(alloc: Global, text: &[u8]) -> Result<Table, ConfigTextFault>
 fn read_radio(alloc: Global, top: &Table) -> Result<RadioConfig, ConfigTextFault>
     ensures { Gives (λ configuration. configuration) read_ending result (radio_of (table_view top.now)) }
 {
-    number_at(top, "version", 1, 1).ok_or(at_radio(2))?;
+    number_at(top, "version", VERSIONS).ok_or(at_radio(2))?;
     if !is_listed(top) {
         return Err(at_radio(3));
     }
-    let channel = number_at(top, "channel", 1, u32::from(MAX_CHANNEL)).ok_or(at_radio(4))?;
-    let interval = number_at(top, "interval", 1, u32::from(u16::MAX)).ok_or(at_radio(5))?;
-    let queue = number_at(top, "queue", 1, u32::from(MAX_QUEUE)).ok_or(at_radio(6))?;
+    let channel = number_at(top, "channel", CHANNEL_LIMITS).ok_or(at_radio(4))?;
+    let interval = number_at(top, "interval", INTERVAL_LIMITS).ok_or(at_radio(5))?;
+    let queue = number_at(top, "queue", QUEUE_LIMITS).ok_or(at_radio(6))?;
     let values = networks_at(top).ok_or(at_radio(7))?;
     let networks = read_networks(alloc, values)?;
     Ok(RadioConfig {

@@ -18,11 +18,14 @@ returns-in_err-line-clause-ends g c =
 pub returns-in_err-write_all-clause-ends : goal.returns-in_err-write_all-clause-ends
 returns-in_err-write_all-clause-ends g c =
     let p = err_from_is_err_and c.from_residual-in_err-write_all.result c.from_residual-in_err-write_all.ensures.1 in
-    let line : c.as_bytes.result.now ≡ count_line (length c.in_ok-config.config.networks) = c.as_bytes.ensures.value ∙ c.in_ok-line.ensures ∙ ap (λ (ns : _). count_line (length ns)) c.as_slice.ensures in
+    let line : c.as_bytes.result.now ≡ count_line (length c.in_ok-config.config.networks) =
+    c.as_bytes.ensures.value ∙ c.in_ok-line.ensures ∙ ap (λ (ns : _). count_line (length ns)) c.as_slice.ensures in
     rw (p.1, p.2)
     (part_written _ _ _ _ (check_of-read c.in_ok-config.config _ c.args.config.now c.in_ok-config.ensures.exact line) c.in_err-write_all.ensures.ends)
 
 pub returns-clause-ends : goal.returns-clause-ends
 returns-clause-ends g c =
-    let line : c.as_bytes.result.now ≡ count_line (length c.in_ok-config.config.networks) = c.as_bytes.ensures.value ∙ c.in_ok-line.ensures ∙ ap (λ (ns : _). count_line (length ns)) c.as_slice.ensures in
-    whole_written _ _ _ _ (check_of-read c.in_ok-config.config _ c.args.config.now c.in_ok-config.ensures.exact line) c.in_ok-write_all.ensures.ends
+    let line : c.as_bytes.result.now ≡ count_line (length c.in_ok-config.config.networks) =
+    c.as_bytes.ensures.value ∙ c.in_ok-line.ensures ∙ ap (λ (ns : _). count_line (length ns)) c.as_slice.ensures in
+    whole_written _ _ _ _ (check_of-read c.in_ok-config.config _ c.args.config.now c.in_ok-config.ensures.exact line)
+    c.in_ok-write_all.ensures.ends

@@ -12,18 +12,23 @@ returns-in_err-put_section-clause-ends g c =
     let text : List ℕ = report_text sections in
     let after : Option (List ℕ) = g.W.Sink.taken c.put_section.new.out.sink.now in
     let stops =
-    Puts-in_item section_text sections c.loop-section.section-index c.section-item.result c.loop-section-test.true c.section-item.is c.loop-section.invariant
+    Puts-in_item section_text sections c.loop-section.section-index c.section-item.result c.loop-section-test.true
+    c.section-item.is c.loop-section.invariant
     c.in_err-put_section.ensures in
-    let empty : c.new-buffered.result.piece.now.items ≡ [] = ap (λ piece. piece.items) c.new-buffered.ensures.piece ∙ c.in_ok-piece.ensures.items in
+    let empty : c.new-buffered.result.piece.now.items ≡ [] =
+    ap (λ piece. piece.items) c.new-buffered.ensures.piece ∙ c.in_ok-piece.ensures.items in
     let same_sink = stops.same_sink ∙ c.new-buffered.ensures.same_sink in
-    let ends : Ends report_ending c.from_residual-in_err-put_section.result (Ok text) (g.W.Sink.taken c.args.out.now) after =
-    subst (λ s. Ends report_ending c.from_residual-in_err-put_section.result (Ok text) (g.W.Sink.taken s) after) c.new-buffered.ensures.sink
+    let ends : Ends report_ending c.from_residual-in_err-put_section.result (Ok text) (g.W.Sink.taken c.args.out.now)
+    after =
+    subst (λ s. Ends report_ending c.from_residual-in_err-put_section.result (Ok text) (g.W.Sink.taken s) after)
+    c.new-buffered.ensures.sink
     (Puts-stopped _ c.from_residual-in_err-put_section.ensures.1 stops empty) in
     search rules
 
 pub loop-section-preserved : goal.loop-section-preserved
 loop-section-preserved g c =
-    Puts-item section_text c.args.sections.now c.loop-section.section-index c.section-item.result c.loop-section-test.true c.section-item.is
+    Puts-item section_text c.args.sections.now c.loop-section.section-index c.section-item.result
+    c.loop-section-test.true c.section-item.is
     c.loop-section.invariant
     c.in_ok-put_section.ensures
 
@@ -31,9 +36,13 @@ pub returns-clause-ends : goal.returns-clause-ends
 returns-clause-ends g c =
     let text : List ℕ = report_text c.args.sections.now in
     let after : Option (List ℕ) = g.W.Sink.taken c.flush.new.self.sink.now in
-    let put = Puts-items section_text c.args.sections.now c.loop-section.section-index c.loop-section-test.false c.loop-section.invariant in
-    let empty : c.new-buffered.result.piece.now.items ≡ [] = ap (λ piece. piece.items) c.new-buffered.ensures.piece ∙ c.in_ok-piece.ensures.items in
-    let same_sink = c.flush.ensures.puts.same_sink ∙ c.loop-section.invariant.same_sink ∙ c.new-buffered.ensures.same_sink in
+    let put =
+    Puts-items section_text c.args.sections.now c.loop-section.section-index c.loop-section-test.false
+    c.loop-section.invariant in
+    let empty : c.new-buffered.result.piece.now.items ≡ [] =
+    ap (λ piece. piece.items) c.new-buffered.ensures.piece ∙ c.in_ok-piece.ensures.items in
+    let same_sink =
+    c.flush.ensures.puts.same_sink ∙ c.loop-section.invariant.same_sink ∙ c.new-buffered.ensures.same_sink in
     let ends : Ends report_ending c.flush.result (Ok text) (g.W.Sink.taken c.args.out.now) after =
     subst (λ s. Ends report_ending c.flush.result (Ok text) (g.W.Sink.taken s) after) c.new-buffered.ensures.sink
     (Puts-flushed c.flush.result put c.flush.ensures.puts c.flush.ensures.empty empty) in

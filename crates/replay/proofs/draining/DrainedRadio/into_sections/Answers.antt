@@ -24,9 +24,12 @@ returns c =
     ] in
     let first : into_iter_items c.into_iter-network-iterator.result.a ≡ c.into_vec.result.items = search rules in
     let second : into_iter_items c.into_iter-network-iterator.result.b ≡ c.into_vec-2.result.items = search rules in
-    let all = sym (append-nil c.loop-network.yielded) ∙ ap (λ rest. c.loop-network.yielded ++ rest) (sym ended) ∙ c.loop-network.invariant.all
-    ∙ ap (λ items. zip items (into_iter_items c.into_iter-network-iterator.result.b)) first ∙ ap (zip c.into_vec.result.items) second in
-    let sections = sections_made c.args.self.radio c.args.self.sent c.into_vec.result.items c.into_vec-2.result.items c.requires
+    let all = sym (append-nil c.loop-network.yielded) ∙ ap (λ rest. c.loop-network.yielded ++ rest) (sym ended)
+    ∙ c.loop-network.invariant.all
+    ∙ ap (λ items. zip items (into_iter_items c.into_iter-network-iterator.result.b)) first
+    ∙ ap (zip c.into_vec.result.items) second in
+    let sections =
+    sections_made c.args.self.radio c.args.self.sent c.into_vec.result.items c.into_vec-2.result.items c.requires
     (ap (map (λ (s : State). s.setting)) c.into_vec.ensures ∙ c.into_parts-networks.ensures.settings)
     (ap (map shown) c.into_vec.ensures ∙ c.into_parts-networks.ensures.networks)
     c.into_vec-2.ensures in

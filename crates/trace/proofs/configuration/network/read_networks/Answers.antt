@@ -28,4 +28,6 @@ loop-value-preserved c =
     ]
 
 pub returns : goal.returns
-returns c = sym c.loop-value.invariant ∙ so_far-end c.loop-value.networks.items c.args.values.now c.loop-value.value-index (omega arith)
+returns c =
+    sym c.loop-value.invariant
+    ∙ so_far-end c.loop-value.networks.items c.args.values.now c.loop-value.value-index (omega arith)
