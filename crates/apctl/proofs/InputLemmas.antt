@@ -31,7 +31,7 @@ as_run (Err replay.NoMemory) (Err fault) old new h = h
 -- the text was read, and its run ended with a fault
 pub fault_ends : (e : TextFault) (input : List ℕ) (left old new : Option (List ℕ))
     → IfSome left (λ octets. input ≡ octets)
-    → Ends text_ending (Err {T = Unit} e) (answer_of (joined_parts input).0 (joined_parts input).1) old new
+    → Ends {A = Unit} text_ending (Err e) (answer_of (joined_parts input).0 (joined_parts input).1) old new
     → EndsInput (Err (of_texts e)) left old new
 fault_ends (replay.Config fault) input left old new read h =
     (input, read, as_run (Err (replay.Config fault)) _ old new h)

@@ -14,9 +14,6 @@ use std::alloc::Global;
 use std::io::{ErrorKind, Read};
 use trace::Sink;
 
-/// How many octets are read at a time.
-const READ_AT_ONCE: usize = 65536;
-
 /// The name of standard input in the line of a fault.
 const STANDARD_INPUT: &str = "-";
 
@@ -36,21 +33,16 @@ pub fn run_input<R: Read, W: Sink>(alloc: Global, reader: &mut R, out: &mut W) -
     Ok(())
 }
 
-/// All that a reader gives. An interrupted read is tried again; it gives up after 4,294,967,295 reads, as where the
-/// reader failed: `File` with this name then, and `Memory` where a growth was refused.
+/// All that a reader gives. An interrupted read is tried again. `File` with this name where the reader failed, and
+/// `Memory` where a growth was refused.
 pub fn read_all<R: Read>(alloc: Global, reader: &mut R, name: &str) -> Result<Vec<u8>, Fault>
     ensures ok { IfOk result (λ input. IfSome (R.remaining reader.old) (λ octets. input.items ≡ octets)) }
     ensures err { IfErr result (IsOfFile name.now) }
 {
     let mut input = Vec::new(alloc);
-    let mut piece = vec![in alloc; 0; READ_AT_ONCE]?;
-    for _ in 0..u32::MAX {
-        match reader.read(piece.as_mut_slice()) {
-            Ok(0) => return Ok(input),
-            Ok(count) => input.extend_from_slice(&piece.as_slice()[..count])?,
-            Err(error) if error.kind() == ErrorKind::Interrupted => {}
-            Err(_) => return Err(Fault::of_file(alloc, name)),
-        }
+    match reader.read_to_end(&mut input) {
+        Ok(_) => Ok(input),
+        Err(error) if error.kind() == ErrorKind::OutOfMemory => Err(Fault::Memory),
+        Err(_) => Err(Fault::of_file(alloc, name)),
     }
-    Err(Fault::of_file(alloc, name))
 }

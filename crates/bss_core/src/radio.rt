@@ -96,8 +96,8 @@ impl Radio {
     /// The networks of a configuration in which `check` finds no fault, none of which took an event, and an empty queue.
     /// `NoMemory` where a growth was refused.
     pub fn of_checked(alloc: Global, config: RadioConfig) -> Result<Radio, NoMemory>
-        requires sound { fault_of config ≡ None }
-        ensures opened { IfOk result (λ radio. radio ≡ fresh_radio config) }
+        requires { fault_of config ≡ None }
+        ensures { IfOk result (λ radio. radio ≡ fresh_radio config) }
     {
         checked_networks();
         let RadioConfig {

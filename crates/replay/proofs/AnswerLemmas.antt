@@ -24,7 +24,7 @@ use Rattle.replay.specs.declared.fault.TextFault.{TextFault}
 -- a report that was cut short
 pub report_ends : (e : ReportFault) (text : List ℕ) (answer : Result (List ℕ) TextFault) (old new : Option (List ℕ))
     → answer ≡ Ok text
-    → Ends report_ending (Err {T = Unit} e) (Ok text) old new → Ends text_ending (Err {T = Unit} (of_report e)) answer
+    → Ends {A = Unit} report_ending (Err e) (Ok text) old new → Ends {A = Unit} text_ending (Err (of_report e)) answer
     old new
 report_ends reports.Write text answer old new is part = part_written answer text old new is part
 report_ends reports.NoMemory text answer old new is part = part_kept answer text old new is part
@@ -34,7 +34,7 @@ report_ends reports.NoMemory text answer old new is part = part_kept answer text
 -- a fault of the configuration
 pub config_ends : (e : ReadFault ConfigFault) (ct tt : List ℕ) (old : Option (List ℕ))
     → IsFaultOf (configuration_of ct) (read_ending e)
-    → Ends text_ending (Err {T = Unit} (of_config e)) (answer_of ct tt) old old
+    → Ends {A = Unit} text_ending (Err (of_config e)) (answer_of ct tt) old old
 unfolding answer_of
 config_ends (reads.At fault) ct tt old h =
     (ap (λ (r : Result RadioConfig ConfigFault). answered r tt) h, Keeps-refl old)
@@ -43,7 +43,7 @@ config_ends reads.NoMemory ct tt old h = nothing_written (answer_of ct tt) old
 -- a fault of the trace
 pub trace_ends : (e : ReadFault TraceFault) (c : RadioConfig) (ct tt : List ℕ) (old : Option (List ℕ))
     → configuration_of ct ≡ Ok c
-    → IsFaultOf (lines_of c tt) (read_ending e) → Ends text_ending (Err {T = Unit} (of_trace e)) (answer_of ct tt) old
+    → IsFaultOf (lines_of c tt) (read_ending e) → Ends {A = Unit} text_ending (Err (of_trace e)) (answer_of ct tt) old
     old
 unfolding answer_of
 trace_ends (reads.At fault) c ct tt old read h =

@@ -15,7 +15,7 @@ use Rattle.replay.specs.Checking.{count_line, checked, check_of}
 -- a fault of the configuration
 pub fault_ends : (e : ReadFault ConfigFault) (text : List ℕ) (old : Option (List ℕ))
     → IsFaultOf (configuration_of text) (read_ending e)
-    → Ends text_ending (Err {T = Unit} (of_config e)) (check_of text) old old
+    → Ends {A = Unit} text_ending (Err (of_config e)) (check_of text) old old
 unfolding check_of
 fault_ends (At fault) text old h = (ap (λ (r : Result RadioConfig ConfigFault). checked r) h, Keeps-refl old)
 fault_ends NoMemory text old h = nothing_written (check_of text) old

@@ -32,13 +32,17 @@ pub fn run_text<W: Sink>(
 {
     let config = read_config(alloc, config)?;
     let lines = read_trace(alloc, &config, trace)?;
-    let sections = replay(alloc, config, lines)?;
+    let sections = replay_lines(alloc, config, lines)?;
     write_report(alloc, sections.as_slice(), out)?;
     Ok(())
 }
 
 /// The section of each network, in order of place: each takes what it hears of the lines.
-fn replay(alloc: Global, config: RadioConfig, lines: Vec<Line>) -> Result<Vec<Section>, NoMemory>
+fn replay_lines(
+    alloc: Global,
+    config: RadioConfig,
+    lines: Vec<Line>,
+) -> Result<Vec<Section>, NoMemory>
     requires { fault_of config ≡ None }
     ensures { IfOk result (λ sections. sections.items ≡ sections_of_lines config lines.items) }
 {

@@ -33,6 +33,6 @@ part_kept {F} answer text old new is written =
 
 -- of a report that was cut short a prefix was written
 pub Ends-prefix : (fault : ReportFault) {old new : Option (List ℕ)} {text : List ℕ}
-    → AppendsPrefix old new text → Ends report_ending (Err {T = Unit} fault) (Ok text) old new
+    → AppendsPrefix old new text → Ends {A = Unit} report_ending (Err fault) (Ok text) old new
 Ends-prefix Write part = part
 Ends-prefix NoMemory part = part

@@ -11,6 +11,6 @@ invariant_of-result c =
     let fresh = radio-opened config c.in_ok-networks.networks.items c.in_ok-queue.queue.items c.in_ok-networks.ensures c.in_ok-queue.ensures.items in
     (subst IsSoundRadio (sym fresh) (sound-fresh config accepted), settings-fresh config c.in_ok-networks.networks.items c.in_ok-networks.ensures, omega (arith, c.from.ensures, c.in_ok-queue.ensures.capacity))
 
-pub returns-clause-opened : goal.returns-clause-opened
-returns-clause-opened c =
+pub returns : goal.returns
+returns c =
     radio-opened c.args.config c.in_ok-networks.networks.items c.in_ok-queue.queue.items c.in_ok-networks.ensures c.in_ok-queue.ensures.items

@@ -2,7 +2,7 @@ use Rattle.std.proofs.Common.{◌≡◌, ◌++◌}
 use Rattle.std.specs.Option.{IsSomeAnd}
 use Rattle.std.specs.Vec.Iter.{into_iter_items}
 use Rattle.replay.specs.Replay.{HasTaken}
-use Rattle.replay.proofs.text.replay.Given as goal
+use Rattle.replay.proofs.text.replay_lines.Given as goal
 
 abbrev pub invariant-loop-line : goal.invariant-loop-line
 invariant-loop-line l = record {

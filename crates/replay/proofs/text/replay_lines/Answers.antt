@@ -2,7 +2,7 @@ use Rattle.std.proofs.Common.{◌≡◌, rules, arith}
 use Rattle.std.proofs.lemmas.Grind.{common_steps}
 use Rattle.bss_core.specs.declared.config.RadioConfig.{RadioConfig}
 use Rattle.replay.proofs.SectionSteps.{replay-none, replay-more, replay-sections}
-use Rattle.replay.proofs.text.replay.Goals as goal
+use Rattle.replay.proofs.text.replay_lines.Goals as goal
 
 pub loop-line-init : goal.loop-line-init
 loop-line-init c =
