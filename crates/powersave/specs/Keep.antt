@@ -9,11 +9,12 @@ use Rattle.powersave.specs.declared.unit.Unit.{Unit as Msdu}
 abbrev pub Entry : Type 0
 Entry = Whom × Msdu
 
--- the quota (profile), the units in order of arrival, and for whom room is reserved, if for any
+-- the quota (profile), the units in order of arrival, for whom room is reserved, if for any, and how many were put so far
 pub record Kept : Type 0 where
   pub quota : ℕ
   pub entries : List Entry
   pub reserved : Option Whom
+  pub puts : ℕ
 
 -- ---- for whom
 

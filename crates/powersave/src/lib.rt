@@ -7,6 +7,7 @@
 #![tactic(auto)]
 
 mod keep;
+mod queues;
 #[cfg(test)]
 mod tests;
 mod unit;
