@@ -62,7 +62,8 @@ entries_in queues = map (λ a. a.1) (arrivals queues)
 -- the numbers of a queue rise, and are below that of the next unit that comes
 abbrev pub IsNumbered : ℕ → List Arrived → Type 0
 IsNumbered next [] = Unit {0}
-IsNumbered next (a ∷ queue) = (a.number < next) × AllByRecursion (λ b. a.number < b.number) queue × IsNumbered next queue
+IsNumbered next (a ∷ queue) =
+    (a.number < next) × AllByRecursion (λ b. a.number < b.number) queue × IsNumbered next queue
 
 abbrev pub AreNumbered : ℕ → Queues → Type 0
 AreNumbered next queues = AllByRecursion (λ q. IsNumbered next q.1.items) queues

@@ -13,8 +13,10 @@ use mac_frame::NoMemory;
 use std::alloc::Global;
 use std::marker::Model;
 
-/// The units that a network keeps for stations that doze (11.2.3). Contracts see it as its quota, the list of its units in order
-/// of arrival, each with whom it is kept for, for whom room is reserved, and how many units were put so far.
+/// The units that a network keeps for stations that doze (11.2.3). Contracts see it as its quota, the list of its units
+/// in order of arrival, each with whom it is kept for, for whom room is reserved, and how many units were put so far.
+/// No call walks over the units of others, and [`oldest`](Keep::oldest) leaves a queue that has become empty: it goes
+/// with [`drop_for`](Keep::drop_for).
 #[derive(Debug, Drop)]
 pub struct Keep {
     quota: u32,
@@ -32,7 +34,12 @@ impl Model for Keep {
     ghost Value = { Kept };
 
     // The units of all queues, by the numbers of their arrivals.
-    ghost view = { λ k. record { quota = k.quota; entries = entries_in k.queues.map.entries; reserved = k.reserved; puts = k.puts } };
+    ghost view = { λ k. record {
+      quota = k.quota;
+      entries = entries_in k.queues.map.entries;
+      reserved = k.reserved;
+      puts = k.puts;
+    } };
 
     ghost invariant = { λ k. AreKept k.len k.puts k.reserved k.queues.map.entries };
 }
@@ -93,8 +100,8 @@ impl Keep {
         self.queues.nth(&whom, n)
     }
 
-    /// Takes out the first unit that came for `whom`, or gives `None` where none is kept for it. The others stay in their order.
-    /// A reservation for `whom` ends.
+    /// Takes out the first unit that came for `whom`, or gives `None` where none is kept for it. The others stay in
+    /// their order. A reservation for `whom` ends.
     pub fn oldest(&mut self, whom: Whom) -> Option<Unit>
         ensures unit { result ≡ slice_get (units_for whom self.old.entries) 0 }
         ensures after { self.new ≡ record self.old {
@@ -119,8 +126,9 @@ impl Keep {
         self.len -= self.queues.remove(&whom);
     }
 
-    /// Appends a unit for `whom` to a list that is not full. It needs no memory where room is reserved for `whom`. A reservation,
-    /// whoever it is for, ends. After `NoMemory` all is as it was, and the unit is dropped.
+    /// Appends a unit for `whom` to a list that is not full and has seen fewer than 2^62 puts. It needs no memory where
+    /// room is reserved for `whom`. A reservation, whoever it is for, ends. After `NoMemory` all is as it was, and the
+    /// unit is dropped.
     pub fn put(&mut self, whom: Whom, unit: Unit) -> Result<(), NoMemory>
         requires not_full { length self.old.entries < self.old.quota }
         requires countable { self.old.puts < 2 ^ 62 }
@@ -144,7 +152,8 @@ impl Keep {
         Ok(())
     }
 
-    /// Reserves room for the next unit, which is for `whom`. An earlier reservation ends. After `NoMemory` all is as it was.
+    /// Reserves room for the next unit, which is for `whom`, and a queue for it where there is none. An earlier
+    /// reservation ends. After `NoMemory` all is as it was.
     pub fn reserve(&mut self, whom: Whom) -> Result<(), NoMemory>
         ensures ok { OnOk result (self.new ≡ record self.old { reserved = Some whom }) }
         ensures err { OnErr result (self.new ≡ self.old) }
@@ -189,9 +198,9 @@ fn room_beside(reserved: Option<Whom>, whom: &Whom) -> Option<Whom>
     }
 }
 
-/// The units for one station, or for the group, don't depend on those for others (*profile*): a unit is put last among those for
-/// the same one, the oldest of these leaves first, and dropping leaves none of them. The units for any other stay as they were, and
-/// so does a reservation for another.
+/// The units for one station, or for the group, don't depend on those for others (*profile*): a unit is put last among
+/// those for the same one, the oldest of these leaves first, and dropping leaves none of them. The units for any other
+/// stay as they were, and so does a reservation for another.
 pub fn parts_stay()
     ensures put { (whom : Whom) (unit : Msdu) (es : List Entry) → units_for whom (es ++ (whom, unit) ∷ []) ≡ units_for whom es ++ unit ∷ [] }
     ensures oldest { (whom : Whom) (es : List Entry) → units_for whom (without_oldest whom es) ≡ drop 1 (units_for whom es) }

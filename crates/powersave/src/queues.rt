@@ -1,4 +1,5 @@
-//! The queues that a [`Keep`](crate::Keep) is made of: one for each for whom units are kept, found without a walk over the others.
+//! The queues that a [`Keep`](crate::Keep) is made of: one for each for whom units are kept, found without a walk over
+//! the others.
 
 ghost use Rattle.std.specs.Prelude.{◌≡◌, ◌≤◌, [], length, OnOk, OnErr, Some, None};
 ghost use Rattle.std.specs.Option.{option_map, option_copied};
@@ -16,8 +17,8 @@ pub(crate) struct Arrived {
     pub(crate) unit: Unit,
 }
 
-/// The queues, each in order of arrival. One that has become empty stays until it is removed, so that a unit put into it
-/// needs no new queue.
+/// The queues, each in order of arrival. One that has become empty stays until it is removed, so that a unit put into
+/// it needs no new queue.
 #[derive(Debug, Drop)]
 pub(crate) struct Queues {
     alloc: Global,
@@ -71,7 +72,8 @@ impl Queues {
         }
     }
 
-    /// Makes room for one more unit in the queue for `whom`, and the queue where there is none. The units stay as they are.
+    /// Makes room for one more unit in the queue for `whom`, and the queue where there is none. The units stay as they
+    /// are.
     pub(crate) fn make_room(&mut self, whom: &Whom) -> Result<(), NoMemory>
         ensures ok { OnOk result (HasRoom (Some whom.now) self.new.map.entries) }
         ensures units { MakesRoom self.old.map.entries self.new.map.entries }
