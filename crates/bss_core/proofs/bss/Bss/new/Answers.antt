@@ -1,4 +1,4 @@
-use Rattle.std.proofs.Common.{refl}
+use Rattle.std.proofs.Common.{refl, arith}
 use Rattle.bss_core.proofs.AloneLaws.{history-none}
 use Rattle.bss_core.proofs.Checked.{stations_fit}
 use Rattle.bss_core.proofs.bss.Bss.new.Goals as goal

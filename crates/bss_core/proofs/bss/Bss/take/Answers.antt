@@ -88,8 +88,8 @@ returns-clause-wire c =
     ∙ ap (λ (st : BssView). (network_of st).wire ++ wired_by st.setting st.history c.args.event) c.self.view_is
 
 -- fewer units were put than a history may have events
-pub change-2-requires-clause-countable : goal.change-2-requires-clause-countable
-change-2-requires-clause-countable c =
+pub change-requires-2-clause-countable : goal.change-requires-2-clause-countable
+change-requires-2-clause-countable c =
     let s : Setting = c.self.inside.setting in
     let len : c.len.result ≡ length c.self.inside.history.items = c.len.ensures ∙ c.self.inside.history.ok.0 in
     let room : length c.self.inside.history.items < s.network.max_events = omega (arith, c.if-len-self.false) in
