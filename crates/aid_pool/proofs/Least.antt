@@ -1,12 +1,12 @@
 -- The least number that is free: which it is, and that there is one.
-use Rattle.std.proofs.Common.{◌≡◌, ℕ, zero, suc, ◌+◌, ◌<◌, ◌≤◌, Bool, true, false, not, cond, List, [], ◌∷◌, length, Some, refl, sym, ap, ◌∙◌, subst, ◌≢◌, inl, inr, arith}
+use Rattle.std.proofs.Common.{◌≡◌, ℕ, zero, suc, ◌+◌, ◌<◌, ◌≤◌, Bool, true, false, not, cond, List, [], ◌∷◌, length, Option, Some, None, IsNone, IfSome, IfNone, IsSomeAnd, refl, sym, ap, ◌∙◌, subst, ◌≢◌, inl, inr, arith}
 use Rattle.std.specs.Ordering.{nat_cmp}
 use Rattle.std.specs.List.{find, range_with_len}
 use Rattle.std.specs.Option.{unwrap_or}
 use Rattle.std.specs.FinSet as set
 use Rattle.std.specs.FinSet.{len-empty, len-insert, contains-from_list_nat}
 use Rattle.std.specs.Cmp.{nat_cmp_total}
-use Rattle.std.proofs.lemmas.Bool.{ne_eqb, cases_eq, both_ways}
+use Rattle.std.proofs.lemmas.Bool.{ne_eqb, cases_eq, cases_lt, both_ways, true≢false}
 use Rattle.aid_pool.specs.LeastFree.{IsLeastFree, least_free, is_among}
 use Rattle.aid_pool.proofs.Numbers.{Numbers, contains_removed, len_removed, len_some}
 
@@ -104,3 +104,40 @@ least_of_list ns few =
     let of_set = least_of_set (set.from_list ns) (omega arith) in
     let bound : least_free (set.contains (set.from_list {R = nat_cmp} ns)) ≤ length ns + 1 = omega (arith, of_set.1) in
     (subst (λ t. IsLeastFree t (least_free t)) same of_set.0, subst (λ t. least_free t ≤ length ns + 1) same bound)
+
+-- ---- what is found
+
+-- a set of fewer than 2007 numbers hasn't each identifier
+pub some_is_absent : (s : Numbers) → set.len s < 2007 → ((m : ℕ) → 1 ≤ m → m ≤ 2007 → set.contains s m ≡ true) → ⊥
+some_is_absent s few all =
+    let least = (least_of_set s few).0 in
+    both_ways _ least.free (all (least_free (set.contains s)) least.first least.last)
+
+-- the first number that it hasn't is the least that is free
+pub least_absent_is : (s : Numbers) (n : ℕ) → set.len s < 2007 → 1 ≤ n → set.contains s n ≡ false → ((m : ℕ) → 1 ≤ m → m ≤ 2007 → m < n → set.contains s m ≡ true) → IsLeastFree (set.contains s) n
+least_absent_is s n few some absent before =
+    let least = (least_of_set s few).0 in
+    let first = least.first in
+    let last = least.last in
+    let within : n ≤ 2007 = elim (cases_lt (least_free (set.contains s)) n) [
+      | inl earlier ↦ absurd (both_ways _ least.free (before (least_free (set.contains s)) first last earlier))
+      | inr later ↦ omega arith
+    ] in
+    record { first = some; last = within; free = absent; least = λ m from to. before m from (omega arith) to }
+
+-- so what is answered is the least that is free
+pub found_is_least : (s : Numbers) (r : Option ℕ) → set.len s < 2007 → IfSome r (λ n. 1 ≤ n) → IfSome r (λ n. set.contains s n ≡ false) → IfSome r (λ n. (m : ℕ) → 1 ≤ m → m ≤ 2007 → m < n → set.contains s m ≡ true) → IfNone r ((m : ℕ) → 1 ≤ m → m ≤ 2007 → set.contains s m ≡ true) → IsSomeAnd r (IsLeastFree (set.contains s))
+found_is_least s None few some absent before all = absurd (some_is_absent s few all)
+found_is_least s (Some n) few some absent before all = least_absent_is s n few some absent before
+
+pub found_some : (is_out : ℕ → Bool) (r : Option ℕ) → IsSomeAnd r (IsLeastFree is_out) → IsNone r → ⊥
+found_some is_out None found none = found
+found_some is_out (Some n) found none = true≢false none
+
+pub found_least : (is_out : ℕ → Bool) (r : Option ℕ) → IsSomeAnd r (IsLeastFree is_out) → IfSome r (IsLeastFree is_out)
+found_least is_out None found = tt
+found_least is_out (Some n) found = found
+
+pub found_number : (is_out : ℕ → Bool) (r : Option ℕ) → IsSomeAnd r (IsLeastFree is_out) → IfSome r (λ n. n ≡ least_free is_out)
+found_number is_out None found = tt
+found_number is_out (Some n) found = least_free_is is_out n found

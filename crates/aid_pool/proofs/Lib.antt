@@ -1,3 +1,5 @@
 pub mod Numbers
+pub mod Words
 pub mod Least
 pub mod LeastFreeRows
+pub mod MarkRows

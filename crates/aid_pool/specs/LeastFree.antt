@@ -1,5 +1,5 @@
--- The least association identifier that is free (IEEE Std 802.11-2016, 9.4.1.8: the numbers from 1 to 2007; that the least is
--- handed out is profile).
+-- The least association identifier that is free (IEEE Std 802.11-2016, 9.4.1.8: the numbers from 1 to 2007; that the
+-- least is handed out is profile).
 use Rattle.std.specs.Prelude.{ℕ, ◌≡◌, ◌<◌, ◌≤◌, Bool, true, false, not, nat_eq, List, find, unwrap_or}
 use Rattle.std.specs.List.{list_any, range_with_len}
 

@@ -1,40 +1,39 @@
 //! A pool of association identifiers (IEEE Std 802.11-2016, 9.4.1.8): which are out, and which is handed out next.
 
-ghost use Rattle.std.specs.Prelude.{◌≡◌, ◌+◌, ◌<◌, ◌≤◌, ◌↔◌, ℕ, List, Bool, length, false, not, slice_index_or, position, IsTrue, IsNone, IfSome, IfNone};
+ghost use Rattle.std.specs.Prelude.{◌≡◌, ◌+◌, ◌<◌, ◌≤◌, ◌↔◌, ℕ, List, Bool, length, IsTrue, IsNone, IfSome, IfNone};
 ghost use Rattle.std.specs.FinSet as set;
 ghost use Rattle.aid_pool.specs.LeastFree.{IsLeastFree, least_free, is_among};
 
+use crate::marks::Marks;
+use mac_frame::MAX_AID;
 use std::marker::Model;
 
-/// The greatest association identifier (9.4.1.8). The least is 1.
-pub const MAX_AID: u16 = 2007;
-
-/// How many marks there are: one for each identifier.
-const MARKS: usize = MAX_AID as usize;
-
-/// The association identifiers of a network, numbers from 1 to [`MAX_AID`] (9.4.1.8): each is out or free. Contracts see how many
-/// are out at most, and the set of those that are out. None of its methods takes memory.
+/// The association identifiers of a network, numbers from 1 to [`MAX_AID`] (9.4.1.8): each is out or free. Contracts see
+/// how many are out at most, and the set of those that are out. None of its methods takes memory.
 #[derive(Drop)]
 pub struct AidPool {
     most: u16,
     count: u16,
-    marks: [bool; MARKS],
+    out: Marks,
 }
 
 impl Model for AidPool {
     ghost use Rattle.std.specs.Prelude.{◌≡◌, ◌≤◌};
     ghost use Rattle.std.specs.FinSet as set;
     ghost use Rattle.aid_pool.specs.Pool.{Pool, pool_code};
-    ghost use Rattle.aid_pool.specs.Marks.{numbers_of};
-    ghost use Rattle.aid_pool.specs.declared.pool.TheConstants.{MAX_AID};
+    ghost use Rattle.mac_frame.specs.declared.management.TheConstants.{MAX_AID};
 
     ghost Value = { Pool };
 
     ghost coded = { pool_code };
 
-    ghost view = { λ p. record { most = p.most; out = numbers_of p.marks } };
+    ghost view = { λ p. record { most = p.most; out = p.out } };
 
-    ghost invariant = { λ p. record { count : p.count ≡ set.len (numbers_of p.marks); few : p.count ≤ p.most; most : p.most ≤ MAX_AID } };
+    ghost invariant = { λ p. record {
+      count : p.count ≡ set.len p.out;
+      few : p.count ≤ p.most;
+      most : p.most ≤ MAX_AID;
+    } };
 }
 
 impl AidPool {
@@ -47,7 +46,7 @@ impl AidPool {
         AidPool {
             most,
             count: 0,
-            marks: no_marks(),
+            out: Marks::new(),
         }
     }
 
@@ -57,11 +56,7 @@ impl AidPool {
         ensures first { IsTrue result → 1 ≤ aid }
         ensures last { IsTrue result → aid ≤ MAX_AID }
     {
-        let marks = &self.marks;
-        if aid == 0 || aid > MAX_AID {
-            return false;
-        }
-        marks[usize::from(aid) - 1]
+        self.out.has(aid)
     }
 
     /// How many numbers are out: never more than the pool hands out at most.
@@ -73,8 +68,8 @@ impl AidPool {
         self.count
     }
 
-    /// The number that [`AidPool::take`] gives next: the least that is free (*profile*). `None` exactly where as many are out as
-    /// the pool hands out at most.
+    /// The number that [`AidPool::take`] gives next: the least that is free (*profile*). `None` exactly where as many are
+    /// out as the pool hands out at most.
     pub fn least(&self) -> Option<u16>
         ensures none { IsNone result ↔ (set.len self.now.out ≡ self.now.most) }
         ensures least { IfSome result (IsLeastFree (set.contains self.now.out)) }
@@ -83,12 +78,11 @@ impl AidPool {
         if self.count == self.most {
             return None;
         }
-        let place = first_clear(&self.marks)?;
-        Some(place as u16 + 1)
+        self.out.least_absent()
     }
 
-    /// Takes the least number that is free (*profile*), which is out from then on. `None` exactly where as many are out as the
-    /// pool hands out at most: then nothing changes.
+    /// Takes the least number that is free (*profile*), which is out from then on. `None` exactly where as many are out as
+    /// the pool hands out at most: then nothing changes.
     pub fn take(&mut self) -> Option<u16>
         ensures none { IsNone result ↔ (set.len self.old.out ≡ self.old.most) }
         ensures least { IfSome result (IsLeastFree (set.contains self.old.out)) }
@@ -98,7 +92,7 @@ impl AidPool {
     {
         let aid = self.least()?;
         self.count += 1;
-        self.marks[usize::from(aid) - 1] = true;
+        self.out.set(aid);
         Some(aid)
     }
 
@@ -108,28 +102,16 @@ impl AidPool {
         ensures { self.new ≡ record self.old { out = set.remove self.old.out aid } }
     {
         self.count -= 1;
-        self.marks[usize::from(aid) - 1] = false;
+        self.out.clear(aid);
     }
 }
 
-/// Marks of which none is set.
-fn no_marks() -> [bool; MARKS]
-    ensures { (place : ℕ) → slice_index_or result place false ≡ false }
-{
-    [false; MARKS]
-}
-
-/// The place of the first mark that is not set.
-fn first_clear(marks: &[bool]) -> Option<usize>
-    ensures { result ≡ position not marks.now }
-{
-    marks.iter().position(|is_set| !is_set)
-}
-
-/// There is one least free number at most, which [`AidPool::least`] tells. Fewer than [`MAX_AID`] numbers leave one free, of which
-/// the least is at most one more than there are of them (9.4.1.8; that the least is given is *profile*).
+/// There is one least free number at most, which [`AidPool::least`] tells. Fewer than [`MAX_AID`] numbers leave one free,
+/// of which the least is at most one more than there are of them (9.4.1.8; that the least is given is *profile*).
 pub fn least_is_free()
     ensures only { (is_out : ℕ → Bool) (n : ℕ) → IsLeastFree is_out n → n ≡ least_free is_out }
-    ensures some { (numbers : List ℕ) → length numbers < MAX_AID → IsLeastFree (is_among numbers) (least_free (is_among numbers)) }
-    ensures bound { (numbers : List ℕ) → length numbers < MAX_AID → least_free (is_among numbers) ≤ length numbers + 1 }
+    ensures some { (numbers : List ℕ) → length numbers < MAX_AID
+        → IsLeastFree (is_among numbers) (least_free (is_among numbers)) }
+    ensures bound { (numbers : List ℕ) → length numbers < MAX_AID
+        → least_free (is_among numbers) ≤ length numbers + 1 }
 {}

@@ -5,7 +5,7 @@ use Rattle.std.specs.Ordering.{nat_cmp}
 use Rattle.std.specs.FinMap as finite
 use Rattle.std.specs.Coded.{Coded, code_by, coded×, coded_ℕ, coded_list}
 use Rattle.atomic_table.specs.Seated.{TableId, table_id_coded}
-use Rattle.bss_core.specs.declared.step.AirItem.{AirItem}
+use Rattle.bss_core.specs.declared.radio.step.AirItem.{AirItem}
 
 -- which queue it is: no two have one name
 abbrev pub QueueName : Type 0
@@ -76,7 +76,3 @@ fresh_radio name networks spare = record {
 pub record AllThere (name : QueueName) (networks : ℕ) (passes : List NetPassView) : Type 0 where
   pub named : AllByRecursion (λ pass. pass.name ≡ name) passes
   pub placed : map (λ pass. pass.place) passes ≡ range_with_len 0 networks
-
--- the second list is the first, and then others
-abbrev pub BeginsWith : List AirItem → List AirItem → Type 0
-BeginsWith before items = (others : List AirItem) × (items ≡ before ++ others)

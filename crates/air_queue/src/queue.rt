@@ -3,7 +3,7 @@
 ghost use Rattle.std.specs.Prelude.{◌≡◌, ◌+◌, ◌<◌, ◌≤◌, ◌++◌, [], ◌∷◌, vec_len, vec_capacity, IfOk, OnOk, IfErr, MatchBool};
 ghost use Rattle.std.specs.FinMap as finite;
 ghost use Rattle.crossbeam_queue.specs.Passes.{view as known_by, IsPassOf, IsSamePass};
-ghost use Rattle.bss_core.specs.declared.step.AirItem.{AirItem};
+ghost use Rattle.bss_core.specs.declared.radio.step.AirItem.{AirItem};
 ghost use Rattle.air_queue.specs.Passes.{fresh_passes, fresh_radio};
 ghost use Rattle.air_queue.specs.Rule.{IsRadioWith, Accounts, networks_of, taken_in_of};
 ghost use Rattle.air_queue.specs.declared.known.Known.TheVariants.{Radio};

@@ -5,7 +5,8 @@ ghost use Rattle.std.specs.List.{AllByRecursion};
 ghost use Rattle.std.specs.FinMap as finite;
 ghost use Rattle.crossbeam_queue.specs.Passes.{view as known_by, IsPassOf, IsSamePass, ruled_capacity};
 ghost use Rattle.bss_core.specs.Radio.{items_of};
-ghost use Rattle.air_queue.specs.Passes.{AllThere, BeginsWith};
+ghost use Rattle.air_queue.specs.Passes.{AllThere};
+ghost use Rattle.bss_core.specs.Lists.{IsPrefix};
 ghost use Rattle.air_queue.specs.Rule.{IsRadio, IsRadioWith, AllTaken, Accounts, networks_of, taken_in_of, taking_in, after_taking};
 ghost use Rattle.air_queue.specs.declared.known.Known.TheVariants.{Network, Radio};
 
@@ -47,7 +48,7 @@ impl AirQueue {
         requires radio { radio.name ≡ self.name }
         requires new { radio.taken_in ≡ finite.empty }
         requires nets { AllThere self.name radio.networks nets.items }
-        ensures begins { IfOk result (λ left. BeginsWith radio.left left.items) }
+        ensures begins { IfOk result (λ left. IsPrefix radio.left left.items) }
         ensures whole { IfOk result (λ left. AllByRecursion (λ pass. items_of pass.place left.items ≡ pass.pushed) nets.items) }
         ensures nothing_else { IfOk result (λ left. All (λ item. item.place < radio.networks) left.items) }
         ensures fault { IfErr result (λ fault. (fault.queue ≡ self) × (fault.radio ≡ radio) × (fault.nets ≡ nets.items)) }
@@ -106,7 +107,7 @@ fn drain<R: Wait>(rt: &R, queue: &RuledQueue, queue_pass: &mut QueuePass, left: 
     requires radio { IsRadioWith left.old.items (known_by queue_pass.old) }
     requires taken { AllTaken (known_by queue_pass.old) }
     requires room { vec_len left.old + ruled_capacity queue.now ≤ vec_capacity left.old }
-    ensures begins { BeginsWith left.old.items left.new.items }
+    ensures begins { IsPrefix left.old.items left.new.items }
     ensures account { Accounts (Radio left.new.items (networks_of (known_by queue_pass.old)) (taken_in_of (known_by queue_pass.old))) [] }
 {
     let all = left.len() + queue.len_as::<Leave, R>(rt, queue_pass);

@@ -9,7 +9,7 @@ use Rattle.std.proofs.lemmas.List.{length-map, length-replicate, get_or-replicat
 use Rattle.std.proofs.lemmas.Bool.{cases_lt}
 use Rattle.bss_core.specs.Configuration.{fault_of}
 use Rattle.bss_core.specs.Network.{alone, table_of, counts_of}
-use Rattle.bss_core.specs.State.{State, network_of}
+use Rattle.bss_core.specs.BssView.{BssView, network_of}
 use Rattle.bss_core.specs.Radio.{network_at, no_network, setting_in, setting_at}
 use Rattle.bss_core.specs.RadioView.{NetworkView, RadioView, unused, view_at, fresh_radio, shown, settings_of, opened}
 use Rattle.bss_core.specs.Section.{section_of}
@@ -90,7 +90,7 @@ if_ok_onward (Ok v) these those e h = h ∙ e
 if_ok_onward (Err f) these those e h = tt
 
 -- the section of a network with these frames
-abbrev pub section_with : State → List (List ℕ) → Section
+abbrev pub section_with : BssView → List (List ℕ) → Section
 section_with s air = record {
   config = s.setting.network;
   events = s.history;
@@ -101,21 +101,21 @@ section_with s air = record {
 }
 
 -- what stands at a place without a network; of it nothing is said
-abbrev nobody : State
+abbrev nobody : BssView
 nobody = opened 0 0 no_network
 
 -- the frames stand in vectors
-zipped : (nets : List State) (airs : List (Vec (List ℕ) Global)) → map (λ p. section_with p.0 p.1.items) (zip nets airs) ≡ map (λ p. section_with p.0 p.1) (zip nets (map (λ v. v.items) airs))
+zipped : (nets : List BssView) (airs : List (Vec (List ℕ) Global)) → map (λ p. section_with p.0 p.1.items) (zip nets airs) ≡ map (λ p. section_with p.0 p.1) (zip nets (map (λ v. v.items) airs))
 zipped [] airs = refl
 zipped (s ∷ nets) [] = refl
 zipped (s ∷ nets) (v ∷ airs) = ap (λ (rest : List Section). section_with s v.items ∷ rest) (zipped nets airs)
 
 -- the section of the network at a place, with the frames that left there
-section_at : (r : RadioView) (left : List (List (List ℕ))) (nets : List State) (place : ℕ) → IsDrained r left → map (λ s. s.setting) nets ≡ settings_of r.config → map shown nets ≡ r.networks → place < length r.config.networks → place < length nets → section_with (get_or nets place nobody) (left_at left place) ≡ section_of (setting_at r.config place) (view_at r place).history
+section_at : (r : RadioView) (left : List (List (List ℕ))) (nets : List BssView) (place : ℕ) → IsDrained r left → map (λ s. s.setting) nets ≡ settings_of r.config → map shown nets ≡ r.networks → place < length r.config.networks → place < length nets → section_with (get_or nets place nobody) (left_at left place) ≡ section_of (setting_at r.config place) (view_at r place).history
 section_at r left nets place d settings views there within =
-    let s : State = get_or nets place nobody in
+    let s : BssView = get_or nets place nobody in
     let setting : s.setting ≡ setting_at r.config place =
-    sym (get_or-map (λ (t : State). t.setting) nets place nobody s.setting within)
+    sym (get_or-map (λ (t : BssView). t.setting) nets place nobody s.setting within)
     ∙ ap (λ (l : List Setting). get_or l place s.setting) settings
     ∙ get_or-map (setting_in r.config) r.config.networks place no_network s.setting there in
     let view : shown s ≡ view_at r place =
@@ -129,14 +129,14 @@ section_at r left nets place d settings views there within =
     ∙ ap (λ (h : List Event). (alone s.setting h).air) (sym history) in
     ap (λ (frames : List (List ℕ)). section_with s frames) air ∙ same
 
-pub sections_made : (r : RadioView) (left : List (List (List ℕ))) (nets : List State) (airs : List (Vec (List ℕ) Global)) → IsDrained r left → map (λ s. s.setting) nets ≡ settings_of r.config → map shown nets ≡ r.networks → map (λ v. v.items) airs ≡ left → map (λ p. section_with p.0 p.1.items) (zip nets airs) ≡ sections_at r
+pub sections_made : (r : RadioView) (left : List (List (List ℕ))) (nets : List BssView) (airs : List (Vec (List ℕ) Global)) → IsDrained r left → map (λ s. s.setting) nets ≡ settings_of r.config → map shown nets ≡ r.networks → map (λ v. v.items) airs ≡ left → map (λ p. section_with p.0 p.1.items) (zip nets airs) ≡ sections_at r
 sections_made r left nets airs d settings views frames =
     let n : ℕ = length r.config.networks in
-    let count : length nets ≡ n = sym (length-map nets (λ (s : State). s.setting)) ∙ ap length settings ∙ length-map r.config.networks (setting_in r.config) in
+    let count : length nets ≡ n = sym (length-map nets (λ (s : BssView). s.setting)) ∙ ap length settings ∙ length-map r.config.networks (setting_in r.config) in
     let whole : length left ≡ n = d.whole in
     let f : ℕ → Section = λ place. section_of (setting_at r.config place) (view_at r place).history in
-    let g : State × List (List ℕ) → Section = λ p. section_with p.0 p.1 in
-    let pairs : List (State × List (List ℕ)) = zip nets left in
+    let g : BssView × List (List ℕ) → Section = λ p. section_with p.0 p.1 in
+    let pairs : List (BssView × List (List ℕ)) = zip nets left in
     let long : length pairs ≡ n = length-zip nets left ∙ (omega (arith, count, whole)) in
     let each : (k : ℕ) → k < n → get_or (map g pairs) k (f 0) ≡ f k = λ k lt.
     get_or-map g pairs k (nobody, []) (f 0) (omega (arith, long))
@@ -147,11 +147,11 @@ sections_made r left nets airs d settings views frames =
     ∙ fill_by_all f (map g pairs) n (f 0) (length-map pairs g ∙ long) each
 
 -- nothing is paired with nothing
-pub no_first : (nets : List State) (airs : List (Vec (List ℕ) Global)) → length nets ≡ 0 → zip nets airs ≡ []
+pub no_first : (nets : List BssView) (airs : List (Vec (List ℕ) Global)) → length nets ≡ 0 → zip nets airs ≡ []
 no_first [] airs h = refl
 no_first (s ∷ nets) airs h = absurd (omega arith)
 
-pub no_second : (nets : List State) (airs : List (Vec (List ℕ) Global)) → length airs ≡ 0 → zip nets airs ≡ []
+pub no_second : (nets : List BssView) (airs : List (Vec (List ℕ) Global)) → length airs ≡ 0 → zip nets airs ≡ []
 no_second [] airs h = refl
 no_second (s ∷ nets) [] h = refl
 no_second (s ∷ nets) (v ∷ airs) h = absurd (omega arith)

@@ -5,7 +5,7 @@ use Rattle.std.proofs.lemmas.List.{set-set, length-set, get_or-set_same, get_or-
 use Rattle.bss_core.specs.Network.{alone}
 use Rattle.bss_core.specs.Radio.{network_at, setting_at}
 use Rattle.bss_core.specs.RadioView.{NetworkView, RadioView, unused, view_at, took}
-use Rattle.bss_core.specs.State.{sent_by}
+use Rattle.bss_core.specs.BssView.{sent_by}
 use Rattle.bss_core.specs.declared.event.Event.{Event}
 use Rattle.bss_core.specs.declared.setting.Setting.{Setting}
 use Rattle.apctl.specs.Replay.{left_at, leaves, emptied, IsDrained, TakesAt}

@@ -1,7 +1,8 @@
 pub mod Samples
 pub mod AuthenticationRows
-pub mod AssociationRows
+pub mod JoiningRows
 pub mod LeavingRows
 pub mod RequestRows
+pub mod Bodies
 pub mod Requests
 pub mod RequestFrames

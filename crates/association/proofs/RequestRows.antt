@@ -24,7 +24,9 @@ authentication = managed 0xb0 (0 ∷ 0 ∷ 1 ∷ 0 ∷ 0 ∷ 0 ∷ [])
 pub an_authentication_is_read : request_of network authentication ≡ Ok (Auth station 0 1)
 an_authentication_is_read = refl
 
-pub numbers_are_read_low_octet_first : request_of network (managed 0xb0 (0x01 ∷ 0x02 ∷ 0x03 ∷ 0x04 ∷ 0xff ∷ 0xff ∷ 0x10 ∷ [])) ≡ Ok (Auth station 0x0201 0x0403)
+pub numbers_are_read_low_octet_first :
+    request_of network (managed 0xb0 (0x01 ∷ 0x02 ∷ 0x03 ∷ 0x04 ∷ 0xff ∷ 0xff ∷ 0x10 ∷ []))
+    ≡ Ok (Auth station 0x0201 0x0403)
 numbers_are_read_low_octet_first = refl
 
 -- what is read of the first so many octets
@@ -32,14 +34,17 @@ abbrev cut_at : List ℕ → List ℕ → List (Result Request Unread)
 cut_at lengths x = map (λ n. request_of network (take n x)) lengths
 
 pub an_authentication_has_six_octets :
-    cut_at (23 ∷ 24 ∷ 25 ∷ 26 ∷ 27 ∷ 28 ∷ 29 ∷ []) authentication ≡ Err Short ∷ Err Body ∷ Err Body ∷ Err Body ∷ Err Body ∷ Err Body ∷ Err Body ∷ []
+    cut_at (23 ∷ 24 ∷ 25 ∷ 26 ∷ 27 ∷ 28 ∷ 29 ∷ []) authentication
+    ≡ Err Short ∷ Err Body ∷ Err Body ∷ Err Body ∷ Err Body ∷ Err Body ∷ Err Body ∷ []
 an_authentication_has_six_octets = refl
 
 -- ---- association
 
 -- capability 1, listen interval 10, the SSID lab, four rates
 abbrev association : List ℕ
-association = managed 0x00 (0x01 ∷ 0x00 ∷ 0x0a ∷ 0x00 ∷ 0x00 ∷ 0x03 ∷ 0x6c ∷ 0x61 ∷ 0x62 ∷ 0x01 ∷ 0x04 ∷ 0x02 ∷ 0x04 ∷ 0x0b ∷ 0x16 ∷ [])
+association =
+    managed 0x00
+    (0x01 ∷ 0x00 ∷ 0x0a ∷ 0x00 ∷ 0x00 ∷ 0x03 ∷ 0x6c ∷ 0x61 ∷ 0x62 ∷ 0x01 ∷ 0x04 ∷ 0x02 ∷ 0x04 ∷ 0x0b ∷ 0x16 ∷ [])
 
 -- the elements of both
 abbrev lab : Pair
@@ -52,16 +57,20 @@ pub an_association_request_is_read : request_of network association ≡ Ok (Asso
 unfolding elements_of elements_within
 an_association_request_is_read = refl
 
-pub four_octets_are_a_request_without_elements : cut_at (27 ∷ 28 ∷ 29 ∷ []) association ≡ Err Body ∷ Ok (Assoc station false 10 []) ∷ Err Body ∷ []
+pub four_octets_are_a_request_without_elements : cut_at (27 ∷ 28 ∷ 29 ∷ []) association
+    ≡ Err Body ∷ Ok (Assoc station false 10 []) ∷ Err Body ∷ []
 unfolding elements_of elements_within
 four_octets_are_a_request_without_elements = refl
 
-pub a_request_may_end_after_an_element : cut_at (32 ∷ 33 ∷ 34 ∷ 38 ∷ []) association ≡ Err Body ∷ Ok (Assoc station false 10 (lab ∷ [])) ∷ Err Body ∷ Err Body ∷ []
+pub a_request_may_end_after_an_element : cut_at (32 ∷ 33 ∷ 34 ∷ 38 ∷ []) association
+    ≡ Err Body ∷ Ok (Assoc station false 10 (lab ∷ [])) ∷ Err Body ∷ Err Body ∷ []
 unfolding elements_of elements_within
 a_request_may_end_after_an_element = refl
 
 pub an_element_that_passes_the_end_is_refused :
-    request_of network (managed 0x00 (0x01 ∷ 0x00 ∷ 0x0a ∷ 0x00 ∷ 0x00 ∷ 0x03 ∷ 0x6c ∷ 0x61 ∷ 0x62 ∷ 0x01 ∷ 0x05 ∷ 0x02 ∷ 0x04 ∷ 0x0b ∷ 0x16 ∷ []))
+    request_of network
+    (managed 0x00
+    (0x01 ∷ 0x00 ∷ 0x0a ∷ 0x00 ∷ 0x00 ∷ 0x03 ∷ 0x6c ∷ 0x61 ∷ 0x62 ∷ 0x01 ∷ 0x05 ∷ 0x02 ∷ 0x04 ∷ 0x0b ∷ 0x16 ∷ []))
     ≡ Err Body
 unfolding elements_of elements_within
 an_element_that_passes_the_end_is_refused = refl
@@ -69,13 +78,16 @@ an_element_that_passes_the_end_is_refused = refl
 -- the same with the network as Current AP Address
 abbrev reassociation : List ℕ
 reassociation =
-    managed 0x20 ((0x01 ∷ 0x00 ∷ 0x0a ∷ 0x00 ∷ []) ++ network ++ (0x00 ∷ 0x03 ∷ 0x6c ∷ 0x61 ∷ 0x62 ∷ 0x01 ∷ 0x04 ∷ 0x02 ∷ 0x04 ∷ 0x0b ∷ 0x16 ∷ []))
+    managed 0x20
+    ((0x01 ∷ 0x00 ∷ 0x0a ∷ 0x00 ∷ []) ++ network
+    ++ (0x00 ∷ 0x03 ∷ 0x6c ∷ 0x61 ∷ 0x62 ∷ 0x01 ∷ 0x04 ∷ 0x02 ∷ 0x04 ∷ 0x0b ∷ 0x16 ∷ []))
 
 pub a_reassociation_request_is_read : request_of network reassociation ≡ Ok (Assoc station true 10 (lab ∷ rates ∷ []))
 unfolding elements_of elements_within
 a_reassociation_request_is_read = refl
 
-pub ten_octets_are_a_request_without_elements : cut_at (33 ∷ 34 ∷ 35 ∷ []) reassociation ≡ Err Body ∷ Ok (Assoc station true 10 []) ∷ Err Body ∷ []
+pub ten_octets_are_a_request_without_elements : cut_at (33 ∷ 34 ∷ 35 ∷ []) reassociation
+    ≡ Err Body ∷ Ok (Assoc station true 10 []) ∷ Err Body ∷ []
 unfolding elements_of elements_within
 ten_octets_are_a_request_without_elements = refl
 
@@ -87,7 +99,8 @@ a_disassociation_is_read = refl
 pub a_deauthentication_is_read : request_of network (managed 0xc0 (3 ∷ 0 ∷ [])) ≡ Ok (Deauth station)
 a_deauthentication_is_read = refl
 
-pub what_follows_a_reason_is_ignored : request_of network (managed 0xc0 (3 ∷ 0 ∷ 0xdd ∷ 0xff ∷ [])) ≡ Ok (Deauth station)
+pub what_follows_a_reason_is_ignored : request_of network (managed 0xc0 (3 ∷ 0 ∷ 0xdd ∷ 0xff ∷ []))
+    ≡ Ok (Deauth station)
 what_follows_a_reason_is_ignored = refl
 
 pub half_a_reason_is_refused : request_of network (managed 0xa0 (8 ∷ [])) ≡ Err Body
@@ -95,13 +108,16 @@ half_a_reason_is_refused = refl
 
 -- ---- data and polls
 
-pub a_unit_is_read : request_of network (frame_of_parts 0x08 0x01 network station host 0 (0xaa ∷ 0xaa ∷ [])) ≡ Ok (Msdu station false host (0xaa ∷ 0xaa ∷ []))
+pub a_unit_is_read : request_of network (frame_of_parts 0x08 0x01 network station host 0 (0xaa ∷ 0xaa ∷ []))
+    ≡ Ok (Msdu station false host (0xaa ∷ 0xaa ∷ []))
 a_unit_is_read = refl
 
-pub a_unit_of_a_station_that_dozes_is_read : request_of network (frame_of_parts 0x08 0x11 network station broadcast 0 []) ≡ Ok (Msdu station true broadcast [])
+pub a_unit_of_a_station_that_dozes_is_read :
+    request_of network (frame_of_parts 0x08 0x11 network station broadcast 0 []) ≡ Ok (Msdu station true broadcast [])
 a_unit_of_a_station_that_dozes_is_read = refl
 
-pub a_unit_is_no_list_of_elements : request_of network (frame_of_parts 0x08 0x01 network station host 0 (0x00 ∷ [])) ≡ Ok (Msdu station false host (0x00 ∷ []))
+pub a_unit_is_no_list_of_elements : request_of network (frame_of_parts 0x08 0x01 network station host 0 (0x00 ∷ []))
+    ≡ Ok (Msdu station false host (0x00 ∷ []))
 a_unit_is_no_list_of_elements = refl
 
 pub a_null_is_read : request_of network (frame_of_parts 0x48 0x11 network station network 0 []) ≡ Ok (Null station true)
@@ -110,7 +126,8 @@ a_null_is_read = refl
 pub a_poll_is_read : request_of network ((0xa4 ∷ 0x00 ∷ 0x01 ∷ 0xc0 ∷ []) ++ network ++ station) ≡ Ok (Poll station 1)
 a_poll_is_read = refl
 
-pub a_poll_of_15_octets_is_short : request_of network (take 15 ((0xa4 ∷ 0x00 ∷ 0x01 ∷ 0xc0 ∷ []) ++ network ++ station)) ≡ Err Short
+pub a_poll_of_15_octets_is_short : request_of network (take 15 ((0xa4 ∷ 0x00 ∷ 0x01 ∷ 0xc0 ∷ []) ++ network ++ station))
+    ≡ Err Short
 a_poll_of_15_octets_is_short = refl
 
 -- ---- a fault of the frame is a fault of the request
@@ -118,10 +135,12 @@ a_poll_of_15_octets_is_short = refl
 pub a_protected_unit_is_refused : request_of network (frame_of_parts 0x08 0x41 network station host 0 []) ≡ Err Flags
 a_protected_unit_is_refused = refl
 
-pub a_poll_to_the_distribution_system_is_refused : request_of network ((0xa4 ∷ 0x01 ∷ 0x01 ∷ 0xc0 ∷ []) ++ network ++ station) ≡ Err Direction
+pub a_poll_to_the_distribution_system_is_refused :
+    request_of network ((0xa4 ∷ 0x01 ∷ 0x01 ∷ 0xc0 ∷ []) ++ network ++ station) ≡ Err Direction
 a_poll_to_the_distribution_system_is_refused = refl
 
-pub an_authentication_to_all_is_refused : request_of network (frame_of_parts 0xb0 0 broadcast station network 0 (0 ∷ 0 ∷ 1 ∷ 0 ∷ 0 ∷ 0 ∷ [])) ≡ Err Address
+pub an_authentication_to_all_is_refused :
+    request_of network (frame_of_parts 0xb0 0 broadcast station network 0 (0 ∷ 0 ∷ 1 ∷ 0 ∷ 0 ∷ 0 ∷ [])) ≡ Err Address
 an_authentication_to_all_is_refused = refl
 
 pub a_frame_is_too_long_before_its_body_is_read : request_of network (managed 0xc0 (replicate 2305 0)) ≡ Err TooLong

@@ -1,7 +1,8 @@
 pub mod Management
 pub mod Status
+pub mod Probe
 pub mod Authentication
-pub mod Association
+pub mod Joining
 pub mod Leaving
 pub mod Request
 pub mod Asked

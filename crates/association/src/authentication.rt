@@ -1,11 +1,15 @@
-//! Open System authentication (IEEE Std 802.11-2016, 9.3.3.12, 11.3.4.3 and 12.3.3.2): the status of a request, and its answer.
+//! Open System authentication (IEEE Std 802.11-2016, 9.3.3.12, 11.3.4.3 and 12.3.3.2): what a request says, its status,
+//! and its answer.
 
 ghost use Rattle.std.specs.Prelude.{◌≡◌, ◌++◌, ◌<◌, OnOk, OnErr};
-ghost use Rattle.association.specs.Authentication.{auth_status, authentication_body, authentication};
+ghost use Rattle.association.specs.Authentication.{auth_of, auth_status, authentication_body, authentication};
 
-use crate::frame::write_frame;
+use crate::management::{number_at, write_frame};
 use crate::status::{REFUSED, SUCCESS, TRANSACTION_SEQUENCE_ERROR, UNSUPPORTED_AUTH_ALGORITHM};
-use mac_frame::{AUTHENTICATION, MacAddr, NoMemory, Octets};
+use mac_frame::{AUTHENTICATION, MacAddr, NoMemory, Octets, Unread};
+
+/// The octets of a body that count: Algorithm, Sequence Number, Status Code (9.3.3.12).
+const AUTHENTICATION_LEN: usize = 6;
 
 /// The algorithm number of Open System authentication (9.4.1.1).
 const OPEN_SYSTEM: u16 = 0;
@@ -16,10 +20,21 @@ const REQUEST: u16 = 1;
 /// The transaction sequence number of an answer (9.4.1.2).
 const ANSWER: u16 = 2;
 
-/// The status of a request to authenticate by this algorithm (9.4.1.1), at this step (9.4.1.2), where there is room for the
-/// station or not (9.4.1.9). The first of these that applies, in this order (*profile*): [`UNSUPPORTED_AUTH_ALGORITHM`] where the
-/// algorithm isn't 0, Open System, [`TRANSACTION_SEQUENCE_ERROR`] where the step isn't 1, [`REFUSED`] where there is no room,
-/// [`SUCCESS`].
+/// What the body of an authentication says (9.3.3.12): the algorithm (9.4.1.1) and the transaction sequence number
+/// (9.4.1.2), any numbers. The status code is ignored, and so is what follows it. [`Unread::Body`] below six octets.
+pub fn read_auth(body: &[u8]) -> Result<(u16, u16), Unread>
+    ensures { result ≡ auth_of body.now }
+{
+    if body.len() < AUTHENTICATION_LEN {
+        return Err(Unread::Body);
+    }
+    Ok((number_at(body, 0), number_at(body, 2)))
+}
+
+/// The status of a request to authenticate by this algorithm (9.4.1.1), at this step (9.4.1.2), where there is room for
+/// the station or not (9.4.1.9). The first of these that applies, in this order (*profile*):
+/// [`UNSUPPORTED_AUTH_ALGORITHM`] where the algorithm isn't 0, Open System, [`TRANSACTION_SEQUENCE_ERROR`] where the
+/// step isn't 1, [`REFUSED`] where there is no room, [`SUCCESS`].
 pub fn auth_status(algorithm: u16, step: u16, room: bool) -> u16
     ensures { result ≡ auth_status algorithm step room }
 {
@@ -34,9 +49,9 @@ pub fn auth_status(algorithm: u16, step: u16, room: bool) -> u16
     }
 }
 
-/// Appends the whole answer to a request to authenticate by this algorithm, with this status, to the station `to`, from the
-/// network `bss` (9.3.3.12). Its transaction sequence number is always 2 (*profile*). The sequence number `seq` is below 4096.
-/// After `NoMemory` `out` is as it was.
+/// Appends the whole answer to a request to authenticate by this algorithm, with this status, to the station `to`, from
+/// the network `bss` (9.3.3.12). Its transaction sequence number is always 2 (*profile*). The sequence number `seq` is
+/// below 4096. After `NoMemory` `out` is as it was.
 pub fn write_auth(
     out: &mut Octets,
     to: MacAddr,

@@ -1,27 +1,58 @@
-//! Association and reassociation (IEEE Std 802.11-2016, 9.3.3.6 to 9.3.3.9, 11.3.5.3 and 11.3.5.5): the status of a request, and
-//! its answer.
+//! Association and reassociation (IEEE Std 802.11-2016, 9.3.3.6 to 9.3.3.9, 11.3.5.3 and 11.3.5.5): what a request
+//! says, its status, and its answer.
 
 ghost use Rattle.std.specs.Prelude.{◌≡◌, ◌++◌, ◌<◌, ◌≤◌, length, OnOk, OnErr};
-ghost use Rattle.association.specs.Association.{names_network, has_basic_rates, assoc_status, aid_field, association_fields, association_response};
+ghost use Rattle.association.specs.Joining.{fixed_length, assoc_of, names_network, has_basic_rates, assoc_status};
+ghost use Rattle.association.specs.Joining.{aid_field, association_fields, association_response};
 
-use crate::frame::write_frame;
+use crate::management::{number_at, write_frame};
 use crate::status::{DENIED_NO_MORE_STAS, REFUSED, REFUSED_BASIC_RATES_MISMATCH, SUCCESS};
 use elements::{BASIC_RATE, Elements, SSID, write_rates};
 use mac_frame::{
-    ASSOCIATION_RESPONSE, CAPABILITY, HEADER_LEN, MacAddr, NoMemory, Octets, REASSOCIATION_RESPONSE,
+    ADDRESS_LEN, AID_HIGH_BITS, ASSOCIATION_RESPONSE, CAPABILITY, HEADER_LEN, MacAddr, NoMemory,
+    Octets, REASSOCIATION_RESPONSE, Unread,
 };
 
-/// The two high bits of an AID field that names an association (9.4.1.8).
-const AID_BITS: u16 = 0xc000;
+/// The octets before the elements of an association request: Capability Information and Listen Interval (9.3.3.6).
+const ASSOCIATION_LEN: usize = 4;
+
+/// The octets before the elements of a reassociation request: the same, and Current AP Address (9.3.3.8).
+const REASSOCIATION_LEN: usize = ASSOCIATION_LEN + ADDRESS_LEN;
 
 /// The octets of an answer beside the rates: the header, fixed fields of 6, and the first two octets of two elements
 /// (9.3.3.7).
-const FIXED_LEN: usize = HEADER_LEN + 6 + 2 * 2;
+const LEN_WITHOUT_RATES: usize = HEADER_LEN + 6 + 2 * 2;
 
-/// The status of a request to associate or reassociate with these elements (9.4.1.9), by the network's SSID, its rates, as octets
-/// of Supported Rates (9.4.2.3), and whether there is room for the station. The first of these that applies, in this order
-/// (*profile*): [`REFUSED`] where the elements don't name the SSID, [`REFUSED_BASIC_RATES_MISMATCH`] where they lack a basic rate,
-/// [`DENIED_NO_MORE_STAS`] where there is no room, [`SUCCESS`].
+/// What the body of a request to associate, or `again` to reassociate, says (9.3.3.6, 9.3.3.8): the listen interval in
+/// beacon intervals (9.4.1.6), and the elements. The other fixed fields are ignored. [`Unread::Body`] where there are
+/// fewer octets than the fixed fields have, or what follows them is no list of elements. It takes no memory.
+pub fn read_assoc(again: bool, body: &[u8]) -> Result<(u16, Elements<'_>), Unread>
+    ensures { result ≡ assoc_of again body.now }
+{
+    let fixed = fixed_len(again);
+    if body.len() < fixed {
+        return Err(Unread::Body);
+    }
+    let elements = Elements::new(&body[fixed..]).map_err(|_| Unread::Body)?;
+    Ok((number_at(body, 2), elements))
+}
+
+/// The octets before the elements of a request to associate, or `again` to reassociate.
+fn fixed_len(again: bool) -> usize
+    ensures value { result ≡ fixed_length again }
+    ensures least { 4 ≤ result }
+{
+    if again {
+        REASSOCIATION_LEN
+    } else {
+        ASSOCIATION_LEN
+    }
+}
+
+/// The status of a request to associate or reassociate with these elements (9.4.1.9), by the network's SSID, its rates,
+/// as octets of Supported Rates (9.4.2.3), and whether there is room for the station. The first of these that applies,
+/// in this order (*profile*): [`REFUSED`] where the elements don't name the SSID, [`REFUSED_BASIC_RATES_MISMATCH`]
+/// where they lack a basic rate, [`DENIED_NO_MORE_STAS`] where there is no room, [`SUCCESS`].
 pub fn assoc_status(ssid: &[u8], rates: &[u8], room: bool, elements: &Elements<'_>) -> u16
     ensures { result ≡ assoc_status ssid.now rates.now room elements.now }
 {
@@ -52,11 +83,11 @@ fn has_basic_rates(rates: &[u8], elements: &Elements<'_>) -> bool
         .all(|rate| *rate < BASIC_RATE || elements.has_rate(*rate))
 }
 
-/// Appends the whole answer to a request to associate, or `again` to reassociate, with this status, to the station `to`, from
-/// the network `bss` (9.3.3.7, 9.3.3.9). The sequence number `seq` is below 4096. The association identifier `aid`, 0 to 2007,
-/// is written with the two high bits set (9.4.1.8) where the status is [`SUCCESS`]; else the AID field is 0 (*profile*). There are
-/// 1 to 16 rates, as octets of Supported Rates (9.4.2.3): the first 8 go into that element, the others into Extended Supported
-/// Rates (9.4.2.13). After `NoMemory` `out` is as it was.
+/// Appends the whole answer to a request to associate, or `again` to reassociate, with this status, to the station
+/// `to`, from the network `bss` (9.3.3.7, 9.3.3.9). The sequence number `seq` is below 4096. The association identifier
+/// `aid`, 0 to 2007, is written with the two high bits set (9.4.1.8) where the status is [`SUCCESS`]; else the AID
+/// field is 0 (*profile*). There are 1 to 16 rates, as octets of Supported Rates (9.4.2.3): the first 8 go into that
+/// element, the others into Extended Supported Rates (9.4.2.13). After `NoMemory` `out` is as it was.
 pub fn write_assoc(
     out: &mut Octets,
     to: MacAddr,
@@ -80,7 +111,7 @@ pub fn write_assoc(
     } else {
         ASSOCIATION_RESPONSE
     };
-    out.reserve(FIXED_LEN + rates.len())?;
+    out.reserve(LEN_WITHOUT_RATES + rates.len())?;
     write_frame(out, subtype, to, bss, seq, &fixed_fields(status, aid))?;
     let written = write_rates(out, rates);
     out.roll_back(len, written)
@@ -102,5 +133,9 @@ fn aid_field(status: u16, aid: u16) -> u16
     requires { aid ≤ 2007 }
     ensures { result ≡ aid_field status aid }
 {
-    if status == SUCCESS { AID_BITS + aid } else { 0 }
+    if status == SUCCESS {
+        AID_HIGH_BITS + aid
+    } else {
+        0
+    }
 }

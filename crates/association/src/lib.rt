@@ -1,17 +1,22 @@
 //! What stations ask of a network (IEEE Std 802.11-2016, 9.3 and 11.3), and how they come to it and leave it:
 //! authentication, association, disassociation and deauthentication.
 //!
-//! It promises which request a string of octets is for a network, if it is one, and of which class; which status a request is
-//! answered with; and that each answer and each notice is appended with exactly the octets of its frame.
+//! [`Request`] is what [`read`] gives of a string of octets, and what a network answers; its [`class`] and a notice to
+//! a station are `station_state`'s `Class` and `Notice`. There is one file for each kind of request, with what is read
+//! and what is written of it.
 //!
-//! Whether there is room for a station, which identifier it is given, when a notice is sent, and what becomes of a unit or a
-//! poll, is left to the network.
+//! It promises which request a string of octets is for a network, if it is one, and of which class; which status a
+//! request is answered with; and that each answer and each notice is appended with exactly the octets of its frame.
+//!
+//! Whether there is room for a station, which identifier it is given, when a notice is sent, and what becomes of a unit
+//! or a poll, is left to the network.
 #![tactic(auto)]
 
 mod authentication;
-mod frame;
 mod joining;
 mod leaving;
+mod management;
+mod probe;
 mod request;
 mod status;
 #[cfg(test)]

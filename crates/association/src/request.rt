@@ -1,30 +1,22 @@
-//! The one request of a string of octets (IEEE Std 802.11-2016, 9.3).
+//! The one request of a string of octets (IEEE Std 802.11-2016, 9.3): its type, and which one is read by the kind of
+//! the frame. What the body of each kind says is read beside what is written of it.
 
-ghost use Rattle.std.specs.Prelude.{◌≡◌, ◌<◌, ◌+◌, ◌≤◌, List, ℕ, length, slice_index, Ok, Err, IfOk, IsOkAnd, MatchResult};
-ghost use Rattle.elements.specs.Elements.{elements_of};
+ghost use Rattle.std.specs.Prelude.{◌≡◌, ◌<◌, List, ℕ, slice_index, Ok, Err, IfOk, IsOkAnd, MatchResult};
 ghost use Rattle.mac_frame.specs.Hearing.{Hears};
+ghost use Rattle.mac_frame.specs.Rx.{shown as frame_shown};
 ghost use Rattle.association.specs.Asked.{shown, class_of};
-ghost use Rattle.mac_frame.specs.Rx.{shown as told};
-ghost use Rattle.association.specs.Request.{Request as Asking, IsRequest, sender, number_at, probe_of, auth_of, assoc_of, asked_by, request_in, request_of};
+ghost use Rattle.association.specs.Request.{Request as Asking, IsRequest, sender, asked_by, request_in, request_of};
 
-use elements::{Elements, SSID, one_list};
+use crate::authentication::read_auth;
+use crate::joining::read_assoc;
+use crate::leaving::read_reason;
+use crate::probe::read_probe;
+use elements::{Elements, one_list};
 use mac_frame::{
     ASSOCIATION_REQUEST, AUTHENTICATION, DEAUTHENTICATION, DISASSOCIATION, MacAddr, PROBE_REQUEST,
     REASSOCIATION_REQUEST, Rx, Unread, body_has_octets, decode, frame_is_addressed, one_frame,
 };
 use station_state::Class;
-
-/// The octets of an authentication before those that are ignored: Algorithm, Sequence Number, Status Code (9.3.3.12).
-const AUTHENTICATION_LEN: usize = 6;
-
-/// The octets before the elements of an association request: Capability Information and Listen Interval (9.3.3.6).
-const ASSOCIATION_LEN: usize = 4;
-
-/// The octets before the elements of a reassociation request: the same, and Current AP Address (9.3.3.8).
-const REASSOCIATION_LEN: usize = 10;
-
-/// The octets of a Reason Code (9.4.1.7).
-const REASON_LEN: usize = 2;
 
 /// What a station asks of a network. SSID, elements and body are parts of the string that it was read from.
 #[derive(Debug, Drop)]
@@ -45,7 +37,8 @@ pub enum Request<'a> {
         /// The transaction sequence number (9.4.1.2), any number.
         step: u16,
     },
-    /// An association or reassociation request (9.3.3.6, 9.3.3.8, 11.3.5.3, 11.3.5.5): the station asks to be associated.
+    /// An association or reassociation request (9.3.3.6, 9.3.3.8, 11.3.5.3, 11.3.5.5): the station asks to be
+    /// associated.
     Assoc {
         /// The station.
         from: MacAddr,
@@ -120,8 +113,8 @@ pub fn sender(request: &Request<'_>) -> MacAddr
     }
 }
 
-/// The request that a string of octets is for the network `bss` (9.3). Where it is none, its first fault in the order of
-/// [`Unread`] (*profile*). It takes no memory.
+/// The request that a string of octets is for the network `bss` (9.3). Where it is none, its first fault in the order
+/// of [`Unread`] (*profile*). It takes no memory.
 pub fn read(bss: MacAddr, frame: &[u8]) -> Result<Request<'_>, Unread>
     // What is read is this request; what is this request is read.
     ensures request { IfOk result (λ request. IsRequest bss frame.now (shown request)) }
@@ -143,8 +136,8 @@ pub fn read(bss: MacAddr, frame: &[u8]) -> Result<Request<'_>, Unread>
 /// The request of a frame: of a management frame by its body, of any other as it stands.
 fn request_in(rx: Rx<'_>) -> Result<Request<'_>, Unread>
     ensures { MatchResult result
-        (λ request. request_in (told rx.entry) ≡ Ok (shown request))
-        (λ fault. request_in (told rx.entry) ≡ Err fault) }
+        (λ request. request_in (frame_shown rx.entry) ≡ Ok (shown request))
+        (λ fault. request_in (frame_shown rx.entry) ≡ Err fault) }
 {
     match rx {
         Rx::Mgmt {
@@ -176,73 +169,38 @@ fn ask(subtype: u8, from: MacAddr, body: &[u8]) -> Result<Request<'_>, Unread>
         (λ fault. asked_by subtype from body.now ≡ Err fault) }
 {
     match subtype {
-        ASSOCIATION_REQUEST => association(from, false, ASSOCIATION_LEN, body),
-        REASSOCIATION_REQUEST => association(from, true, REASSOCIATION_LEN, body),
-        PROBE_REQUEST => probe(from, body),
-        DISASSOCIATION if body.len() >= REASON_LEN => Ok(Request::Disassoc { from }),
-        DISASSOCIATION => Err(Unread::Body),
-        AUTHENTICATION => authentication(from, body),
-        DEAUTHENTICATION if body.len() >= REASON_LEN => Ok(Request::Deauth { from }),
-        DEAUTHENTICATION => Err(Unread::Body),
+        ASSOCIATION_REQUEST | REASSOCIATION_REQUEST => {
+            let again = subtype == REASSOCIATION_REQUEST;
+            let (listen, elements) = read_assoc(again, body)?;
+            Ok(Request::Assoc {
+                from,
+                again,
+                listen,
+                elements,
+            })
+        }
+        PROBE_REQUEST => {
+            let ssid = read_probe(body)?;
+            Ok(Request::Probe { from, ssid })
+        }
+        DISASSOCIATION => {
+            read_reason(body)?;
+            Ok(Request::Disassoc { from })
+        }
+        AUTHENTICATION => {
+            let (algorithm, step) = read_auth(body)?;
+            Ok(Request::Auth {
+                from,
+                algorithm,
+                step,
+            })
+        }
+        DEAUTHENTICATION => {
+            read_reason(body)?;
+            Ok(Request::Deauth { from })
+        }
         _ => Err(Unread::Kind),
     }
-}
-
-/// The probe request with this body (9.3.3.10).
-fn probe(from: MacAddr, body: &[u8]) -> Result<Request<'_>, Unread>
-    ensures { MatchResult result
-        (λ request. probe_of from (elements_of body.now) ≡ Ok (shown request))
-        (λ fault. probe_of from (elements_of body.now) ≡ Err fault) }
-{
-    let elements = Elements::new(body).map_err(|_| Unread::Body)?;
-    Ok(Request::Probe {
-        from,
-        ssid: elements.first(SSID),
-    })
-}
-
-/// The authentication with this body (9.3.3.12).
-fn authentication(from: MacAddr, body: &[u8]) -> Result<Request<'_>, Unread>
-    ensures { MatchResult result
-        (λ request. auth_of from body.now ≡ Ok (shown request))
-        (λ fault. auth_of from body.now ≡ Err fault) }
-{
-    if body.len() < AUTHENTICATION_LEN {
-        return Err(Unread::Body);
-    }
-    Ok(Request::Auth {
-        from,
-        algorithm: number_at(body, 0),
-        step: number_at(body, 2),
-    })
-}
-
-/// The request to associate, or `again` to reassociate, whose elements stand after so many octets (9.3.3.6, 9.3.3.8).
-fn association(from: MacAddr, again: bool, fixed: usize, body: &[u8]) -> Result<Request<'_>, Unread>
-    requires { 4 ≤ fixed }
-    ensures { MatchResult result
-        (λ request. assoc_of fixed from again body.now ≡ Ok (shown request))
-        (λ fault. assoc_of fixed from again body.now ≡ Err fault) }
-{
-    if body.len() < fixed {
-        return Err(Unread::Body);
-    }
-    let elements = Elements::new(&body[fixed..]).map_err(|_| Unread::Body)?;
-    Ok(Request::Assoc {
-        from,
-        again,
-        listen: number_at(body, 2),
-        elements,
-    })
-}
-
-/// The number of two octets at a place, the low octet first (9.2.2).
-fn number_at(body: &[u8], place: usize) -> u16
-    requires within { place < 65536 }
-    requires fits { place + 2 ≤ length body.now }
-    ensures { result ≡ number_at body.now place }
-{
-    u16::from_le_bytes([body[place], body[place + 1]])
 }
 
 /// A string of octets is at most one request for a network, which is the one that reading gives; and the network
@@ -250,8 +208,8 @@ fn number_at(body: &[u8], place: usize) -> u16
 pub fn one_request()
     ensures unique { (bss x : List ℕ) (r s : Asking) → IsRequest bss x r → IsRequest bss x s → r ≡ s }
     ensures read { (bss x : List ℕ) (r : Asking) → IsRequest bss x r → request_of bss x ≡ Ok r }
-    ensures found { (bss x : List ℕ) (r : Asking) → ((place : ℕ) → slice_index x place < 256) → request_of bss x ≡ Ok r
-        → IsRequest bss x r }
+    ensures found { (bss x : List ℕ) (r : Asking) → ((place : ℕ) → slice_index x place < 256)
+        → request_of bss x ≡ Ok r → IsRequest bss x r }
     ensures heard { (bss x : List ℕ) (r : Asking) → IsRequest bss x r → Hears bss x }
 {
     one_frame();

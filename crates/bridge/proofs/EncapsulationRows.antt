@@ -6,10 +6,14 @@ use Rattle.bridge.proofs.Samples.{station, host, to_station}
 
 -- ---- to the air
 
-a_type_stands_after_the_header : on_air (record { to = station; source = host; kind = Typed 0x0800; payload = 0x01 ∷ [] }) ≡ 0xaa ∷ 0xaa ∷ 0x03 ∷ 0x00 ∷ 0x00 ∷ 0x00 ∷ 0x08 ∷ 0x00 ∷ 0x01 ∷ []
+a_type_stands_after_the_header :
+    on_air (record { to = station; source = host; kind = Typed 0x0800; payload = 0x01 ∷ [] })
+    ≡ 0xaa ∷ 0xaa ∷ 0x03 ∷ 0x00 ∷ 0x00 ∷ 0x00 ∷ 0x08 ∷ 0x00 ∷ 0x01 ∷ []
 a_type_stands_after_the_header = refl
 
-a_sized_frame_is_its_payload : on_air (record { to = station; source = host; kind = Sized; payload = 0xaa ∷ 0xbb ∷ 0xcc ∷ [] }) ≡ 0xaa ∷ 0xbb ∷ 0xcc ∷ []
+a_sized_frame_is_its_payload :
+    on_air (record { to = station; source = host; kind = Sized; payload = 0xaa ∷ 0xbb ∷ 0xcc ∷ [] })
+    ≡ 0xaa ∷ 0xbb ∷ 0xcc ∷ []
 a_sized_frame_is_its_payload = refl
 
 -- ---- to the wire
@@ -18,19 +22,23 @@ a_sized_frame_is_its_payload = refl
 abbrev wired : List ℕ → Option (List ℕ)
 wired body = on_wire station host body
 
-a_body_with_a_type_names_it : wired (rfc1042_header ++ (0x08 ∷ 0x00 ∷ 0x01 ∷ [])) ≡ Some (to_station 0x08 0x00 (0x01 ∷ []))
+a_body_with_a_type_names_it : wired (rfc1042_header ++ (0x08 ∷ 0x00 ∷ 0x01 ∷ []))
+    ≡ Some (to_station 0x08 0x00 (0x01 ∷ []))
 a_body_with_a_type_names_it = refl
 
-eight_octets_are_a_type_without_a_payload : wired (rfc1042_header ++ (0x08 ∷ 0x00 ∷ [])) ≡ Some (to_station 0x08 0x00 [])
+eight_octets_are_a_type_without_a_payload : wired (rfc1042_header ++ (0x08 ∷ 0x00 ∷ []))
+    ≡ Some (to_station 0x08 0x00 [])
 eight_octets_are_a_type_without_a_payload = refl
 
-half_a_type_is_none : wired (rfc1042_header ++ (0x08 ∷ [])) ≡ Some (to_station 0x00 0x07 (rfc1042_header ++ (0x08 ∷ [])))
+half_a_type_is_none : wired (rfc1042_header ++ (0x08 ∷ []))
+    ≡ Some (to_station 0x00 0x07 (rfc1042_header ++ (0x08 ∷ [])))
 half_a_type_is_none = refl
 
 type_0600_is_the_least : wired (rfc1042_header ++ (0x06 ∷ 0x00 ∷ 0x01 ∷ [])) ≡ Some (to_station 0x06 0x00 (0x01 ∷ []))
 type_0600_is_the_least = refl
 
-type_05ff_is_none : wired (rfc1042_header ++ (0x05 ∷ 0xff ∷ 0x01 ∷ [])) ≡ Some (to_station 0x00 0x09 (rfc1042_header ++ (0x05 ∷ 0xff ∷ 0x01 ∷ [])))
+type_05ff_is_none : wired (rfc1042_header ++ (0x05 ∷ 0xff ∷ 0x01 ∷ []))
+    ≡ Some (to_station 0x00 0x09 (rfc1042_header ++ (0x05 ∷ 0xff ∷ 0x01 ∷ [])))
 type_05ff_is_none = refl
 
 -- the header of IEEE Std 802.1H for the few types that are translated otherwise
@@ -58,5 +66,6 @@ one_octet_more_has_no_wired_form : wired (replicate 1501 7) ≡ None
 one_octet_more_has_no_wired_form = refl
 
 -- a type has no such limit
-a_type_may_stand_before_2296_octets : wired (rfc1042_header ++ (0x08 ∷ 0x00 ∷ replicate 2296 7)) ≡ Some (to_station 0x08 0x00 (replicate 2296 7))
+a_type_may_stand_before_2296_octets : wired (rfc1042_header ++ (0x08 ∷ 0x00 ∷ replicate 2296 7))
+    ≡ Some (to_station 0x08 0x00 (replicate 2296 7))
 a_type_may_stand_before_2296_octets = refl

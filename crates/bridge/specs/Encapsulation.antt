@@ -1,5 +1,6 @@
 -- The same unit on the air and on the wire (IEEE Std 802.11-2016, 5.1.4; RFC 1042).
-use Rattle.std.specs.Prelude.{ℕ, ◌≡◌, Bool, nat_le, ◌&&◌, List, [], ◌∷◌, ◌++◌, length, take, drop, Option, Some, None, option_map, if◌then◌else◌}
+use Rattle.std.specs.Prelude.{ℕ, ◌≡◌, Bool, nat_le, ◌&&◌, List, [], ◌∷◌, ◌++◌, length, take, drop, Option, Some, None}
+use Rattle.std.specs.Prelude.{option_map, if◌then◌else◌}
 use Rattle.std.specs.Int.{w16, to_be_bytes}
 use Rattle.std.specs.Str.{bytes_eq}
 use Rattle.bridge.specs.Ethernet.{Ethernet, IsEthernet, number, is_type, is_length}
@@ -40,7 +41,8 @@ number_and_payload body =
 
 -- the octets of the Ethernet frame that carries a body, or none where it has no wired form
 abbrev pub on_wire : List ℕ → List ℕ → List ℕ → Option (List ℕ)
-on_wire to source body = option_map (λ parts. to ++ source ++ to_be_bytes w16 parts.0 ++ parts.1) (number_and_payload body)
+on_wire to source body =
+    option_map (λ parts. to ++ source ++ to_be_bytes w16 parts.0 ++ parts.1) (number_and_payload body)
 
 -- the string is an Ethernet frame from one address to another, whose body on the air is this one
 pub record Carries (y to source body : List ℕ) : Type 0 where

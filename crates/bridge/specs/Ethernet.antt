@@ -1,6 +1,7 @@
--- Ethernet frames (IEEE Std 802.3, 3.1.1 and 3.2): which string of octets is which frame, and the first fault of a string
--- that is none.
-use Rattle.std.specs.Prelude.{ℕ, ◌≤◌, ◌≡◌, Bool, nat_lt, nat_le, ◌&&◌, List, ◌++◌, length, take, drop, Result, Ok, Err, if◌then◌else◌}
+-- Ethernet frames (IEEE Std 802.3, 3.1.1 and 3.2): which string of octets is which frame, and the first fault of a
+-- string that is none.
+use Rattle.std.specs.Prelude.{ℕ, ◌≤◌, ◌≡◌, Bool, nat_lt, nat_le, ◌&&◌, List, ◌++◌, length, take, drop, Result, Ok, Err}
+use Rattle.std.specs.Prelude.{if◌then◌else◌}
 use Rattle.std.specs.Int.{w16, from_be_bytes}
 use Rattle.mac_frame.specs.declared.frame.Unread.{Unread}
 use Rattle.mac_frame.specs.declared.frame.Unread.TheVariants.{Short, Body, TooLong}
@@ -85,7 +86,8 @@ typed_of y = if nat_lt 2296 (length (rest_of y)) then Err TooLong else Ok (frame
 -- the frame whose field is a length, or its fault
 abbrev pub sized_of : List ℕ → Result Ethernet Unread
 sized_of y =
-    if nat_lt (length (rest_of y)) (number_of y) then Err Body else Ok (frame_at y Sized (take (number_of y) (rest_of y)))
+    if nat_lt (length (rest_of y)) (number_of y) then Err Body else Ok
+    (frame_at y Sized (take (number_of y) (rest_of y)))
 
 -- the frame that a string is, or its first fault
 abbrev pub ethernet_of : List ℕ → Result Ethernet Unread

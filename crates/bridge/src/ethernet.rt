@@ -3,7 +3,7 @@
 ghost use Rattle.std.specs.Prelude.{◌≡◌, ◌<◌, ◌≤◌, ◌↔◌, List, ℕ, length, take, Ok, Err, IsOkAnd, IfOk, MatchResult};
 ghost use Rattle.bridge.specs.Ethernet.{Ethernet, IsEthernet, ethernet_of, shown};
 
-use crate::encapsulation::RFC1042_LEN;
+use crate::encapsulation::TYPED_HEADER_LEN;
 use mac_frame::{ADDRESS_LEN, MAX_BODY_LEN, MacAddr, Unread, address_at};
 
 /// The least number of the Length/Type field that is a type (IEEE Std 802.3, 3.2.6).
@@ -27,9 +27,9 @@ const LENGTH_OR_TYPE: usize = SOURCE + ADDRESS_LEN;
 /// How many octets stand before the payload: two addresses and the Length/Type field.
 pub const HEADER_LEN: usize = LENGTH_OR_TYPE + 2;
 
-/// How many octets the payload of a typed frame has at most: on the air the RFC 1042 header and the type are put before it, and
-/// the body of a frame has a limit (IEEE Std 802.11-2016, 9.2.4.7.1).
-const MAX_TYPED_LEN: usize = MAX_BODY_LEN - RFC1042_LEN;
+/// How many octets the payload of a typed frame has at most: on the air the RFC 1042 header and the type are put before
+/// it, and the body of a frame has a limit (IEEE Std 802.11-2016, 9.2.4.7.1).
+const MAX_TYPED_LEN: usize = MAX_BODY_LEN - TYPED_HEADER_LEN;
 
 /// What the Length/Type field of a frame says (IEEE Std 802.3, 3.2.6).
 #[derive(Clone, Copy, Debug, PartialEq, Eq)]
@@ -55,9 +55,9 @@ pub struct Ether<'a> {
 
 impl<'a> Ether<'a> {
     /// The Ethernet frame that a string of octets is, or its first fault: [`Unread::Short`] below 14 octets,
-    /// [`Unread::TooLong`] where more than 2296 octets follow a type, and [`Unread::Body`] where fewer octets follow than
-    /// the length says, or the field is neither a type nor a length of 3 to 1500 (IEEE Std 802.3, 3.2; the limits are
-    /// *profile*). It takes no memory.
+    /// [`Unread::TooLong`] where more than 2296 octets follow a type, and [`Unread::Body`] where fewer octets follow
+    /// than the length says, or the field is neither a type nor a length of 3 to 1500 (IEEE Std 802.3, 3.2; the limits
+    /// are *profile*). It takes no memory.
     pub fn decode(octets: &'a [u8]) -> Result<Ether<'a>, Unread>
         // What is read is this frame; what is this frame is read.
         ensures frame { IfOk result (λ ether. IsEthernet octets.now (shown ether)) }

@@ -1,9 +1,11 @@
-//! The same unit on the wire and on the air: Ethernet frames, and the bodies of 802.11 data frames (IEEE Std 802.11-2016,
-//! 5.1.4; RFC 1042).
+//! The same unit on the wire and on the air: Ethernet frames, and the bodies of 802.11 data frames (IEEE Std
+//! 802.11-2016, 5.1.4; RFC 1042).
 //!
-//! It promises that [`Ether::decode`] reads a string of octets exactly where it is an Ethernet frame, and names the first
-//! fault elsewhere; that [`to_air`] and [`to_wire`] append exactly the octets of the body and of the frame; and that a frame
-//! that names a type comes back from the air as it was.
+//! [`Ether`] is an Ethernet frame; its [`Kind`] says whether it names a type or its length.
+//!
+//! It promises that [`Ether::decode`] reads a string of octets exactly where it is an Ethernet frame, and names the
+//! first fault elsewhere; that [`to_air`] and [`to_wire`] append exactly the octets of the body and of the frame; and
+//! that a frame that names a type comes back from the air as it was.
 //!
 //! Which unit goes where, and what becomes of one without a wired form, is left to the network.
 #![tactic(auto)]
@@ -13,5 +15,5 @@ mod ethernet;
 #[cfg(test)]
 mod tests;
 
-pub use encapsulation::{RFC1042_LEN, body_comes_back, frame_comes_back, to_air, to_wire};
+pub use encapsulation::{TYPED_HEADER_LEN, body_comes_back, frame_comes_back, to_air, to_wire};
 pub use ethernet::{Ether, Kind, one_ethernet_frame};

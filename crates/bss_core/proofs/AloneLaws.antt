@@ -8,7 +8,7 @@ use Rattle.association.specs.Request.{Request, Probe, Auth, Assoc, Disassoc, Dea
 use Rattle.association.specs.Asked.{class_of}
 use Rattle.association.specs.Status.{success}
 use Rattle.association.specs.Authentication.{authentication}
-use Rattle.association.specs.Association.{association_response}
+use Rattle.association.specs.Joining.{association_response}
 use Rattle.association.specs.Leaving.{notice_frame}
 use Rattle.station_state.specs.ClassFault.{class_fault}
 use Rattle.station_state.specs.declared.class.Notice.{Notice}
@@ -21,13 +21,13 @@ use Rattle.powersave.specs.declared.unit.Whom.TheVariants.{One, Group}
 use Rattle.powersave.specs.declared.unit.Unit.{Unit as DataUnit}
 use Rattle.mac_frame.specs.Address.{is_group}
 use Rattle.bss_core.specs.Stations.{Table, link_of, aid_of, standing_of, dozes_with, is_dozing, set_mode, some_station_dozes, may_associate, next_aid, authenticate, associate, disassociate, forget}
-use Rattle.bss_core.specs.Units.{unit, unit_of, unit_frame, are_left, delivery_of, delivery_with, goes_on_wire, may_poll, group_is_kept}
+use Rattle.bss_core.specs.Units.{unit, unit_of, unit_frame, others_follow, delivery_of, delivery_with, goes_on_wire, may_poll, group_is_kept}
 use Rattle.bridge.specs.Encapsulation.{on_wire}
 use Rattle.beacon.specs.Beacon.{dtim_count}
 use Rattle.powersave.specs.Keep.{units_for, without_all, without_oldest}
 use Rattle.bss_core.specs.declared.stations.Link.{Link}
-use Rattle.bss_core.specs.declared.unit.Delivery.{Delivery}
-use Rattle.bss_core.specs.declared.unit.Delivery.TheVariants.{Now, Kept, Nowhere}
+use Rattle.bss_core.specs.declared.reply.unit.Delivery.{Delivery}
+use Rattle.bss_core.specs.declared.reply.unit.Delivery.TheVariants.{Now, Kept, Nowhere}
 use Rattle.bss_core.proofs.UnitsKept.{kept-elsewhere, kept-where, kept-filtered, kept-without_first, kept-push, length-filtered, length-without_first, link_of-set, link_of-forgotten, link_of-moded, mode-stays}
 use Rattle.bss_core.specs.declared.stations.Link.TheVariants.{Authenticated, Associated}
 use Rattle.bss_core.specs.Sound.{AreSound, IsKeptFor, AreKeptFor}
@@ -36,7 +36,7 @@ use Rattle.bss_core.proofs.Statuses.{room-authenticated, room-associated, known-
 use Rattle.bss_core.specs.Network.{Setting, Network, empty_network, send, count_unread, change_state, change_where_served, lose, keep_or_lose, deliver, answer_wired, drop_units, send_unit, send_each, put_on_wire, forward, set_power_mode, serve_poll, answer_poll, beacon_frame, release, tick, may_be_known, authentication_status, answer_authentication, association_status, answer_association, serve, notify_or_serve, announced_at, asks_for, answer, answer_probe, step, after, alone}
 use Rattle.bss_core.specs.Configuration.{network_fault}
 use Rattle.std.proofs.Math.Seq.{drop-append_seam}
-use Rattle.bss_core.specs.State.{Keeps, sent_by, wired_by}
+use Rattle.bss_core.specs.BssView.{IsAfterHistory, sent_by, wired_by}
 use Rattle.bss_core.specs.Replies.{after_reply}
 use Rattle.bss_core.specs.Sound.{IsSoundNetwork}
 use Rattle.bss_core.proofs.StationsSound.{length-set_link, length-forgotten, length-moded, mode-sound, authenticate-sound, associate-sound, disassociate-sound, forget-sound}
@@ -191,10 +191,10 @@ deliver-sound s u events units n h = by (delivery_of u.to n.stations n.kept) ref
     by (Kept whom) is = rw is (keep-sound s whom u events units n (delivery-for u.to n.stations n.kept whom is) h)
     by Nowhere is = rw is (more-sound s events units events (units + 1) n (omega arith) (omega arith) h)
 
-send_each-sound : (s : Setting) (telling : Bool) (us : List DataUnit) (events units : ℕ) (n : Network) → IsSoundNetwork s events units n → IsSoundNetwork s events units (send_each s telling us n)
-send_each-sound s telling [] events units n h = h
-send_each-sound s telling (u ∷ us) events units n h =
-    send_each-sound s telling us events units (send_unit s (telling && are_left us) u n) (send-sound s events units n (unit_frame s.network.bssid (telling && are_left us) u) h)
+send_each-sound : (s : Setting) (shows_more : Bool) (us : List DataUnit) (events units : ℕ) (n : Network) → IsSoundNetwork s events units n → IsSoundNetwork s events units (send_each s shows_more us n)
+send_each-sound s shows_more [] events units n h = h
+send_each-sound s shows_more (u ∷ us) events units n h =
+    send_each-sound s shows_more us events units (send_unit s (shows_more && others_follow us) u n) (send-sound s events units n (unit_frame s.network.bssid (shows_more && others_follow us) u) h)
 
 put_on_wire-sound : (s : Setting) (wired : Option (List ℕ)) (events units : ℕ) (n : Network) → IsSoundNetwork s events units n → IsSoundNetwork s events (units + 1) (put_on_wire wired n)
 put_on_wire-sound s (Some octets) events units n h = more-sound s events units events (units + 1) _ (omega arith) (omega arith) (frames-sound s events units n n.air (n.wire ++ octets ∷ []) h)
@@ -226,7 +226,7 @@ mode_set-sound s from doze events units n h = by (is_dozing from n.stations && n
 poll-sound : (s : Setting) (from : List ℕ) (us : List DataUnit) (events units : ℕ) (n : Network) → IsSoundNetwork s events units n → IsSoundNetwork s events units (serve_poll s from us n)
 poll-sound s from [] events units n h = h
 poll-sound s from (u ∷ us) events units n h =
-    send-sound s events units _ (unit_frame s.network.bssid (are_left us) u)
+    send-sound s events units _ (unit_frame s.network.bssid (others_follow us) u)
     (kept-sound s events units n (without_oldest (One from) n.kept) (kept-without_first n.stations (is_for (One from)) n.kept h.kept) (length-without_first (is_for (One from)) n.kept) h)
 
 polled-sound : (s : Setting) (from : List ℕ) (aid events units : ℕ) (n : Network) → IsSoundNetwork s events units n → IsSoundNetwork s events units (answer_poll s from aid n)
@@ -360,20 +360,20 @@ alone-sound s es h =
 
 -- ---- what a network keeps of itself
 
-pub keeps-none : (s : Setting) → network_fault s.network ≡ None → Keeps s [] empty_network
+pub history-none : (s : Setting) → network_fault s.network ≡ None → IsAfterHistory s [] empty_network
 unfolding alone
-keeps-none s h = record { bounded = omega arith; sound = h; same = refl }
+history-none s h = record { bounded = omega arith; sound = h; same = refl }
 
-pub keeps-sound : (s : Setting) (es : List Event) (kept : Network) → Keeps s es kept → IsSoundNetwork s (length es) (2 * length es) kept
-keeps-sound s es kept k = subst (IsSoundNetwork s (length es) (2 * length es)) k.same (frames-sound s (length es) (2 * length es) (alone s es) [] (alone s es).wire (alone-sound s es k.sound))
+pub history-sound : (s : Setting) (es : List Event) (kept : Network) → IsAfterHistory s es kept → IsSoundNetwork s (length es) (2 * length es) kept
+history-sound s es kept k = subst (IsSoundNetwork s (length es) (2 * length es)) k.same (frames-sound s (length es) (2 * length es) (alone s es) [] (alone s es).wire (alone-sound s es k.sound))
 
 -- ---- one more event, by the reply to it
 
 reply_is : (s : Setting) (es : List Event) (e : Event) (r : Reply) → step s (alone s es) e ≡ after_reply r (alone s es) → alone s (es ++ e ∷ []) ≡ after_reply r (alone s es)
 reply_is s es e r h = alone-push s es e ∙ h
 
-pub keeps-push : (s : Setting) (es : List Event) (e : Event) (r : Reply) (kept : Network) → Keeps s es kept → length es < s.network.max_events → step s (alone s es) e ≡ after_reply r (alone s es) → Keeps s (es ++ e ∷ []) (record (after_reply r kept) { air = [] })
-keeps-push s es e r kept k room h = record {
+pub history-push : (s : Setting) (es : List Event) (e : Event) (r : Reply) (kept : Network) → IsAfterHistory s es kept → length es < s.network.max_events → step s (alone s es) e ≡ after_reply r (alone s es) → IsAfterHistory s (es ++ e ∷ []) (record (after_reply r kept) { air = [] })
+history-push s es e r kept k room h = record {
   bounded = omega (arith, length-append es (e ∷ []));
   sound = k.sound;
   same =
@@ -382,8 +382,8 @@ keeps-push s es e r kept k room h = record {
 }
 
 -- so it stays within its bounds, and can be counted
-pub reply-sound : (s : Setting) (es : List Event) (e : Event) (r : Reply) (kept : Network) → Keeps s es kept → length es < s.network.max_events → step s (alone s es) e ≡ after_reply r (alone s es) → IsSoundNetwork s (length es + 1) (2 * (length es + 1)) (record (after_reply r kept) { air = [] })
-reply-sound s es e r kept k room h = subst (λ (m : ℕ). IsSoundNetwork s m (2 * m) (record (after_reply r kept) { air = [] })) (length-append es (e ∷ [])) (keeps-sound s (es ++ e ∷ []) _ (keeps-push s es e r kept k room h))
+pub reply-sound : (s : Setting) (es : List Event) (e : Event) (r : Reply) (kept : Network) → IsAfterHistory s es kept → length es < s.network.max_events → step s (alone s es) e ≡ after_reply r (alone s es) → IsSoundNetwork s (length es + 1) (2 * (length es + 1)) (record (after_reply r kept) { air = [] })
+reply-sound s es e r kept k room h = subst (λ (m : ℕ). IsSoundNetwork s m (2 * m) (record (after_reply r kept) { air = [] })) (length-append es (e ∷ [])) (history-sound s (es ++ e ∷ []) _ (history-push s es e r kept k room h))
 
 -- the frames that the event adds are those of the reply
 pub sent_by-reply : (s : Setting) (es : List Event) (e : Event) (r : Reply) → step s (alone s es) e ≡ after_reply r (alone s es) → sent_by s es e ≡ r.frames

@@ -6,12 +6,12 @@ use Rattle.std.proofs.lemmas.Option.{slice_get_within, get_or_from_slice_get}
 use Rattle.std.proofs.lemmas.List.Elements.{filter-append}
 use Rattle.bss_core.specs.Network.{alone}
 use Rattle.bss_core.specs.Radio.{names_network, network_at, setting_at, Place, untouched, RadioState, first_state, place_at, air_at, waiting_at, with_place, hand_frame, leave_first, radio_step, after_steps, part_of, items_of}
-use Rattle.bss_core.specs.State.{sent_by}
+use Rattle.bss_core.specs.BssView.{sent_by}
 use Rattle.bss_core.specs.declared.config.RadioConfig.{RadioConfig}
 use Rattle.bss_core.specs.declared.event.Event.{Event}
-use Rattle.bss_core.specs.declared.step.AirItem.{AirItem}
-use Rattle.bss_core.specs.declared.step.Step.{Step}
-use Rattle.bss_core.specs.declared.step.Step.TheVariants.{Take, Hand, Leave}
+use Rattle.bss_core.specs.declared.radio.step.AirItem.{AirItem}
+use Rattle.bss_core.specs.declared.radio.step.Step.{Step}
+use Rattle.bss_core.specs.declared.radio.step.Step.TheVariants.{Take, Hand, Leave}
 use Rattle.bss_core.proofs.SentFrames.{air-push}
 use Rattle.bss_core.proofs.RadioSteps.{at_each_place, after_steps-follow, events-part}
 

@@ -5,15 +5,16 @@ use Rattle.std.proofs.lemmas.Bool.{cases_eq}
 use Rattle.std.proofs.lemmas.List.{length-map, length-set, map-set, get_or-map, get_or-set_same, get_or-set_other, append_assoc}
 use Rattle.std.proofs.lemmas.List.Elements.{All-rest}
 use Rattle.std.proofs.Math.Seq.{map-set_same}
+use Rattle.bss_core.specs.Lists.{IsSuffix}
 use Rattle.bss_core.specs.Network.{Setting, alone}
 use Rattle.bss_core.specs.Radio.{no_network, setting_at, setting_in, items_of}
-use Rattle.bss_core.specs.RadioView.{RadioView, NetworkView, unused, view_at, settings_of, shown, config_of, radio_of, IsSuffix, IsSoundRadio}
-use Rattle.bss_core.specs.State.{State, network_of, sent_by}
+use Rattle.bss_core.specs.RadioView.{RadioView, NetworkView, unused, view_at, settings_of, shown, config_of, radio_of, IsSoundRadio}
+use Rattle.bss_core.specs.BssView.{BssView, network_of, sent_by}
 use Rattle.bss_core.specs.declared.bss.Refusal.{Refusal}
 use Rattle.bss_core.specs.declared.config.NetConfig.{NetConfig}
 use Rattle.bss_core.specs.declared.config.RadioConfig.{RadioConfig}
 use Rattle.bss_core.specs.declared.event.Event.{Event}
-use Rattle.bss_core.specs.declared.step.AirItem.{AirItem}
+use Rattle.bss_core.specs.declared.radio.step.AirItem.{AirItem}
 use Rattle.bss_core.proofs.RadioFrames.{items_of-append, items_of-same}
 
 -- ---- suffixes
@@ -58,38 +59,38 @@ sound-changed r place v items h within bounded placed others last = record {
 -- ---- the networks that it runs
 
 -- each has the setting of its place
-pub setting-at : (channel interval capacity : ℕ) (states : List State) (place : ℕ) (d : State) → map (λ (s : State). s.setting) states ≡ settings_of (config_of channel interval capacity states) → place < length states → (get_or states place d).setting ≡ setting_at (config_of channel interval capacity states) place
+pub setting-at : (channel interval capacity : ℕ) (states : List BssView) (place : ℕ) (d : BssView) → map (λ (s : BssView). s.setting) states ≡ settings_of (config_of channel interval capacity states) → place < length states → (get_or states place d).setting ≡ setting_at (config_of channel interval capacity states) place
 setting-at channel interval capacity states place d same within =
     let c : RadioConfig = config_of channel interval capacity states in
-    sym (get_or-map (λ (s : State). s.setting) states place d d.setting within)
+    sym (get_or-map (λ (s : BssView). s.setting) states place d d.setting within)
     ∙ ap (λ (ss : List Setting). get_or ss place d.setting) same
-    ∙ get_or-map (setting_in c) c.networks place no_network d.setting (omega (arith, length-map states (λ (s : State). s.setting.network)))
+    ∙ get_or-map (setting_in c) c.networks place no_network d.setting (omega (arith, length-map states (λ (s : BssView). s.setting.network)))
 
 -- a network that changes, and the queue
-pub radio-changed : (channel interval capacity : ℕ) (states : List State) (items more : List AirItem) (place : ℕ) (d new : State) → place < length states → new.setting ≡ (get_or states place d).setting → radio_of channel interval capacity (set states place new) more ≡ changed (radio_of channel interval capacity states items) place (shown new) more
+pub radio-changed : (channel interval capacity : ℕ) (states : List BssView) (items more : List AirItem) (place : ℕ) (d new : BssView) → place < length states → new.setting ≡ (get_or states place d).setting → radio_of channel interval capacity (set states place new) more ≡ changed (radio_of channel interval capacity states items) place (shown new) more
 radio-changed channel interval capacity states items more place d new within same =
-    ap (λ (ns : List NetConfig). record (radio_of channel interval capacity (set states place new) more) { config = record (config_of channel interval capacity states) { networks = ns } }) (map-set_same (λ (s : State). s.setting.network) states place new d (ap (λ (s : Setting). s.network) same))
+    ap (λ (ns : List NetConfig). record (radio_of channel interval capacity (set states place new) more) { config = record (config_of channel interval capacity states) { networks = ns } }) (map-set_same (λ (s : BssView). s.setting.network) states place new d (ap (λ (s : Setting). s.network) same))
     ∙ ap (λ (vs : List NetworkView). record (radio_of channel interval capacity states more) { networks = vs }) (map-set shown states place new)
 
-pub settings-changed : (channel interval capacity : ℕ) (states : List State) (place : ℕ) (d new : State) → new.setting ≡ (get_or states place d).setting → map (λ (s : State). s.setting) states ≡ settings_of (config_of channel interval capacity states) → map (λ (s : State). s.setting) (set states place new) ≡ settings_of (config_of channel interval capacity (set states place new))
+pub settings-changed : (channel interval capacity : ℕ) (states : List BssView) (place : ℕ) (d new : BssView) → new.setting ≡ (get_or states place d).setting → map (λ (s : BssView). s.setting) states ≡ settings_of (config_of channel interval capacity states) → map (λ (s : BssView). s.setting) (set states place new) ≡ settings_of (config_of channel interval capacity (set states place new))
 settings-changed channel interval capacity states place d new same all =
-    map-set_same (λ (s : State). s.setting) states place new d same ∙ all
-    ∙ ap (λ (ns : List NetConfig). settings_of (record (config_of channel interval capacity states) { networks = ns })) (sym (map-set_same (λ (s : State). s.setting.network) states place new d (ap (λ (s : Setting). s.network) same)))
+    map-set_same (λ (s : BssView). s.setting) states place new d same ∙ all
+    ∙ ap (λ (ns : List NetConfig). settings_of (record (config_of channel interval capacity states) { networks = ns })) (sym (map-set_same (λ (s : BssView). s.setting.network) states place new d (ap (λ (s : Setting). s.network) same)))
 
 -- what is queued and then waits of a network, by the network itself
-pub last-at : (channel interval capacity : ℕ) (states : List State) (items : List AirItem) (place : ℕ) (d : State) → IsSoundRadio (radio_of channel interval capacity states items) → map (λ (s : State). s.setting) states ≡ settings_of (config_of channel interval capacity states) → place < length states → IsSuffix (items_of place items ++ (get_or states place d).waiting) (network_of (get_or states place d)).air
+pub last-at : (channel interval capacity : ℕ) (states : List BssView) (items : List AirItem) (place : ℕ) (d : BssView) → IsSoundRadio (radio_of channel interval capacity states items) → map (λ (s : BssView). s.setting) states ≡ settings_of (config_of channel interval capacity states) → place < length states → IsSuffix (items_of place items ++ (get_or states place d).waiting) (network_of (get_or states place d)).air
 last-at channel interval capacity states items place d h same within =
     let c : RadioConfig = config_of channel interval capacity states in
     let view : view_at (radio_of channel interval capacity states items) place ≡ shown (get_or states place d) = get_or-map shown states place d unused within in
     let setting = setting-at channel interval capacity states place d same within in
-    let given = h.last place (omega (arith, length-map states (λ (s : State). s.setting.network))) in
+    let given = h.last place (omega (arith, length-map states (λ (s : BssView). s.setting.network))) in
     subst (λ (t : Setting). IsSuffix (items_of place items ++ (get_or states place d).waiting) (alone t (get_or states place d).history).air) (sym setting)
     (subst (λ (v : NetworkView). IsSuffix (items_of place items ++ v.waiting) (alone (setting_at c place) v.history).air) view given)
 
-pub sound-network : (channel interval capacity : ℕ) (states : List State) (items more : List AirItem) (place : ℕ) (d new : State) → IsSoundRadio (radio_of channel interval capacity states items) → map (λ (s : State). s.setting) states ≡ settings_of (config_of channel interval capacity states) → place < length states → new.setting ≡ (get_or states place d).setting → length more ≤ capacity → All (λ item. item.place < length states) more → ((other : ℕ) → (other ≡ place → ⊥) → items_of other more ≡ items_of other items) → IsSuffix (items_of place more ++ new.waiting) (network_of new).air → IsSoundRadio (radio_of channel interval capacity (set states place new) more)
+pub sound-network : (channel interval capacity : ℕ) (states : List BssView) (items more : List AirItem) (place : ℕ) (d new : BssView) → IsSoundRadio (radio_of channel interval capacity states items) → map (λ (s : BssView). s.setting) states ≡ settings_of (config_of channel interval capacity states) → place < length states → new.setting ≡ (get_or states place d).setting → length more ≤ capacity → All (λ item. item.place < length states) more → ((other : ℕ) → (other ≡ place → ⊥) → items_of other more ≡ items_of other items) → IsSuffix (items_of place more ++ new.waiting) (network_of new).air → IsSoundRadio (radio_of channel interval capacity (set states place new) more)
 sound-network channel interval capacity states items more place d new h same within setting bounded placed others last =
     let r : RadioView = radio_of channel interval capacity states items in
-    let count = length-map states (λ (s : State). s.setting.network) in
+    let count = length-map states (λ (s : BssView). s.setting.network) in
     let at = setting ∙ setting-at channel interval capacity states place d same within in
     let ends = subst (λ (t : Setting). IsSuffix (items_of place more ++ new.waiting) (alone t new.history).air) at last in
     subst IsSoundRadio (sym (radio-changed channel interval capacity states items more place d new within setting))
@@ -98,7 +99,7 @@ sound-network channel interval capacity states items more place d new h same wit
 -- ---- a network takes an event
 
 -- what waits after the call, whether or not it took the event, is the end of what was sent
-pub took-last : (r : Result ℕ Refusal) (old new : State) (event : Event) (queued : List (List ℕ)) → OnOk r (new.waiting ≡ old.waiting ++ sent_by old.setting old.history event) → OnOk r ((network_of new).air ≡ (network_of old).air ++ sent_by old.setting old.history event) → OnErr r (new ≡ old) → IsSuffix (queued ++ old.waiting) (network_of old).air → IsSuffix (queued ++ new.waiting) (network_of new).air
+pub took-last : (r : Result ℕ Refusal) (old new : BssView) (event : Event) (queued : List (List ℕ)) → OnOk r (new.waiting ≡ old.waiting ++ sent_by old.setting old.history event) → OnOk r ((network_of new).air ≡ (network_of old).air ++ sent_by old.setting old.history event) → OnErr r (new ≡ old) → IsSuffix (queued ++ old.waiting) (network_of old).air → IsSuffix (queued ++ new.waiting) (network_of new).air
 took-last (Ok number) old new event queued waiting air same h =
     let sent : List (List ℕ) = sent_by old.setting old.history event in
     let more = suffix_more (queued ++ old.waiting) (network_of old).air sent h in
@@ -106,11 +107,11 @@ took-last (Ok number) old new event queued waiting air same h =
     subst (λ fs. IsSuffix (queued ++ new.waiting) fs) (sym air)
     (subst (λ fs. IsSuffix fs ((network_of old).air ++ sent)) waits more)
 took-last (Err refusal) old new event queued waiting air same h =
-    subst (λ (s : State). IsSuffix (queued ++ s.waiting) (network_of s).air) (sym same) h
+    subst (λ (s : BssView). IsSuffix (queued ++ s.waiting) (network_of s).air) (sym same) h
 
 -- ---- a frame is handed
 
-pub handed-last : (old new : State) (place : ℕ) (items : List AirItem) (octets : List ℕ) → old.waiting ≡ octets ∷ new.waiting → new.setting ≡ old.setting → new.history ≡ old.history → IsSuffix (items_of place items ++ old.waiting) (network_of old).air → IsSuffix (items_of place (items ++ (record { place = place; octets = octets }) ∷ []) ++ new.waiting) (network_of new).air
+pub handed-last : (old new : BssView) (place : ℕ) (items : List AirItem) (octets : List ℕ) → old.waiting ≡ octets ∷ new.waiting → new.setting ≡ old.setting → new.history ≡ old.history → IsSuffix (items_of place items ++ old.waiting) (network_of old).air → IsSuffix (items_of place (items ++ (record { place = place; octets = octets }) ∷ []) ++ new.waiting) (network_of new).air
 handed-last old new place items octets front setting history h =
     let queued : List (List ℕ) = items_of place items in
     let frames : queued ++ old.waiting ≡ items_of place (items ++ (record { place = place; octets = octets }) ∷ []) ++ new.waiting = ap (λ (fs : List (List ℕ)). queued ++ fs) front ∙ sym (append_assoc queued (octets ∷ []) new.waiting) ∙ ap (λ (fs : List (List ℕ)). fs ++ new.waiting) (sym (items_of-same place items octets)) in

@@ -4,15 +4,15 @@ use Rattle.std.specs.Prelude.{replicate}
 use Rattle.beacon.specs.ProbeResponse.{timestamp, fixed_fields, network_elements}
 use Rattle.elements.specs.Elements.{elements_of, elements_within}
 use Rattle.bss_core.specs.Network.{alone}
-use Rattle.bss_core.specs.Radio.{first_state, radio_step, after_steps, waiting_at, part_of, items_of, sections_of}
+use Rattle.bss_core.specs.Radio.{first_state, radio_step, after_steps, waiting_at, part_of, items_of, sections_after}
 use Rattle.bss_core.specs.Section.{section_of}
 use Rattle.bss_core.specs.declared.config.NetConfig.{NetConfig}
 use Rattle.bss_core.specs.declared.config.RadioConfig.{RadioConfig}
 use Rattle.bss_core.specs.declared.event.Event.{Event}
 use Rattle.bss_core.specs.declared.event.Event.TheVariants.{Air}
-use Rattle.bss_core.specs.declared.step.AirItem.{AirItem}
-use Rattle.bss_core.specs.declared.step.Step.{Step}
-use Rattle.bss_core.specs.declared.step.Step.TheVariants.{Take, Hand, Leave}
+use Rattle.bss_core.specs.declared.radio.step.AirItem.{AirItem}
+use Rattle.bss_core.specs.declared.radio.step.Step.{Step}
+use Rattle.bss_core.specs.declared.radio.step.Step.TheVariants.{Take, Hand, Leave}
 use Rattle.bss_core.proofs.Samples.{network, radio, setting, probe, probe_for_lab, response_with}
 
 -- ---- samples
@@ -162,7 +162,7 @@ each_frame_belongs_to_its_network = refl
 pub the_frames_of_a_network_keep_their_order : items_of 0 (answer ∷ guest_answer ∷ (record { place = 0; octets = [] }) ∷ []) ≡ response_with 0x00 0x00 ∷ [] ∷ []
 the_frames_of_a_network_keep_their_order = refl
 
-pub each_section_is_of_its_own_events : sections_of two three_steps ≡ section_of setting (asked ∷ []) ∷ section_of (record setting { network = guest }) (asked ∷ []) ∷ []
+pub each_section_is_of_its_own_events : sections_after two three_steps ≡ section_of setting (asked ∷ []) ∷ section_of (record setting { network = guest }) (asked ∷ []) ∷ []
 each_section_is_of_its_own_events = refl
 
 -- a hundred frames more to the other network

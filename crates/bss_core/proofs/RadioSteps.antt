@@ -7,9 +7,9 @@ use Rattle.std.proofs.lemmas.List.Elements.{filter_map-append}
 use Rattle.bss_core.specs.Radio.{names_network, network_at, Place, untouched, RadioState, first_state, place_at, with_place, hand_frame, leave_first, radio_step, steps_from, after_steps, event_for, part_of}
 use Rattle.bss_core.specs.declared.config.RadioConfig.{RadioConfig}
 use Rattle.bss_core.specs.declared.event.Event.{Event}
-use Rattle.bss_core.specs.declared.step.AirItem.{AirItem}
-use Rattle.bss_core.specs.declared.step.Step.{Step}
-use Rattle.bss_core.specs.declared.step.Step.TheVariants.{Take, Hand, Leave}
+use Rattle.bss_core.specs.declared.radio.step.AirItem.{AirItem}
+use Rattle.bss_core.specs.declared.radio.step.Step.{Step}
+use Rattle.bss_core.specs.declared.radio.step.Step.TheVariants.{Take, Hand, Leave}
 
 -- ---- one step more
 

@@ -7,14 +7,14 @@ use Rattle.bss_core.specs.Network.{alone}
 use Rattle.bss_core.specs.Radio.{network_at, setting_at, Place, untouched, RadioState, first_state, place_at, air_at, waiting_at, with_place, radio_step, after_steps, event_for}
 use Rattle.bss_core.specs.RadioView.{RadioView, NetworkView, unused, view_at, IsSoundRadio, fresh_radio, took, moved, after_hand}
 use Rattle.bss_core.specs.Running.{IsAt}
-use Rattle.bss_core.specs.State.{sent_by}
+use Rattle.bss_core.specs.BssView.{sent_by}
 use Rattle.bss_core.specs.declared.config.RadioConfig.{RadioConfig}
 use Rattle.bss_core.specs.declared.event.Event.{Event}
-use Rattle.bss_core.specs.declared.step.AirItem.{AirItem}
-use Rattle.bss_core.specs.declared.step.Handed.{Handed}
-use Rattle.bss_core.specs.declared.step.Handed.TheVariants.{Moved, Nothing, QueueFull}
-use Rattle.bss_core.specs.declared.step.Step.{Step}
-use Rattle.bss_core.specs.declared.step.Step.TheVariants.{Take, Hand, Leave}
+use Rattle.bss_core.specs.declared.radio.step.AirItem.{AirItem}
+use Rattle.bss_core.specs.declared.radio.step.Handed.{Handed}
+use Rattle.bss_core.specs.declared.radio.step.Handed.TheVariants.{Moved, Nothing, QueueFull}
+use Rattle.bss_core.specs.declared.radio.step.Step.{Step}
+use Rattle.bss_core.specs.declared.radio.step.Step.TheVariants.{Take, Hand, Leave}
 use Rattle.bss_core.proofs.RadioFrames.{handed-le}
 use Rattle.bss_core.proofs.RadioSteps.{after_steps-none, after_steps-push, at_each_place, length-places, events-part}
 use Rattle.bss_core.proofs.SentFrames.{air-push}

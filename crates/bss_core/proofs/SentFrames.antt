@@ -9,22 +9,22 @@ use Rattle.association.specs.Request.{Request, Probe, Auth, Assoc, Disassoc, Dea
 use Rattle.association.specs.Asked.{class_of}
 use Rattle.association.specs.Status.{success}
 use Rattle.association.specs.Authentication.{authentication}
-use Rattle.association.specs.Association.{association_response}
+use Rattle.association.specs.Joining.{association_response}
 use Rattle.association.specs.Leaving.{notice_frame}
 use Rattle.station_state.specs.ClassFault.{class_fault}
 use Rattle.station_state.specs.declared.class.Notice.{Notice}
 use Rattle.bss_core.specs.Stations.{Table, link_of, is_dozing, set_mode, standing_of, next_aid, authenticate, associate, disassociate, forget}
 use Rattle.bss_core.specs.Network.{Setting, Network, asks_for, answer, answer_probe, serve, notify_or_serve, send, change_state, change_where_served, lose, deliver, deliver_by, answer_wired, change_stations, drop_units, send_unit, send_each, put_on_wire, forward, forward_by, set_power_mode, serve_poll, answer_poll, beacon_frame, release, tick, authentication_status, association_status, count_unread, step, alone}
-use Rattle.bss_core.specs.Units.{unit, unit_of, unit_frame, are_left, delivery_of, goes_on_wire, may_poll}
+use Rattle.bss_core.specs.Units.{unit, unit_of, unit_frame, others_follow, delivery_of, goes_on_wire, may_poll}
 use Rattle.bridge.specs.Encapsulation.{on_wire}
 use Rattle.beacon.specs.Beacon.{dtim_count}
 use Rattle.powersave.specs.Keep.{units_for, without_oldest}
 use Rattle.powersave.specs.declared.unit.Whom.TheVariants.{One, Group}
-use Rattle.bss_core.specs.declared.unit.Delivery.{Delivery}
-use Rattle.bss_core.specs.declared.unit.Delivery.TheVariants.{Now, Kept, Nowhere}
+use Rattle.bss_core.specs.declared.reply.unit.Delivery.{Delivery}
+use Rattle.bss_core.specs.declared.reply.unit.Delivery.TheVariants.{Now, Kept, Nowhere}
 use Rattle.bridge.specs.Ethernet.{Ethernet, ethernet_of}
 use Rattle.powersave.specs.declared.unit.Unit.{Unit as DataUnit}
-use Rattle.bss_core.specs.State.{sent_by}
+use Rattle.bss_core.specs.BssView.{sent_by}
 use Rattle.bss_core.specs.declared.event.Event.{Event}
 use Rattle.bss_core.specs.declared.event.Event.TheVariants.{Air, Wire, Tick}
 use Rattle.bss_core.proofs.AloneLaws.{alone-push}
@@ -55,11 +55,11 @@ deliver_adds s u Nowhere n = adds_nothing n n refl
 adds_both : (n m k : Network) → Adds n m → Adds m k → Adds n k
 adds_both n m k a b = (a.0 ++ b.0, b.1 ∙ ap (λ (fs : List (List ℕ)). fs ++ b.0) a.1 ∙ append_assoc n.air a.0 b.0)
 
-each_adds : (s : Setting) (telling : Bool) (us : List DataUnit) (n m : Network) → m.air ≡ n.air → Adds n (send_each s telling us m)
-each_adds s telling [] n m same = adds_nothing n m same
-each_adds s telling (u ∷ us) n m same =
-    let sent = send_unit s (telling && are_left us) u m in
-    adds_both n sent (send_each s telling us sent) (sends n m (unit_frame s.network.bssid (telling && are_left us) u) same) (each_adds s telling us sent sent refl)
+each_adds : (s : Setting) (shows_more : Bool) (us : List DataUnit) (n m : Network) → m.air ≡ n.air → Adds n (send_each s shows_more us m)
+each_adds s shows_more [] n m same = adds_nothing n m same
+each_adds s shows_more (u ∷ us) n m same =
+    let sent = send_unit s (shows_more && others_follow us) u m in
+    adds_both n sent (send_each s shows_more us sent) (sends n m (unit_frame s.network.bssid (shows_more && others_follow us) u) same) (each_adds s shows_more us sent sent refl)
 
 mode_adds : (s : Setting) (from : List ℕ) (doze : Bool) (n : Network) → Adds n (set_power_mode s from doze n)
 mode_adds s from doze n =
@@ -76,7 +76,7 @@ forward_adds s u false n = deliver_adds s u (delivery_of u.to n.stations n.kept)
 
 polled_adds : (s : Setting) (from : List ℕ) (us : List DataUnit) (n : Network) → Adds n (serve_poll s from us n)
 polled_adds s from [] n = adds_nothing n n refl
-polled_adds s from (u ∷ us) n = sends n (record n { kept = without_oldest (One from) n.kept }) (unit_frame s.network.bssid (are_left us) u) refl
+polled_adds s from (u ∷ us) n = sends n (record n { kept = without_oldest (One from) n.kept }) (unit_frame s.network.bssid (others_follow us) u) refl
 
 poll_adds : (s : Setting) (from : List ℕ) (aid : ℕ) (n : Network) → Adds n (answer_poll s from aid n)
 poll_adds s from aid n = cond_both (may_poll aid (link_of from n.stations)) (serve_poll s from (units_for (One from) n.kept) n) n (Adds n) (λ _. polled_adds s from (units_for (One from) n.kept) n) (λ _. adds_nothing n n refl)

@@ -4,7 +4,7 @@ use Rattle.std.specs.Prelude.{◌==◌, if◌then◌else◌}
 use Rattle.elements.specs.Elements.{Pair}
 use Rattle.association.specs.Status.{success, refused, unsupported_auth_algorithm, transaction_sequence_error, denied_no_more_stas, refused_basic_rates_mismatch}
 use Rattle.association.specs.Authentication.{auth_status, open_system, request_step}
-use Rattle.association.specs.Association.{assoc_status, names_network, has_basic_rates}
+use Rattle.association.specs.Joining.{assoc_status, names_network, has_basic_rates}
 use Rattle.station_state.specs.ClassFault.{class_fault}
 use Rattle.station_state.specs.declared.class.Class.TheVariants.{Two}
 use Rattle.bss_core.specs.Stations.{aid_with, standing_with}

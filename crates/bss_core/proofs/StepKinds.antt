@@ -4,8 +4,8 @@ use Rattle.std.proofs.lemmas.Bool.{lt-ltb, le-ltb}
 use Rattle.bss_core.specs.Radio.{network_at, RadioState, place_at, air_at, with_place, radio_step}
 use Rattle.bss_core.specs.declared.config.RadioConfig.{RadioConfig}
 use Rattle.bss_core.specs.declared.event.Event.{Event}
-use Rattle.bss_core.specs.declared.step.AirItem.{AirItem}
-use Rattle.bss_core.specs.declared.step.Step.TheVariants.{Take, Hand, Leave}
+use Rattle.bss_core.specs.declared.radio.step.AirItem.{AirItem}
+use Rattle.bss_core.specs.declared.radio.step.Step.TheVariants.{Take, Hand, Leave}
 
 -- ---- an event
 

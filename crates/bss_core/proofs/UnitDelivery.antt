@@ -1,5 +1,5 @@
 -- How a reply goes on: a frame is sent, a unit is delivered.
-use Rattle.std.proofs.Common.{◌≡◌, ℕ, zero, suc, ◌+◌, ◌<◌, ◌≤◌, Bool, true, false, ◌||◌, ◌&&◌, List, [], ◌∷◌, ◌++◌, length, drop, slice_get, Option, Some, None, option_to_list, refl, sym, ap, ◌∙◌, arith}
+use Rattle.std.proofs.Common.{◌≡◌, ℕ, zero, suc, ◌+◌, ◌<◌, ◌≤◌, Bool, true, false, not, ◌||◌, ◌&&◌, List, [], ◌∷◌, ◌++◌, length, drop, slice_get, Option, Some, None, option_to_list, refl, sym, ap, ◌∙◌, arith, rules}
 use Rattle.std.specs.Prelude.{nat_lt, if◌then◌else◌}
 use Rattle.std.specs.Str.{bytes_eq}
 use Rattle.std.proofs.lemmas.Bool.{both_ways, lt-ltb, le-ltb}
@@ -7,22 +7,23 @@ use Rattle.std.proofs.lemmas.List.{append-nil, append_assoc, drop_more}
 use Rattle.std.proofs.lemmas.Option.{slice_get_within, get_or_from_slice_get}
 use Rattle.std.proofs.lemmas.Slice.Eq.{bytes_eq-Decides}
 use borrow.Author.Tests.{ltb-true, ltb-false}
+use Rattle.std.proofs.Math.Bool.{beq}
 use Rattle.mac_frame.specs.Address.{is_group}
 use Rattle.powersave.specs.Keep.{Entry, without_all, without_oldest}
 use Rattle.powersave.specs.declared.unit.Whom.{Whom}
 use Rattle.powersave.specs.declared.unit.Whom.TheVariants.{One, Group}
-use Rattle.powersave.specs.declared.unit.Unit.{Unit as Msdu}
-use Rattle.bss_core.specs.Network.{Setting, Network, send, send_unit, send_each, serve_poll, deliver_by, deliver}
-use Rattle.bss_core.specs.Replies.{after_reply, sending, without, is_left, IsAwake}
+use Rattle.powersave.specs.declared.unit.Unit.{Unit as DataUnit}
+use Rattle.bss_core.specs.Network.{Setting, Network, send, send_unit, send_each, serve_poll, set_power_mode, deliver_by, deliver}
+use Rattle.bss_core.specs.Replies.{after_reply, no_reply, sending, without, is_leaving, IsAwake}
 use Rattle.bss_core.specs.Sound.{IsKeptFor}
 use Rattle.bss_core.specs.Stations.{Table, link_of, is_dozing, some_station_dozes, changed}
-use Rattle.bss_core.specs.Units.{are_left, delivery_of, delivery_with, group_is_kept, unit_frame}
-use Rattle.bss_core.specs.declared.keeping.Leaving.{Leaving}
-use Rattle.bss_core.specs.declared.keeping.Leaving.TheVariants as leavings
+use Rattle.bss_core.specs.Units.{others_follow, delivery_of, delivery_with, group_is_kept, unit_frame}
+use Rattle.bss_core.specs.declared.reply.keeping.Leaving.{Leaving}
+use Rattle.bss_core.specs.declared.reply.keeping.Leaving.TheVariants as leavings
 use Rattle.bss_core.specs.declared.reply.Reply.{Reply}
-use Rattle.bss_core.specs.declared.unit.Delivery.{Delivery}
-use Rattle.bss_core.specs.declared.unit.Delivery.TheVariants.{Now, Kept}
-use Rattle.bss_core.proofs.UnitsKept.{group-stays}
+use Rattle.bss_core.specs.declared.reply.unit.Delivery.{Delivery}
+use Rattle.bss_core.specs.declared.reply.unit.Delivery.TheVariants.{Now, Kept}
+use Rattle.bss_core.proofs.UnitsKept.{group-stays, set_mode-same}
 
 -- ---- a frame is sent
 
@@ -30,10 +31,31 @@ pub after-sent : (r : Reply) (n : Network) (frame : ℕ → List ℕ) → send f
 after-sent r n frame =
     ap (λ (air : List (List ℕ)). record (send frame (after_reply r n)) { air = air }) (append_assoc n.air r.frames (frame r.sequence ∷ []))
 
+-- ---- nothing is done
+
+pub nothing-replied : (n : Network) → after_reply (no_reply n.sequence) n ≡ n
+nothing-replied n = search rules
+
+pub same-truth : (a b : Bool) → beq a b ≡ true → a ≡ b
+same-truth true true h = refl
+same-truth true false h = absurd (both_ways false refl h)
+same-truth false true h = absurd (both_ways false refl h)
+same-truth false false h = refl
+
+never_both : (b : Bool) → (b && not b) ≡ false
+never_both true = refl
+never_both false = refl
+
+-- a mode that stays
+pub mode-kept : (s : Setting) (from : List ℕ) (doze : Bool) (n : Network) → is_dozing from n.stations ≡ doze → set_power_mode s from doze n ≡ n
+mode-kept s from doze n is =
+    let stays : (is_dozing from n.stations && not doze) ≡ false = ap (λ (b : Bool). b && not doze) is ∙ never_both doze in
+    rw stays (ap (λ (t : Table). record n { stations = t }) (set_mode-same from doze n.stations is))
+
 -- ---- where a unit goes
 
 -- to one that dozes, while the units of another leave
-pub left-apart : (leaving : Leaving) (t : Table) (whom : Whom) → IsAwake leaving t → IsKeptFor t whom → is_left leaving whom ≡ false
+pub left-apart : (leaving : Leaving) (t : Table) (whom : Whom) → IsAwake leaving t → IsKeptFor t whom → is_leaving leaving whom ≡ false
 left-apart leavings.Nothing t whom awake for = refl
 left-apart (leavings.All (One a)) t Group awake for = refl
 left-apart (leavings.All (One a)) t (One b) awake for = by (bytes_eq b a) refl
@@ -62,42 +84,42 @@ delivery-after r n to awake none =
     ∙ delivery-left r.keeping.leaving (changed r.change n.stations) n.kept to awake
 
 -- a unit is delivered so
-pub delivered : (s : Setting) (u : Msdu) (r : Reply) (n : Network) (d : Delivery) → IsAwake r.keeping.leaving (changed r.change n.stations) → r.keeping.arriving ≡ None → d ≡ delivery_of u.to (changed r.change n.stations) n.kept → deliver s u (after_reply r n) ≡ deliver_by d s u (after_reply r n)
+pub delivered : (s : Setting) (u : DataUnit) (r : Reply) (n : Network) (d : Delivery) → IsAwake r.keeping.leaving (changed r.change n.stations) → r.keeping.arriving ≡ None → d ≡ delivery_of u.to (changed r.change n.stations) n.kept → deliver s u (after_reply r n) ≡ deliver_by d s u (after_reply r n)
 delivered s u r n d awake none is =
     ap (λ (e : Delivery). deliver_by e s u (after_reply r n)) (delivery-after r n u.to awake none ∙ sym is)
 
 -- ---- units in order
 
-pub are_left-after : (us : List Msdu) (k : ℕ) → are_left (drop k us) ≡ nat_lt k (length us)
-are_left-after [] zero = refl
-are_left-after [] (suc k) = sym (le-ltb (suc k) 0 (omega arith))
-are_left-after (u ∷ us) zero = sym (lt-ltb 0 (length (u ∷ us)) (omega arith))
-are_left-after (u ∷ us) (suc k) = are_left-after us k ∙ shifted (nat_lt k (length us)) refl
+pub others_follow-after : (us : List DataUnit) (k : ℕ) → others_follow (drop k us) ≡ nat_lt k (length us)
+others_follow-after [] zero = refl
+others_follow-after [] (suc k) = sym (le-ltb (suc k) 0 (omega arith))
+others_follow-after (u ∷ us) zero = sym (lt-ltb 0 (length (u ∷ us)) (omega arith))
+others_follow-after (u ∷ us) (suc k) = others_follow-after us k ∙ shifted (nat_lt k (length us)) refl
   where
     shifted : (b : Bool) → nat_lt k (length us) ≡ b → nat_lt k (length us) ≡ nat_lt (suc k) (suc (length us))
     shifted true is = is ∙ sym (lt-ltb (suc k) (suc (length us)) (omega (arith, ltb-true k (length us) is)))
     shifted false is = is ∙ sym (le-ltb (suc k) (suc (length us)) (omega (arith, ltb-false k (length us) is)))
 
 -- one more of them is sent
-pub one-more : (s : Setting) (telling : Bool) (us : List Msdu) (k : ℕ) (u : Msdu) (r : Reply) (n : Network) → slice_get us k ≡ Some u
-    → send_each s telling (drop k us) (after_reply r n) ≡ send_each s telling (drop (k + 1) us) (after_reply (sending r (unit_frame s.network.bssid (telling && nat_lt (k + 1) (length us)) u)) n)
-one-more s telling us k u r n here =
-    let rest : List Msdu = drop (k + 1) us in
-    let first : drop k us ≡ u ∷ rest = drop_more us k u (slice_get_within us k u here) ∙ ap (λ (x : Msdu). x ∷ rest) (get_or_from_slice_get us k u u here) in
-    let more : are_left rest ≡ nat_lt (k + 1) (length us) = are_left-after us (k + 1) in
-    ap (λ (vs : List Msdu). send_each s telling vs (after_reply r n)) first
-    ∙ ap (λ (b : Bool). send_each s telling rest (send_unit s (telling && b) u (after_reply r n))) more
-    ∙ ap (send_each s telling rest) (after-sent r n (unit_frame s.network.bssid (telling && nat_lt (k + 1) (length us)) u))
+pub one-more : (s : Setting) (shows_more : Bool) (us : List DataUnit) (k : ℕ) (u : DataUnit) (r : Reply) (n : Network) → slice_get us k ≡ Some u
+    → send_each s shows_more (drop k us) (after_reply r n) ≡ send_each s shows_more (drop (k + 1) us) (after_reply (sending r (unit_frame s.network.bssid (shows_more && nat_lt (k + 1) (length us)) u)) n)
+one-more s shows_more us k u r n here =
+    let rest : List DataUnit = drop (k + 1) us in
+    let first : drop k us ≡ u ∷ rest = drop_more us k u (slice_get_within us k u here) ∙ ap (λ (x : DataUnit). x ∷ rest) (get_or_from_slice_get us k u u here) in
+    let more : others_follow rest ≡ nat_lt (k + 1) (length us) = others_follow-after us (k + 1) in
+    ap (λ (vs : List DataUnit). send_each s shows_more vs (after_reply r n)) first
+    ∙ ap (λ (b : Bool). send_each s shows_more rest (send_unit s (shows_more && b) u (after_reply r n))) more
+    ∙ ap (send_each s shows_more rest) (after-sent r n (unit_frame s.network.bssid (shows_more && nat_lt (k + 1) (length us)) u))
 
 -- none is left
-pub all-sent : (us : List Msdu) (k : ℕ) → length us ≤ k → drop k us ≡ []
+pub all-sent : (us : List DataUnit) (k : ℕ) → length us ≤ k → drop k us ≡ []
 all-sent [] zero h = refl
 all-sent [] (suc k) h = refl
 all-sent (u ∷ us) zero h = absurd (omega (arith, h))
 all-sent (u ∷ us) (suc k) h = all-sent us k (omega (arith, h))
 
 -- one stands at each place
-pub some-at : (us : List Msdu) (k : ℕ) → k < length us → (u : Msdu) × (slice_get us k ≡ Some u)
+pub some-at : (us : List DataUnit) (k : ℕ) → k < length us → (u : DataUnit) × (slice_get us k ≡ Some u)
 some-at [] k h = absurd (omega (arith, h))
 some-at (u ∷ us) zero h = (u, refl)
 some-at (u ∷ us) (suc k) h = some-at us k (omega (arith, h))
@@ -105,10 +127,10 @@ some-at (u ∷ us) (suc k) h = some-at us k (omega (arith, h))
 -- ---- a poll
 
 -- the first of the units that are kept is sent
-pub first-served : (s : Setting) (from : List ℕ) (us : List Msdu) (u : Msdu) (n : Network) → slice_get us 0 ≡ Some u
+pub first-served : (s : Setting) (from : List ℕ) (us : List DataUnit) (u : DataUnit) (n : Network) → slice_get us 0 ≡ Some u
     → serve_poll s from us n ≡ send_unit s (nat_lt 1 (length us)) u (record n { kept = without_oldest (One from) n.kept })
 first-served s from [] u n h = absurd (cc)
 first-served s from (v ∷ vs) u n h =
     let same : v ≡ u = cc in
-    ap (λ (b : Bool). send_unit s b v (record n { kept = without_oldest (One from) n.kept })) (are_left-after (v ∷ vs) 1)
-    ∙ ap (λ (w : Msdu). send_unit s (nat_lt 1 (length (v ∷ vs))) w (record n { kept = without_oldest (One from) n.kept })) same
+    ap (λ (b : Bool). send_unit s b v (record n { kept = without_oldest (One from) n.kept })) (others_follow-after (v ∷ vs) 1)
+    ∙ ap (λ (w : DataUnit). send_unit s (nat_lt 1 (length (v ∷ vs))) w (record n { kept = without_oldest (One from) n.kept })) same

@@ -8,8 +8,8 @@ use Rattle.std.proofs.lemmas.Slice.Eq.{bytes_eq-Decides}
 use Rattle.powersave.specs.Keep.{Entry, is_same, is_for, units_for, without_all, without_first, without_oldest}
 use Rattle.powersave.specs.declared.unit.Whom.{Whom}
 use Rattle.powersave.specs.declared.unit.Whom.TheVariants.{One, Group}
-use Rattle.powersave.specs.declared.unit.Unit.{Unit as Msdu}
-use Rattle.bss_core.specs.Stations.{Table, link_of, dozes_with, is_dozing, with_mode, set_link, forget, set_mode}
+use Rattle.powersave.specs.declared.unit.Unit.{Unit as DataUnit}
+use Rattle.bss_core.specs.Stations.{Table, link_of, dozes, dozes_with, is_dozing, with_mode, set_link, forget, set_mode}
 use Rattle.bss_core.specs.Sound.{IsKeptFor, AreKeptFor}
 use Rattle.bss_core.specs.Units.{group_is_kept}
 use Rattle.bss_core.specs.declared.stations.Link.{Link}
@@ -93,6 +93,23 @@ dozing-stays a b t h = by (bytes_eq b a) refl
         ap (λ k. is_dozing k (set_mode a true t)) is ∙ ap dozes_with (link_of-mode a true t) ∙ dozing-link (link_of a t) dozed
     by false other = ap dozes_with (link_of-moded a b true t other) ∙ h
 
+same-mode : (doze : Bool) (l : Link) → dozes l ≡ doze → with_mode doze l ≡ l
+same-mode doze Authenticated h = refl
+same-mode doze (Associated aid listen before) h = ap (λ (b : Bool). Associated aid listen b) (sym h)
+
+-- a mode that stays changes nothing
+pub set_mode-same : (a : List ℕ) (doze : Bool) (t : Table) → is_dozing a t ≡ doze → set_mode a doze t ≡ t
+set_mode-same a doze [] h = refl
+set_mode-same a doze (e ∷ t) h = by (bytes_eq a e.0) refl (set_mode-same a doze t)
+  where
+    by : (r : Bool) → bytes_eq a e.0 ≡ r → (is_dozing a t ≡ doze → set_mode a doze t ≡ t) → set_mode a doze (e ∷ t) ≡ e ∷ t
+    by true same later =
+        let here : is_dozing a (e ∷ t) ≡ dozes e.1 = rw same refl in
+        rw same (ap (λ (l : Link). (e.0, l) ∷ t) (same-mode doze e.1 (sym here ∙ h)))
+    by false other later =
+        let behind : is_dozing a (e ∷ t) ≡ is_dozing a t = rw other refl in
+        rw other (ap (λ (s : Table). e ∷ s) (later (sym behind ∙ h)))
+
 -- and also where it is set without that anyone wakes
 pub mode-stays : (a b : List ℕ) (doze : Bool) (t : Table) → (is_dozing a t && not doze) ≡ false → is_dozing b t ≡ true → is_dozing b (set_mode a doze t) ≡ true
 mode-stays a b true t none h = dozing-stays a b t h
@@ -149,7 +166,7 @@ kept-without_first t p (e ∷ es) h = by (p e) refl (kept-without_first t p es h
     by true is later = rw is h.1
     by false is later = rw is (h.0, later)
 
-pub kept-push : (t : Table) (w : Whom) (u : Msdu) (es : List Entry) → AreKeptFor t es → IsKeptFor t w → AreKeptFor t (es ++ (w, u) ∷ [])
+pub kept-push : (t : Table) (w : Whom) (u : DataUnit) (es : List Entry) → AreKeptFor t es → IsKeptFor t w → AreKeptFor t (es ++ (w, u) ∷ [])
 kept-push t w u [] h k = (k, tt)
 kept-push t w u (e ∷ es) h k = (h.0, kept-push t w u es h.1 k)
 

@@ -4,15 +4,16 @@ use Rattle.std.proofs.lemmas.Bool.{cases_lt}
 use Rattle.std.proofs.lemmas.List.{append_assoc, take-append-drop, take-append-le, take_at}
 use Rattle.std.proofs.lemmas.List.FromFn.{get_or-map-range_with_len, length-map-range_with_len}
 use Rattle.std.proofs.lemmas.Option.{slice_get-get_or}
+use Rattle.bss_core.specs.Lists.{IsPrefix}
 use Rattle.bss_core.specs.Network.{Setting, alone}
-use Rattle.bss_core.specs.Radio.{setting_at, after_steps, waiting_at, part_of, items_of, sections_of}
+use Rattle.bss_core.specs.Radio.{setting_at, after_steps, waiting_at, part_of, items_of, sections_after}
 use Rattle.bss_core.specs.Section.{section_of}
-use Rattle.bss_core.specs.Worlds.{AreAlike, IsPrefix, AreCutFromOne}
+use Rattle.bss_core.specs.Worlds.{AreAlike, AreCutFromOne}
 use Rattle.bss_core.specs.declared.config.NetConfig.{NetConfig}
 use Rattle.bss_core.specs.declared.config.RadioConfig.{RadioConfig}
 use Rattle.bss_core.specs.declared.event.Event.{Event}
 use Rattle.bss_core.specs.declared.section.Section.{Section}
-use Rattle.bss_core.specs.declared.step.Step.{Step}
+use Rattle.bss_core.specs.declared.radio.step.Step.{Step}
 use Rattle.bss_core.proofs.RadioFrames.{frames-alone}
 
 -- ---- beginnings of one list
@@ -37,14 +38,14 @@ setting-alike c d steps others p q h =
     ∙ ap (λ n. record (setting_at c p) { channel = d.channel; interval = n }) h.interval
     ∙ ap (λ (n : NetConfig). record (setting_at d q) { network = n }) h.network
 
-section-at : (c : RadioConfig) (steps : List Step) (place : ℕ) → place < length c.networks → slice_get (sections_of c steps) place ≡ Some (section_of (setting_at c place) (part_of c place steps))
+section-at : (c : RadioConfig) (steps : List Step) (place : ℕ) → place < length c.networks → slice_get (sections_after c steps) place ≡ Some (section_of (setting_at c place) (part_of c place steps))
 section-at c steps place within =
     let f : ℕ → Section = λ n. section_of (setting_at c n) (part_of c n steps) in
     let count : ℕ = length c.networks in
-    slice_get-get_or (sections_of c steps) place (f place) (omega (arith, length-map-range_with_len f 0 count))
+    slice_get-get_or (sections_after c steps) place (f place) (omega (arith, length-map-range_with_len f 0 count))
     ∙ ap Some (get_or-map-range_with_len f 0 count place place (f place) within (omega arith))
 
-pub sections-alike : (c d : RadioConfig) (steps others : List Step) (p q : ℕ) → AreAlike c d steps others p q → slice_get (sections_of c steps) p ≡ slice_get (sections_of d others) q
+pub sections-alike : (c d : RadioConfig) (steps others : List Step) (p q : ℕ) → AreAlike c d steps others p q → slice_get (sections_after c steps) p ≡ slice_get (sections_after d others) q
 sections-alike c d steps others p q h =
     section-at c steps p h.here
     ∙ ap (λ (s : Setting). Some (section_of s (part_of c p steps))) (setting-alike c d steps others p q h)

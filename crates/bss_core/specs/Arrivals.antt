@@ -2,15 +2,15 @@
 use Rattle.std.specs.Prelude.{ℕ, List}
 use Rattle.bridge.specs.Ethernet.{shown}
 use Rattle.bridge.specs.Encapsulation.{on_air}
-use Rattle.powersave.specs.declared.unit.Unit.{Unit as Msdu}
+use Rattle.powersave.specs.declared.unit.Unit.{Unit as DataUnit}
 use Rattle.bss_core.specs.Units.{unit}
-use Rattle.bss_core.specs.declared.unit.Arrival.{Arrival}
-use Rattle.bss_core.specs.declared.unit.Body.{Body}
-use Rattle.bss_core.specs.declared.unit.Body.TheVariants.{Plain, Wired}
+use Rattle.bss_core.specs.declared.reply.unit.Arrival.{Arrival}
+use Rattle.bss_core.specs.declared.reply.unit.Body.{Body}
+use Rattle.bss_core.specs.declared.reply.unit.Body.TheVariants.{Plain, Wired}
 
 abbrev pub body_octets : Body → List ℕ
 body_octets (Plain octets) = octets.now
 body_octets (Wired ether) = on_air (shown ether)
 
-abbrev pub unit_shown : Arrival → Msdu
+abbrev pub unit_shown : Arrival → DataUnit
 unit_shown a = unit a.to a.source (body_octets a.body)

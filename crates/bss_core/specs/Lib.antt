@@ -1,3 +1,4 @@
+pub mod Lists
 pub mod Configuration
 pub mod Stations
 pub mod StationsKept
@@ -6,7 +7,7 @@ pub mod Arrivals
 pub mod Network
 pub mod Sound
 pub mod Section
-pub mod State
+pub mod BssView
 pub mod Replies
 pub mod Radio
 pub mod RadioView

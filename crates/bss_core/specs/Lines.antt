@@ -2,10 +2,13 @@
 use Rattle.std.specs.Prelude.{ℕ, ◌==◌, nat_lt, List, [], ◌∷◌, length, take, flat_map, if◌then◌else◌}
 use Rattle.mac_frame.specs.Hearing.{is_heard}
 use Rattle.bss_core.specs.declared.config.NetConfig.{NetConfig}
+use Rattle.bss_core.specs.Radio.{network_at, sections_of}
+use Rattle.bss_core.specs.declared.config.RadioConfig.{RadioConfig}
 use Rattle.bss_core.specs.declared.event.Event.{Event}
 use Rattle.bss_core.specs.declared.event.Event.TheVariants as event
 use Rattle.bss_core.specs.declared.line.Line.{Line}
 use Rattle.bss_core.specs.declared.line.Line.TheVariants as line
+use Rattle.bss_core.specs.declared.section.Section.{Section}
 
 -- The event of a line, where the network with this place and this BSSID hears it: a string on the air by its Address 1,
 -- a frame on the wire by the place that it names, and every tick.
@@ -21,6 +24,10 @@ heard place bss lines = flat_map (heard_of place bss) lines
 -- the events that a network takes: the first of those that it hears, as many as its history may have
 abbrev pub own_events : ℕ → NetConfig → List Line → List Event
 own_events place network lines = take network.max_events (heard place network.bssid lines)
+
+-- the section of each network, alone with its own events of the lines, in order of place
+abbrev pub sections_of_lines : RadioConfig → List Line → List Section
+sections_of_lines c lines = sections_of c (λ place. own_events place (network_at c place) lines)
 
 -- the events that a network with this history takes of a line: none where its history is full
 abbrev pub taken_of : ℕ → NetConfig → List Event → Line → List Event

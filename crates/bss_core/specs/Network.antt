@@ -1,6 +1,7 @@
 -- A network alone: what it does with its own events. No other network, no queue, no capacity and no thread
 -- stands in it.
-use Rattle.std.specs.Prelude.{ℕ, ◌+◌, ◌%◌, Bool, true, false, not, ◌||◌, ◌&&◌, ◌==◌, nat_lt, is_some, length, List, [], ◌∷◌, ◌++◌, map, Option, Some, None, unwrap_or, Result, Ok, Err, if◌then◌else◌}
+use Rattle.std.specs.Prelude.{ℕ, ◌+◌, ◌%◌, Bool, true, false, not, ◌||◌, ◌&&◌, ◌==◌, nat_lt, is_some, length, List, []}
+use Rattle.std.specs.Prelude.{◌∷◌, ◌++◌, map, Option, Some, None, unwrap_or, Result, Ok, Err, if◌then◌else◌}
 use Rattle.std.specs.Str.{bytes_eq}
 use Rattle.mac_frame.specs.declared.frame.Unread.{Unread}
 use Rattle.beacon.specs.ProbeResponse.{Announced, probe_response}
@@ -11,20 +12,23 @@ use Rattle.powersave.specs.Keep.{Entry, units_for, without_all, without_oldest}
 use Rattle.powersave.specs.declared.unit.Whom.{Whom}
 use Rattle.powersave.specs.declared.unit.Whom.TheVariants.{One, Group}
 use Rattle.powersave.specs.declared.unit.Unit.{Unit as DataUnit}
-use Rattle.association.specs.Request.{Request, Probe, Auth, Assoc, Disassoc, Deauth, Msdu, Null, Poll, sender, request_of}
+use Rattle.association.specs.Request.{Request, Probe, Auth, Assoc, Disassoc, Deauth, Msdu, Null, Poll, sender}
+use Rattle.association.specs.Request.{request_of}
 use Rattle.association.specs.Asked.{class_of}
 use Rattle.association.specs.Status.{success}
 use Rattle.association.specs.Authentication.{auth_status, authentication}
-use Rattle.association.specs.Association.{assoc_status, association_response}
+use Rattle.association.specs.Joining.{assoc_status, association_response}
 use Rattle.association.specs.Leaving.{notice_frame}
 use Rattle.station_state.specs.ClassFault.{class_fault}
 use Rattle.station_state.specs.declared.class.Notice.{Notice}
 use Rattle.elements.specs.Elements.{Pair}
-use Rattle.bss_core.specs.Stations.{Table, link_of, standing_with, standing_of, may_associate, next_aid, authenticate, associate, disassociate, forget, set_mode, is_dozing, aid_with, listen_of, dozes}
-use Rattle.bss_core.specs.Units.{unit, unit_of, unit_frame, are_left, delivery_of, goes_on_wire, may_poll, group_is_kept, is_waited_for}
+use Rattle.bss_core.specs.Stations.{Table, link_of, standing_with, standing_of, may_associate, next_aid, authenticate}
+use Rattle.bss_core.specs.Stations.{associate, disassociate, forget, set_mode, is_dozing, aid_with, listen_of, dozes}
+use Rattle.bss_core.specs.Units.{unit, unit_of, unit_frame, others_follow, delivery_of, goes_on_wire, may_poll}
+use Rattle.bss_core.specs.Units.{group_is_kept, is_waited_for}
 use Rattle.bss_core.specs.declared.stations.Link.{Link}
-use Rattle.bss_core.specs.declared.unit.Delivery.{Delivery}
-use Rattle.bss_core.specs.declared.unit.Delivery.TheVariants.{Now, Kept, Nowhere}
+use Rattle.bss_core.specs.declared.reply.unit.Delivery.{Delivery}
+use Rattle.bss_core.specs.declared.reply.unit.Delivery.TheVariants.{Now, Kept, Nowhere}
 pub use Rattle.bss_core.specs.declared.setting.Setting.{Setting}
 use Rattle.bss_core.specs.declared.event.Event.{Event}
 use Rattle.bss_core.specs.declared.event.Event.TheVariants.{Air, Wire, Tick}
@@ -95,8 +99,8 @@ send_unit s more u n = send (unit_frame s.network.bssid more u) n
 
 -- units are sent in order; where so asked, More Data tells of all but the last that others follow
 abbrev pub send_each : Setting → Bool → List DataUnit → Network → Network
-send_each s telling [] n = n
-send_each s telling (u ∷ us) n = send_each s telling us (send_unit s (telling && are_left us) u n)
+send_each s shows_more [] n = n
+send_each s shows_more (u ∷ us) n = send_each s shows_more us (send_unit s (shows_more && others_follow us) u n)
 
 -- a unit goes on the wire, or is lost where it has no wired form (profile)
 abbrev pub put_on_wire : Option (List ℕ) → Network → Network
@@ -136,7 +140,8 @@ authentication_status s from algorithm step n = auth_status algorithm step (may_
 
 abbrev pub answer_authentication : Setting → List ℕ → ℕ → ℕ → Network → Network
 answer_authentication s from algorithm step n =
-    send (λ sequence. authentication from s.network.bssid sequence algorithm (authentication_status s from algorithm step n))
+    send (λ sequence.
+    authentication from s.network.bssid sequence algorithm (authentication_status s from algorithm step n))
     (change_where_served (authentication_status s from algorithm step n) from (authenticate from) n)
 
 -- a request to associate is answered with its status, and where it is served with the identifier (11.3.5.3, 11.3.5.5)
@@ -146,7 +151,9 @@ association_status s from elements n =
 
 abbrev pub answer_association : Setting → List ℕ → Bool → ℕ → List Pair → Network → Network
 answer_association s from again listen elements n =
-    send (λ sequence. association_response from s.network.bssid sequence again (association_status s from elements n) (next_aid from n.stations) s.network.rates)
+    send (λ sequence.
+    association_response from s.network.bssid sequence again (association_status s from elements n)
+    (next_aid from n.stations) s.network.rates)
     (change_where_served (association_status s from elements n) from (associate from listen) n)
 
 -- ---- units
@@ -178,7 +185,7 @@ set_power_mode s from doze n =
 -- the first of these units, which are kept for a station, is sent
 abbrev pub serve_poll : Setting → List ℕ → List DataUnit → Network → Network
 serve_poll s from [] n = n
-serve_poll s from (u ∷ us) n = send_unit s (are_left us) u (record n { kept = without_oldest (One from) n.kept })
+serve_poll s from (u ∷ us) n = send_unit s (others_follow us) u (record n { kept = without_oldest (One from) n.kept })
 
 -- a poll of a station that dozes and names its association identifier (11.2.3.6); any other brings nothing (profile)
 abbrev pub answer_poll : Setting → List ℕ → ℕ → Network → Network

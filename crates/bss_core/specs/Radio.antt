@@ -8,9 +8,9 @@ use Rattle.bss_core.specs.declared.config.NetConfig.{NetConfig}
 use Rattle.bss_core.specs.declared.config.RadioConfig.{RadioConfig}
 use Rattle.bss_core.specs.declared.event.Event.{Event}
 use Rattle.bss_core.specs.declared.section.Section.{Section}
-use Rattle.bss_core.specs.declared.step.AirItem.{AirItem}
-use Rattle.bss_core.specs.declared.step.Step.{Step}
-use Rattle.bss_core.specs.declared.step.Step.TheVariants.{Take, Hand, Leave}
+use Rattle.bss_core.specs.declared.radio.step.AirItem.{AirItem}
+use Rattle.bss_core.specs.declared.radio.step.Step.{Step}
+use Rattle.bss_core.specs.declared.radio.step.Step.TheVariants.{Take, Hand, Leave}
 
 -- ---- networks by their places in the configuration
 
@@ -132,7 +132,11 @@ part_of c place steps = take (network_at c place).max_events (filter_map (event_
 abbrev pub items_of : ℕ → List AirItem → List (List ℕ)
 items_of place items = map (λ item. item.octets) (filter (λ item. item.place == place) items)
 
--- the section of each network, alone with its own events, in order of place
-abbrev pub sections_of : RadioConfig → List Step → List Section
-sections_of c steps =
-    map (λ place. section_of (setting_at c place) (part_of c place steps)) (range_with_len 0 (length c.networks))
+-- the section of each network, alone with the events of its place, in order of place
+abbrev pub sections_of : RadioConfig → (ℕ → List Event) → List Section
+sections_of c events_at =
+    map (λ place. section_of (setting_at c place) (events_at place)) (range_with_len 0 (length c.networks))
+
+-- with its own events among the steps
+abbrev pub sections_after : RadioConfig → List Step → List Section
+sections_after c steps = sections_of c (λ place. part_of c place steps)

@@ -2,15 +2,16 @@
 use Rattle.std.specs.Prelude.{ℕ, ◌<◌, ◌≤◌, ◌≡◌, All, List, [], ◌∷◌, ◌++◌, length, map, slice_set, false, None}
 use Rattle.std.specs.List.{slice_index_or}
 use Rattle.bss_core.specs.Configuration.{fault_of}
+use Rattle.bss_core.specs.Lists.{IsSuffix}
 use Rattle.bss_core.specs.Network.{Setting, alone}
 use Rattle.bss_core.specs.Radio.{setting_in, setting_at, items_of}
-use Rattle.bss_core.specs.State.{State, sent_by}
+use Rattle.bss_core.specs.BssView.{BssView, sent_by}
 use Rattle.bss_core.specs.declared.config.NetConfig.{NetConfig}
 use Rattle.bss_core.specs.declared.config.RadioConfig.{RadioConfig}
 use Rattle.bss_core.specs.declared.event.Event.{Event}
-use Rattle.bss_core.specs.declared.step.AirItem.{AirItem}
-use Rattle.bss_core.specs.declared.step.Handed.{Handed}
-use Rattle.bss_core.specs.declared.step.Handed.TheVariants.{Moved, Nothing, QueueFull}
+use Rattle.bss_core.specs.declared.radio.step.AirItem.{AirItem}
+use Rattle.bss_core.specs.declared.radio.step.Handed.{Handed}
+use Rattle.bss_core.specs.declared.radio.step.Handed.TheVariants.{Moved, Nothing, QueueFull}
 
 -- of one network, the events that it took and the frames that wait; all else is what `alone` gives of its setting and
 -- its events
@@ -36,10 +37,10 @@ view_at r place = slice_index_or r.networks place unused
 abbrev pub settings_of : RadioConfig → List Setting
 settings_of c = map (setting_in c) c.networks
 
-abbrev pub shown : State → NetworkView
+abbrev pub shown : BssView → NetworkView
 shown s = record { history = s.history; waiting = s.waiting }
 
-abbrev pub config_of : ℕ → ℕ → ℕ → List State → RadioConfig
+abbrev pub config_of : ℕ → ℕ → ℕ → List BssView → RadioConfig
 config_of channel interval capacity networks = record {
   channel = channel;
   interval = interval;
@@ -47,7 +48,7 @@ config_of channel interval capacity networks = record {
   networks = map (λ s. s.setting.network) networks;
 }
 
-abbrev pub radio_of : ℕ → ℕ → ℕ → List State → List AirItem → RadioView
+abbrev pub radio_of : ℕ → ℕ → ℕ → List BssView → List AirItem → RadioView
 radio_of channel interval capacity networks queue = record {
   config = config_of channel interval capacity networks;
   networks = map shown networks;
@@ -55,7 +56,7 @@ radio_of channel interval capacity networks queue = record {
 }
 
 -- a network that took no event
-abbrev pub opened : ℕ → ℕ → NetConfig → State
+abbrev pub opened : ℕ → ℕ → NetConfig → BssView
 opened channel interval n = record {
   setting = record { channel = channel; interval = interval; network = n };
   history = [];
@@ -64,10 +65,6 @@ opened channel interval n = record {
 }
 
 -- ---- what a radio keeps
-
--- the second list ends with the first
-abbrev pub IsSuffix : List (List ℕ) → List (List ℕ) → Type 0
-IsSuffix xs ys = (before : List (List ℕ)) × (before ++ xs ≡ ys)
 
 pub record IsSoundRadio (r : RadioView) : Type 0 where
   pub accepted : fault_of r.config ≡ None

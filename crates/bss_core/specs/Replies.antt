@@ -1,13 +1,14 @@
 -- What a reply makes of a network (profile).
-use Rattle.std.specs.Prelude.{ℕ, ◌+◌, ◌<◌, ◌≡◌, Bool, false, List, [], ◌∷◌, ◌++◌, length, Option, Some, None, option_to_list}
+use Rattle.std.specs.Prelude.{ℕ, ◌+◌, ◌<◌, ◌≡◌, Bool, false, List, [], ◌∷◌, ◌++◌, length, Option, Some, None}
+use Rattle.std.specs.Prelude.{option_to_list}
 use Rattle.powersave.specs.Keep.{Entry, Kept, is_same, room_beside, without_all, without_oldest}
 use Rattle.powersave.specs.declared.unit.Whom.{Whom}
 use Rattle.powersave.specs.declared.unit.Whom.TheVariants.{One, Group}
 use Rattle.bss_core.specs.Network.{Setting, Network, next_sequence}
 use Rattle.bss_core.specs.Stations.{Table, changed, is_dozing, IsAllowed, IsModeAlone}
-use Rattle.bss_core.specs.declared.keeping.Leaving.{Leaving}
-use Rattle.bss_core.specs.declared.keeping.Leaving.TheVariants as leavings
-use Rattle.bss_core.specs.declared.keeping.Keeping.{Keeping}
+use Rattle.bss_core.specs.declared.reply.keeping.Leaving.{Leaving}
+use Rattle.bss_core.specs.declared.reply.keeping.Leaving.TheVariants as leavings
+use Rattle.bss_core.specs.declared.reply.keeping.Keeping.{Keeping}
 use Rattle.bss_core.specs.declared.stations.Change.TheVariants as changes
 use Rattle.bss_core.specs.declared.reply.Reply.{Reply}
 
@@ -24,15 +25,16 @@ abbrev pub kept_after : Keeping → List Entry → List Entry
 kept_after k kept = without k.leaving kept ++ option_to_list k.arriving
 
 -- units for one leave
-abbrev pub is_left : Leaving → Whom → Bool
-is_left leavings.Nothing whom = false
-is_left (leavings.All other) whom = is_same whom other
-is_left (leavings.Oldest other) whom = is_same whom other
+abbrev pub is_leaving : Leaving → Whom → Bool
+is_leaving leavings.Nothing whom = false
+is_leaving (leavings.All other) whom = is_same whom other
+is_leaving (leavings.Oldest other) whom = is_same whom other
 
 -- one that comes is within the quota once those that leave are gone, which were for others
 abbrev pub IsWithin : ℕ → Leaving → List Entry → Option Entry → Type 0
 IsWithin quota leaving kept None = Unit {0}
-IsWithin quota leaving kept (Some entry) = (length (without leaving kept) < quota) × (is_left leaving entry.0 ≡ false)
+IsWithin quota leaving kept (Some entry) =
+    (length (without leaving kept) < quota) × (is_leaving leaving entry.0 ≡ false)
 
 -- room was made for the one that comes
 abbrev pub IsRoomFor : Option Entry → Kept → Type 0
@@ -91,8 +93,8 @@ IsAwake (leavings.All (One addr)) table = is_dozing addr table ≡ false
 IsAwake (leavings.All Group) table = ⊥
 IsAwake (leavings.Oldest whom) table = ⊥
 
--- a reply to which the delivery of a unit can be added: it sets the mode of one station at most, units leave for one that is
--- active then, and no unit comes, is lost or goes on the wire
+-- a reply to which the delivery of a unit can be added: it sets the mode of one station at most, units leave for one
+-- that is active then, and no unit comes, is lost or goes on the wire
 pub record IsModeReply (r : Reply) (n : Network) : Type 0 where
   pub change : IsModeAlone r.change
   pub awake : IsAwake r.keeping.leaving (changed r.change n.stations)

@@ -4,9 +4,9 @@ use Rattle.std.specs.List.{enumerate_from}
 use Rattle.bss_core.specs.Network.{table_of, counts_of}
 use Rattle.bss_core.specs.Radio.{RadioState, place_at, waiting_at, items_of}
 use Rattle.bss_core.specs.RadioView.{RadioView, view_at}
-use Rattle.bss_core.specs.State.{State, network_of}
+use Rattle.bss_core.specs.BssView.{BssView, network_of}
 use Rattle.bss_core.specs.declared.section.Section.{Section}
-use Rattle.bss_core.specs.declared.step.AirItem.{AirItem}
+use Rattle.bss_core.specs.declared.radio.step.AirItem.{AirItem}
 
 -- a radio that runs is at this state, and these items have left it
 pub record IsAt (s : RadioState) (r : RadioView) (gone : List AirItem) : Type 0 where
@@ -18,7 +18,7 @@ pub record IsAt (s : RadioState) (r : RadioView) (gone : List AirItem) : Type 0 
       (place : ℕ) → place < length r.config.networks → (view_at r place).waiting ≡ waiting_at r.config s place
 
 -- the section of a network that ends, with these frames on the air
-abbrev pub section_with : List (List ℕ) → State → Section
+abbrev pub section_with : List (List ℕ) → BssView → Section
 section_with air s = record {
   config = s.setting.network;
   events = s.history;
@@ -29,10 +29,10 @@ section_with air s = record {
 }
 
 -- all frames of the network at a place: those that left, those that are queued, those that wait
-abbrev pub frames_of : List AirItem → List AirItem → ℕ → State → List (List ℕ)
+abbrev pub frames_of : List AirItem → List AirItem → ℕ → BssView → List (List ℕ)
 frames_of left queued place s = items_of place left ++ items_of place queued ++ s.waiting
 
 -- the sections of networks that end, in order of place
-abbrev pub sections_with : List AirItem → List AirItem → List State → List Section
+abbrev pub sections_with : List AirItem → List AirItem → List BssView → List Section
 sections_with left queued networks =
     map (λ n. section_with (frames_of left queued n.0 n.1) n.1) (enumerate_from 0 networks)

@@ -1,5 +1,6 @@
 -- The stations of a network and how far each has come (IEEE Std 802.11-2016, 11.3.1).
-use Rattle.std.specs.Prelude.{ℕ, ◌≡◌, ◌≤◌, Bool, true, false, ◌||◌, nat_lt, List, [], ◌∷◌, ◌++◌, length, Option, Some, None, is_some, unwrap_or, if◌then◌else◌}
+use Rattle.std.specs.Prelude.{ℕ, ◌≡◌, ◌≤◌, Bool, true, false, ◌||◌, nat_lt, List, [], ◌∷◌, ◌++◌, length, Option, Some}
+use Rattle.std.specs.Prelude.{None, is_some, unwrap_or, if◌then◌else◌}
 use Rattle.std.specs.List.{list_any}
 use Rattle.std.specs.Map.{lookup, remove_entry}
 use Rattle.std.specs.Str.{bytes_eq}
@@ -9,7 +10,8 @@ use Rattle.station_state.specs.declared.Standing.TheVariants as standings
 use Rattle.bss_core.specs.declared.stations.Link.{Link}
 use Rattle.bss_core.specs.declared.stations.Link.TheVariants.{Authenticated, Associated}
 use Rattle.bss_core.specs.declared.stations.Change.{Change}
-use Rattle.bss_core.specs.declared.stations.Change.TheVariants.{Nothing, Authenticate, Associate, Disassociate, Forget, SetMode}
+use Rattle.bss_core.specs.declared.stations.Change.TheVariants.{Nothing, Authenticate, Associate, Disassociate, Forget}
+use Rattle.bss_core.specs.declared.stations.Change.TheVariants.{SetMode}
 
 -- each known station with its link, in order of first authentication
 abbrev pub Table : Type 0
@@ -124,7 +126,8 @@ forget addr table = remove_entry (bytes_eq addr) table
 abbrev pub set_mode : List ℕ → Bool → Table → Table
 set_mode addr doze [] = []
 set_mode addr doze (station ∷ stations) =
-    if bytes_eq addr station.0 then (station.0, with_mode doze station.1) ∷ stations else station ∷ set_mode addr doze stations
+    if bytes_eq addr station.0 then (station.0, with_mode doze station.1) ∷ stations
+    else station ∷ set_mode addr doze stations
 
 -- a change of one station
 abbrev pub changed : Change → Table → Table
@@ -139,7 +142,8 @@ changed (SetMode addr doze) table = set_mode addr doze table
 abbrev pub IsAllowed : ℕ → Change → Table → Type 0
 IsAllowed most Nothing table = Unit {0}
 IsAllowed most (Authenticate addr) table = Unit {0}
-IsAllowed most (Associate addr listen) table = (is_some (link_of addr table) ≡ true) × (may_associate most addr table ≡ true)
+IsAllowed most (Associate addr listen) table =
+    (is_some (link_of addr table) ≡ true) × (may_associate most addr table ≡ true)
 IsAllowed most (Disassociate addr) table = Unit {0}
 IsAllowed most (Forget addr) table = Unit {0}
 IsAllowed most (SetMode addr doze) table = Unit {0}

@@ -1,5 +1,5 @@
--- How the stations of a network are kept (profile): the numbers that are out of a pool are their identifiers, and those that doze are
--- counted.
+-- How the stations of a network are kept (profile): the numbers that are out of a pool are their identifiers, and those
+-- that doze are counted.
 use Rattle.std.specs.Prelude.{ℕ, ◌≡◌, ◌≤◌, ◌+◌, List, [], ◌∷◌, length}
 use Rattle.std.specs.Int.{from_bool}
 use Rattle.std.specs.FinSet as set

@@ -1,5 +1,7 @@
--- Units and where they go (IEEE Std 802.11-2016, 4.5.2 and 11.2.3): the frame that carries one, and how it is delivered.
-use Rattle.std.specs.Prelude.{ℕ, ◌==◌, Bool, true, false, not, ◌||◌, ◌&&◌, List, [], ◌∷◌, ◌++◌, Option, Some, None, if◌then◌else◌}
+-- Units and where they go (IEEE Std 802.11-2016, 4.5.2 and 11.2.3): the frame that carries one, and how it is
+-- delivered.
+use Rattle.std.specs.Prelude.{ℕ, ◌==◌, Bool, true, false, not, ◌||◌, ◌&&◌, List, [], ◌∷◌, ◌++◌, Option, Some, None}
+use Rattle.std.specs.Prelude.{if◌then◌else◌}
 use Rattle.std.specs.List.{list_any}
 use Rattle.mac_frame.specs.Address.{is_group}
 use Rattle.mac_frame.specs.Data.{data_header}
@@ -7,30 +9,30 @@ use Rattle.bridge.specs.Ethernet.{Ethernet}
 use Rattle.bridge.specs.Encapsulation.{on_air}
 use Rattle.powersave.specs.Keep.{Entry, is_for}
 use Rattle.powersave.specs.declared.unit.Whom.TheVariants.{One, Group}
-use Rattle.powersave.specs.declared.unit.Unit.{Unit as Msdu}
+use Rattle.powersave.specs.declared.unit.Unit.{Unit as DataUnit}
 use Rattle.bss_core.specs.Stations.{Table, link_of, is_associated, some_station_dozes}
 use Rattle.bss_core.specs.declared.stations.Link.{Link}
 use Rattle.bss_core.specs.declared.stations.Link.TheVariants.{Authenticated, Associated}
-use Rattle.bss_core.specs.declared.unit.Delivery.{Delivery}
-use Rattle.bss_core.specs.declared.unit.Delivery.TheVariants.{Now, Kept, Nowhere}
+use Rattle.bss_core.specs.declared.reply.unit.Delivery.{Delivery}
+use Rattle.bss_core.specs.declared.reply.unit.Delivery.TheVariants.{Now, Kept, Nowhere}
 
 -- ---- a unit and its frame
 
-abbrev pub unit : (to source body : List ℕ) → Msdu
+abbrev pub unit : (to source body : List ℕ) → DataUnit
 unit to source body = record { to = to; source = source; body = body }
 
 -- the unit that an Ethernet frame carries
-abbrev pub unit_of : Ethernet → Msdu
+abbrev pub unit_of : Ethernet → DataUnit
 unit_of w = unit w.to w.source (on_air w)
 
 -- the frame that carries a unit from the network (9.3.2.1), with More Data (9.2.4.1.8) or without
-abbrev pub unit_frame : (bss : List ℕ) → Bool → Msdu → (sequence : ℕ) → List ℕ
+abbrev pub unit_frame : (bss : List ℕ) → Bool → DataUnit → (sequence : ℕ) → List ℕ
 unit_frame bss more u sequence = data_header u.to bss u.source sequence more ++ u.body
 
 -- More Data where units follow
-abbrev pub are_left : List Msdu → Bool
-are_left [] = false
-are_left (u ∷ us) = true
+abbrev pub others_follow : List DataUnit → Bool
+others_follow [] = false
+others_follow (u ∷ us) = true
 
 -- ---- where a unit goes on the air (11.2.3.2)
 

@@ -1,8 +1,9 @@
 -- Two radios that have a network in common, whatever else they have and whatever else happens to them (profile).
-use Rattle.std.specs.Prelude.{ℕ, ◌<◌, ◌≡◌, ◌⊎◌, List, ◌++◌, length}
+use Rattle.std.specs.Prelude.{ℕ, ◌<◌, ◌≡◌, ◌⊎◌, List, length}
+use Rattle.bss_core.specs.Lists.{IsPrefix}
 use Rattle.bss_core.specs.Radio.{network_at, part_of}
 use Rattle.bss_core.specs.declared.config.RadioConfig.{RadioConfig}
-use Rattle.bss_core.specs.declared.step.Step.{Step}
+use Rattle.bss_core.specs.declared.radio.step.Step.{Step}
 
 -- The network at place p of one radio, and the one at place q of another, have the same configuration, channel and
 -- interval, and the same events among the steps of their radio. The queues, the places, the other networks and the
@@ -14,10 +15,6 @@ pub record AreAlike (c d : RadioConfig) (steps others : List Step) (p q : ℕ) :
   pub interval : c.interval ≡ d.interval
   pub network : network_at c p ≡ network_at d q
   pub events : part_of c p steps ≡ part_of d q others
-
--- the second list begins with the first
-abbrev pub IsPrefix : List (List ℕ) → List (List ℕ) → Type 0
-IsPrefix xs ys = (rest : List (List ℕ)) × (xs ++ rest ≡ ys)
 
 -- one of two lists begins with the other: they were cut at different moments
 abbrev pub AreCutFromOne : List (List ℕ) → List (List ℕ) → Type 0

@@ -1,27 +1,25 @@
 //! A network alone, as it runs.
 
-ghost use Rattle.std.specs.Prelude.{◌≡◌, Err, ◌+◌, ◌++◌, ◌∷◌, [], ◌↔◌, ◌<◌, ◌≤◌, true, false, None, Some, slice_get, IsTrue, IfOk, OnOk, OnErr, IfNone, vec_len, vec_capacity, length, is_some, option_to_list, if◌then◌else◌};
+ghost use Rattle.std.specs.Prelude.{◌≡◌, Err, ◌+◌, ◌++◌, ◌∷◌, [], ◌↔◌, ◌<◌, ◌≤◌, true, false, None, Some, slice_get};
+ghost use Rattle.std.specs.Prelude.{IsTrue, IfOk, OnOk, OnErr, IfNone, vec_len, vec_capacity, length, is_some};
+ghost use Rattle.std.specs.Prelude.{option_to_list, if◌then◌else◌};
 ghost use Rattle.bss_core.specs.Configuration.{setting_fault, network_fault};
-ghost use Rattle.bss_core.specs.Network.{step, answer, table_of, counts_of};
+ghost use Rattle.bss_core.specs.Network.{table_of, counts_of};
 ghost use Rattle.powersave.specs.Keep.{units_for};
 ghost use Rattle.powersave.specs.declared.unit.Whom.TheVariants as whoms;
-ghost use Rattle.bss_core.specs.Replies.{no_reply, after_reply, IsFitting};
-ghost use Rattle.bss_core.specs.State.{State, network_of, sent_by, wired_by};
+ghost use Rattle.bss_core.specs.BssView.{BssView, network_of, sent_by, wired_by};
 ghost use Rattle.bss_core.specs.RadioView.{opened};
 ghost use Rattle.bss_core.specs.Running.{section_with};
-ghost use Rattle.association.specs.Request.{request_of};
 ghost use Rattle.bss_core.specs.declared.bss.Refusal.TheVariants as refusals;
 
-use crate::config::{MAX_EVENTS, NetConfig};
+use crate::config::NetConfig;
 use crate::event::Event;
-use crate::reply::Reply;
+use crate::limits::MAX_EVENTS;
 use crate::section::{Counts, Section, StationRow};
 use crate::setting::Setting;
 use crate::stations::Stations;
-use association::{Request, class, read, sender};
 use mac_frame::{List, MacAddr, NoMemory, Octets};
 use powersave::{Keep, Whom};
-use station_state::fault;
 use std::alloc::{AllocError, Global};
 use std::collections::VecDeque;
 use std::marker::Model;
@@ -78,9 +76,9 @@ pub struct Bss {
 impl Model for Bss {
     ghost use Rattle.std.specs.Prelude.{◌≡◌, ◌<◌, IsTrue, []};
     ghost use Rattle.std.specs.VecDeque.{deque_len, deque_capacity};
-    ghost use Rattle.bss_core.specs.State.{State, Keeps};
+    ghost use Rattle.bss_core.specs.BssView.{BssView, IsAfterHistory};
 
-    ghost Value = { State };
+    ghost Value = { BssView };
 
     ghost view = { λ b. record {
       setting = b.setting;
@@ -90,7 +88,7 @@ impl Model for Bss {
     } };
 
     ghost invariant = { λ b.
-        Keeps b.setting b.history.items (record {
+        IsAfterHistory b.setting b.history.items (record {
           stations = b.stations.table;
           kept = b.kept.entries;
           clock = b.clock;
@@ -160,8 +158,8 @@ impl Bss {
         self.stations.len()
     }
 
-    /// The station at a place of its table, from 0 and below [`Bss::table_len`], in order of first authentication (IEEE Std
-    /// 802.11-2016, 11.3.1).
+    /// The station at a place of its table, from 0 and below [`Bss::table_len`], in order of first authentication
+    /// (IEEE Std 802.11-2016, 11.3.1).
     pub fn row(&self, place: usize) -> StationRow
         requires { place < length (table_of (network_of self.now)) }
         ensures { slice_get (table_of (network_of self.now)) place ≡ Some result }
@@ -243,12 +241,16 @@ impl Bss {
     pub fn take(&mut self, event: Event) -> Result<u32, Refusal>
         ensures number { IfOk result (λ number. number ≡ length self.old.history) }
         ensures history { OnOk result (self.new.history ≡ self.old.history ++ event ∷ []) }
-        ensures waiting { OnOk result (self.new.waiting ≡ self.old.waiting ++ sent_by self.old.setting self.old.history event) }
-        ensures air { OnOk result ((network_of self.new).air ≡ (network_of self.old).air ++ sent_by self.old.setting self.old.history event) }
-        ensures wire { OnOk result ((network_of self.new).wire ≡ (network_of self.old).wire ++ wired_by self.old.setting self.old.history event) }
+        ensures waiting { OnOk result
+            (self.new.waiting ≡ self.old.waiting ++ sent_by self.old.setting self.old.history event) }
+        ensures air { OnOk result
+            ((network_of self.new).air ≡ (network_of self.old).air ++ sent_by self.old.setting self.old.history event) }
+        ensures wire { OnOk result ((network_of self.new).wire
+            ≡ (network_of self.old).wire ++ wired_by self.old.setting self.old.history event) }
         ensures bounded { length self.new.history ≤ self.new.setting.network.max_events }
         ensures setting { self.new.setting ≡ self.old.setting }
-        ensures full { (result ≡ Err Refusal.HistoryFull) ↔ (length self.old.history ≡ self.old.setting.network.max_events) }
+        ensures full { (result ≡ Err Refusal.HistoryFull)
+            ↔ (length self.old.history ≡ self.old.setting.network.max_events) }
         ensures err { OnErr result (self.new ≡ self.old) }
     {
         if self.history.len() >= self.setting.network.max_events as usize {
@@ -274,68 +276,6 @@ impl Bss {
         Ok(number)
     }
 
-    /// What it does about an event. It changes nothing.
-    fn reply(&self, event: &Event) -> Result<Reply, NoMemory>
-        ensures fitting { IfOk result (λ reply. IsFitting self.now.setting reply (network_of self.now)) }
-        ensures step { IfOk result (λ reply.
-            step self.now.setting (network_of self.now) event.now ≡ after_reply reply (network_of self.now)) }
-    {
-        match event {
-            Event::Air(frame) => self.answer(frame.as_slice()),
-            Event::Wire(frame) => self.answer_wired(frame.as_slice()),
-            Event::Tick => self.tick(),
-        }
-    }
-
-    /// What it does about a string of octets that was heard on the air.
-    fn answer(&self, frame: &[u8]) -> Result<Reply, NoMemory>
-        ensures fitting { IfOk result (λ reply. IsFitting self.now.setting reply (network_of self.now)) }
-        ensures answer { IfOk result (λ reply.
-            answer self.now.setting (request_of self.now.setting.network.bssid frame.now) (network_of self.now) ≡ after_reply reply (network_of self.now)) }
-    {
-        let Ok(request) = read(self.setting.network.bssid, frame) else {
-            let mut reply = self.no_reply();
-            reply.unread = 1;
-            return Ok(reply);
-        };
-        let from = sender(&request);
-        if let Some(notice) = fault(self.stations.standing_of(from), class(&request)) {
-            return self.notify(from, notice);
-        }
-        match request {
-            Request::Probe { from, ssid } => self.answer_probe(from, ssid),
-            Request::Auth {
-                from,
-                algorithm,
-                step,
-            } => self.answer_authentication(from, algorithm, step),
-            Request::Assoc {
-                from,
-                again,
-                listen,
-                elements,
-            } => self.answer_association(from, again, listen, &elements),
-            Request::Disassoc { from } => Ok(self.answer_disassociation(from)),
-            Request::Deauth { from } => Ok(self.answer_deauthentication(from)),
-            Request::Msdu {
-                from,
-                doze,
-                to,
-                body,
-            } => self.answer_unit(from, doze, to, body),
-            Request::Null { from, doze } => self.set_power_mode(from, doze),
-            Request::Poll { from, aid } => self.answer_poll(from, aid),
-        }
-    }
-
-    /// A reply that does nothing yet, for an answer to begin with.
-    pub(crate) fn no_reply(&self) -> Reply
-        ensures nothing { result ≡ no_reply (network_of self.now).sequence }
-        ensures sequence { result.sequence < 4096 }
-    {
-        Reply::new(self.alloc, self.sequence)
-    }
-
     /// Its configuration, with its radio's settings.
     pub(crate) fn setting(&self) -> &Setting
         ensures setting { result.now ≡ self.now.setting }
@@ -358,6 +298,14 @@ impl Bss {
         ensures quota { result.now.quota ≡ self.now.setting.network.quota }
     {
         &self.kept
+    }
+
+    /// The sequence number of its next frame.
+    pub(crate) fn sequence(&self) -> u16
+        ensures sequence { result ≡ (network_of self.now).sequence }
+        ensures bounded { result < 4096 }
+    {
+        self.sequence
     }
 
     /// How many beacon intervals have begun.

@@ -1,12 +1,13 @@
 //! The first fault of a configuration (*profile*).
 
-ghost use Rattle.std.specs.Prelude.{◌≡◌, []};
+ghost use Rattle.std.specs.Prelude.{◌≡◌, nat_le, []};
 ghost use Rattle.std.specs.List.{list_all};
 ghost use Rattle.bss_core.specs.Configuration.{is_rate, are_different, rates_fit, numbers_fit, network_fault, is_taken, fault_among, networks_fault, fault_of};
 
-use crate::config::{
-    ConfigFault, MAX_CHANNEL, MAX_EVENTS, MAX_KNOWN, MAX_NETWORKS, MAX_QUEUE, MAX_QUOTA, MAX_RATE,
-    MAX_RATES, MAX_SSID_LEN, MAX_STATIONS, NetConfig, RadioConfig,
+use crate::config::{ConfigFault, NetConfig, RadioConfig};
+use crate::limits::{
+    CHANNEL_LIMITS, DTIM_LIMITS, EVENT_LIMITS, INTERVAL_LIMITS, KNOWN_LIMITS, MAX_RATE, MAX_RATES,
+    QUEUE_LIMITS, QUOTA_LIMITS, STATION_LIMITS, count_fits, ssid_fits,
 };
 use elements::{is_rate_among, units_of};
 use mac_frame::MacAddr;
@@ -18,17 +19,17 @@ impl RadioConfig {
     pub fn check(&self) -> Option<ConfigFault>
         ensures { result ≡ fault_of self.now }
     {
-        if !(1..=MAX_CHANNEL).contains(&self.channel) {
+        if !CHANNEL_LIMITS.allow(u32::from(self.channel)) {
             return Some(ConfigFault::of_radio(4));
         }
-        if self.interval == 0 {
+        if !INTERVAL_LIMITS.allow(u32::from(self.interval)) {
             return Some(ConfigFault::of_radio(5));
         }
-        if !(1..=MAX_QUEUE).contains(&self.queue) {
+        if !QUEUE_LIMITS.allow(u32::from(self.queue)) {
             return Some(ConfigFault::of_radio(6));
         }
         let networks = self.networks.as_slice();
-        if !(1..=MAX_NETWORKS).contains(&networks.len()) {
+        if !count_fits(networks.len()) {
             return Some(ConfigFault::of_radio(7));
         }
         networks_fault(networks)
@@ -71,7 +72,7 @@ fn network_fault(network: &NetConfig) -> Option<u8>
     if network.bssid.is_group() {
         return Some(8);
     }
-    if !(1..=MAX_SSID_LEN).contains(&network.ssid.as_slice().len()) {
+    if !ssid_fits(network.ssid.as_slice()) {
         return Some(9);
     }
     if !rates_fit(network.rates.as_slice()) {
@@ -80,10 +81,17 @@ fn network_fault(network: &NetConfig) -> Option<u8>
     if !numbers_fit(network) {
         return Some(11);
     }
-    if network.max_known < network.max_stations {
+    if !stations_fit(network.max_stations, network.max_known) {
         return Some(12);
     }
     None
+}
+
+/// Whether as many stations may be known as may be associated (*profile*).
+pub fn stations_fit(max_stations: u16, max_known: u16) -> bool
+    ensures { result ≡ nat_le max_stations max_known }
+{
+    max_stations <= max_known
 }
 
 /// Whether the rates are 1 to 16, each from 1 to 108 but for the mark of a basic rate (bit 7), and all different
@@ -126,9 +134,9 @@ fn are_different(rates: &[u8]) -> bool
 fn numbers_fit(network: &NetConfig) -> bool
     ensures { result ≡ numbers_fit network.now }
 {
-    network.dtim != 0
-        && (1..=MAX_STATIONS).contains(&network.max_stations)
-        && (1..=MAX_KNOWN).contains(&network.max_known)
-        && network.quota <= MAX_QUOTA
-        && (1..=MAX_EVENTS).contains(&network.max_events)
+    DTIM_LIMITS.allow(u32::from(network.dtim))
+        && STATION_LIMITS.allow(u32::from(network.max_stations))
+        && KNOWN_LIMITS.allow(u32::from(network.max_known))
+        && QUOTA_LIMITS.allow(network.quota)
+        && EVENT_LIMITS.allow(network.max_events)
 }

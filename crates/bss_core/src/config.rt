@@ -3,73 +3,41 @@
 ghost use Rattle.std.specs.Prelude.{◌≡◌};
 ghost use Rattle.bss_core.specs.Configuration.{of_radio, of_network};
 
-use aid_pool::MAX_AID;
 use mac_frame::{List, MacAddr, Octets};
 use std::fmt;
-
-/// The greatest number of a channel (*profile*; the field is IEEE Std 802.11-2016, 9.4.2.4).
-pub const MAX_CHANNEL: u8 = 14;
-
-/// The most frames that the air queue holds (*profile*).
-pub const MAX_QUEUE: u16 = 4096;
-
-/// The most networks of a radio (*profile*).
-pub const MAX_NETWORKS: usize = 8;
-
-/// The most octets of an SSID (IEEE Std 802.11-2016, 9.4.2.2).
-pub const MAX_SSID_LEN: usize = 32;
-
-/// The most rates of a network (*profile*).
-pub const MAX_RATES: usize = 16;
-
-/// The greatest rate in units of 500 kb/s, 54 Mb/s, without the mark of a basic rate (*profile*).
-pub const MAX_RATE: u8 = 108;
-
-/// The most stations that are associated at a time: as many as there are association identifiers (IEEE Std
-/// 802.11-2016, 9.4.1.8).
-pub const MAX_STATIONS: u16 = MAX_AID;
-
-/// The most stations that are known at a time (*profile*).
-pub const MAX_KNOWN: u16 = 10_000;
-
-/// The most units that a network keeps, whoever they are for (*profile*).
-pub const MAX_QUOTA: u32 = 100_000;
-
-/// The most events that a network takes (*profile*).
-pub const MAX_EVENTS: u32 = 1_000_000;
 
 /// What one network is configured to be.
 #[derive(Debug, Drop)]
 pub struct NetConfig {
     /// Its address, no group address and no other network's.
     pub bssid: MacAddr,
-    /// Its name, 1 to [`MAX_SSID_LEN`] octets (IEEE Std 802.11-2016, 9.4.2.2).
+    /// Its name, 1 to [`crate::MAX_SSID_LEN`] octets (IEEE Std 802.11-2016, 9.4.2.2).
     pub ssid: Octets,
-    /// Its rates in units of 500 kb/s, bit 7 set for a basic rate: 1 to [`MAX_RATES`] octets, whose low seven
-    /// bits are 1 to [`MAX_RATE`] and all different (9.4.2.3, 9.4.2.13; that they differ is *profile*).
+    /// Its rates in units of 500 kb/s, bit 7 set for a basic rate: 1 to [`crate::MAX_RATES`] octets, whose low seven
+    /// bits are 1 to [`crate::MAX_RATE`] and all different (9.4.2.3, 9.4.2.13; that they differ is *profile*).
     pub rates: Octets,
-    /// The DTIM period in beacon intervals, 1 to 255 (9.4.2.6).
+    /// The DTIM period in beacon intervals, within [`crate::DTIM_LIMITS`] (9.4.2.6).
     pub dtim: u8,
-    /// The most stations that are associated at a time, 1 to [`MAX_STATIONS`].
+    /// The most stations that are associated at a time, within [`crate::STATION_LIMITS`].
     pub max_stations: u16,
-    /// The most stations that are known at a time, from `max_stations` to [`MAX_KNOWN`].
+    /// The most stations that are known at a time, within [`crate::KNOWN_LIMITS`] and not below `max_stations`.
     pub max_known: u16,
-    /// The most units that are kept, for stations and for the group, 0 to [`MAX_QUOTA`].
+    /// The most units that are kept, for stations and for the group, within [`crate::QUOTA_LIMITS`].
     pub quota: u32,
-    /// The most events that it takes, 1 to [`MAX_EVENTS`].
+    /// The most events that it takes, within [`crate::EVENT_LIMITS`].
     pub max_events: u32,
 }
 
 /// What a radio and its networks are configured to be.
 #[derive(Debug, Drop)]
 pub struct RadioConfig {
-    /// The channel, 1 to [`MAX_CHANNEL`] (IEEE Std 802.11-2016, 9.4.2.4).
+    /// The channel, within [`crate::CHANNEL_LIMITS`] (IEEE Std 802.11-2016, 9.4.2.4).
     pub channel: u8,
-    /// The beacon interval in time units of 1024 microseconds, 1 to 65535 (9.4.1.3).
+    /// The beacon interval in time units of 1024 microseconds, within [`crate::INTERVAL_LIMITS`] (9.4.1.3).
     pub interval: u16,
-    /// The most frames that the air queue holds, 1 to [`MAX_QUEUE`].
+    /// The most frames that the air queue holds, within [`crate::QUEUE_LIMITS`].
     pub queue: u16,
-    /// The networks, 1 to [`MAX_NETWORKS`]. A network's place in this list is its name.
+    /// The networks, 1 to [`crate::MAX_NETWORKS`]. A network's place in this list is its name.
     pub networks: List<NetConfig>,
 }
 

@@ -7,15 +7,16 @@ ghost use Rattle.bss_core.specs.Network.{Setting, alone, empty_network, step};
 ghost use Rattle.bss_core.specs.Sound.{IsSoundNetwork};
 ghost use Rattle.bss_core.specs.declared.config.RadioConfig.{RadioConfig};
 ghost use Rattle.bss_core.specs.declared.event.Event.{Event};
-ghost use Rattle.bss_core.specs.declared.step.Step.{Step};
-ghost use Rattle.bss_core.specs.Radio.{after_steps, items_of, sections_of};
-ghost use Rattle.bss_core.specs.State.{sent_by};
+ghost use Rattle.bss_core.specs.declared.radio.step.Step.{Step};
+ghost use Rattle.bss_core.specs.Radio.{after_steps, items_of, sections_after};
+ghost use Rattle.bss_core.specs.BssView.{sent_by};
 ghost use Rattle.bss_core.specs.Worlds.{AreAlike, AreCutFromOne};
 
-/// What holds of every network that events make of an empty one, where its configuration has no fault: what it keeps and
-/// what it lost are together two units at most for each event that it took.
+/// What holds of every network that events make of an empty one, where its configuration has no fault: what it keeps
+/// and what it lost are together two units at most for each event that it took.
 pub fn reachable()
-    ensures { (s : Setting) (es : List Event) → network_fault s.network ≡ None → IsSoundNetwork s (length es) (2 * length es) (alone s es) }
+    ensures { (s : Setting) (es : List Event) → network_fault s.network ≡ None
+        → IsSoundNetwork s (length es) (2 * length es) (alone s es) }
 {}
 
 /// A network alone begins empty, and each further event is one further step.
@@ -33,7 +34,8 @@ pub fn checked_networks()
 
 /// The frames that a network sent stay, in their order: those of a further event come after them.
 pub fn sent_frames()
-    ensures { (s : Setting) (es : List Event) (e : Event) → (alone s (es ++ e ∷ [])).air ≡ (alone s es).air ++ sent_by s es e }
+    ensures { (s : Setting) (es : List Event) (e : Event)
+        → (alone s (es ++ e ∷ [])).air ≡ (alone s es).air ++ sent_by s es e }
 {}
 
 /// No network of a radio can touch another. Whatever two radios are and whatever happens to them: where a network of
@@ -41,7 +43,7 @@ pub fn sent_frames()
 /// sections are the same, and of the frames that left one list begins with the other.
 pub fn two_worlds()
     ensures sections { (c d : RadioConfig) (steps others : List Step) (p q : ℕ) → AreAlike c d steps others p q →
-        slice_get (sections_of c steps) p ≡ slice_get (sections_of d others) q }
+        slice_get (sections_after c steps) p ≡ slice_get (sections_after d others) q }
     ensures left { (c d : RadioConfig) (steps others : List Step) (p q : ℕ) → AreAlike c d steps others p q →
         AreCutFromOne (items_of p (after_steps c steps).left) (items_of q (after_steps d others).left) }
 {}

@@ -8,15 +8,19 @@ ghost use Rattle.bss_core.specs.RadioView.{IsSoundRadio, view_at, opened, shown,
 ghost use Rattle.bss_core.specs.declared.config.ConfigFault.{ConfigFault};
 ghost use Rattle.bss_core.specs.declared.radio.OpenFault.TheVariants as faults;
 
+mod running;
+mod step;
+
 use crate::bss::{Bss, Refusal};
 use crate::config::{ConfigFault, NetConfig, RadioConfig};
 use crate::event::Event;
 use crate::laws::checked_networks;
-use crate::step::{AirItem, Handed};
 use mac_frame::{List, NoMemory};
+pub use running::{RunResult, run};
 use std::alloc::{AllocError, Global};
 use std::collections::VecDeque;
 use std::marker::Model;
+pub use step::{AirItem, Handed, Step};
 
 /// Why an access point was not opened.
 #[derive(Clone, Copy, Debug, PartialEq, Eq)]
@@ -83,9 +87,18 @@ impl Radio {
         ensures callers { result ≢ Err OpenFault.Callers }
         ensures opened { IfOk result (λ radio. radio ≡ fresh_radio config) }
     {
-        if let Some(fault) = config.check() {
-            return Err(OpenFault::Config(fault));
+        match config.check() {
+            Some(fault) => Err(OpenFault::Config(fault)),
+            None => Ok(Radio::of_checked(alloc, config)?),
         }
+    }
+
+    /// The networks of a configuration in which `check` finds no fault, none of which took an event, and an empty queue.
+    /// `NoMemory` where a growth was refused.
+    pub fn of_checked(alloc: Global, config: RadioConfig) -> Result<Radio, NoMemory>
+        requires sound { fault_of config ≡ None }
+        ensures opened { IfOk result (λ radio. radio ≡ fresh_radio config) }
+    {
         checked_networks();
         let RadioConfig {
             channel,

@@ -5,14 +5,19 @@ ghost use Rattle.bss_core.specs.Arrivals.{unit_shown};
 ghost use Rattle.bss_core.specs.Network.{next_sequence};
 ghost use Rattle.bss_core.specs.Replies.{no_reply};
 ghost use Rattle.bss_core.specs.Units.{unit_frame};
+ghost use Rattle.powersave.specs.declared.unit.Whom.TheVariants as whoms;
 
-use crate::frames::Frames;
-use crate::keeping::Keeping;
+mod frames;
+mod keeping;
+mod unit;
+
 use crate::stations::Change;
-use crate::unit::{Arrival, Body};
+pub use frames::Frames;
+pub use keeping::{Keeping, Leaving};
 use mac_frame::{HEADER_LEN, MacAddr, NoMemory, Octets, write_msdu};
-use powersave::Unit;
+use powersave::{Unit, Whom};
 use std::alloc::Global;
+pub use unit::{Arrival, Body, Delivery};
 
 /// How many sequence numbers there are (IEEE Std 802.11-2016, 9.2.4.4.2).
 const SEQUENCE_NUMBERS: u16 = 4096;
@@ -55,6 +60,17 @@ impl Reply {
         }
     }
 
+    /// The state of a station changes too, and no unit is kept for it any more (*profile*).
+    pub fn change_state(&mut self, addr: MacAddr, change: Change)
+        ensures { self.new ≡ record self.old {
+          change = change;
+          keeping = record self.old.keeping { leaving = Leaving.All (whoms.One addr) };
+        } }
+    {
+        self.change = change;
+        self.keeping.leaving = Leaving::All(Whom::One(addr));
+    }
+
     /// Sends a frame too, which carries the sequence number that the reply has now. After `NoMemory` the reply is as
     /// it was.
     pub fn send(&mut self, frame: Octets) -> Result<(), NoMemory>
@@ -70,8 +86,8 @@ impl Reply {
         Ok(())
     }
 
-    /// Sends a unit too, with More Data or without, in a frame from the network `bssid`. After `NoMemory` the reply is as
-    /// it was.
+    /// Sends a unit too, with More Data or without, in a frame from the network `bssid`. After `NoMemory` the reply
+    /// is as it was.
     pub fn send_unit(
         &mut self,
         alloc: Global,

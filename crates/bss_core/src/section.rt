@@ -31,7 +31,8 @@ pub struct StationRow {
 impl StationRow {
     /// The row of a station with this link, for which so many units are kept.
     pub(crate) fn new(addr: MacAddr, link: Link, kept: u32) -> StationRow
-        ensures { (entries : List Entry) → kept ≡ length (units_for (whoms.One addr) entries) → result ≡ row_of entries (addr, link) }
+        ensures { (entries : List Entry) → kept ≡ length (units_for (whoms.One addr) entries)
+            → result ≡ row_of entries (addr, link) }
     {
         match link {
             Link::Authenticated => StationRow {

@@ -1,8 +1,11 @@
 //! The stations that a network knows (IEEE Std 802.11-2016, 11.3.1).
 
-ghost use Rattle.std.specs.Prelude.{◌≡◌, ◌<◌, ◌≤◌, ℕ, List, [], IsTrue, OnOk, OnErr, IfSome, Some, None, option_map, length, slice_get, is_some, if◌then◌else◌};
+ghost use Rattle.std.specs.Prelude.{◌≡◌, ◌<◌, ◌≤◌, ℕ, List, [], IsTrue, OnOk, OnErr, IfSome, Some, None, option_map};
+ghost use Rattle.std.specs.Prelude.{length, slice_get, is_some, if◌then◌else◌};
 ghost use Rattle.bss_core.specs.declared.stations.Link.{Link as Linked};
-ghost use Rattle.bss_core.specs.Stations.{with_table, link_of, standing_of, aid_with, dozes_with, some_station_dozes, may_associate, next_aid, is_associated, set_link, authenticate, associate, disassociate, forget, set_mode, with_mode, changed, IsAllowed, IsModeAlone};
+ghost use Rattle.bss_core.specs.Stations.{with_table, link_of, standing_of, aid_with, dozes_with, some_station_dozes};
+ghost use Rattle.bss_core.specs.Stations.{may_associate, next_aid, is_associated, set_link, authenticate, associate};
+ghost use Rattle.bss_core.specs.Stations.{disassociate, forget, set_mode, with_mode, changed, IsAllowed, IsModeAlone};
 
 use aid_pool::{AidPool, MAX_AID};
 use indexmap::IndexMap;
@@ -108,7 +111,8 @@ impl Stations {
     /// The association identifier of the station at a place, from 0, if it is associated.
     pub fn aid_at(&self, place: usize) -> Option<u16>
         requires { place < length self.now.table }
-        ensures aid { (station : List ℕ × Linked) → slice_get self.now.table place ≡ Some station → result ≡ aid_with (Some station.1) }
+        ensures aid { (station : List ℕ × Linked) → slice_get self.now.table place ≡ Some station
+            → result ≡ aid_with (Some station.1) }
         ensures least { IfSome result (λ aid. 1 ≤ aid) }
         ensures greatest { IfSome result (λ aid. aid ≤ MAX_AID) }
     {

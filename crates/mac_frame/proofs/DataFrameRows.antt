@@ -26,34 +26,44 @@ data_to_host =
 pub a_unit_to_a_host_is_read : frame_of network data_to_host ≡ Ok (Msdu station false host unit)
 a_unit_to_a_host_is_read = refl
 
-pub power_management_tells_that_the_station_dozes : frame_of network (frame 0x08 0x11 network station host 0 unit) ≡ Ok (Msdu station true host unit)
+pub power_management_tells_that_the_station_dozes : frame_of network (frame 0x08 0x11 network station host 0 unit)
+    ≡ Ok (Msdu station true host unit)
 power_management_tells_that_the_station_dozes = refl
 
-pub a_unit_to_all_is_read : frame_of network (frame 0x08 0x01 network station broadcast 0 unit) ≡ Ok (Msdu station false broadcast unit)
+pub a_unit_to_all_is_read : frame_of network (frame 0x08 0x01 network station broadcast 0 unit)
+    ≡ Ok (Msdu station false broadcast unit)
 a_unit_to_all_is_read = refl
 
-pub a_unit_to_oneself_is_read : frame_of network (frame 0x08 0x01 network station station 0 unit) ≡ Ok (Msdu station false station unit)
+pub a_unit_to_oneself_is_read : frame_of network (frame 0x08 0x01 network station station 0 unit)
+    ≡ Ok (Msdu station false station unit)
 a_unit_to_oneself_is_read = refl
 
-pub a_unit_to_the_network_is_read : frame_of network (frame 0x08 0x01 network station network 0 unit) ≡ Ok (Msdu station false network unit)
+pub a_unit_to_the_network_is_read : frame_of network (frame 0x08 0x01 network station network 0 unit)
+    ≡ Ok (Msdu station false network unit)
 a_unit_to_the_network_is_read = refl
 
-pub an_empty_unit_is_read : frame_of network (frame 0x08 0x01 network station host 0 []) ≡ Ok (Msdu station false host [])
+pub an_empty_unit_is_read : frame_of network (frame 0x08 0x01 network station host 0 [])
+    ≡ Ok (Msdu station false host [])
 an_empty_unit_is_read = refl
 
-pub a_unit_of_2304_octets_is_read : frame_of network (frame 0x08 0x01 network station host 0 (replicate 2304 0)) ≡ Ok (Msdu station false host (replicate 2304 0))
+pub a_unit_of_2304_octets_is_read : frame_of network (frame 0x08 0x01 network station host 0 (replicate 2304 0))
+    ≡ Ok (Msdu station false host (replicate 2304 0))
 a_unit_of_2304_octets_is_read = refl
 
-pub retry_more_data_and_the_sequence_number_are_ignored : frame_of network (frame 0x08 0x29 network station host 0xf0 unit) ≡ Ok (Msdu station false host unit)
+pub retry_more_data_and_the_sequence_number_are_ignored :
+    frame_of network (frame 0x08 0x29 network station host 0xf0 unit) ≡ Ok (Msdu station false host unit)
 retry_more_data_and_the_sequence_number_are_ignored = refl
 
-pub a_null_tells_that_its_station_dozes : frame_of network (frame 0x48 0x11 network station network 0 []) ≡ Ok (Null station true)
+pub a_null_tells_that_its_station_dozes : frame_of network (frame 0x48 0x11 network station network 0 [])
+    ≡ Ok (Null station true)
 a_null_tells_that_its_station_dozes = refl
 
-pub a_null_tells_that_its_station_is_active : frame_of network (frame 0x48 0x01 network station network 0 []) ≡ Ok (Null station false)
+pub a_null_tells_that_its_station_is_active : frame_of network (frame 0x48 0x01 network station network 0 [])
+    ≡ Ok (Null station false)
 a_null_tells_that_its_station_is_active = refl
 
-pub the_destination_and_the_body_of_a_null_are_ignored : frame_of network (frame 0x48 0x11 network station host 0 (replicate 2304 0)) ≡ Ok (Null station true)
+pub the_destination_and_the_body_of_a_null_are_ignored :
+    frame_of network (frame 0x48 0x11 network station host 0 (replicate 2304 0)) ≡ Ok (Null station true)
 the_destination_and_the_body_of_a_null_are_ignored = refl
 
 -- ---- each fault
@@ -88,13 +98,15 @@ a_second_fragment_is_refused = refl
 pub no_direction_is_refused : frame_of network (frame 0x08 0x00 network station host 0 unit) ≡ Err Direction
 no_direction_is_refused = refl
 
-pub from_the_distribution_system_is_refused : frame_of network (frame 0x08 0x02 network station host 0 unit) ≡ Err Direction
+pub from_the_distribution_system_is_refused : frame_of network (frame 0x08 0x02 network station host 0 unit)
+    ≡ Err Direction
 from_the_distribution_system_is_refused = refl
 
 pub four_addresses_are_refused : frame_of network (frame 0x08 0x03 network station host 0 unit) ≡ Err Direction
 four_addresses_are_refused = refl
 
-pub a_null_without_direction_is_refused : frame_of network (frame 0x48 0x10 network station network 0 []) ≡ Err Direction
+pub a_null_without_direction_is_refused : frame_of network (frame 0x48 0x10 network station network 0 [])
+    ≡ Err Direction
 a_null_without_direction_is_refused = refl
 
 pub another_receiver_is_refused : frame_of network (frame 0x08 0x01 other_network station host 0 unit) ≡ Err Address
@@ -109,10 +121,12 @@ a_group_that_sends_is_refused = refl
 pub the_network_that_sends_is_refused : frame_of network (frame 0x48 0x01 network network network 0 []) ≡ Err Address
 the_network_that_sends_is_refused = refl
 
-pub a_unit_of_2305_octets_is_refused : frame_of network (frame 0x08 0x01 network station host 0 (replicate 2305 0)) ≡ Err TooLong
+pub a_unit_of_2305_octets_is_refused : frame_of network (frame 0x08 0x01 network station host 0 (replicate 2305 0))
+    ≡ Err TooLong
 a_unit_of_2305_octets_is_refused = refl
 
-pub a_null_of_2305_octets_is_refused : frame_of network (frame 0x48 0x01 network station network 0 (replicate 2305 0)) ≡ Err TooLong
+pub a_null_of_2305_octets_is_refused : frame_of network (frame 0x48 0x01 network station network 0 (replicate 2305 0))
+    ≡ Err TooLong
 a_null_of_2305_octets_is_refused = refl
 
 -- ---- the order of the faults: each string has two
@@ -126,10 +140,12 @@ kind_comes_before_flags = refl
 pub flags_come_before_direction : frame_of network (frame 0x08 0x40 network station host 0 unit) ≡ Err Flags
 flags_come_before_direction = refl
 
-pub direction_comes_before_address : frame_of network (frame 0x08 0x00 other_network station host 0 unit) ≡ Err Direction
+pub direction_comes_before_address : frame_of network (frame 0x08 0x00 other_network station host 0 unit)
+    ≡ Err Direction
 direction_comes_before_address = refl
 
-pub address_comes_before_too_long : frame_of network (frame 0x08 0x01 other_network station host 0 (replicate 2305 0)) ≡ Err Address
+pub address_comes_before_too_long : frame_of network (frame 0x08 0x01 other_network station host 0 (replicate 2305 0))
+    ≡ Err Address
 address_comes_before_too_long = refl
 
 -- ---- the relation, field by field
@@ -186,11 +202,14 @@ pub a_unit_with_more_behind_it_has_this_header :
     ∷ 0x30 ∷ 0x00 ∷ []
 a_unit_with_more_behind_it_has_this_header = refl
 
-pub the_last_unit_has_this_header : data_header station network host 4 false ≡ (0x08 ∷ 0x02 ∷ 0 ∷ 0 ∷ []) ++ station ++ network ++ host ++ (0x40 ∷ 0 ∷ [])
+pub the_last_unit_has_this_header : data_header station network host 4 false
+    ≡ (0x08 ∷ 0x02 ∷ 0 ∷ 0 ∷ []) ++ station ++ network ++ host ++ (0x40 ∷ 0 ∷ [])
 the_last_unit_has_this_header = refl
 
-pub a_unit_to_all_has_this_header : data_header broadcast network station 2 false ≡ (0x08 ∷ 0x02 ∷ 0 ∷ 0 ∷ []) ++ broadcast ++ network ++ station ++ (0x20 ∷ 0 ∷ [])
+pub a_unit_to_all_has_this_header : data_header broadcast network station 2 false
+    ≡ (0x08 ∷ 0x02 ∷ 0 ∷ 0 ∷ []) ++ broadcast ++ network ++ station ++ (0x20 ∷ 0 ∷ [])
 a_unit_to_all_has_this_header = refl
 
-pub the_last_number_is_4095 : data_header station network host 4095 true ≡ (0x08 ∷ 0x22 ∷ 0 ∷ 0 ∷ []) ++ station ++ network ++ host ++ (0xf0 ∷ 0xff ∷ [])
+pub the_last_number_is_4095 : data_header station network host 4095 true
+    ≡ (0x08 ∷ 0x22 ∷ 0 ∷ 0 ∷ []) ++ station ++ network ++ host ++ (0xf0 ∷ 0xff ∷ [])
 the_last_number_is_4095 = refl

@@ -49,7 +49,8 @@ bit_15_is_order = refl
 pub a_probe_response_is_50_00 : octets_of (plain Management 5) ≡ 0x50 ∷ 0x00 ∷ []
 a_probe_response_is_50_00 = refl
 
-pub data_from_the_access_point_with_more_data_is_08_22 : octets_of (record (plain Data 0) { from_ds = true; more_data = true }) ≡ 0x08 ∷ 0x22 ∷ []
+pub data_from_the_access_point_with_more_data_is_08_22 :
+    octets_of (record (plain Data 0) { from_ds = true; more_data = true }) ≡ 0x08 ∷ 0x22 ∷ []
 data_from_the_access_point_with_more_data_is_08_22 = refl
 
 pub every_bit_is_written :

@@ -2,7 +2,8 @@
 use Rattle.std.proofs.Common.{◌≡◌, ℕ, ◌^◌, ◌<◌, Bool, true, false, ◌==◌, ap, ◌∙◌, arith}
 use Rattle.std.specs.Int.{from_bool}
 use Rattle.std.proofs.lemmas.Nat.{from_le_bytes-to_le_bytes_2}
-use Rattle.mac_frame.specs.FrameControl.{type_number, type_of, bits, has_bit, control_in, control_of, number_of, octets_of}
+use Rattle.mac_frame.specs.FrameControl.{type_number, type_of, bits, has_bit, control_in, control_of, number_of}
+use Rattle.mac_frame.specs.FrameControl.{octets_of}
 use Rattle.mac_frame.specs.declared.frame_control.FrameControl.{FrameControl}
 use Rattle.mac_frame.proofs.FrameTypes.{type_of-type_number, type_number_fits}
 

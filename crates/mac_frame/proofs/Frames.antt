@@ -1,6 +1,9 @@
 -- A string is a frame, by the concatenation of its fields, exactly where the tests in their order find no fault.
-use Rattle.std.proofs.Common.{◌≡◌, ℕ, ◌+◌, ◌<◌, ◌≤◌, ◌⊎◌, Bool, true, false, not, ◌&&◌, ◌==◌, ltb, List, length, drop, slice_index, Result, Ok, Err, MatchResult, IfOk, IsOkAnd, if◌then◌else◌, inl, inr, refl, sym, ◌∙◌, ap, subst, ⊎_elim, arith}
-use Rattle.std.proofs.lemmas.Bool.{eq-eqb, eqb-true, le-ltb, ltb-false, not_from_true, not-false, or_from, or_parts, and_left, and_right, and_parts, and_cases, false≢true}
+use Rattle.std.proofs.Common.{◌≡◌, ℕ, ◌+◌, ◌<◌, ◌≤◌, ◌⊎◌, Bool, true, false, not, ◌&&◌, ◌==◌, ltb, List, length, drop}
+use Rattle.std.proofs.Common.{slice_index, Result, Ok, Err, MatchResult, IfOk, IsOkAnd, if◌then◌else◌, inl, inr, refl}
+use Rattle.std.proofs.Common.{sym, ◌∙◌, ap, subst, ⊎_elim, arith}
+use Rattle.std.proofs.lemmas.Bool.{eq-eqb, eqb-true, le-ltb, ltb-false, not_from_true, not-false, or_from, or_parts}
+use Rattle.std.proofs.lemmas.Bool.{and_left, and_right, and_parts, and_cases, false≢true}
 use Rattle.std.proofs.lemmas.List.{get_or-drop}
 use Rattle.mac_frame.specs.Address.{broadcast}
 use Rattle.mac_frame.specs.FrameControl.{is_management, is_control, is_data}
@@ -31,11 +34,13 @@ not_short x long =
 -- a control frame with a header of 16 octets is
 no_short_control : (x : List ℕ) → 16 ≤ length x → (control_at x).kind ≡ Control → is_short x ≡ false
 no_short_control x long type =
-    or_from _ _ (le-ltb (length x) 16 long) (and_right _ _ (not_from_true (is_control (control_at x).kind) (ap is_control type)))
+    or_from _ _ (le-ltb (length x) 16 long)
+    (and_right _ _ (not_from_true (is_control (control_at x).kind) (ap is_control type)))
 
 sixteen : (x : List ℕ) → is_short x ≡ false → 16 ≤ length x
 sixteen x short =
-    ltb-false (length x) 16 (or_parts (ltb (length x) 16) (ltb (length x) 24 && not (is_control (control_at x).kind)) short).0
+    ltb-false (length x) 16
+    (or_parts (ltb (length x) 16) (ltb (length x) 24 && not (is_control (control_at x).kind)) short).0
 
 -- a frame that is no control frame has a header of 24 octets
 twenty_four : (x : List ℕ) → is_short x ≡ false → is_control (control_at x).kind ≡ false → 24 ≤ length x
@@ -47,10 +52,12 @@ twenty_four x short other =
 -- ---- the kinds
 
 -- a frame of another type is none of these
-no_management : (x : List ℕ) (type : FrameType) → (control_at x).kind ≡ type → is_management type ≡ false → is_management_read (control_at x) ≡ false
+no_management : (x : List ℕ) (type : FrameType) → (control_at x).kind ≡ type → is_management type ≡ false
+    → is_management_read (control_at x) ≡ false
 no_management x type is other = and_left _ _ (ap is_management is ∙ other)
 
-no_data : (x : List ℕ) (type : FrameType) → (control_at x).kind ≡ type → is_data type ≡ false → is_data_read (control_at x) ≡ false
+no_data : (x : List ℕ) (type : FrameType) → (control_at x).kind ≡ type → is_data type ≡ false
+    → is_data_read (control_at x) ≡ false
 no_data x type is other = and_left _ _ (ap is_data is ∙ other)
 
 -- the function, by the answers of its tests
@@ -64,12 +71,14 @@ ladder short version is_management is_data is_poll m d p =
     else Err Kind
 
 -- one of two steps is taken
-taken : (b : Bool) (r s : Result Frame Unread) (f : Frame) → (if b then r else s) ≡ Ok f → ((b ≡ true) × (r ≡ Ok f)) ⊎ ((b ≡ false) × (s ≡ Ok f))
+taken : (b : Bool) (r s : Result Frame Unread) (f : Frame) → (if b then r else s) ≡ Ok f
+    → ((b ≡ true) × (r ≡ Ok f)) ⊎ ((b ≡ false) × (s ≡ Ok f))
 taken true r s f e = inl (refl, e)
 taken false r s f e = inr (refl, e)
 
 -- a data frame and a PS-Poll frame are read as no other kind
-pub read_as_data : (bss x : List ℕ) (c : FrameControl) → c ≡ control_at x → 24 ≤ length x → c.version ≡ 0 → is_data_read c ≡ true → frame_of bss x ≡ data_of bss x
+pub read_as_data : (bss x : List ℕ) (c : FrameControl) → c ≡ control_at x → 24 ≤ length x → c.version ≡ 0
+    → is_data_read c ≡ true → frame_of bss x ≡ data_of bss x
 read_as_data bss x c same long zero_version read =
     let version_is : (control_at x).version ≡ 0 = ap (λ (d : FrameControl). d.version) (sym same) ∙ zero_version in
     let data_is : is_data_read (control_at x) ≡ true = ap is_data_read (sym same) ∙ read in
@@ -77,9 +86,11 @@ read_as_data bss x c same long zero_version read =
     let short = not_short x long in
     let version = not_from_true _ (eq-eqb (control_at x).version 0 version_is) in
     let other = no_management x Data type refl in
-    λ i. ladder (short i) (version i) (other i) (data_is i) (is_ps_poll_read (control_at x)) (management_of bss x) (data_of bss x) (ps_poll_of bss x)
+    λ i. ladder (short i) (version i) (other i) (data_is i) (is_ps_poll_read (control_at x)) (management_of bss x)
+    (data_of bss x) (ps_poll_of bss x)
 
-pub read_as_poll : (bss x : List ℕ) (c : FrameControl) → c ≡ control_at x → 16 ≤ length x → c.version ≡ 0 → is_ps_poll_read c ≡ true → frame_of bss x ≡ ps_poll_of bss x
+pub read_as_poll : (bss x : List ℕ) (c : FrameControl) → c ≡ control_at x → 16 ≤ length x → c.version ≡ 0
+    → is_ps_poll_read c ≡ true → frame_of bss x ≡ ps_poll_of bss x
 read_as_poll bss x c same long zero_version poll =
     let version_is : (control_at x).version ≡ 0 = ap (λ (d : FrameControl). d.version) (sym same) ∙ zero_version in
     let poll_is : is_ps_poll_read (control_at x) ≡ true = ap is_ps_poll_read (sym same) ∙ poll in
@@ -88,7 +99,8 @@ read_as_poll bss x c same long zero_version poll =
     let version = not_from_true _ (eq-eqb (control_at x).version 0 version_is) in
     let other = no_management x Control type refl in
     let another = no_data x Control type refl in
-    λ i. ladder (short i) (version i) (other i) (another i) (poll_is i) (management_of bss x) (data_of bss x) (ps_poll_of bss x)
+    λ i. ladder (short i) (version i) (other i) (another i) (poll_is i) (management_of bss x) (data_of bss x)
+    (ps_poll_of bss x)
 
 -- ---- a frame is what the function gives
 
@@ -99,7 +111,8 @@ module _ (bss x : List ℕ) (f : Frame) where
       let short = not_short x r.passes.long in
       let version = not_from_true _ (eq-eqb (control_at x).version 0 r.passes.version) in
       let here : frame_of bss x ≡ management_of bss x =
-      λ i. ladder (short i) (version i) (r.kind i) (is_data_read (control_at x)) (is_ps_poll_read (control_at x)) (management_of bss x) (data_of bss x) (ps_poll_of bss x) in
+      λ i. ladder (short i) (version i) (r.kind i) (is_data_read (control_at x)) (is_ps_poll_read (control_at x))
+      (management_of bss x) (data_of bss x) (ps_poll_of bss x) in
       here ∙ r.frame
 
   data_is_read : data_frames.IsRead bss x f → frame_of bss x ≡ Ok f
@@ -110,7 +123,8 @@ module _ (bss x : List ℕ) (f : Frame) where
 
 pub is_read : (bss x : List ℕ) (f : Frame) → IsFrame bss x f → frame_of bss x ≡ Ok f
 is_read bss x (Mgmt subtype from to_all body) w =
-    management_is_read bss x (Mgmt subtype from to_all body) (management.read_where_frame bss x subtype from to_all body w)
+    management_is_read bss x (Mgmt subtype from to_all body)
+    (management.read_where_frame bss x subtype from to_all body w)
 is_read bss x (Msdu from doze to body) w =
     data_is_read bss x (Msdu from doze to body) (data_frames.read_where_msdu bss x from doze to body w)
 is_read bss x (Null from doze) w =
@@ -121,7 +135,8 @@ is_read bss x (Poll from aid) w =
 -- ---- what the function gives is a frame
 
 -- by the type, no control frame
-no_control : (x : List ℕ) (type : FrameType) → (control_at x).kind ≡ type → is_control type ≡ false → is_control (control_at x).kind ≡ false
+no_control : (x : List ℕ) (type : FrameType) → (control_at x).kind ≡ type → is_control type ≡ false
+    → is_control (control_at x).kind ≡ false
 no_control x type is other = ap is_control is ∙ other
 
 pub is_a_frame : (bss x : List ℕ) (f : Frame) → frame_of bss x ≡ Ok f → IsFrame bss x f
@@ -131,11 +146,14 @@ is_a_frame bss x f e =
     let zero_version = eqb-true (control_at x).version 0 (not-false _ version.0) in
     elim (taken (is_management_read (control_at x)) (management_of bss x) _ f version.1) [
       | inl m ↦
-          let long = twenty_four x short.0 (no_control x Management (where_is_management (control_at x).kind (and_parts _ _ m.0).0) refl) in
+          let long =
+          twenty_four x short.0
+          (no_control x Management (where_is_management (control_at x).kind (and_parts _ _ m.0).0) refl) in
           management.frame_where_read bss x long zero_version m.0 f m.1
       | inr m ↦ elim (taken (is_data_read (control_at x)) (data_of bss x) _ f m.1) [
         | inl d ↦
-            let long = twenty_four x short.0 (no_control x Data (where_is_data (control_at x).kind (and_parts _ _ d.0).0) refl) in
+            let long =
+            twenty_four x short.0 (no_control x Data (where_is_data (control_at x).kind (and_parts _ _ d.0).0) refl) in
             data_frames.frame_where_read bss x long zero_version d.0 f d.1
         | inr d ↦ elim (taken (is_ps_poll_read (control_at x)) (ps_poll_of bss x) (Err Kind) f d.1) [
           | inl p ↦ polls.frame_where_read bss x (sixteen x short.0) zero_version p.0 f p.1
@@ -160,7 +178,9 @@ pub is_addressed : (bss x : List ℕ) (f : Frame) → IsFrame bss x f → IsAddr
 is_addressed bss x (Mgmt subtype from to_all body) w =
     let p = placed bss x w.fields w.management.headed in
     let long = p.long in
-    let receiver : (w.fields.address_1 ≡ bss) ⊎ (w.fields.address_1 ≡ broadcast) = ⊎_elim (λ (r : IsProbeRequest bss w.fields). r.to_network) (λ (r : IsIndividual bss w.fields). inl r.to_network) w.addressed in
+    let receiver : (w.fields.address_1 ≡ bss) ⊎ (w.fields.address_1 ≡ broadcast) =
+    ⊎_elim (λ (r : IsProbeRequest bss w.fields). r.to_network)
+    (λ (r : IsIndividual bss w.fields). inl r.to_network) w.addressed in
     (omega arith, subst (λ a. (a ≡ bss) ⊎ (a ≡ broadcast)) (sym p.address_1) receiver)
 is_addressed bss x (Msdu from doze to body) w =
     let p = placed bss x w.fields w.data_frame.headed in
@@ -176,15 +196,20 @@ is_addressed bss x (Poll from aid) w =
     (omega arith, inl (p.bssid ∙ w.polled.to_network))
 
 -- the body of a frame has octets where the string has
-octets_after : (x body : List ℕ) → drop 24 x ≡ body → ((place : ℕ) → slice_index x place < 256) → (place : ℕ) → slice_index body place < 256
+octets_after : (x body : List ℕ) → drop 24 x ≡ body → ((place : ℕ) → slice_index x place < 256) → (place : ℕ)
+    → slice_index body place < 256
 octets_after x body body_is octets place =
-    subst (λ (b : List ℕ). slice_index b place < 256) body_is (subst (λ octet. octet < 256) (sym (get_or-drop 24 x place 0)) (octets (24 + place)))
+    subst (λ (b : List ℕ). slice_index b place < 256) body_is
+    (subst (λ octet. octet < 256) (sym (get_or-drop 24 x place 0)) (octets (24 + place)))
 
-pub body_octets : (bss x : List ℕ) (subtype : ℕ) (from : List ℕ) (to_all : Bool) (body : List ℕ) → IsFrame bss x (Mgmt subtype from to_all body) → ((place : ℕ) → slice_index x place < 256) → (place : ℕ) → slice_index body place < 256
+pub body_octets : (bss x : List ℕ) (subtype : ℕ) (from : List ℕ) (to_all : Bool) (body : List ℕ)
+    → IsFrame bss x (Mgmt subtype from to_all body) → ((place : ℕ) → slice_index x place < 256) → (place : ℕ)
+    → slice_index body place < 256
 body_octets bss x subtype from to_all body w =
     octets_after x body ((placed bss x w.fields w.management.headed).body ∙ sym w.body_is)
 
-pub unit_octets : (bss x from : List ℕ) (doze : Bool) (to body : List ℕ) → IsFrame bss x (Msdu from doze to body) → ((place : ℕ) → slice_index x place < 256) → (place : ℕ) → slice_index body place < 256
+pub unit_octets : (bss x from : List ℕ) (doze : Bool) (to body : List ℕ) → IsFrame bss x (Msdu from doze to body)
+    → ((place : ℕ) → slice_index x place < 256) → (place : ℕ) → slice_index body place < 256
 unit_octets bss x from doze to body w =
     octets_after x body ((placed bss x w.fields w.data_frame.headed).body ∙ sym w.body_is)
 
@@ -199,12 +224,14 @@ abbrev IsReading : List ℕ → List ℕ → Result Rx Unread → Type 0
 IsReading bss x r = MatchResult r (λ rx. frame_of bss x ≡ Ok (shown rx)) (λ fault. frame_of bss x ≡ Err fault)
 
 -- what is read is a frame
-pub reads_a_frame : (bss x : List ℕ) (r : Result Rx Unread) → IsReading bss x r → IfOk r (λ rx. IsFrame bss x (shown rx))
+pub reads_a_frame : (bss x : List ℕ) (r : Result Rx Unread) → IsReading bss x r
+    → IfOk r (λ rx. IsFrame bss x (shown rx))
 reads_a_frame bss x (Ok rx) e = is_a_frame bss x (shown rx) e
 reads_a_frame bss x (Err fault) e = tt
 
 -- what is a frame is read
-pub reads_each_frame : (bss x : List ℕ) (r : Result Rx Unread) → IsReading bss x r → (f : Frame) → IsFrame bss x f → IsOkAnd r (λ rx. shown rx ≡ f)
+pub reads_each_frame : (bss x : List ℕ) (r : Result Rx Unread) → IsReading bss x r → (f : Frame) → IsFrame bss x f
+    → IsOkAnd r (λ rx. shown rx ≡ f)
 reads_each_frame bss x (Ok rx) e f w =
     let read = is_read bss x f w in
     cc

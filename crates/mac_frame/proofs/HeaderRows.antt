@@ -2,8 +2,15 @@
 use Rattle.std.proofs.Common.{◌≡◌, ℕ, List, [], ◌∷◌, take, refl}
 use Rattle.mac_frame.specs.Header.{sequence_control}
 use Rattle.std.specs.Int.{w16, to_le_bytes}
-use Rattle.mac_frame.specs.Management.{association_request_subtype, association_response_subtype, reassociation_request_subtype, reassociation_response_subtype, probe_request_subtype, probe_response_subtype, beacon_subtype, disassociation_subtype, authentication_subtype, deauthentication_subtype, management_header, capability}
-use Rattle.mac_frame.specs.declared.management.TheConstants.{ASSOCIATION_REQUEST, ASSOCIATION_RESPONSE, AUTHENTICATION, BEACON, CAPABILITY, DEAUTHENTICATION, DISASSOCIATION, PROBE_REQUEST, PROBE_RESPONSE, REASSOCIATION_REQUEST, REASSOCIATION_RESPONSE}
+use Rattle.mac_frame.specs.Management.{association_request_subtype, association_response_subtype}
+use Rattle.mac_frame.specs.Management.{reassociation_request_subtype, reassociation_response_subtype}
+use Rattle.mac_frame.specs.Management.{probe_request_subtype, probe_response_subtype, beacon_subtype}
+use Rattle.mac_frame.specs.Management.{disassociation_subtype, authentication_subtype, deauthentication_subtype}
+use Rattle.mac_frame.specs.Management.{management_header, capability}
+use Rattle.mac_frame.specs.declared.management.TheConstants.{ASSOCIATION_REQUEST, ASSOCIATION_RESPONSE, AUTHENTICATION}
+use Rattle.mac_frame.specs.declared.management.TheConstants.{BEACON, CAPABILITY, DEAUTHENTICATION, DISASSOCIATION}
+use Rattle.mac_frame.specs.declared.management.TheConstants.{PROBE_REQUEST, PROBE_RESPONSE, REASSOCIATION_REQUEST}
+use Rattle.mac_frame.specs.declared.management.TheConstants.{REASSOCIATION_RESPONSE}
 use Rattle.mac_frame.proofs.Samples.{network, station}
 
 abbrev probe_response : List ℕ

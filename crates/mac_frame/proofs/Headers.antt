@@ -1,13 +1,16 @@
 -- A string has a header of 24 octets, by the concatenation of its fields, exactly where the tests of a header find no
 -- fault.
-use Rattle.std.proofs.Common.{◌≡◌, ◌≢◌, ℕ, ◌+◌, ◌≤◌, Bool, true, false, not, List, ◌++◌, length, take, drop, Result, Ok, Err, if◌then◌else◌, refl, sym, ◌∙◌, ap, subst, arith, length-drop}
+use Rattle.std.proofs.Common.{◌≡◌, ◌≢◌, ℕ, ◌+◌, ◌≤◌, Bool, true, false, not, List, ◌++◌, length, take, drop, Result, Ok}
+use Rattle.std.proofs.Common.{Err, if◌then◌else◌, refl, sym, ◌∙◌, ap, subst, arith, length-drop}
 use Rattle.std.specs.Cmp.Lexicographic.{bytes_decides}
 use Rattle.std.specs.Str.{bytes_eq}
-use Rattle.std.proofs.lemmas.Bool.{eq-eqb, eqb-true, le-ltb, ltb-false, not_from_true, not-true, not-false, or_from, or_parts, false≢true, false_from_ne_true}
+use Rattle.std.proofs.lemmas.Bool.{eq-eqb, eqb-true, le-ltb, ltb-false, not_from_true, not-true, not-false, or_from}
+use Rattle.std.proofs.lemmas.Bool.{or_parts, false≢true, false_from_ne_true}
 use Rattle.std.proofs.lemmas.List.{length-take-le, take-append-drop}
 use Rattle.mac_frame.specs.Address.{is_group, is_station}
 use Rattle.mac_frame.specs.FrameControl.{control_of, has_refused_flags}
-use Rattle.mac_frame.specs.Header.{Fields, spelled, IsHeaded, fragment_of, control_at, address_at, fragment_at, is_refused, is_from_station, is_too_long, unless_faulty}
+use Rattle.mac_frame.specs.Header.{Fields, spelled, IsHeaded, fragment_of, control_at, address_at, fragment_at}
+use Rattle.mac_frame.specs.Header.{is_refused, is_from_station, is_too_long, unless_faulty}
 use Rattle.mac_frame.specs.declared.frame_control.FrameControl.{FrameControl}
 use Rattle.mac_frame.specs.declared.frame.Unread.{Unread}
 use Rattle.mac_frame.specs.declared.frame.Unread.TheVariants.{Flags, Direction, Address, TooLong}
@@ -61,7 +64,8 @@ placed_by_cells f = record {
 
 pub placed : (bss x : List ℕ) (f : Fields) → IsHeaded bss x f → IsPlaced x f
 placed bss x f h =
-    let spelled_placed : IsPlaced (spelled f) f = subst (λ g. IsPlaced (spelled g) g) (sym (by_cells_is bss x f h)) (placed_by_cells f) in
+    let spelled_placed : IsPlaced (spelled f) f =
+    subst (λ g. IsPlaced (spelled g) g) (sym (by_cells_is bss x f h)) (placed_by_cells f) in
     subst (λ y. IsPlaced y f) (sym h.string) spelled_placed
 
 -- the fields at their places
@@ -98,9 +102,11 @@ pub record Passes (bss x : List ℕ) : Type 0 where
 
 pub is_station_where : (bss address : List ℕ) → is_group address ≡ false → address ≢ bss → is_station bss address ≡ true
 is_station_where bss address single other =
-    ap not (or_from (is_group address) (bytes_eq address bss) single (false_from_ne_true (bytes_eq address bss) (λ e. other ((bytes_decides address bss).0 e))))
+    let differs = false_from_ne_true (bytes_eq address bss) (λ e. other ((bytes_decides address bss).0 e)) in
+    ap not (or_from (is_group address) (bytes_eq address bss) single differs)
 
-pub where_is_station : (bss address : List ℕ) → is_station bss address ≡ true → (is_group address ≡ false) × (address ≢ bss)
+pub where_is_station : (bss address : List ℕ) → is_station bss address ≡ true
+    → (is_group address ≡ false) × (address ≢ bss)
 where_is_station bss address h =
     let parts = or_parts (is_group address) (bytes_eq address bss) (not-true _ h) in
     (parts.0, λ e. false≢true (sym parts.1 ∙ (bytes_decides address bss).1 e))
@@ -110,11 +116,14 @@ passes bss x f h =
     let p = placed bss x f h in
     let long = p.long in
     let size : length (drop 24 x) ≤ 2304 = subst (λ b. length b ≤ 2304) (sym p.body) h.body in
-    let flags : has_refused_flags (control_of f.control) ≡ false = or_from _ _ (or_from _ _ h.more_fragments h.protected) h.order in
+    let flags : has_refused_flags (control_of f.control) ≡ false =
+    or_from _ _ (or_from _ _ h.more_fragments h.protected) h.order in
     record {
       long = omega arith;
       version = ap (λ (c : FrameControl). c.version) p.control ∙ h.version;
-      refused = or_from _ _ (ap has_refused_flags p.control ∙ flags) (not_from_true _ (eq-eqb (fragment_at x) 0 (p.fragment ∙ h.first_fragment)));
+      refused =
+          or_from _ _ (ap has_refused_flags p.control ∙ flags)
+          (not_from_true _ (eq-eqb (fragment_at x) 0 (p.fragment ∙ h.first_fragment)));
       station = ap (is_station bss) p.address_2 ∙ is_station_where bss f.address_2 h.from_station h.from_another;
       fits = le-ltb 2304 (length (drop 24 x)) size;
     }
@@ -153,16 +162,20 @@ pub record FindsNone (r d a l : Bool) : Type 0 where
   pub address : a ≡ false
   pub too_long : l ≡ false
 
-pub unless_faulty_none : {A : Type 0} (refused direction address too_long : Bool) (frame : A) → FindsNone refused direction address too_long → unless_faulty refused direction address too_long frame ≡ Ok frame
+pub unless_faulty_none : {A : Type 0} (refused direction address too_long : Bool) (frame : A)
+    → FindsNone refused direction address too_long → unless_faulty refused direction address too_long frame ≡ Ok frame
 unless_faulty_none refused direction address too_long frame n =
     λ i. unless_faulty (n.refused i) (n.direction i) (n.address i) (n.too_long i) frame
 
 -- a step that isn't taken
-pub not_taken : {A : Type 0} (b : Bool) (u : Unread) (r : Result A Unread) (f : A) → (if b then Err u else r) ≡ Ok f → (b ≡ false) × (r ≡ Ok f)
+pub not_taken : {A : Type 0} (b : Bool) (u : Unread) (r : Result A Unread) (f : A) → (if b then Err u else r) ≡ Ok f
+    → (b ≡ false) × (r ≡ Ok f)
 not_taken true u r f e = cc
 not_taken false u r f e = (refl, e)
 
-pub unless_faulty_read : {A : Type 0} (refused direction address too_long : Bool) (frame f : A) → unless_faulty refused direction address too_long frame ≡ Ok f → FindsNone refused direction address too_long × (frame ≡ f)
+pub unless_faulty_read : {A : Type 0} (refused direction address too_long : Bool) (frame f : A)
+    → unless_faulty refused direction address too_long frame ≡ Ok f
+    → FindsNone refused direction address too_long × (frame ≡ f)
 unless_faulty_read refused direction address too_long frame f e =
     let first = not_taken refused Flags _ f e in
     let second = not_taken direction Direction _ f first.1 in

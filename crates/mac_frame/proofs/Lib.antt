@@ -1,5 +1,6 @@
 pub mod Cells
 pub mod Addresses
+pub mod AddressTexts
 pub mod FrameTypes
 pub mod FrameControls
 pub mod Headers

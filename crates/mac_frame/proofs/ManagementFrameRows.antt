@@ -27,57 +27,72 @@ an_authentication_is_read = refl
 
 -- capability 1 and listen interval 10, the SSID lab, four rates
 abbrev association : List ℕ
-association = 0x01 ∷ 0x00 ∷ 0x0a ∷ 0x00 ∷ 0x00 ∷ 0x03 ∷ 0x6c ∷ 0x61 ∷ 0x62 ∷ 0x01 ∷ 0x04 ∷ 0x02 ∷ 0x04 ∷ 0x0b ∷ 0x16 ∷ []
+association =
+    0x01 ∷ 0x00 ∷ 0x0a ∷ 0x00 ∷ 0x00 ∷ 0x03 ∷ 0x6c ∷ 0x61 ∷ 0x62 ∷ 0x01 ∷ 0x04 ∷ 0x02 ∷ 0x04 ∷ 0x0b ∷ 0x16 ∷ []
 
-pub an_association_request_is_read : frame_of network (frame 0x00 0 network station network 0 association) ≡ Ok (Mgmt 0 station false association)
+pub an_association_request_is_read : frame_of network (frame 0x00 0 network station network 0 association)
+    ≡ Ok (Mgmt 0 station false association)
 an_association_request_is_read = refl
 
 -- capability 1 and listen interval 10, the network as the current one, the SSID lab, four rates
 abbrev reassociation : List ℕ
 reassociation =
-    (0x01 ∷ 0x00 ∷ 0x0a ∷ 0x00 ∷ []) ++ network ++ (0x00 ∷ 0x03 ∷ 0x6c ∷ 0x61 ∷ 0x62 ∷ 0x01 ∷ 0x04 ∷ 0x02 ∷ 0x04 ∷ 0x0b ∷ 0x16 ∷ [])
+    (0x01 ∷ 0x00 ∷ 0x0a ∷ 0x00 ∷ []) ++ network
+    ++ (0x00 ∷ 0x03 ∷ 0x6c ∷ 0x61 ∷ 0x62 ∷ 0x01 ∷ 0x04 ∷ 0x02 ∷ 0x04 ∷ 0x0b ∷ 0x16 ∷ [])
 
-pub a_reassociation_request_is_read : frame_of network (frame 0x20 0 network station network 0 reassociation) ≡ Ok (Mgmt 2 station false reassociation)
+pub a_reassociation_request_is_read : frame_of network (frame 0x20 0 network station network 0 reassociation)
+    ≡ Ok (Mgmt 2 station false reassociation)
 a_reassociation_request_is_read = refl
 
-pub a_disassociation_is_read : frame_of network (frame 0xa0 0 network station network 0 (8 ∷ 0 ∷ [])) ≡ Ok (Mgmt 10 station false (8 ∷ 0 ∷ []))
+pub a_disassociation_is_read : frame_of network (frame 0xa0 0 network station network 0 (8 ∷ 0 ∷ []))
+    ≡ Ok (Mgmt 10 station false (8 ∷ 0 ∷ []))
 a_disassociation_is_read = refl
 
-pub a_deauthentication_is_read : frame_of network (frame 0xc0 0 network station network 0 (3 ∷ 0 ∷ [])) ≡ Ok (Mgmt 12 station false (3 ∷ 0 ∷ []))
+pub a_deauthentication_is_read : frame_of network (frame 0xc0 0 network station network 0 (3 ∷ 0 ∷ []))
+    ≡ Ok (Mgmt 12 station false (3 ∷ 0 ∷ []))
 a_deauthentication_is_read = refl
 
 pub an_empty_body_is_read : frame_of network (frame 0xb0 0 network station network 0 []) ≡ Ok (Mgmt 11 station false [])
 an_empty_body_is_read = refl
 
-pub a_body_of_2304_octets_is_read : frame_of network (frame 0xc0 0 network station network 0 (replicate 2304 0)) ≡ Ok (Mgmt 12 station false (replicate 2304 0))
+pub a_body_of_2304_octets_is_read : frame_of network (frame 0xc0 0 network station network 0 (replicate 2304 0))
+    ≡ Ok (Mgmt 12 station false (replicate 2304 0))
 a_body_of_2304_octets_is_read = refl
 
-pub retry_power_management_and_more_data_are_ignored : frame_of network (frame 0xb0 0x38 network station network 0xf0 open_system) ≡ Ok (Mgmt 11 station false open_system)
+pub retry_power_management_and_more_data_are_ignored :
+    frame_of network (frame 0xb0 0x38 network station network 0xf0 open_system) ≡ Ok (Mgmt 11 station false open_system)
 retry_power_management_and_more_data_are_ignored = refl
 
 -- ---- what is sent to all, or for any, as a probe request alone may be
 
-pub an_authentication_to_all_is_refused : frame_of network (frame 0xb0 0 broadcast station network 0 open_system) ≡ Err Address
+pub an_authentication_to_all_is_refused : frame_of network (frame 0xb0 0 broadcast station network 0 open_system)
+    ≡ Err Address
 an_authentication_to_all_is_refused = refl
 
-pub an_authentication_for_any_network_is_refused : frame_of network (frame 0xb0 0 network station broadcast 0 open_system) ≡ Err Address
+pub an_authentication_for_any_network_is_refused :
+    frame_of network (frame 0xb0 0 network station broadcast 0 open_system) ≡ Err Address
 an_authentication_for_any_network_is_refused = refl
 
-pub a_deauthentication_to_all_is_refused : frame_of network (frame 0xc0 0 broadcast station broadcast 0 (3 ∷ 0 ∷ [])) ≡ Err Address
+pub a_deauthentication_to_all_is_refused : frame_of network (frame 0xc0 0 broadcast station broadcast 0 (3 ∷ 0 ∷ []))
+    ≡ Err Address
 a_deauthentication_to_all_is_refused = refl
 
-pub an_association_request_to_another_network_is_refused : frame_of network (frame 0x00 0 other_network station other_network 0 association) ≡ Err Address
+pub an_association_request_to_another_network_is_refused :
+    frame_of network (frame 0x00 0 other_network station other_network 0 association) ≡ Err Address
 an_association_request_to_another_network_is_refused = refl
 
-pub an_association_request_for_another_network_is_refused : frame_of network (frame 0x00 0 network station other_network 0 association) ≡ Err Address
+pub an_association_request_for_another_network_is_refused :
+    frame_of network (frame 0x00 0 network station other_network 0 association) ≡ Err Address
 an_association_request_for_another_network_is_refused = refl
 
 -- ---- each other fault
 
-pub a_group_that_authenticates_is_refused : frame_of network (frame 0xb0 0 network group network 0 open_system) ≡ Err Address
+pub a_group_that_authenticates_is_refused : frame_of network (frame 0xb0 0 network group network 0 open_system)
+    ≡ Err Address
 a_group_that_authenticates_is_refused = refl
 
-pub the_network_that_authenticates_is_refused : frame_of network (frame 0xb0 0 network network network 0 open_system) ≡ Err Address
+pub the_network_that_authenticates_is_refused : frame_of network (frame 0xb0 0 network network network 0 open_system)
+    ≡ Err Address
 the_network_that_authenticates_is_refused = refl
 
 pub another_version_is_refused : frame_of network (frame 0xb1 0 network station network 0 open_system) ≡ Err Version
@@ -89,13 +104,16 @@ a_protected_frame_is_refused = refl
 pub a_second_fragment_is_refused : frame_of network (frame 0xb0 0 network station network 0x01 open_system) ≡ Err Flags
 a_second_fragment_is_refused = refl
 
-pub to_the_distribution_system_is_refused : frame_of network (frame 0xb0 0x01 network station network 0 open_system) ≡ Err Direction
+pub to_the_distribution_system_is_refused : frame_of network (frame 0xb0 0x01 network station network 0 open_system)
+    ≡ Err Direction
 to_the_distribution_system_is_refused = refl
 
-pub from_the_distribution_system_is_refused : frame_of network (frame 0xb0 0x02 network station network 0 open_system) ≡ Err Direction
+pub from_the_distribution_system_is_refused : frame_of network (frame 0xb0 0x02 network station network 0 open_system)
+    ≡ Err Direction
 from_the_distribution_system_is_refused = refl
 
-pub a_body_of_2305_octets_is_refused : frame_of network (frame 0xb0 0 network station network 0 (replicate 2305 0)) ≡ Err TooLong
+pub a_body_of_2305_octets_is_refused : frame_of network (frame 0xb0 0 network station network 0 (replicate 2305 0))
+    ≡ Err TooLong
 a_body_of_2305_octets_is_refused = refl
 
 -- ---- what an access point sends is not read, nor is what it doesn't announce

@@ -22,7 +22,8 @@ first_poll =
 pub a_poll_is_read : frame_of network first_poll ≡ Ok (Poll station 1)
 a_poll_is_read = refl
 
-pub the_greatest_identifier_is_read : frame_of network (poll 0xa4 0 0xd7 0xc7 network station []) ≡ Ok (Poll station 2007)
+pub the_greatest_identifier_is_read : frame_of network (poll 0xa4 0 0xd7 0xc7 network station [])
+    ≡ Ok (Poll station 2007)
 the_greatest_identifier_is_read = refl
 
 pub the_two_high_bits_are_ignored : frame_of network (poll 0xa4 0 0x01 0x00 network station []) ≡ Ok (Poll station 1)
@@ -34,17 +35,21 @@ no_identifier_is_read_as_0 = refl
 pub fourteen_bits_are_read : frame_of network (poll 0xa4 0 0xff 0xff network station []) ≡ Ok (Poll station 16383)
 fourteen_bits_are_read = refl
 
-pub retry_power_management_and_more_data_are_ignored : frame_of network (poll 0xa4 0x38 0x01 0xc0 network station []) ≡ Ok (Poll station 1)
+pub retry_power_management_and_more_data_are_ignored : frame_of network (poll 0xa4 0x38 0x01 0xc0 network station [])
+    ≡ Ok (Poll station 1)
 retry_power_management_and_more_data_are_ignored = refl
 
 pub what_follows_is_ignored : frame_of network (first_poll ++ replicate 4 0) ≡ Ok (Poll station 1)
 what_follows_is_ignored = refl
 
 -- where another frame has the fragment number 15
-pub there_is_no_fragment_number : frame_of network (first_poll ++ (0 ∷ 0 ∷ 0 ∷ 0 ∷ 0 ∷ 0 ∷ 0x0f ∷ 0x00 ∷ [])) ≡ Ok (Poll station 1)
+pub there_is_no_fragment_number : frame_of network (first_poll ++ (0 ∷ 0 ∷ 0 ∷ 0 ∷ 0 ∷ 0 ∷ 0x0f ∷ 0x00 ∷ []))
+    ≡ Ok (Poll station 1)
 there_is_no_fragment_number = refl
 
-pub any_number_of_octets_may_follow : frame_of network (first_poll ++ (0 ∷ 0 ∷ 0 ∷ 0 ∷ 0 ∷ 0 ∷ 0x0f ∷ 0x00 ∷ []) ++ replicate 2400 0) ≡ Ok (Poll station 1)
+pub any_number_of_octets_may_follow :
+    frame_of network (first_poll ++ (0 ∷ 0 ∷ 0 ∷ 0 ∷ 0 ∷ 0 ∷ 0x0f ∷ 0x00 ∷ []) ++ replicate 2400 0)
+    ≡ Ok (Poll station 1)
 any_number_of_octets_may_follow = refl
 
 -- ---- each fault
@@ -68,10 +73,12 @@ a_protected_poll_is_refused = refl
 pub an_ht_control_field_is_refused : frame_of network (poll 0xa4 0x80 0x01 0xc0 network station []) ≡ Err Flags
 an_ht_control_field_is_refused = refl
 
-pub to_the_distribution_system_is_refused : frame_of network (poll 0xa4 0x01 0x01 0xc0 network station []) ≡ Err Direction
+pub to_the_distribution_system_is_refused : frame_of network (poll 0xa4 0x01 0x01 0xc0 network station [])
+    ≡ Err Direction
 to_the_distribution_system_is_refused = refl
 
-pub from_the_distribution_system_is_refused : frame_of network (poll 0xa4 0x02 0x01 0xc0 network station []) ≡ Err Direction
+pub from_the_distribution_system_is_refused : frame_of network (poll 0xa4 0x02 0x01 0xc0 network station [])
+    ≡ Err Direction
 from_the_distribution_system_is_refused = refl
 
 pub another_network_is_refused : frame_of network (poll 0xa4 0 0x01 0xc0 other_network station []) ≡ Err Address
@@ -100,14 +107,16 @@ kind_comes_before_flags = refl
 pub flags_come_before_direction : frame_of network (poll 0xa4 0x41 0x01 0xc0 network station []) ≡ Err Flags
 flags_come_before_direction = refl
 
-pub direction_comes_before_address : frame_of network (poll 0xa4 0x01 0x01 0xc0 other_network station []) ≡ Err Direction
+pub direction_comes_before_address : frame_of network (poll 0xa4 0x01 0x01 0xc0 other_network station [])
+    ≡ Err Direction
 direction_comes_before_address = refl
 
 -- ---- the relation, field by field
 
 pub the_first_poll_is_a_frame : IsFrame network first_poll (Poll station 1)
 the_first_poll_is_a_frame = record {
-  fields = record { control = 0xa4 ∷ 0x00 ∷ []; aid = 0x01 ∷ 0xc0 ∷ []; bssid = network; transmitter = station; rest = [] };
+  fields =
+      record { control = 0xa4 ∷ 0x00 ∷ []; aid = 0x01 ∷ 0xc0 ∷ []; bssid = network; transmitter = station; rest = [] };
   polled = record {
     string = refl;
     control = refl;

@@ -1,18 +1,21 @@
 -- A string is a PS-Poll frame, by its fields, exactly where the tests of a PS-Poll frame find no fault.
-use Rattle.std.proofs.Common.{◌≡◌, ℕ, ◌+◌, ◌≤◌, length, true, false, not, ◌&&◌, List, ◌++◌, take, drop, Ok, refl, sym, ◌∙◌, ap, subst, arith}
+use Rattle.std.proofs.Common.{◌≡◌, ℕ, ◌+◌, ◌≤◌, length, true, false, not, ◌&&◌, List, ◌++◌, take, drop, Ok, refl, sym}
+use Rattle.std.proofs.Common.{◌∙◌, ap, subst, arith}
 use Rattle.std.specs.Cmp.Lexicographic.{bytes_decides}
 use Rattle.std.proofs.lemmas.Bool.{eq-eqb, eqb-true, not_from_true, not-false, and_from, and_parts, or_from, or_parts}
 use Rattle.std.proofs.lemmas.List.{length-take-le, take-append-drop}
 use Rattle.mac_frame.specs.Address.{is_station}
 use Rattle.mac_frame.specs.FrameControl.{is_control, control_of, has_refused_flags, has_direction}
 use Rattle.mac_frame.specs.Header.{control_at, address_at, addressed_to, is_from_station, is_to_network}
-use Rattle.mac_frame.specs.PsPoll.{ps_poll_subtype, aid_of, PollFields, spelled_poll, IsPolled, IsPsPoll, is_ps_poll_read, aid_at, poll_at, ps_poll_of}
+use Rattle.mac_frame.specs.PsPoll.{ps_poll_subtype, aid_of, PollFields, spelled_poll, IsPolled, IsPsPoll}
+use Rattle.mac_frame.specs.PsPoll.{is_ps_poll_read, aid_at, poll_at, ps_poll_of}
 use Rattle.mac_frame.specs.Rx.{Frame, Poll}
 use Rattle.mac_frame.specs.Frame.{IsFrame}
 use Rattle.mac_frame.specs.declared.frame_control.FrameControl.{FrameControl}
 use Rattle.mac_frame.proofs.FrameTypes.{where_is_control}
 use Rattle.mac_frame.proofs.Cells.{cells, is_its_cells}
-use Rattle.mac_frame.proofs.Headers.{part_length, is_station_where, where_is_station, unless_faulty_none, unless_faulty_read}
+use Rattle.mac_frame.proofs.Headers.{part_length, is_station_where, where_is_station, unless_faulty_none}
+use Rattle.mac_frame.proofs.Headers.{unless_faulty_read}
 
 -- ---- where the fields stand
 
@@ -48,7 +51,8 @@ placed_by_cells f = record { long = omega arith; control = refl; aid = refl; bss
 
 pub placed : (bss x : List ℕ) (f : PollFields) → IsPolled bss x f → IsPlaced x f
 placed bss x f h =
-    let spelled_placed : IsPlaced (spelled_poll f) f = subst (λ g. IsPlaced (spelled_poll g) g) (sym (by_cells_is bss x f h)) (placed_by_cells f) in
+    let spelled_placed : IsPlaced (spelled_poll f) f =
+    subst (λ g. IsPlaced (spelled_poll g) g) (sym (by_cells_is bss x f h)) (placed_by_cells f) in
     subst (λ y. IsPlaced y f) (sym h.string) spelled_placed
 
 -- the fields at their places
@@ -85,11 +89,15 @@ read_where_frame bss x from aid w =
     let long = p.long in
     let kind = ap (λ (c : FrameControl). c.kind) p.control ∙ h.type in
     let which = ap (λ (c : FrameControl). c.subtype) p.control ∙ h.subtype in
-    let flags : has_refused_flags (control_of f.control) ≡ false = or_from _ _ (or_from _ _ h.more_fragments h.protected) h.order in
+    let flags : has_refused_flags (control_of f.control) ≡ false =
+    or_from _ _ (or_from _ _ h.more_fragments h.protected) h.order in
     let direction : has_direction (control_of f.control) ≡ false = or_from _ _ h.to_ds h.from_ds in
-    let station : is_from_station bss x ≡ true = ap (is_station bss) p.transmitter ∙ is_station_where bss f.transmitter h.from_station h.from_another in
+    let station : is_from_station bss x ≡ true =
+    ap (is_station bss) p.transmitter ∙ is_station_where bss f.transmitter h.from_station h.from_another in
     let receiver : is_to_network bss x ≡ true = (bytes_decides (addressed_to x) bss).1 (p.bssid ∙ h.to_network) in
-    let read = unless_faulty_none (has_refused_flags (control_at x)) (has_direction (control_at x)) (not (is_from_station bss x && is_to_network bss x)) false (poll_at x) (record {
+    let read =
+    unless_faulty_none (has_refused_flags (control_at x)) (has_direction (control_at x))
+    (not (is_from_station bss x && is_to_network bss x)) false (poll_at x) (record {
       refused = ap has_refused_flags p.control ∙ flags;
       direction = ap has_direction p.control ∙ direction;
       address = not_from_true _ (and_from _ _ station receiver);
@@ -101,15 +109,20 @@ read_where_frame bss x from aid w =
     record {
       long = omega arith;
       version = ap (λ (c : FrameControl). c.version) p.control ∙ h.version;
-      kind = and_from (is_control (control_at x).kind) _ (ap is_control kind) (eq-eqb (control_at x).subtype ps_poll_subtype which);
+      kind =
+          and_from (is_control (control_at x).kind) _ (ap is_control kind)
+          (eq-eqb (control_at x).subtype ps_poll_subtype which);
       frame = read ∙ ap Ok frame_is;
     }
 
 -- ---- what passes the tests is a frame
 
-pub frame_where_read : (bss x : List ℕ) → 16 ≤ length x → (control_at x).version ≡ 0 → is_ps_poll_read (control_at x) ≡ true → (f : Frame) → ps_poll_of bss x ≡ Ok f → IsFrame bss x f
+pub frame_where_read : (bss x : List ℕ) → 16 ≤ length x → (control_at x).version ≡ 0
+    → is_ps_poll_read (control_at x) ≡ true → (f : Frame) → ps_poll_of bss x ≡ Ok f → IsFrame bss x f
 frame_where_read bss x long version read f e =
-    let found = unless_faulty_read (has_refused_flags (control_at x)) (has_direction (control_at x)) (not (is_from_station bss x && is_to_network bss x)) false (poll_at x) f e in
+    let found =
+    unless_faulty_read (has_refused_flags (control_at x)) (has_direction (control_at x))
+    (not (is_from_station bss x && is_to_network bss x)) false (poll_at x) f e in
     let n = found.0 in
     let kind = and_parts _ _ read in
     let order = or_parts _ _ n.refused in

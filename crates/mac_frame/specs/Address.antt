@@ -1,5 +1,6 @@
 -- Addresses (IEEE Std 802.11-2016, 9.2.4.3): six octets, as a list.
-use Rattle.std.specs.Prelude.{ℕ, ◌+◌, ◌*◌, ◌/◌, ◌%◌, ◌<◌, ◌≡◌, Bool, false, not, ◌==◌, ◌&&◌, ◌||◌, List, [], ◌∷◌, length, map, slice_index, Option, Some, None, option_map, option_and_then, if◌then◌else◌}
+use Rattle.std.specs.Prelude.{ℕ, ◌+◌, ◌*◌, ◌/◌, ◌%◌, ◌<◌, ◌≡◌, Bool, false, not, ◌==◌, ◌&&◌, ◌||◌, List, [], ◌∷◌}
+use Rattle.std.specs.Prelude.{length, map, slice_index, Option, Some, None, option_map, option_and_then, if◌then◌else◌}
 use Rattle.std.specs.List.{join_with_byte}
 use Rattle.std.specs.Str.{bytes_eq}
 use Rattle.std.specs.Fmt.{digit_glyph}
@@ -45,7 +46,8 @@ octet_at text place = octet_of (slice_index text (3 * place)) (slice_index text 
 -- seventeen characters, with `:` between the pairs
 abbrev pub is_parted : List ℕ → Bool
 is_parted text =
-    length text == 17 && slice_index text 2 == 58 && slice_index text 5 == 58 && slice_index text 8 == 58 && slice_index text 11 == 58 && slice_index text 14 == 58
+    length text == 17 && slice_index text 2 == 58 && slice_index text 5 == 58 && slice_index text 8 == 58
+    && slice_index text 11 == 58 && slice_index text 14 == 58
 
 infixl 10 ◌>>=◌
 abbrev pub ◌>>=◌ : {A B : Type 0} → Option A → (A → Option B) → Option B

@@ -1,8 +1,9 @@
--- Data frames with three addresses (IEEE Std 802.11-2016, 9.3.2.1): those that a station sends to the access point, and the
--- header of one from it.
+-- Data frames with three addresses (IEEE Std 802.11-2016, 9.3.2.1): those that a station sends to the access point, and
+-- the header of one from it.
 use Rattle.std.specs.Prelude.{ℕ, ◌≡◌, Bool, true, false, not, ◌==◌, ◌&&◌, ◌||◌, List, drop, Result, if◌then◌else◌}
 use Rattle.mac_frame.specs.FrameControl.{is_data, control_of, is_to_ds, plain}
-use Rattle.mac_frame.specs.Header.{Fields, IsHeaded, control_at, address_at, is_refused, is_from_station, is_to_network, is_too_long, unless_faulty, header}
+use Rattle.mac_frame.specs.Header.{Fields, IsHeaded, control_at, address_at, is_refused, is_from_station, is_to_network}
+use Rattle.mac_frame.specs.Header.{is_too_long, unless_faulty, header}
 use Rattle.mac_frame.specs.Rx.{Frame, Msdu, Null}
 use Rattle.mac_frame.specs.declared.frame.Unread.{Unread}
 use Rattle.mac_frame.specs.declared.frame_control.FrameControl.{FrameControl}
@@ -63,7 +64,8 @@ null_at x = Null (address_at x 10) (control_at x).power_management
 -- the data frame that a string is for the network, or its first fault after that of its kind
 abbrev pub data_of : List ℕ → List ℕ → Result Frame Unread
 data_of bss x =
-    unless_faulty (is_refused x) (not (is_to_ds (control_at x))) (not (is_from_station bss x && is_to_network bss x)) (is_too_long x)
+    unless_faulty (is_refused x) (not (is_to_ds (control_at x))) (not (is_from_station bss x && is_to_network bss x))
+    (is_too_long x)
     (if (control_at x).subtype == data_subtype then msdu_at x else null_at x)
 
 -- ---- sent
@@ -72,6 +74,7 @@ data_of bss x =
 abbrev pub data_control : Bool → FrameControl
 data_control more = record (plain types.Data data_subtype) { from_ds = true; more_data = more }
 
--- the header of a Data frame from the access point: Address 1 the destination, Address 2 the BSSID, Address 3 the source
+-- the header of a Data frame from the access point: Address 1 the destination, Address 2 the BSSID, Address 3 the
+-- source
 abbrev pub data_header : (to bss source : List ℕ) (sequence : ℕ) (more : Bool) → List ℕ
 data_header to bss source sequence more = header (data_control more) to bss source sequence

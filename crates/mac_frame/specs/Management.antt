@@ -4,7 +4,8 @@ use Rattle.std.specs.Int.{w16, to_le_bytes}
 use Rattle.std.specs.Str.{bytes_eq}
 use Rattle.mac_frame.specs.Address.{broadcast, is_bss_or_broadcast}
 use Rattle.mac_frame.specs.FrameControl.{is_management, control_of, has_direction, plain}
-use Rattle.mac_frame.specs.Header.{Fields, IsHeaded, control_at, address_at, addressed_to, is_refused, is_from_station, is_to_network, is_too_long, unless_faulty, header}
+use Rattle.mac_frame.specs.Header.{Fields, IsHeaded, control_at, address_at, addressed_to, is_refused, is_from_station}
+use Rattle.mac_frame.specs.Header.{is_to_network, is_too_long, unless_faulty, header}
 use Rattle.mac_frame.specs.Rx.{Frame, Mgmt}
 use Rattle.mac_frame.specs.declared.frame.Unread.{Unread}
 use Rattle.mac_frame.specs.declared.frame_control.FrameControl.{FrameControl}
@@ -45,7 +46,8 @@ deauthentication_subtype = 12
 -- a frame that is read, and that a station sends to its network alone
 abbrev pub is_individual_subtype : ℕ → Bool
 is_individual_subtype subtype =
-    subtype == association_request_subtype || subtype == reassociation_request_subtype || subtype == disassociation_subtype
+    subtype == association_request_subtype || subtype == reassociation_request_subtype
+    || subtype == disassociation_subtype
     || subtype == authentication_subtype
     || subtype == deauthentication_subtype
 
@@ -108,7 +110,8 @@ mgmt_at x = Mgmt (control_at x).subtype (address_at x 10) (bytes_eq (addressed_t
 -- the management frame that a string is for the network, or its first fault after that of its kind
 abbrev pub management_of : List ℕ → List ℕ → Result Frame Unread
 management_of bss x =
-    unless_faulty (is_refused x) (has_direction (control_at x)) (not (is_from_station bss x && is_management_addressed bss x))
+    unless_faulty (is_refused x) (has_direction (control_at x))
+    (not (is_from_station bss x && is_management_addressed bss x))
     (is_too_long x) (mgmt_at x)
 
 -- ---- sent

@@ -1,5 +1,5 @@
--- PS-Poll frames (IEEE Std 802.11-2016, 9.3.1.5), with which a station in power save mode asks for what is kept for it. Their
--- header has 16 octets, and no Sequence Control.
+-- PS-Poll frames (IEEE Std 802.11-2016, 9.3.1.5), with which a station in power save mode asks for what is kept for it.
+-- Their header has 16 octets, and no Sequence Control.
 use Rattle.std.specs.Prelude.{ℕ, ◌≡◌, ◌≢◌, Bool, false, not, ◌==◌, ◌&&◌, List, ◌++◌, length, take, drop, Result}
 use Rattle.std.specs.Int.{w16, from_le_bytes}
 use Rattle.mac_frame.specs.Address.{is_group}
@@ -74,5 +74,6 @@ poll_at x = Poll (address_at x 10) (aid_at x)
 -- the PS-Poll frame that a string is for the network, or its first fault after that of its kind
 abbrev pub ps_poll_of : List ℕ → List ℕ → Result Frame Unread
 ps_poll_of bss x =
-    unless_faulty (has_refused_flags (control_at x)) (has_direction (control_at x)) (not (is_from_station bss x && is_to_network bss x))
+    unless_faulty (has_refused_flags (control_at x)) (has_direction (control_at x))
+    (not (is_from_station bss x && is_to_network bss x))
     false (poll_at x)

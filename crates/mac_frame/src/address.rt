@@ -1,7 +1,8 @@
 //! Addresses (IEEE Std 802.11-2016, 9.2.4.3).
 
 ghost use Rattle.std.specs.Prelude.{◌≡◌, ℕ, ◌+◌, ◌*◌, ◌<◌, ◌↔◌, List, length, IsTrue, Some, IfSome};
-ghost use Rattle.mac_frame.specs.Address.{IsAddress, broadcast, is_group, is_parted, octet_at, address_of, address_text, octet_text};
+ghost use Rattle.mac_frame.specs.Address.{IsAddress, broadcast, is_group, is_parted, octet_at, address_of};
+ghost use Rattle.mac_frame.specs.Address.{address_text, octet_text};
 ghost use Rattle.hex.specs.Hex.{hex_digit_value};
 
 use std::fmt;

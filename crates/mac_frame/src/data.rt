@@ -1,5 +1,5 @@
-//! Data frames with three addresses (IEEE Std 802.11-2016, 9.3.2.1): those that a station sends to the access point, and
-//! the header of one from it.
+//! Data frames with three addresses (IEEE Std 802.11-2016, 9.3.2.1): those that a station sends to the access point,
+//! and the header of one from it.
 
 ghost use Rattle.std.specs.Prelude.{◌≡◌, ◌++◌, ◌<◌, ◌≤◌, length, Ok, Err, MatchResult, OnOk, OnErr};
 ghost use Rattle.mac_frame.specs.Header.{control_at};
@@ -65,9 +65,9 @@ pub fn data_of(bss: MacAddr, control: FrameControl, frame: &[u8]) -> Result<Rx<'
     }
 }
 
-/// Appends the header of a Data frame (9.3.2.1) from the network `bss` to a receiver, with the address of the station that the
-/// unit comes from and a sequence number below 4096 (9.2.4.4.2). `more` says that more is kept for the receiver (More Data,
-/// 9.2.4.1.8). After `NoMemory` `out` is as it was.
+/// Appends the header of a Data frame (9.3.2.1) from the network `bss` to a receiver, with the address of the station
+/// that the unit comes from and a sequence number below 4096 (9.2.4.4.2). `more` says that more is kept for the
+/// receiver (More Data, 9.2.4.1.8). After `NoMemory` `out` is as it was.
 pub fn write_msdu(
     out: &mut Octets,
     to: MacAddr,

@@ -2,7 +2,8 @@
 //! its bits.
 
 ghost use Rattle.std.specs.Prelude.{◌≡◌, ◌^◌, ◌<◌};
-ghost use Rattle.mac_frame.specs.FrameControl.{type_number, type_of, bits, has_bit, control_of, has_refused_flags, has_direction, is_to_ds, octets_of, plain};
+ghost use Rattle.mac_frame.specs.FrameControl.{type_number, type_of, bits, has_bit, control_of, has_refused_flags};
+ghost use Rattle.mac_frame.specs.FrameControl.{has_direction, is_to_ds, octets_of, plain};
 
 // Where each field stands in the number of the two octets, the first of which is the low one (9.2.4.1.1).
 

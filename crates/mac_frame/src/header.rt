@@ -4,7 +4,8 @@
 
 ghost use Rattle.std.specs.Prelude.{◌≡◌, ◌+◌, ◌++◌, ◌<◌, ◌≤◌, length, take, drop, OnOk, OnErr};
 ghost use Rattle.std.specs.Option.{SomeIff};
-ghost use Rattle.mac_frame.specs.Header.{control_at, address_at, addressed_to, fragment_at, is_refused, is_from_station, is_to_network, is_too_long, header};
+ghost use Rattle.mac_frame.specs.Header.{control_at, address_at, addressed_to, fragment_at, is_refused};
+ghost use Rattle.mac_frame.specs.Header.{is_from_station, is_to_network, is_too_long, header};
 
 use crate::address::MacAddr;
 use crate::frame_control::{FrameControl, bits};
@@ -70,7 +71,8 @@ pub fn address_3(frame: &[u8]) -> MacAddr
     address_at(frame, ADDRESS_3)
 }
 
-/// The six octets of a string from a place on, counted from 0, as an address (9.2.4.3.2). The string has that many from there.
+/// The six octets of a string from a place on, counted from 0, as an address (9.2.4.3.2). The string has that many from
+/// there.
 pub fn address_at(octets: &[u8], place: usize) -> MacAddr
     requires { place + ADDRESS_LEN ≤ length octets.now }
     ensures { result ≡ address_at octets.now place }
@@ -94,7 +96,8 @@ fn fragment_at(frame: &[u8]) -> u16
     bits(u16::from_le_bytes(sequence_control), 0, 4)
 }
 
-/// Whether a frame with a header of 24 octets is a fragment, protected, or has an HT Control field (9.2.4.1, 9.2.4.4.3).
+/// Whether a frame with a header of 24 octets is a fragment, protected, or has an HT Control field (9.2.4.1,
+/// 9.2.4.4.3).
 pub fn is_refused(control: FrameControl, frame: &[u8]) -> bool
     requires long { HEADER_LEN ≤ length frame.now }
     requires control { control ≡ control_at frame.now }

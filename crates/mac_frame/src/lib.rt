@@ -24,14 +24,15 @@ pub use data::write_msdu;
 pub use frame::{Rx, Unread, decode};
 pub use header::{ADDRESS_LEN, HEADER_LEN, MAX_BODY_LEN, address_at, addressed};
 pub use item_list::List;
-pub use laws::{body_has_octets, frame_is_addressed, hearing, one_frame};
+pub use laws::{address_comes_back, body_has_octets, frame_is_addressed, hearing, one_frame};
 pub use management::{
     ASSOCIATION_REQUEST, ASSOCIATION_RESPONSE, AUTHENTICATION, BEACON, CAPABILITY,
-    DEAUTHENTICATION, DISASSOCIATION, PROBE_REQUEST, PROBE_RESPONSE, REASSOCIATION_REQUEST,
-    REASSOCIATION_RESPONSE, write_mgmt,
+    DEAUTHENTICATION, DISASSOCIATION, MAX_AID, PROBE_REQUEST, PROBE_RESPONSE,
+    REASSOCIATION_REQUEST, REASSOCIATION_RESPONSE, write_mgmt,
 };
 pub use memory::NoMemory;
 pub use octet_string::Octets;
+pub use ps_poll::AID_HIGH_BITS;
 
 #[cfg(test)]
 mod tests;

@@ -3,7 +3,9 @@
 
 ghost use Rattle.std.specs.Prelude.{◌≡◌, ◌++◌, ◌<◌, ◌≤◌, length, Ok, Err, MatchResult, OnOk, OnErr};
 ghost use Rattle.mac_frame.specs.Header.{control_at};
-ghost use Rattle.mac_frame.specs.Management.{is_individual_subtype, is_management_read, is_probe_addressed, is_individually_addressed, is_management_addressed, management_of, management_header};
+ghost use Rattle.mac_frame.specs.Management.{is_individual_subtype, is_management_read, is_probe_addressed};
+ghost use Rattle.mac_frame.specs.Management.{is_individually_addressed, is_management_addressed, management_of};
+ghost use Rattle.mac_frame.specs.Management.{management_header};
 ghost use Rattle.mac_frame.specs.Rx.{shown};
 
 use crate::address::MacAddr;
@@ -48,6 +50,9 @@ pub const DEAUTHENTICATION: u8 = 12;
 
 /// Capability Information as it is sent: ESS alone (9.4.1.4).
 pub const CAPABILITY: u16 = 1;
+
+/// The greatest association identifier (9.4.1.8). The least is 1.
+pub const MAX_AID: u16 = 2007;
 
 /// Whether a frame is a management frame of a subtype that is read (9.2.4.1.3).
 pub fn is_management_read(control: FrameControl) -> bool
@@ -127,8 +132,8 @@ fn is_individually_addressed(bss: MacAddr, frame: &[u8]) -> bool
     is_to_network(bss, frame) && address_3(frame) == bss
 }
 
-/// Appends the header of a management frame (9.3.3.2) of this subtype, below 16 (9.2.4.1.3), to a receiver, from the network
-/// `bss`, with a sequence number below 4096 (9.2.4.4.2). After `NoMemory` `out` is as it was.
+/// Appends the header of a management frame (9.3.3.2) of this subtype, below 16 (9.2.4.1.3), to a receiver, from the
+/// network `bss`, with a sequence number below 4096 (9.2.4.4.2). After `NoMemory` `out` is as it was.
 pub fn write_mgmt(
     out: &mut Octets,
     subtype: u8,

@@ -1,4 +1,5 @@
-//! PS-Poll frames (IEEE Std 802.11-2016, 9.3.1.5), with which a station in power save mode asks for what is kept for it.
+//! PS-Poll frames (IEEE Std 802.11-2016, 9.3.1.5), with which a station in power save mode asks for what is kept for
+//! it.
 
 ghost use Rattle.std.specs.Prelude.{◌≡◌, ◌≤◌, length, Ok, Err, MatchResult};
 ghost use Rattle.mac_frame.specs.Header.{control_at};
@@ -16,8 +17,11 @@ const PS_POLL: u8 = 10;
 /// Where the AID stands, after Frame Control (9.3.1.5). BSSID and transmitter stand where Address 1 and Address 2 do.
 const AID: usize = 2;
 
-/// How many bits of the AID field are read, the lowest (9.4.1.8).
-const AID_BITS: u32 = 14;
+/// How many bits of an AID field hold the identifier, the lowest (9.4.1.8).
+const AID_WIDTH: u32 = 14;
+
+/// The two high bits of an AID field, which stand above the identifier (9.4.1.8).
+pub const AID_HIGH_BITS: u16 = 0b11 << AID_WIDTH;
 
 /// Whether a frame is a PS-Poll frame (9.2.4.1.3).
 pub fn is_ps_poll_read(control: FrameControl) -> bool
@@ -58,6 +62,6 @@ fn aid_at(frame: &[u8]) -> u16
     bits(
         u16::from_le_bytes([frame[AID], frame[AID + 1]]),
         0,
-        AID_BITS,
+        AID_WIDTH,
     )
 }

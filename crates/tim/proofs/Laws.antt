@@ -5,9 +5,10 @@ use Rattle.std.specs.List.{range_with_len}
 use Rattle.std.proofs.lemmas.Bool.{cases_lt, le-leb, leb-true, and_parts, cases_Bool}
 use Rattle.std.proofs.lemmas.Nat.Bits.{bit_at_lowest}
 use Rattle.tim.specs.Tim.{IsAid, SameNumbers, max_aid, tim_id, first_place, HasNumber, ShowsTim, is_shown, bits_from, octet_at, virtual_bitmap, partial_of, element_of, tim_octets}
+use Rattle.tim.specs.Bitmap.{sent_at}
 use Rattle.tim.proofs.Octets.{from_bool-le, from_bool-true, bit_at-octet_at, length-virtual_bitmap, get_or-virtual_bitmap, virtual_bitmap-lt}
 use Rattle.tim.proofs.Partial.{IsPartial, partial_of-is}
-use Rattle.tim.proofs.Spelling.{sent_at, sent_at-from, sent_at-before, sent_at-has, has-sent_at, IsSpelled, spelled, shows, one_spelling}
+use Rattle.tim.proofs.Spelling.{sent_at-from, sent_at-before, sent_at-has, has-sent_at, IsSpelled, spelled, shows, one_spelling}
 
 -- ---- Bitmap Control
 

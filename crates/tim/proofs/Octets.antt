@@ -40,25 +40,6 @@ bits_from-lt bit (suc count) n =
     let others = bits_from-lt bit count (suc n) in
     omega (arith, pow-suc 2 count)
 
--- one bit in front of the others
-pub bits_from-more : (bit : ℕ → Bool) (count n : ℕ) → bits_from bit (suc count) n ≡ from_bool (bit n) + 2 * bits_from bit count (suc n)
-unfolding bits_from
-bits_from-more bit count n = refl
-
--- the same bits, at other numbers
-pub bits_from-same : (bit other : ℕ → Bool) (count n m : ℕ) → ((k : ℕ) → k < count → bit (n + k) ≡ other (m + k)) → bits_from bit count n ≡ bits_from other count m
-unfolding bits_from
-bits_from-same bit other zero n m same = refl
-bits_from-same bit other (suc count) n m same =
-    let here : n + 0 ≡ n = omega arith in
-    let there : m + 0 ≡ m = omega arith in
-    let first : bit n ≡ other m = ap bit (sym here) ∙ same 0 (omega arith) ∙ ap other there in
-    let others : bits_from bit count (suc n) ≡ bits_from other count (suc m) = bits_from-same bit other count (suc n) (suc m) (λ k below.
-    let next : suc n + k ≡ n + suc k = omega arith in
-    let next_other : m + suc k ≡ suc m + k = omega arith in
-    ap bit next ∙ same (suc k) (omega arith) ∙ ap other next_other) in
-    λ i. from_bool (first i) + 2 * others i
-
 -- the octet at a place has the bits of its eight numbers
 pub bit_at-octet_at : (members : ℕ → Bool) (place k : ℕ) → k < 8 → bit_at (octet_at members place) k ≡ from_bool (is_shown members (8 * place + k))
 unfolding octet_at
@@ -89,26 +70,3 @@ virtual_bitmap-lt members place = ⊎_elim
 pub virtual_bitmap-from : (members : ℕ → Bool) (octets : List ℕ) → length octets ≡ 251 → ((place : ℕ) → place < 251 → get_or octets place 0 ≡ octet_at members place) → octets ≡ virtual_bitmap members
 unfolding virtual_bitmap
 virtual_bitmap-from members octets long each = fill_by_all (octet_at members) octets 251 0 long each
-
--- ---- an octet from its bits, the highest first
-
-pub bits_from-none : (bit : ℕ → Bool) (n : ℕ) → bits_from bit 0 n ≡ 0
-unfolding bits_from
-bits_from-none bit n = refl
-
--- the next lower bit
-pub octet_more : (bit : ℕ → Bool) (k octet : ℕ) → 0 < k → k ≤ 8 → octet ≡ bits_from bit (8 - k) k → 2 * octet + from_bool (bit (k - 1)) ≡ bits_from bit (8 - (k - 1)) (k - 1)
-octet_more bit k octet more within is =
-    let rest : 8 - (k - 1) ≡ suc (8 - k) = omega arith in
-    let here : suc (k - 1) ≡ k = omega arith in
-    let others : octet ≡ bits_from bit (8 - k) (suc (k - 1)) = is ∙ ap (bits_from bit (8 - k)) (sym here) in
-    let one = bits_from-more bit (8 - k) (k - 1) in
-    let sum : from_bool (bit (k - 1)) + 2 * octet ≡ 2 * octet + from_bool (bit (k - 1)) = omega arith in
-    sym sum ∙ ap (λ o. from_bool (bit (k - 1)) + 2 * o) others ∙ sym one ∙ ap (λ count. bits_from bit count (k - 1)) (sym rest)
-
--- is an octet
-pub octet_fits : (bit : ℕ → Bool) (k octet : ℕ) → 0 < k → k ≤ 8 → octet ≡ bits_from bit (8 - k) k → 2 * octet + from_bool (bit (k - 1)) < 256
-octet_fits bit k octet more within is =
-    let below = bits_from-lt bit (8 - (k - 1)) (k - 1) in
-    let most : 2 ^ (8 - (k - 1)) ≤ 256 = pow-le-pow_right {n = 2} (omega arith) {j = 8} (omega arith) in
-    omega (arith, octet_more bit k octet more within is, below, most)

@@ -4,21 +4,11 @@ use Rattle.std.specs.Int.{bit_at, from_bool}
 use Rattle.std.proofs.lemmas.Bool.{cases_lt, le-leb, leb-true, lt-ltb, ltb-true, eqb-true, eq-eqb, ne_eqb, and_parts, and_from, or_cases, or_left, or_right, not-true, not_from_true, not_from_false, false_from_ne_true, false≢true}
 use Rattle.std.proofs.lemmas.Nat.Bits.{bit_at_lowest}
 use Rattle.tim.specs.Tim.{IsAid, first_place, HasNumber, ShowsTim, tim_id}
-use Rattle.tim.specs.Spelling.{has_number, is_placed, is_trimmed, is_spelled}
+use Rattle.tim.specs.Spelling.{is_placed, is_trimmed, is_spelled}
 use Rattle.tim.proofs.Octets.{from_bool-true}
-use Rattle.tim.proofs.Spelling.{sent_at-from, has-sent_at, IsUsed, IsSpelled, spelled, shows}
+use Rattle.tim.proofs.Spelling.{IsUsed, IsSpelled, spelled, shows}
 
 -- ---- one number
-
-pub has_number-has : (first : ℕ) (octets : List ℕ) (n : ℕ) → has_number first octets n ≡ true → HasNumber first octets n
-has_number-has first octets n test =
-    let parts = and_parts _ _ test in
-    let from = leb-true first (n / 8) parts.0 in
-    let bit = eqb-true (bit_at (get_or octets (n / 8 - first) 0) (n % 8)) 1 parts.1 in
-    has-sent_at first octets n (ap (λ o. bit_at o (n % 8)) (sent_at-from first octets (n / 8) from) ∙ bit)
-
-pub has-has_number : (first : ℕ) (octets : List ℕ) (n : ℕ) → HasNumber first octets n → has_number first octets n ≡ true
-has-has_number first octets n w = and_from _ _ (le-leb first (n / 8) w.from) (eq-eqb _ 1 w.bit)
 
 -- number 0 is the lowest bit of the octet at place 0
 pub has_0 : (octets : List ℕ) → 1 ≤ length octets → get_or octets 0 0 % 2 ≡ 1 → HasNumber 0 octets 0

@@ -5,12 +5,9 @@ use Rattle.std.proofs.lemmas.Bool.{cases_lt, le-leb, lt-leb, false≢true, false
 use Rattle.std.proofs.lemmas.List.{get_or_past, ext_get_or}
 use Rattle.std.proofs.lemmas.Nat.Bits.{bit_at-zero, bit_at-lt, bit_at-trailing_zeros, same_from_bits_below}
 use Rattle.tim.specs.Tim.{IsAid, first_place, HasNumber, ShowsTim, tim_id}
+use Rattle.tim.specs.Bitmap.{sent_at}
 
 -- ---- the octet at a place
-
--- the octet at a place of the virtual bitmap, which is 0 where none is sent
-abbrev pub sent_at : ℕ → List ℕ → ℕ → ℕ
-sent_at first octets place = cond (leb first place) (get_or octets (place - first) 0) 0
 
 pub sent_at-from : (first : ℕ) (octets : List ℕ) (place : ℕ) → first ≤ place → sent_at first octets place ≡ get_or octets (place - first) 0
 sent_at-from first octets place from =

@@ -2,6 +2,7 @@
 use Rattle.std.proofs.Common.{◌≡◌, ◌==◌, ◌&&◌, ◌||◌, nat_le, true, false, [], ◌∷◌, ◌++◌, refl}
 use Rattle.std.specs.Prelude.{replicate}
 use Rattle.tim.specs.Tim.{tim_octets, partial_of, from_first_pair, up_to_last, virtual_bitmap, octet_at, bits_from}
+use Rattle.tim.specs.Bitmap.{has_bit}
 use Rattle.tim.specs.Spelling.{is_spelled}
 
 the_last_number_stands_at_place_250 : tim_octets 0 1 false (λ n. n == 2007) ≡ 5 ∷ 4 ∷ 0 ∷ 1 ∷ 0xfa ∷ 0x80 ∷ []
@@ -56,6 +57,33 @@ eight_numbers_fill_the_last_octet = refl
 zero_octets_between_are_sent : tim_octets 0 1 false (λ n. n == 17 || n == 47) ≡ 5 ∷ 7 ∷ 0 ∷ 1 ∷ 0x02 ∷ 0x02 ∷ 0 ∷ 0 ∷ 0x80 ∷ []
 unfolding tim_octets partial_of from_first_pair up_to_last virtual_bitmap octet_at bits_from
 zero_octets_between_are_sent = refl
+
+numbers_beside_the_edge_of_an_octet_stand_in_two :
+    tim_octets 0 1 false (λ n. n == 63 || n == 64 || n == 65) ≡ 5 ∷ 6 ∷ 0 ∷ 1 ∷ 0x06 ∷ 0 ∷ 0x80 ∷ 0x03 ∷ []
+unfolding tim_octets partial_of from_first_pair up_to_last virtual_bitmap octet_at bits_from
+numbers_beside_the_edge_of_an_octet_stand_in_two = refl
+
+the_number_before_the_last_octet_stands_at_place_249 :
+    tim_octets 0 1 false (λ n. n == 1999) ≡ 5 ∷ 5 ∷ 0 ∷ 1 ∷ 0xf8 ∷ 0 ∷ 0x80 ∷ []
+unfolding tim_octets partial_of from_first_pair up_to_last virtual_bitmap octet_at bits_from
+the_number_before_the_last_octet_stands_at_place_249 = refl
+
+-- ---- which numbers a virtual bitmap has
+
+number_7_is_the_last_bit_of_place_0 : has_bit (0x80 ∷ 0 ∷ []) 7 ≡ true
+number_7_is_the_last_bit_of_place_0 = refl
+
+number_8_is_the_first_bit_of_place_1 : has_bit (0 ∷ 1 ∷ []) 8 ≡ true
+number_8_is_the_first_bit_of_place_1 = refl
+
+number_2000_is_the_first_bit_of_place_250 : has_bit (replicate 250 0 ++ 1 ∷ []) 2000 ≡ true
+number_2000_is_the_first_bit_of_place_250 = refl
+
+number_2007_is_the_last_bit_of_place_250 : has_bit (replicate 250 0 ++ 0x80 ∷ []) 2007 ≡ true
+number_2007_is_the_last_bit_of_place_250 = refl
+
+number_1999_has_no_bit_at_place_250 : has_bit (replicate 250 0 ++ 0xff ∷ []) 1999 ≡ false
+number_1999_has_no_bit_at_place_250 = refl
 
 -- ---- which spellings are read
 

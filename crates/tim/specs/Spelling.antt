@@ -1,11 +1,6 @@
 -- The tests by which a TIM is read (IEEE Std 802.11-2016, 9.4.2.6): that it is the one spelling of a set is profile.
-use Rattle.std.specs.Prelude.{ℕ, ◌+◌, ◌-◌, ◌/◌, ◌%◌, Bool, not, nat_lt, nat_le, ◌==◌, ◌&&◌, ◌||◌, List, length, slice_index}
-use Rattle.std.specs.Int.{bit_at}
+use Rattle.std.specs.Prelude.{ℕ, ◌+◌, ◌-◌, ◌%◌, Bool, not, nat_lt, nat_le, ◌==◌, ◌&&◌, ◌||◌, List, length, slice_index}
 use Rattle.tim.specs.Tim.{first_place}
-
--- octets that stand at the places from the first on have a number
-abbrev pub has_number : ℕ → List ℕ → ℕ → Bool
-has_number first octets n = nat_le first (n / 8) && bit_at (slice_index octets (n / 8 - first)) (n % 8) == 1
 
 -- some octets, of which none stands past place 250 or has number 0
 abbrev pub is_placed : ℕ → List ℕ → Bool

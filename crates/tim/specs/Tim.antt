@@ -34,9 +34,9 @@ pub record HasNumber (first : ℕ) (octets : List ℕ) (n : ℕ) : Type 0 where
   pub to : n / 8 < first + length octets
   pub bit : bit_at (slice_index octets (n / 8 - first)) (n % 8) ≡ 1
 
--- The string is a TIM with this DTIM Count and DTIM Period, with this Traffic Indicator (bit 0 of Bitmap Control, for the
--- group), and with the numbers of the set. Which octets are sent of those that the standard allows is profile: `ends`,
--- `begins` and `nothing`.
+-- The string is a TIM with this DTIM Count and DTIM Period, with this Traffic Indicator (bit 0 of Bitmap Control, for
+-- the group), and with the numbers of the set. Which octets are sent of those that the standard allows is profile:
+-- `ends`, `begins` and `nothing`.
 pub record ShowsTim (t : List ℕ) (count period : ℕ) (group : Bool) (members : ℕ → Bool) : Type 0 where
   pub control : ℕ
   pub octets : List ℕ
@@ -56,7 +56,8 @@ pub record ShowsTim (t : List ℕ) (count period : ℕ) (group : Bool) (members 
   -- where the set has a number, the last octet isn't 0
   pub ends : (n : ℕ) → IsAid n → IsTrue (members n) → 0 < slice_index octets (length octets - 1)
   -- and the first two, where there are two, aren't both 0
-  pub begins : (n : ℕ) → IsAid n → IsTrue (members n) → 2 ≤ length octets → 0 < slice_index octets 0 + slice_index octets 1
+  pub begins : (n : ℕ) → IsAid n → IsTrue (members n) → 2 ≤ length octets
+      → 0 < slice_index octets 0 + slice_index octets 1
   -- where it has none, there is one octet, which is 0 and stands at place 0
   pub nothing : ((n : ℕ) → IsAid n → members n ≡ false) → (first_place control ≡ 0) × (octets ≡ 0 ∷ [])
 

@@ -1,50 +1,48 @@
-//! A set of association identifiers (IEEE Std 802.11-2016, 9.4.1.8), and its virtual bitmap (9.4.2.6).
+//! A set of association identifiers (IEEE Std 802.11-2016, 9.4.1.8), kept as its virtual bitmap (9.4.2.6).
 
-ghost use Rattle.std.specs.Prelude.{◌≡◌, ◌+◌, ◌<◌, ◌≤◌, ◌↔◌, ℕ, false, IsTrue, length, slice_index_or};
+ghost use Rattle.std.specs.Prelude.{◌≡◌, ◌+◌, ◌<◌, ◌≤◌, ◌↔◌, ◌^◌, ℕ, IsTrue, length, slice_index};
 ghost use Rattle.std.specs.FinSet as set;
-ghost use Rattle.tim.specs.Tim.{HasNumber, IsAid, bits_from, octet_at, virtual_bitmap};
-ghost use Rattle.tim.specs.Spelling.{has_number};
+ghost use Rattle.tim.specs.Tim.{HasNumber, IsAid, virtual_bitmap};
+ghost use Rattle.tim.specs.Bitmap.{has_bit, sent_at};
 
+use mac_frame::MAX_AID;
 use std::marker::Model;
 
-/// The greatest association identifier (9.4.1.8). The least is 1.
-pub const MAX_AID: u16 = 2007;
-
 /// How many octets the virtual bitmap has (9.4.2.6): that of the greatest identifier stands at the last place, 250.
-pub(crate) const BITMAP_LEN: usize = 251;
+pub(crate) const BITMAP_LEN: usize = MAX_AID as usize / 8 + 1;
 
-/// How many bits the virtual bitmap has: one for each number from 0 to the greatest identifier.
-const BITS: usize = 8 * BITMAP_LEN;
-
-/// A set of association identifiers (9.4.1.8). Contracts see it as a finite set of numbers from 1 to [`MAX_AID`].
+/// A set of association identifiers (9.4.1.8). Contracts see it as a finite set of numbers from 1 to [`MAX_AID`]. None of
+/// its methods takes memory.
 #[derive(Debug, Drop)]
 pub struct Bitmap {
-    // one truth value for each number; that of 0 stays false
-    has: [bool; BITS],
+    // the virtual bitmap: bit n mod 8 of octet n / 8 tells whether the set has n; that of 0, no identifier, stays 0
+    octets: [u8; BITMAP_LEN],
 }
 
 impl Model for Bitmap {
-    ghost use Rattle.std.specs.Prelude.{◌≡◌, false, slice_index_or};
+    ghost use Rattle.std.specs.Prelude.{◌≡◌, false};
     ghost use Rattle.std.specs.Ordering.{nat_cmp};
     ghost use Rattle.std.specs.Coded.{coded_ℕ};
     ghost use Rattle.std.specs.FinSet as set;
-    ghost use Rattle.tim.specs.Bitmap.{aids_where};
+    ghost use Rattle.tim.specs.Bitmap.{aids_where, has_bit};
 
     ghost Value = { set.FinSet nat_cmp };
 
     ghost coded = { set.code coded_ℕ };
 
-    ghost view = { λ b. aids_where (λ n. slice_index_or b.has n false) };
+    ghost view = { λ b. aids_where (has_bit b.octets) };
 
-    ghost invariant = { λ b. slice_index_or b.has 0 false ≡ false };
+    ghost invariant = { λ b. has_bit b.octets 0 ≡ false };
 }
 
 impl Bitmap {
-    /// The empty set. It takes no memory.
+    /// The empty set.
     pub fn new() -> Bitmap
         ensures { result ≡ set.empty }
     {
-        Bitmap { has: [false; BITS] }
+        Bitmap {
+            octets: [0; BITMAP_LEN],
+        }
     }
 
     /// Puts an association identifier, 1 to [`MAX_AID`], into the set, whether it has it or not. The others stay.
@@ -53,7 +51,7 @@ impl Bitmap {
         requires greatest { aid ≤ MAX_AID }
         ensures { self.new ≡ set.insert self.old aid }
     {
-        self.has[usize::from(aid)] = true;
+        self.octets[usize::from(aid / 8)] |= 1 << (aid % 8);
     }
 
     /// Takes an association identifier, 1 to [`MAX_AID`], out of the set, whether it has it or not. The others stay.
@@ -62,7 +60,7 @@ impl Bitmap {
         requires greatest { aid ≤ MAX_AID }
         ensures { self.new ≡ set.remove self.old aid }
     {
-        self.has[usize::from(aid)] = false;
+        self.octets[usize::from(aid / 8)] &= !(1 << (aid % 8));
     }
 
     /// Whether the set has an association identifier, 1 to [`MAX_AID`].
@@ -71,7 +69,7 @@ impl Bitmap {
         requires greatest { aid ≤ MAX_AID }
         ensures { result ≡ set.contains self.now aid }
     {
-        self.has[usize::from(aid)]
+        has_bit(&self.octets, aid)
     }
 
     /// The set of which octets that stand from a place of the virtual bitmap on have the bits (9.4.2.6).
@@ -81,49 +79,49 @@ impl Bitmap {
         ensures numbers { (n : ℕ) → IsTrue (set.contains result n) ↔ HasNumber first octets.now n }
         ensures aids { (n : ℕ) → IsTrue (set.contains result n) → IsAid n }
     {
-        let mut has = [false; BITS];
-        for (n, bit) in has.iter_mut().enumerate() {
-            *bit = has_number(first, octets, n);
+        Bitmap {
+            octets: from_place(first, octets),
         }
-        Bitmap { has }
     }
 
     /// The octets of the virtual bitmap (9.4.2.6): bit n mod 8 of octet n / 8 tells whether the set has n.
-    pub(crate) fn virtual_bitmap(&self) -> [u8; BITMAP_LEN]
-        ensures { result ≡ virtual_bitmap (set.contains self.now) }
+    pub(crate) fn virtual_bitmap(&self) -> &[u8]
+        ensures octets { result.now ≡ virtual_bitmap (set.contains self.now) }
+        ensures len { length result.now ≡ BITMAP_LEN }
     {
-        let mut octets = [0; BITMAP_LEN];
-        for (place, octet) in octets.iter_mut().enumerate() {
-            *octet = self.octet(place);
-        }
-        octets
-    }
-
-    /// One octet of the virtual bitmap.
-    fn octet(&self, place: usize) -> u8
-        requires { place < BITMAP_LEN }
-        ensures { result ≡ octet_at (set.contains self.now) place }
-    {
-        octet_of(&self.has[8 * place..8 * place + 8])
+        below_256(&self.octets)
     }
 }
 
-/// Whether octets that stand from a place of the virtual bitmap on have the bit of a number.
-fn has_number(first: usize, octets: &[u8], n: usize) -> bool
-    ensures { result ≡ has_number first octets.now n }
+/// The bit of a number.
+fn has_bit(octets: &[u8; BITMAP_LEN], aid: u16) -> bool
+    requires { aid ≤ MAX_AID }
+    ensures { result ≡ has_bit octets.now aid }
 {
-    let place = n / 8;
-    place >= first && place - first < octets.len() && octets[place - first] >> (n % 8) & 1 == 1
+    octets[usize::from(aid / 8)] >> (aid % 8) & 1 == 1
 }
 
-/// Eight truth values as an octet, the first of them its lowest bit.
-fn octet_of(bits: &[bool]) -> u8
-    requires { length bits.now ≡ 8 }
-    ensures { result ≡ bits_from (λ k. slice_index_or bits.now k false) 8 0 }
+/// A virtual bitmap that has these octets from a place on, and 0 at every other.
+fn from_place(first: usize, octets: &[u8]) -> [u8; BITMAP_LEN]
+    requires { first + length octets.now ≤ BITMAP_LEN }
+    ensures { (place : ℕ) → slice_index result place ≡ sent_at first octets.now place }
 {
-    let mut octet = 0;
-    for k in (0..8).rev() {
-        octet = 2 * octet + u8::from(bits[k]);
-    }
-    octet
+    let mut bitmap = [0; BITMAP_LEN];
+    bitmap[first..first + octets.len()].copy_from_slice(octets);
+    bitmap
+}
+
+/// The octets, of which each is below 256.
+fn below_256(octets: &[u8]) -> &[u8]
+    ensures octets { result.now ≡ octets.now }
+    ensures below { (place : ℕ) → slice_index octets.now place < 2 ^ 8 }
+{
+    octets
+}
+
+/// Whoever holds a set knows that it has no number but association identifiers (9.4.1.8).
+pub fn numbers_are_aids(bits: &Bitmap)
+    ensures { (n : ℕ) → IsTrue (set.contains bits.now n) → IsAid n }
+{
+    let _octets = &bits.octets;
 }

@@ -28,13 +28,14 @@ pub struct Tim {
     pub bits: Bitmap,
 }
 
-/// What a whole element shows (9.4.2.6): `None` where it is no TIM, where its fields don't go together, and where it is a TIM in
-/// another spelling (*profile*). It takes no memory.
+/// What a whole element shows (9.4.2.6): `None` where it is no TIM, where its fields don't go together, and where it is a
+/// TIM in another spelling (*profile*). It takes no memory.
 pub fn read_tim(element: &[u8]) -> Option<Tim>
     ensures found { IfSome result (λ tim. ShowsTim element.now tim.count tim.period tim.group (set.contains tim.bits)) }
-    ensures only { (count period : ℕ) (group : Bool) (members : ℕ → Bool) → ShowsTim element.now count period group members
-        → IsSomeAnd result (λ tim.
-        (tim.count ≡ count) × (tim.period ≡ period) × (tim.group ≡ group) × SameNumbers (set.contains tim.bits) members) }
+    ensures only { (count period : ℕ) (group : Bool) (members : ℕ → Bool)
+        → ShowsTim element.now count period group members
+        → IsSomeAnd result (λ tim. (tim.count ≡ count) × (tim.period ≡ period) × (tim.group ≡ group)
+        × SameNumbers (set.contains tim.bits) members) }
     ensures aids { IfSome result (λ tim. (n : ℕ) → IsTrue (set.contains tim.bits n) → IsAid n) }
 {
     let fields = read_fields(element)?;
@@ -72,7 +73,8 @@ struct Fields<'a> {
 fn read_fields(element: &[u8]) -> Option<Fields<'_>>
     ensures found { IfSome result (λ f.
         element.now ≡ TIM ∷ (length f.octets.now + 3) ∷ f.count ∷ f.period ∷ f.control ∷ f.octets.now) }
-    ensures only { (count period control : ℕ) (octets : List ℕ) → element.now ≡ TIM ∷ (length octets + 3) ∷ count ∷ period ∷ control ∷ octets → IsSome result }
+    ensures only { (count period control : ℕ) (octets : List ℕ)
+        → element.now ≡ TIM ∷ (length octets + 3) ∷ count ∷ period ∷ control ∷ octets → IsSome result }
 {
     let [id, len, count, period, control, octets @ ..] = element else {
         return None;
@@ -143,8 +145,8 @@ fn from_first_pair(octets: &[u8]) -> (u8, &[u8])
     (passed, octets)
 }
 
-/// What is sent of the octets of a virtual bitmap (*profile*): the Bitmap Offset, and the octets from the first pair that
-/// isn't 0 and 0 up to the last octet that isn't 0, or one 0 where there is none.
+/// What is sent of the octets of a virtual bitmap (*profile*): the Bitmap Offset, and the octets from the first pair
+/// that isn't 0 and 0 up to the last octet that isn't 0, or one 0 where there is none.
 fn partial(bitmap: &[u8]) -> (u8, &[u8])
     requires { length bitmap.now ≤ BITMAP_LEN }
     ensures octets { (result.0, result.1.now) ≡ partial_of bitmap.now }
@@ -157,9 +159,9 @@ fn partial(bitmap: &[u8]) -> (u8, &[u8])
     (offset, octets)
 }
 
-/// Appends the TIM that shows the stations `bits` as those that have units (9.4.2.6). DTIM Count and DTIM Period are numbers of
-/// beacons, the count below the period. `group`, the Traffic Indicator, tells that the group has units, and is true at count 0
-/// alone. Which octets of the virtual bitmap are sent is *profile*. After `NoMemory` `out` is as it was.
+/// Appends the TIM that shows the stations `bits` as those that have units (9.4.2.6). DTIM Count and DTIM Period are
+/// numbers of beacons, the count below the period. `group`, the Traffic Indicator, tells that the group has units, and is
+/// true at count 0 alone. Which octets of the virtual bitmap are sent is *profile*. After `NoMemory` `out` is as it was.
 pub fn write_tim(
     out: &mut Octets,
     count: u8,
@@ -170,11 +172,12 @@ pub fn write_tim(
     requires count { count < period }
     requires group { IsTrue group → count ≡ 0 }
     ensures ok { OnOk result (out.new ≡ out.old ++ tim_octets count period group (set.contains bits.now)) }
-    ensures shows { ShowsTim (tim_octets count period group (set.contains bits.now)) count period group (set.contains bits.now) }
+    ensures shows { ShowsTim (tim_octets count period group (set.contains bits.now))
+        count period group (set.contains bits.now) }
     ensures err { OnErr result (out.new ≡ out.old) }
 {
     let bitmap = bits.virtual_bitmap();
-    let (offset, octets) = partial(&bitmap);
+    let (offset, octets) = partial(bitmap);
     let control = 2 * offset + u8::from(group);
     let len = out.as_slice().len();
     out.append(&[TIM, octets.len() as u8 + FIELDS_LEN, count, period, control])?;

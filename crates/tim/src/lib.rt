@@ -1,7 +1,8 @@
 //! The TIM element (IEEE Std 802.11-2016, 9.4.2.6): a beacon tells which stations have units waiting.
 //!
 //! It promises that a string of octets shows a set of association identifiers exactly where it is a TIM that has
-//! their bits, in one spelling.
+//! their bits, in one spelling. The types to know first are [`Bitmap`], a set of association identifiers, and [`Tim`], what
+//! an element shows. [`write_tim`] writes an element, and [`read_tim`] reads one.
 //!
 //! Whose units wait, and when a beacon is sent, is left to the crates above.
 #![tactic(auto)]
@@ -11,5 +12,5 @@ mod element;
 #[cfg(test)]
 mod tests;
 
-pub use bitmap::{Bitmap, MAX_AID};
+pub use bitmap::{Bitmap, numbers_are_aids};
 pub use element::{TIM, Tim, one_tim, read_tim, write_tim};

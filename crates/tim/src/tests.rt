@@ -1,16 +1,22 @@
 //! Calls with ample memory, on TIMs that were written by hand.
 
-use crate::{Bitmap, MAX_AID, read_tim, write_tim};
-use mac_frame::Octets;
+use crate::{Bitmap, numbers_are_aids, read_tim, write_tim};
+use mac_frame::{MAX_AID, Octets};
 use std::alloc::Global;
 use std::process::Abort;
 use std::test::Fail;
 
 /// Association identifiers, and the TIM that shows them at DTIM Count 0 and DTIM Period 1.
-const SHORT_TIMS: [(&[u16], &[u8]); 4] = [
+const SHORT_TIMS: [(&[u16], &[u8]); 7] = [
     (&[], &[5, 4, 0, 1, 0, 0]),
     (&[8], &[5, 5, 0, 1, 0, 0, 1]),
     (&[16], &[5, 4, 0, 1, 2, 1]),
+    (&[63, 64, 65], &[5, 6, 0, 1, 6, 0, 0x80, 3]),
+    (&[1999], &[5, 5, 0, 1, 0xf8, 0, 0x80]),
+    (
+        &[2000, 2001, 2002, 2003, 2004, 2005, 2006, 2007],
+        &[5, 4, 0, 1, 0xfa, 0xff],
+    ),
     (&[2007], &[5, 4, 0, 1, 0xfa, 0x80]),
 ];
 
@@ -77,6 +83,43 @@ fn sets_are_shown_in_one_spelling(rt: HostRuntime) -> Result<(), Fail> {
     shows(&rt, rt.alloc(), &[1, 2007], &longest)
 }
 
+/// The TIM of a set at DTIM Count 0 and DTIM Period 1, bit by bit: from the octet of the least number, or the one before it
+/// where that stands at an odd place, to the octet of the greatest.
+fn plain_tim(rt: &impl Abort, alloc: Global, aids: &[u16]) -> Result<Octets, Fail> {
+    let first = aids.iter().min().map_or(0, |aid| aid / 16 * 2);
+    let last = aids.iter().max().map_or(0, |aid| aid / 8);
+    assert!(rt; first <= last && last <= 250);
+    let mut tim = Octets::from_slice(alloc, &[5, (last - first + 4) as u8, 0, 1, first as u8])?;
+    for place in first..=last {
+        let mut octet = 0;
+        for k in 0..8 {
+            if aids.contains(&(8 * place + k)) {
+                octet |= 1 << k;
+            }
+        }
+        tim.append(&[octet])?;
+    }
+    Ok(tim)
+}
+
+#[test]
+fn pairs_at_the_edges_of_octets_are_shown_bit_by_bit(rt: HostRuntime) -> Result<(), Fail> {
+    let edges = [1, 7, 8, 15, 16, 63, 64, 65, 1984, 1999, 2000, 2006, 2007];
+    for one in edges {
+        for other in edges {
+            let tim = plain_tim(&rt, rt.alloc(), &[one, other])?;
+            let mut out = Octets::new(rt.alloc());
+            write_tim(&mut out, 0, 1, false, &set_of(&rt, &[one, other]))?;
+            assert_eq!(rt; out.as_slice(), tim.as_slice(), "{one} {other}");
+            let read = read_tim(tim.as_slice()).ok_or("no TIM")?;
+            for aid in edges {
+                assert_eq!(rt; read.bits.has(aid), aid == one || aid == other, "{aid}");
+            }
+        }
+    }
+    Ok(())
+}
+
 #[test]
 fn count_period_and_group_are_shown(rt: HostRuntime) -> Result<(), Fail> {
     let mut out = Octets::new(rt.alloc());
@@ -106,4 +149,9 @@ fn numbers_come_and_go(rt: HostRuntime) {
     assert!(rt; bits.has(7) && bits.has(MAX_AID) && !bits.has(8));
     bits.clear(7);
     assert!(rt; !bits.has(7) && bits.has(MAX_AID));
+    bits.set(1999);
+    bits.set(2000);
+    bits.clear(MAX_AID);
+    assert!(rt; bits.has(1999) && bits.has(2000) && !bits.has(MAX_AID));
+    numbers_are_aids(&bits);
 }

@@ -3,15 +3,13 @@
 ghost use Rattle.std.specs.Prelude.{◌≡◌, IfOk};
 ghost use Rattle.bss_core.specs.Network.{may_be_known, answer_authentication};
 ghost use Rattle.bss_core.specs.Replies.{after_reply, IsFitting};
-ghost use Rattle.bss_core.specs.State.{network_of};
+ghost use Rattle.bss_core.specs.BssView.{network_of};
 
 use crate::bss::Bss;
-use crate::keeping::Leaving;
 use crate::reply::Reply;
 use crate::stations::Change;
 use association::{SUCCESS, auth_status, write_auth};
 use mac_frame::{MacAddr, NoMemory, Octets};
-use powersave::Whom;
 
 impl Bss {
     /// The reply to a request to authenticate: its answer, and where it is served the station is authenticated.
@@ -23,7 +21,8 @@ impl Bss {
     ) -> Result<Reply, NoMemory>
         ensures fitting { IfOk result (λ reply. IsFitting self.now.setting reply (network_of self.now)) }
         ensures answer { IfOk result (λ reply.
-            answer_authentication self.now.setting from algorithm step (network_of self.now) ≡ after_reply reply (network_of self.now)) }
+            answer_authentication self.now.setting from algorithm step (network_of self.now)
+            ≡ after_reply reply (network_of self.now)) }
     {
         let status = auth_status(algorithm, step, self.may_be_known(from));
         let mut reply = self.no_reply();
@@ -32,8 +31,7 @@ impl Bss {
         write_auth(&mut frame, from, bssid, reply.sequence, algorithm, status)?;
         reply.send(frame)?;
         if status == SUCCESS {
-            reply.change = Change::Authenticate(from);
-            reply.keeping.leaving = Leaving::All(Whom::One(from));
+            reply.change_state(from, Change::Authenticate(from));
         }
         Ok(reply)
     }

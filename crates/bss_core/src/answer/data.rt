@@ -6,15 +6,13 @@ ghost use Rattle.powersave.specs.Keep.{units_for};
 ghost use Rattle.powersave.specs.declared.unit.Whom.TheVariants as whoms;
 ghost use Rattle.bss_core.specs.Network.{forward, set_power_mode, put_on_wire, send_each, change_state};
 ghost use Rattle.bss_core.specs.Replies.{after_reply, IsFitting, IsModeReply};
-ghost use Rattle.bss_core.specs.State.{network_of};
+ghost use Rattle.bss_core.specs.BssView.{network_of};
 ghost use Rattle.bss_core.specs.Stations.{IsModeAlone, changed, set_mode};
 ghost use Rattle.bss_core.specs.Units.{unit, goes_on_wire};
 
 use crate::bss::Bss;
-use crate::keeping::Leaving;
-use crate::reply::Reply;
+use crate::reply::{Arrival, Body, Reply};
 use crate::stations::{Change, dozes_with, is_associated};
-use crate::unit::{Arrival, Body};
 use bridge::to_wire;
 use mac_frame::{MacAddr, NoMemory, Octets};
 use powersave::Whom;
@@ -31,7 +29,9 @@ impl Bss {
     ) -> Result<Reply, NoMemory>
         ensures fitting { IfOk result (λ reply. IsFitting self.now.setting reply (network_of self.now)) }
         ensures answer { IfOk result (λ reply.
-            forward self.now.setting (unit to from body.now) (set_power_mode self.now.setting from doze (network_of self.now)) ≡ after_reply reply (network_of self.now)) }
+            forward self.now.setting (unit to from body.now)
+            (set_power_mode self.now.setting from doze (network_of self.now))
+            ≡ after_reply reply (network_of self.now)) }
     {
         let mut reply = self.set_power_mode(from, doze)?;
         let goes_on_wire = self.goes_on_wire(reply.change, to);
@@ -47,15 +47,19 @@ impl Bss {
         Ok(reply)
     }
 
-    /// The reply to what tells the mode of an associated station. One that dozed and is active now is sent all units that
-    /// were kept for it.
+    /// The reply to what tells the mode of an associated station. One that dozed and is active now is sent all units
+    /// that were kept for it. A mode that stays changes nothing.
     pub(crate) fn set_power_mode(&self, from: MacAddr, doze: bool) -> Result<Reply, NoMemory>
         ensures fitting { IfOk result (λ reply. IsFitting self.now.setting reply (network_of self.now)) }
         ensures answer { IfOk result (λ reply.
             set_power_mode self.now.setting from doze (network_of self.now) ≡ after_reply reply (network_of self.now)) }
         ensures mode { IfOk result (λ reply. IsModeReply reply (network_of self.now)) }
     {
-        if !doze && dozes_with(self.stations().link_of(from)) {
+        let dozed = dozes_with(self.stations().link_of(from));
+        if dozed == doze {
+            return Ok(self.no_reply());
+        }
+        if dozed {
             return self.wake(from);
         }
         let mut reply = self.no_reply();
@@ -67,21 +71,23 @@ impl Bss {
     fn wake(&self, from: MacAddr) -> Result<Reply, NoMemory>
         ensures fitting { IfOk result (λ reply. IsFitting self.now.setting reply (network_of self.now)) }
         ensures answer { IfOk result (λ reply.
-            send_each self.now.setting false (units_for (whoms.One from) (network_of self.now).kept) (change_state from (set_mode from false) (network_of self.now)) ≡ after_reply reply (network_of self.now)) }
+            send_each self.now.setting false (units_for (whoms.One from) (network_of self.now).kept)
+            (change_state from (set_mode from false) (network_of self.now))
+            ≡ after_reply reply (network_of self.now)) }
         ensures mode { IfOk result (λ reply. IsModeReply reply (network_of self.now)) }
     {
         let mut reply = self.no_reply();
-        reply.change = Change::SetMode {
+        let awake = Change::SetMode {
             addr: from,
             doze: false,
         };
-        reply.keeping.leaving = Leaving::All(Whom::One(from));
+        reply.change_state(from, awake);
         self.send_kept(&mut reply, &Whom::One(from), false)?;
         Ok(reply)
     }
 
-    /// Whether a unit of a station goes on the wire, once the mode of the station is set: but for a unit to one associated
-    /// station.
+    /// Whether a unit of a station goes on the wire, once the mode of the station is set: but for a unit to one
+    /// associated station.
     fn goes_on_wire(&self, change: Change, to: MacAddr) -> bool
         requires { IsModeAlone change }
         ensures { result ≡ goes_on_wire to (changed change (network_of self.now).stations) }
@@ -99,7 +105,9 @@ impl Bss {
     ) -> Result<(), NoMemory>
         requires wired { reply.old.wired ≡ None }
         requires lost { reply.old.lost ≤ 1 }
-        ensures ok { OnOk result (put_on_wire (on_wire to source body.now) (after_reply reply.old (network_of self.now)) ≡ after_reply reply.new (network_of self.now)) }
+        ensures ok { OnOk result (
+            put_on_wire (on_wire to source body.now) (after_reply reply.old (network_of self.now))
+            ≡ after_reply reply.new (network_of self.now)) }
         ensures change { reply.new.change ≡ reply.old.change }
         ensures keeping { reply.new.keeping ≡ reply.old.keeping }
     {

@@ -1,19 +1,19 @@
 //! Units and how they are delivered on the air (IEEE Std 802.11-2016, 11.2.3.2).
 
-ghost use Rattle.std.specs.Prelude.{◌≡◌, ◌≤◌, ◌<◌, ◌+◌, ◌&&◌, nat_lt, false, None, length, OnOk, OnErr, Some, slice_get};
+ghost use Rattle.std.specs.Prelude.{◌≡◌, ◌≤◌, ◌<◌, ◌+◌, ◌&&◌, nat_lt, false, None, length, OnOk, OnErr, Some};
+ghost use Rattle.std.specs.Prelude.{slice_get};
 ghost use Rattle.powersave.specs.Keep.{units_for};
-ghost use Rattle.powersave.specs.declared.unit.Unit.{Unit as Msdu};
+ghost use Rattle.powersave.specs.declared.unit.Unit.{Unit as DataUnit};
 ghost use Rattle.bss_core.specs.Arrivals.{unit_shown};
 ghost use Rattle.bss_core.specs.Network.{deliver, keep_or_lose, send_each};
-ghost use Rattle.bss_core.specs.Replies.{after_reply, sending, is_left, IsModeReply, IsWithin};
-ghost use Rattle.bss_core.specs.State.{network_of};
+ghost use Rattle.bss_core.specs.Replies.{after_reply, sending, is_leaving, IsModeReply, IsWithin};
+ghost use Rattle.bss_core.specs.BssView.{network_of};
 ghost use Rattle.bss_core.specs.Stations.{IsModeAlone, changed};
 ghost use Rattle.bss_core.specs.Units.{delivery_of, delivery_with, group_is_kept, group_waits, unit_frame};
 
 use crate::bss::Bss;
-use crate::reply::Reply;
+use crate::reply::{Arrival, Delivery, Reply};
 use crate::stations::{Change, Link};
-use crate::unit::{Arrival, Delivery};
 use mac_frame::{MacAddr, NoMemory};
 use powersave::Whom;
 
@@ -22,8 +22,11 @@ impl Bss {
     /// once the reply is carried out. After `NoMemory` the reply is of no use.
     pub(crate) fn deliver(&self, reply: &mut Reply, unit: &Arrival<'_>) -> Result<(), NoMemory>
         requires { IsModeReply reply.old (network_of self.now) }
-        ensures ok { OnOk result (deliver self.now.setting (unit_shown unit.now) (after_reply reply.old (network_of self.now)) ≡ after_reply reply.new (network_of self.now)) }
-        ensures within { OnOk result (IsWithin self.now.setting.network.quota reply.new.keeping.leaving (network_of self.now).kept reply.new.keeping.arriving) }
+        ensures ok { OnOk result (
+            deliver self.now.setting (unit_shown unit.now) (after_reply reply.old (network_of self.now))
+            ≡ after_reply reply.new (network_of self.now)) }
+        ensures within { OnOk result (IsWithin self.now.setting.network.quota
+            reply.new.keeping.leaving (network_of self.now).kept reply.new.keeping.arriving) }
         ensures change { reply.new.change ≡ reply.old.change }
         ensures wired { reply.new.wired ≡ reply.old.wired }
         ensures lost { reply.new.lost ≤ 1 }
@@ -74,11 +77,14 @@ impl Bss {
         whom: Whom,
         unit: &Arrival<'_>,
     ) -> Result<(), NoMemory>
-        requires apart { is_left reply.old.keeping.leaving whom ≡ false }
+        requires apart { is_leaving reply.old.keeping.leaving whom ≡ false }
         requires none_arrives { reply.old.keeping.arriving ≡ None }
         requires lost { reply.old.lost ≡ 0 }
-        ensures ok { OnOk result (keep_or_lose self.now.setting whom (unit_shown unit.now) (after_reply reply.old (network_of self.now)) ≡ after_reply reply.new (network_of self.now)) }
-        ensures within { OnOk result (IsWithin self.now.setting.network.quota reply.new.keeping.leaving (network_of self.now).kept reply.new.keeping.arriving) }
+        ensures ok { OnOk result (
+            keep_or_lose self.now.setting whom (unit_shown unit.now) (after_reply reply.old (network_of self.now))
+            ≡ after_reply reply.new (network_of self.now)) }
+        ensures within { OnOk result (IsWithin self.now.setting.network.quota
+            reply.new.keeping.leaving (network_of self.now).kept reply.new.keeping.arriving) }
         ensures change { reply.new.change ≡ reply.old.change }
         ensures wired { reply.new.wired ≡ reply.old.wired }
         ensures lost { reply.new.lost ≤ 1 }
@@ -98,21 +104,25 @@ impl Bss {
         &self,
         reply: &mut Reply,
         whom: &Whom,
-        telling: bool,
+        shows_more: bool,
     ) -> Result<(), NoMemory>
         requires { reply.old.sequence < 4096 }
-        ensures ok { OnOk result (send_each self.now.setting telling (units_for whom.now (network_of self.now).kept) (after_reply reply.old (network_of self.now)) ≡ after_reply reply.new (network_of self.now)) }
+        ensures ok { OnOk result (
+            send_each self.now.setting shows_more (units_for whom.now (network_of self.now).kept)
+            (after_reply reply.old (network_of self.now))
+            ≡ after_reply reply.new (network_of self.now)) }
         ensures same { reply.new ≡ record reply.old { frames = reply.new.frames; sequence = reply.new.sequence } }
         ensures sequence { reply.new.sequence < 4096 }
     {
         let count = self.kept().count_for(*whom);
         for n in 0..count {
-            self.send_nth(reply, whom, n, is_told(telling, n, count))?;
+            self.send_nth(reply, whom, n, more_data(shows_more, n, count))?;
         }
         Ok(())
     }
 
-    /// Goes on with a reply: sends the unit at a place, from 0, of those that are kept for one, with More Data or without.
+    /// Goes on with a reply: sends the unit at a place, from 0, of those that are kept for one, with More Data or
+    /// without.
     pub(crate) fn send_nth(
         &self,
         reply: &mut Reply,
@@ -122,7 +132,8 @@ impl Bss {
     ) -> Result<(), NoMemory>
         requires sequence { reply.old.sequence < 4096 }
         requires kept { place < length (units_for whom.now (network_of self.now).kept) }
-        ensures ok { OnOk result ((unit : Msdu) → slice_get (units_for whom.now (network_of self.now).kept) place ≡ Some unit →
+        ensures ok { OnOk result ((unit : DataUnit) →
+            slice_get (units_for whom.now (network_of self.now).kept) place ≡ Some unit →
             reply.new ≡ sending reply.old (unit_frame self.now.setting.network.bssid more unit)) }
         ensures same { reply.new ≡ record reply.old { frames = reply.new.frames; sequence = reply.new.sequence } }
         ensures err { OnErr result (reply.new ≡ reply.old) }
@@ -133,11 +144,11 @@ impl Bss {
 }
 
 /// Whether it is told of the unit at a place, from 0, that others of so many follow, where that is asked.
-fn is_told(telling: bool, place: usize, count: usize) -> bool
+fn more_data(shows_more: bool, place: usize, count: usize) -> bool
     requires { place < count }
-    ensures { result ≡ (telling && nat_lt (place + 1) count) }
+    ensures { result ≡ (shows_more && nat_lt (place + 1) count) }
 {
-    telling && place + 1 < count
+    shows_more && place + 1 < count
 }
 
 /// How a unit is delivered to the station with this link.

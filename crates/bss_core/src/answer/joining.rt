@@ -4,17 +4,15 @@
 ghost use Rattle.std.specs.Prelude.{◌≡◌, IfOk, is_some, true};
 ghost use Rattle.bss_core.specs.Network.{answer_association};
 ghost use Rattle.bss_core.specs.Replies.{after_reply, IsFitting};
-ghost use Rattle.bss_core.specs.State.{network_of};
+ghost use Rattle.bss_core.specs.BssView.{network_of};
 ghost use Rattle.bss_core.specs.Stations.{link_of};
 
 use crate::bss::Bss;
-use crate::keeping::Leaving;
 use crate::reply::Reply;
 use crate::stations::Change;
 use association::{SUCCESS, assoc_status, write_assoc};
 use elements::Elements;
 use mac_frame::{MacAddr, NoMemory, Octets};
-use powersave::Whom;
 
 impl Bss {
     /// The reply to the request of a known station to associate, or `again` to reassociate: its answer, and where it
@@ -29,7 +27,8 @@ impl Bss {
         requires { is_some (link_of from (network_of self.now).stations) ≡ true }
         ensures fitting { IfOk result (λ reply. IsFitting self.now.setting reply (network_of self.now)) }
         ensures answer { IfOk result (λ reply.
-            answer_association self.now.setting from again listen elements.now (network_of self.now) ≡ after_reply reply (network_of self.now)) }
+            answer_association self.now.setting from again listen elements.now (network_of self.now)
+            ≡ after_reply reply (network_of self.now)) }
     {
         let network = &self.setting().network;
         let rates = network.rates.as_slice();
@@ -51,8 +50,7 @@ impl Bss {
         )?;
         reply.send(frame)?;
         if status == SUCCESS {
-            reply.change = Change::Associate { addr: from, listen };
-            reply.keeping.leaving = Leaving::All(Whom::One(from));
+            reply.change_state(from, Change::Associate { addr: from, listen });
         }
         Ok(reply)
     }

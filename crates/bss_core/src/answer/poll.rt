@@ -3,12 +3,11 @@
 ghost use Rattle.std.specs.Prelude.{◌≡◌, IfOk};
 ghost use Rattle.bss_core.specs.Network.{answer_poll};
 ghost use Rattle.bss_core.specs.Replies.{after_reply, IsFitting};
-ghost use Rattle.bss_core.specs.State.{network_of};
+ghost use Rattle.bss_core.specs.BssView.{network_of};
 ghost use Rattle.bss_core.specs.Units.{may_poll};
 
 use crate::bss::Bss;
-use crate::keeping::Leaving;
-use crate::reply::Reply;
+use crate::reply::{Leaving, Reply};
 use crate::stations::Link;
 use mac_frame::{MacAddr, NoMemory};
 use powersave::Whom;

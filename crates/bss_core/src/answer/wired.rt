@@ -4,11 +4,10 @@ ghost use Rattle.std.specs.Prelude.{◌≡◌, IfOk};
 ghost use Rattle.bridge.specs.Ethernet.{ethernet_of};
 ghost use Rattle.bss_core.specs.Network.{answer_wired};
 ghost use Rattle.bss_core.specs.Replies.{after_reply, IsFitting};
-ghost use Rattle.bss_core.specs.State.{network_of};
+ghost use Rattle.bss_core.specs.BssView.{network_of};
 
 use crate::bss::Bss;
-use crate::reply::Reply;
-use crate::unit::{Arrival, Body};
+use crate::reply::{Arrival, Body, Reply};
 use bridge::Ether;
 use mac_frame::NoMemory;
 
@@ -17,7 +16,8 @@ impl Bss {
     pub(crate) fn answer_wired(&self, frame: &[u8]) -> Result<Reply, NoMemory>
         ensures fitting { IfOk result (λ reply. IsFitting self.now.setting reply (network_of self.now)) }
         ensures answer { IfOk result (λ reply.
-            answer_wired self.now.setting (ethernet_of frame.now) (network_of self.now) ≡ after_reply reply (network_of self.now)) }
+            answer_wired self.now.setting (ethernet_of frame.now) (network_of self.now)
+            ≡ after_reply reply (network_of self.now)) }
     {
         let mut reply = self.no_reply();
         let Ok(ether) = Ether::decode(frame) else {

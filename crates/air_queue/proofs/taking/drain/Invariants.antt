@@ -1,6 +1,6 @@
 use Rattle.std.proofs.Common.{◌≡◌, ◌≤◌, ◌-◌, vec_len, vec_capacity}
 use Rattle.crossbeam_queue.specs.Passes.{IsPassOf, view}
-use Rattle.air_queue.specs.Passes.{BeginsWith}
+use Rattle.bss_core.specs.Lists.{IsPrefix}
 use Rattle.air_queue.specs.Rule.{IsRadioWith, networks_of, taken_in_of}
 use Rattle.air_queue.proofs.taking.drain.Given as goal
 
@@ -9,7 +9,7 @@ invariant-loop-queue_pass g l = record {
   queue : IsPassOf l.queue l.queue_pass;
   radio : IsRadioWith l.left.items (view l.queue_pass);
   networks : (networks_of (view l.queue_pass) ≡ networks_of (view l.fn.queue_pass)) × (taken_in_of (view l.queue_pass) ≡ taken_in_of (view l.fn.queue_pass));
-  begins : BeginsWith l.fn.left.items l.left.items;
+  begins : IsPrefix l.fn.left.items l.left.items;
   few : vec_len l.left ≤ l.all;
   room : l.all ≤ vec_capacity l.left;
 }

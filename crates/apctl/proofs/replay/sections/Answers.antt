@@ -2,7 +2,7 @@ use Rattle.std.proofs.Common.{◌≡◌, [], ◌++◌, map, inl, inr, sym, ap, �
 use Rattle.std.specs.List.{zip}
 use Rattle.std.specs.Vec.Iter.{into_iter_items}
 use Rattle.std.proofs.lemmas.Grind.{common_steps}
-use Rattle.bss_core.specs.State.{State}
+use Rattle.bss_core.specs.BssView.{BssView}
 use Rattle.bss_core.specs.RadioView.{shown}
 use Rattle.apctl.proofs.SectionSteps.{section_with, sections_made, no_first, no_second}
 use Rattle.apctl.proofs.replay.sections.Goals as goal
@@ -26,7 +26,7 @@ returns c =
     let all = sym (append-nil c.loop-network.yielded) ∙ ap (λ rest. c.loop-network.yielded ++ rest) (sym ended) ∙ c.loop-network.invariant.all
     ∙ ap (λ items. zip items (into_iter_items c.into_iter-network-iterator.result.b)) first ∙ ap (zip c.into_vec.result.items) second in
     let sections = sections_made c.args.radio c.args.left c.into_vec.result.items c.into_vec-2.result.items c.requires
-    (ap (map (λ (s : State). s.setting)) c.into_vec.ensures ∙ c.into_parts-networks.ensures.settings)
+    (ap (map (λ (s : BssView). s.setting)) c.into_vec.ensures ∙ c.into_parts-networks.ensures.settings)
     (ap (map shown) c.into_vec.ensures ∙ c.into_parts-networks.ensures.networks)
     c.into_vec-2.ensures in
     c.loop-network.invariant.made ∙ ap (map (λ p. section_with p.0 p.1.items)) all ∙ sections

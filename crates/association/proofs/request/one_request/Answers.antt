@@ -11,7 +11,10 @@ returns-clause-unique c bss x r s v w =
     cc
 
 pub returns-clause-found : goal.returns-clause-found
-returns-clause-found c bss x r octets h = request-found (λ bss x f. (c.one_frame.ensures.reading bss x f).0) c.body_has_octets.ensures.management c.one_list.ensures.found bss x r octets h
+returns-clause-found c bss x r octets h =
+    request-found
+    (λ bss x f. (c.one_frame.ensures.reading bss x f).0) c.body_has_octets.ensures.management c.one_list.ensures.found
+    bss x r octets h
 
 pub returns-clause-heard : goal.returns-clause-heard
 returns-clause-heard c bss x r w =

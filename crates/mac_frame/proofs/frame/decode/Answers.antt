@@ -16,7 +16,8 @@ pub returns-then-control-ne0-clause-fault : goal.returns-then-control-ne0-clause
 returns-then-control-ne0-clause-fault c = search rules
 
 pub returns-then-control-ne0-clause-only : goal.returns-then-control-ne0-clause-only
-returns-then-control-ne0-clause-only c f w = none_at_fault c.args.bss c.args.frame.now f Version (returns-then-control-ne0-clause-fault c) w
+returns-then-control-ne0-clause-only c f w =
+    none_at_fault c.args.bss c.args.frame.now f Version (returns-then-control-ne0-clause-fault c) w
 
 -- ---- each kind, and none
 
@@ -24,38 +25,51 @@ pub returns-then-is_management_read-clause-fault : goal.returns-then-is_manageme
 returns-then-is_management_read-clause-fault c = search rules
 
 pub returns-then-is_management_read-clause-frame : goal.returns-then-is_management_read-clause-frame
-returns-then-is_management_read-clause-frame c = reads_a_frame c.args.bss c.args.frame.now _ (returns-then-is_management_read-clause-fault c)
+returns-then-is_management_read-clause-frame c =
+    reads_a_frame c.args.bss c.args.frame.now _ (returns-then-is_management_read-clause-fault c)
 
 pub returns-then-is_management_read-clause-only : goal.returns-then-is_management_read-clause-only
-returns-then-is_management_read-clause-only c = reads_each_frame c.args.bss c.args.frame.now _ (returns-then-is_management_read-clause-fault c)
+returns-then-is_management_read-clause-only c =
+    reads_each_frame c.args.bss c.args.frame.now _ (returns-then-is_management_read-clause-fault c)
 
 pub returns-then-is_data_read-clause-fault : goal.returns-then-is_data_read-clause-fault
 returns-then-is_data_read-clause-fault c =
     let read = sym c.is_data_read.ensures ∙ c.if-is_data_read.true in
     let long : 24 ≤ length c.args.frame.now = search rules in
-    let same = read_as_data c.args.bss c.args.frame.now c.control_at-control.result c.control_at-control.ensures long c.if-control-ne0.false read in
-    subst (λ r. MatchResult c.data_of.result (λ rx. r ≡ Ok (shown rx)) (λ fault. r ≡ Err fault)) (sym same) c.data_of.ensures
+    let same =
+    read_as_data c.args.bss c.args.frame.now c.control_at-control.result c.control_at-control.ensures long
+    c.if-control-ne0.false read in
+    subst (λ r. MatchResult c.data_of.result (λ rx. r ≡ Ok (shown rx)) (λ fault. r ≡ Err fault))
+    (sym same) c.data_of.ensures
 
 pub returns-then-is_data_read-clause-frame : goal.returns-then-is_data_read-clause-frame
-returns-then-is_data_read-clause-frame c = reads_a_frame c.args.bss c.args.frame.now _ (returns-then-is_data_read-clause-fault c)
+returns-then-is_data_read-clause-frame c =
+    reads_a_frame c.args.bss c.args.frame.now _ (returns-then-is_data_read-clause-fault c)
 
 pub returns-then-is_data_read-clause-only : goal.returns-then-is_data_read-clause-only
-returns-then-is_data_read-clause-only c = reads_each_frame c.args.bss c.args.frame.now _ (returns-then-is_data_read-clause-fault c)
+returns-then-is_data_read-clause-only c =
+    reads_each_frame c.args.bss c.args.frame.now _ (returns-then-is_data_read-clause-fault c)
 
 pub returns-then-is_ps_poll_read-clause-fault : goal.returns-then-is_ps_poll_read-clause-fault
 returns-then-is_ps_poll_read-clause-fault c =
     let poll = sym c.is_ps_poll_read.ensures ∙ c.if-is_ps_poll_read.true in
-    let same = read_as_poll c.args.bss c.args.frame.now c.control_at-control.result c.control_at-control.ensures c.if-frame-lt-CONTROL_HEADER_LEN.false c.if-control-ne0.false poll in
-    subst (λ r. MatchResult c.ps_poll_of.result (λ rx. r ≡ Ok (shown rx)) (λ fault. r ≡ Err fault)) (sym same) c.ps_poll_of.ensures
+    let same =
+    read_as_poll c.args.bss c.args.frame.now c.control_at-control.result c.control_at-control.ensures
+    c.if-frame-lt-CONTROL_HEADER_LEN.false c.if-control-ne0.false poll in
+    subst (λ r. MatchResult c.ps_poll_of.result (λ rx. r ≡ Ok (shown rx)) (λ fault. r ≡ Err fault))
+    (sym same) c.ps_poll_of.ensures
 
 pub returns-then-is_ps_poll_read-clause-frame : goal.returns-then-is_ps_poll_read-clause-frame
-returns-then-is_ps_poll_read-clause-frame c = reads_a_frame c.args.bss c.args.frame.now _ (returns-then-is_ps_poll_read-clause-fault c)
+returns-then-is_ps_poll_read-clause-frame c =
+    reads_a_frame c.args.bss c.args.frame.now _ (returns-then-is_ps_poll_read-clause-fault c)
 
 pub returns-then-is_ps_poll_read-clause-only : goal.returns-then-is_ps_poll_read-clause-only
-returns-then-is_ps_poll_read-clause-only c = reads_each_frame c.args.bss c.args.frame.now _ (returns-then-is_ps_poll_read-clause-fault c)
+returns-then-is_ps_poll_read-clause-only c =
+    reads_each_frame c.args.bss c.args.frame.now _ (returns-then-is_ps_poll_read-clause-fault c)
 
 pub returns-else-is_ps_poll_read-clause-fault : goal.returns-else-is_ps_poll_read-clause-fault
 returns-else-is_ps_poll_read-clause-fault c = search rules
 
 pub returns-else-is_ps_poll_read-clause-only : goal.returns-else-is_ps_poll_read-clause-only
-returns-else-is_ps_poll_read-clause-only c f w = none_at_fault c.args.bss c.args.frame.now f Kind (returns-else-is_ps_poll_read-clause-fault c) w
+returns-else-is_ps_poll_read-clause-only c f w =
+    none_at_fault c.args.bss c.args.frame.now f Kind (returns-else-is_ps_poll_read-clause-fault c) w

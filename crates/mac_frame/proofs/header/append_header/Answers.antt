@@ -10,6 +10,7 @@ returns-clause-ok c =
     let whole : c.put-5.new.header ≡ header a.control a.address_1 a.address_2 a.address_3 a.seq =
     written_is (octets_of a.control) a.address_1 a.address_2 a.address_3 (sequence_control a.seq) _ _ _ _ _ _
     refl c.octets.ensures.address.six c.octets-2.ensures.address.six c.octets-3.ensures.address.six refl
-    refl (rw c.to_octets.ensures.octets at c.put.ensures) (rw c.octets.ensures.value at c.put-2.ensures) (rw c.octets-2.ensures.value at c.put-3.ensures)
+    refl (rw c.to_octets.ensures.octets at c.put.ensures) (rw c.octets.ensures.value at c.put-2.ensures)
+    (rw c.octets-2.ensures.value at c.put-3.ensures)
     (rw c.octets-3.ensures.value at c.put-4.ensures) (rw c.to_le_bytes.ensures at c.put-5.ensures) in
     subst (λ h. OnOk c.append.result (c.append.new.self ≡ a.out.now ++ h)) whole c.append.ensures.ok

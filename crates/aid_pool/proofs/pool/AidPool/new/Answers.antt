@@ -2,13 +2,12 @@ use Rattle.std.proofs.Common.{◌∙◌, sym, ap, arith}
 use Rattle.std.specs.Ordering.{nat_cmp}
 use Rattle.std.specs.FinSet as set
 use Rattle.std.specs.FinSet.{len-empty}
-use Rattle.aid_pool.proofs.Numbers.{numbers_of-cleared_all, pool}
+use Rattle.aid_pool.proofs.Numbers.{pool}
 use Rattle.aid_pool.proofs.pool.AidPool.new.Goals as goal
 
 pub invariant_of-result : goal.invariant_of-result
 invariant_of-result c =
-    let none = numbers_of-cleared_all c.no_marks.result c.no_marks.ensures in
-    record { count = sym (ap set.len none ∙ len-empty nat_cmp); few = omega arith; most = omega arith }
+    record { count = sym (ap set.len c.new.ensures ∙ len-empty nat_cmp); few = omega arith; most = omega arith }
 
 pub returns : goal.returns
-returns c = ap (pool c.args.most) (numbers_of-cleared_all c.no_marks.result c.no_marks.ensures)
+returns c = ap (pool c.args.most) c.new.ensures

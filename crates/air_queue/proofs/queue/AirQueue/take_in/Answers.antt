@@ -3,7 +3,7 @@ use Rattle.std.specs.Prelude.{All}
 use Rattle.std.specs.List.{AllByRecursion, range_with_len}
 use Rattle.crossbeam_queue.specs.Passes.{view}
 use Rattle.bss_core.specs.Radio.{items_of}
-use Rattle.bss_core.specs.declared.step.AirItem.{AirItem}
+use Rattle.bss_core.specs.declared.radio.step.AirItem.{AirItem}
 use Rattle.air_queue.specs.Passes.{NetPassView}
 use Rattle.air_queue.specs.Rule.{IsRadioWith, AllTaken, Accounts, networks_of, taken_in_of}
 use Rattle.air_queue.specs.declared.known.Known.TheVariants.{Radio}

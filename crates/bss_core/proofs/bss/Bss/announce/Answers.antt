@@ -3,7 +3,7 @@ use Rattle.std.specs.FinSet as set
 use Rattle.beacon.specs.Advert.{Announced, announced}
 use Rattle.beacon.specs.Beacon.{beacon}
 use Rattle.bss_core.specs.Network.{Setting, announced_at, beacon_frame, next_sequence}
-use Rattle.bss_core.specs.State.{network_of}
+use Rattle.bss_core.specs.BssView.{network_of}
 use Rattle.bss_core.specs.Units.{group_is_kept, is_waited_for}
 use Rattle.bss_core.specs.declared.reply.Reply.{Reply}
 use Rattle.bss_core.proofs.WaitedFor.{beacon-same}

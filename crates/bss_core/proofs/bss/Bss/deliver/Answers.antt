@@ -1,9 +1,9 @@
 use Rattle.std.proofs.Common.{◌∙◌, List, ℕ, false, Result, Ok, Err, OnOk, sym, ap}
-use Rattle.bss_core.specs.declared.unit.Delivery.TheVariants.{Now, Kept}
+use Rattle.bss_core.specs.declared.reply.unit.Delivery.TheVariants.{Now, Kept}
 use Rattle.bss_core.specs.Arrivals.{unit_shown}
 use Rattle.bss_core.specs.Network.{Setting}
 use Rattle.bss_core.specs.Replies.{after_reply, sending}
-use Rattle.bss_core.specs.State.{network_of}
+use Rattle.bss_core.specs.BssView.{network_of}
 use Rattle.bss_core.specs.Stations.{changed}
 use Rattle.bss_core.specs.Units.{unit_frame}
 use Rattle.bss_core.specs.declared.reply.Reply.{Reply}

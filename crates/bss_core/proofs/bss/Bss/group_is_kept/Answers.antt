@@ -2,7 +2,7 @@ use Rattle.std.proofs.Common.{◌∙◌, List, length, sym, ap}
 use Rattle.std.specs.Prelude.{nat_lt}
 use Rattle.powersave.specs.Keep.{Entry, units_for}
 use Rattle.powersave.specs.declared.unit.Whom.TheVariants.{Group}
-use Rattle.bss_core.specs.State.{network_of}
+use Rattle.bss_core.specs.BssView.{network_of}
 use Rattle.bss_core.proofs.UnitsKept.{some-for}
 use Rattle.bss_core.proofs.bss.Bss.group_is_kept.Goals as goal
 

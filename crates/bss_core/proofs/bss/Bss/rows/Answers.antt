@@ -2,7 +2,7 @@ use Rattle.std.proofs.Common.{◌≡◌, ℕ, ◌+◌, List, [], ◌∷◌, ◌+
 use Rattle.std.proofs.lemmas.List.{take_more}
 use Rattle.std.proofs.lemmas.Option.{slice_get_within, get_or_from_slice_get}
 use Rattle.bss_core.specs.Network.{table_of}
-use Rattle.bss_core.specs.State.{network_of}
+use Rattle.bss_core.specs.BssView.{network_of}
 use Rattle.bss_core.specs.declared.section.StationRow.{StationRow}
 use Rattle.bss_core.proofs.bss.Bss.rows.Goals as goal
 

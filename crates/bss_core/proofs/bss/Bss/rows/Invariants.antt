@@ -1,7 +1,7 @@
 use Rattle.std.proofs.Common.{◌≡◌, ◌≤◌, take, length, vec_len}
 use Rattle.std.specs.Prelude.{vec_capacity}
 use Rattle.bss_core.specs.Network.{table_of}
-use Rattle.bss_core.specs.State.{network_of}
+use Rattle.bss_core.specs.BssView.{network_of}
 use Rattle.bss_core.proofs.bss.Bss.rows.Given as goal
 
 abbrev pub invariant-loop-place : goal.invariant-loop-place

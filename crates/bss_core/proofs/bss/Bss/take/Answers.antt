@@ -1,16 +1,16 @@
-use Rattle.std.proofs.Common.{◌≡◌, ℕ, ◌+◌, ◌<◌, ◌++◌, ◌∷◌, [], List, length, option_to_list, subst, sym, ap, ◌∙◌, arith}
+use Rattle.std.proofs.Common.{◌≡◌, ℕ, ◌<◌, ◌++◌, ◌∷◌, [], List, length, option_to_list, subst, sym, ap, ◌∙◌, arith}
 use Rattle.bss_core.specs.Network.{Setting, step, alone}
 use Rattle.bss_core.specs.Replies.{after_reply, kept_after}
-use Rattle.bss_core.specs.State.{State, network_of, sent_by, wired_by}
+use Rattle.bss_core.specs.BssView.{BssView, network_of, sent_by, wired_by}
 use Rattle.bss_core.specs.Stations.{StationTable}
 use Rattle.bss_core.specs.declared.event.Event.{Event}
 use Rattle.bss_core.specs.declared.reply.Reply.{Reply}
-use Rattle.bss_core.proofs.AloneLaws.{reply-sound, keeps-push, sent_by-reply, air-push, wire-push}
+use Rattle.bss_core.proofs.AloneLaws.{reply-sound, history-push, sent_by-reply, air-push, wire-push}
 use Rattle.bss_core.proofs.Checked.{numbers_bounded}
 use Rattle.bss_core.proofs.bss.Bss.take.Goals as goal
 
 -- the reply makes of the network what the event makes of it
-abbrev IsReply : Event → Reply → State → Type 0
+abbrev IsReply : Event → Reply → BssView → Type 0
 IsReply e r st = step st.setting (network_of st) e ≡ after_reply r (network_of st)
 
 pub overflow_add-self : goal.overflow_add-self
@@ -49,7 +49,7 @@ invariant_of-self-2 c =
     let room : length es < s.network.max_events = omega (arith, c.if-len-self.false) in
     let items : c.push_reserved.new.self.items ≡ es ++ c.args.event ∷ [] = c.push_reserved.ensures.items ∙ ap (λ (h : List Event). h ++ c.args.event ∷ []) c.reserve.ensures.items in
     let replied = subst (IsReply c.args.event r) (sym c.self.view_is) c.in_ok-reply.ensures.step in
-    let kept = keeps-push s es c.args.event r _ c.self.invariant.0 room replied in
+    let kept = history-push s es c.args.event r _ c.self.invariant.0 room replied in
     let changed = c.in_ok-change.ensures.ok in
     let units : c.change-2.new.keep.entries ≡ kept_after r.keeping c.self.inside.kept.entries = c.change-2.ensures.entries ∙ ap (kept_after r.keeping) c.in_ok-reserve_in-2.ensures.entries in
     let wire : c.put_last.new.wired.items ≡ c.self.inside.wired.items ++ option_to_list r.wired = c.put_last.ensures ∙ ap (λ (w : List (List ℕ)). w ++ option_to_list r.wired) c.in_ok-reserve-2.ensures.items in (
@@ -63,7 +63,7 @@ pub returns-clause-waiting : goal.returns-clause-waiting
 returns-clause-waiting c =
     let s = c.args.self.now in
     let sent = sent_by-reply s.setting s.history c.args.event c.in_ok-reply.reply c.in_ok-reply.ensures.step in
-    let before : c.self.inside.waiting.items ≡ s.waiting = ap (λ (st : State). st.waiting) c.self.view_is in
+    let before : c.self.inside.waiting.items ≡ s.waiting = ap (λ (st : BssView). st.waiting) c.self.view_is in
     c.append_to.ensures ∙ ap (λ (w : List (List ℕ)). w ++ c.in_ok-reply.reply.frames) (c.reserve_in.ensures.items ∙ before) ∙ ap (λ (f : List (List ℕ)). s.waiting ++ f) (sym sent)
 
 pub returns-clause-air : goal.returns-clause-air
@@ -73,7 +73,7 @@ returns-clause-air c =
     let items : c.push_reserved.new.self.items ≡ es ++ c.args.event ∷ [] = c.push_reserved.ensures.items ∙ ap (λ (h : List Event). h ++ c.args.event ∷ []) c.reserve.ensures.items in
     let replied = subst (IsReply c.args.event c.in_ok-reply.reply) (sym c.self.view_is) c.in_ok-reply.ensures.step in
     ap (λ (h : List Event). (alone s h).air) items ∙ air-push s es c.args.event c.in_ok-reply.reply replied
-    ∙ ap (λ (st : State). (network_of st).air ++ sent_by st.setting st.history c.args.event) c.self.view_is
+    ∙ ap (λ (st : BssView). (network_of st).air ++ sent_by st.setting st.history c.args.event) c.self.view_is
 
 pub returns-clause-wire : goal.returns-clause-wire
 returns-clause-wire c =
@@ -82,4 +82,4 @@ returns-clause-wire c =
     let items : c.push_reserved.new.self.items ≡ es ++ c.args.event ∷ [] = c.push_reserved.ensures.items ∙ ap (λ (h : List Event). h ++ c.args.event ∷ []) c.reserve.ensures.items in
     let replied = subst (IsReply c.args.event c.in_ok-reply.reply) (sym c.self.view_is) c.in_ok-reply.ensures.step in
     ap (λ (h : List Event). (alone s h).wire) items ∙ wire-push s es c.args.event c.in_ok-reply.reply replied
-    ∙ ap (λ (st : State). (network_of st).wire ++ wired_by st.setting st.history c.args.event) c.self.view_is
+    ∙ ap (λ (st : BssView). (network_of st).wire ++ wired_by st.setting st.history c.args.event) c.self.view_is

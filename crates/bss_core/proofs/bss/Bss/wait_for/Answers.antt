@@ -4,7 +4,7 @@ use Rattle.std.specs.FinSet as set
 use Rattle.std.proofs.lemmas.Bool.{lt-ltb, le-ltb}
 use Rattle.powersave.specs.Keep.{Entry, units_for}
 use Rattle.powersave.specs.declared.unit.Whom.TheVariants.{One}
-use Rattle.bss_core.specs.State.{network_of}
+use Rattle.bss_core.specs.BssView.{network_of}
 use Rattle.bss_core.specs.Stations.{Table, aid_with}
 use Rattle.bss_core.specs.Units.{has_aid, has_unit}
 use Rattle.bss_core.specs.declared.stations.Link.{Link}

@@ -1,7 +1,7 @@
 use Rattle.std.proofs.Common.{◌∙◌, ◌<◌, ◌||◌, ◌&&◌, Bool, length, sym, ap, arith, nat_cmp}
 use Rattle.std.specs.FinSet as set
 use Rattle.std.specs.FinSet.{contains-empty}
-use Rattle.bss_core.specs.State.{network_of}
+use Rattle.bss_core.specs.BssView.{network_of}
 use Rattle.bss_core.specs.Stations.{Table}
 use Rattle.bss_core.specs.Units.{has_aid, has_unit}
 use Rattle.bss_core.proofs.WaitedFor.{waited-more, station-at}

@@ -1,7 +1,7 @@
 use Rattle.std.proofs.Common.{◌≡◌, ℕ, take}
 use Rattle.std.specs.FinSet as set
 use Rattle.tim.specs.Tim.{IsAid}
-use Rattle.bss_core.specs.State.{network_of}
+use Rattle.bss_core.specs.BssView.{network_of}
 use Rattle.bss_core.specs.Units.{is_waited_for}
 use Rattle.bss_core.proofs.bss.Bss.waited_for.Given as goal
 

@@ -1,4 +1,4 @@
-use Rattle.std.proofs.Common.{◌≡◌, Bool, true, false, ◌-◌, ◌≤◌, subst, ◌∙◌, Some, None, sym, ap, arith}
+use Rattle.std.proofs.Common.{◌≡◌, Bool, true, false, ◌≤◌, subst, ◌∙◌, Some, None, sym, ap, arith}
 use Rattle.std.specs.Int.{from_bool}
 use Rattle.bss_core.specs.Stations.{Table, StationTable, link_of, dozes, dozes_with, set_link, with_mode, set_mode, identifiers, with_table}
 use Rattle.bss_core.specs.StationsKept.{AreOut}

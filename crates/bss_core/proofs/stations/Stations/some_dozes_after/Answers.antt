@@ -1,7 +1,7 @@
 use Rattle.std.proofs.Common.{◌≡◌, ◌∙◌, ℕ, true, false, sym, ap}
 use Rattle.std.specs.Prelude.{nat_lt}
 use Rattle.std.specs.Int.{from_bool}
-use Rattle.bss_core.specs.Stations.{Table, StationTable, dozes_with, is_dozing, link_of, some_station_dozes, set_mode, changed}
+use Rattle.bss_core.specs.Stations.{Table, StationTable, dozes_with, is_dozing, some_station_dozes, set_mode, changed}
 use Rattle.bss_core.specs.declared.stations.Change.{Change}
 use Rattle.bss_core.specs.StationsKept.{dozing_count}
 use Rattle.bss_core.proofs.StationTables.{dozing_at, dozes-some, other-dozes, some-dozes, nothing-changes}

@@ -1,14 +1,20 @@
-use Rattle.std.proofs.Common.{◌<◌, length, ap, ◌∙◌, false, rules}
+use Rattle.std.proofs.Common.{◌<◌, ◌/◌, ◌∙◌, length, ap, arith}
+use Rattle.std.proofs.lemmas.Bool.{and_right}
 use Rattle.std.specs.FinSet as set
-use Rattle.std.proofs.Math.ListN.{set as write}
-use Rattle.tim.proofs.Aids.{aids_of, aids_of-remove}
+use Rattle.tim.specs.Bitmap.{has_bit}
+use Rattle.tim.proofs.Aids.{aids_where-remove, has_bit-clear}
 use Rattle.tim.proofs.bitmap.Bitmap.clear.Goals as goal
+
+pub invariant_of-self : goal.invariant_of-self
+invariant_of-self c =
+    let octets = c.self.inside.octets in
+    let aid = c.args.aid in
+    rw c.from.ensures (has_bit-clear octets aid (omega arith) 0 ∙ and_right _ _ c.self.invariant)
 
 pub returns : goal.returns
 returns c =
-    let has = c.self.inside.has in
+    let octets = c.self.inside.octets in
     let aid = c.args.aid in
-    let within : aid < length has = search rules in
-    ap (λ n. aids_of (write has n false)) c.from.ensures
-    ∙ aids_of-remove has aid c.requires.least c.requires.greatest within
-    ∙ ap (λ s. set.remove s aid) c.self.view_is
+    rw c.from.ensures
+    (aids_where-remove (has_bit octets) _ aid c.requires.least c.requires.greatest (has_bit-clear octets aid (omega arith))
+    ∙ ap (λ s. set.remove s aid) c.self.view_is)

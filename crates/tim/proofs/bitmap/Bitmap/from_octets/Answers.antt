@@ -1,9 +1,14 @@
-use Rattle.std.proofs.Common.{arith}
-use Rattle.tim.proofs.Aids.{aids_of-octets, aids_of-aid}
+use Rattle.tim.specs.Bitmap.{has_bit}
+use Rattle.tim.proofs.Aids.{aids_where-octets, aids_where-aid, no_bit_0}
 use Rattle.tim.proofs.bitmap.Bitmap.from_octets.Goals as goal
 
+pub invariant_of-result : goal.invariant_of-result
+invariant_of-result c =
+    no_bit_0 c.from_place.result c.args.first c.args.octets.now c.requires.no_number_0 c.from_place.ensures
+
 pub returns-clause-numbers : goal.returns-clause-numbers
-returns-clause-numbers c = aids_of-octets c.loop-n.bit-items c.args.first c.args.octets.now c.loop-n-test.array_long c.requires.within c.requires.no_number_0 (λ n below. c.loop-n.invariant n (omega arith))
+returns-clause-numbers c =
+    aids_where-octets c.from_place.result c.args.first c.args.octets.now c.requires.within c.requires.no_number_0 c.from_place.ensures
 
 pub returns-clause-aids : goal.returns-clause-aids
-returns-clause-aids c = aids_of-aid c.loop-n.bit-items
+returns-clause-aids c = aids_where-aid (has_bit c.from_place.result)

@@ -1,10 +1,11 @@
-use Rattle.std.proofs.Common.{◌≡◌, length, arith}
-use Rattle.tim.proofs.Octets.{virtual_bitmap-from}
+use Rattle.std.proofs.Common.{◌∙◌, ap}
+use Rattle.std.specs.FinSet as set
+use Rattle.tim.specs.Tim.{virtual_bitmap}
+use Rattle.tim.proofs.Aids.{octets-virtual_bitmap}
 use Rattle.tim.proofs.bitmap.Bitmap.virtual_bitmap.Goals as goal
 
-pub returns : goal.returns
-returns c =
-    let octets = c.loop-place.octet-items in
-    let at = c.loop-place-test in
-    let long : length octets ≡ 251 = c.loop-place-test.array_long in
-    virtual_bitmap-from _ octets long (λ place below. c.loop-place.invariant place (omega arith))
+pub returns-clause-octets : goal.returns-clause-octets
+returns-clause-octets c =
+    c.below_256.ensures.octets
+    ∙ octets-virtual_bitmap c.self.inside.octets c.self.told c.below_256.ensures.below c.self.invariant
+    ∙ ap (λ s. virtual_bitmap (set.contains s)) c.self.view_is

@@ -1,0 +1,32 @@
+-- What contracts see of a network that runs (profile).
+use Rattle.std.specs.Prelude.{ℕ, ◌≤◌, ◌≡◌, ◌++◌, Bool, List, [], ◌∷◌, length, drop, None}
+use Rattle.bss_core.specs.Configuration.{network_fault}
+use Rattle.bss_core.specs.Network.{Setting, Network, alone}
+use Rattle.bss_core.specs.declared.event.Event.{Event}
+
+-- its setting, the events that it took, the frames that wait to leave, and whether there is a slot for one to be
+-- given back; its table, its counts and its wired frames are those of `alone` of the setting and the history
+pub record BssView : Type 0 where
+  pub setting : Setting
+  pub history : List Event
+  pub waiting : List (List ℕ)
+  pub has_slot : Bool
+
+-- the network of a state
+abbrev pub network_of : BssView → Network
+network_of s = alone s.setting s.history
+
+-- the frames that an event adds to those that a network sent
+abbrev pub sent_by : Setting → List Event → Event → List (List ℕ)
+sent_by s es e = drop (length (alone s es).air) (alone s (es ++ e ∷ [])).air
+
+-- the frames that an event adds to those that a network put on its wire
+abbrev pub wired_by : Setting → List Event → Event → List (List ℕ)
+wired_by s es e = drop (length (alone s es).wire) (alone s (es ++ e ∷ [])).wire
+
+-- what a network keeps of itself: a bounded history, and what its history makes of it but for the frames that it
+-- sent on the air
+pub record IsAfterHistory (s : Setting) (history : List Event) (kept : Network) : Type 0 where
+  pub bounded : length history ≤ s.network.max_events
+  pub sound : network_fault s.network ≡ None
+  pub same : record (alone s history) { air = [] } ≡ kept

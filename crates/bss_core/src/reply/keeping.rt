@@ -1,0 +1,94 @@
+//! What becomes of the units that a network keeps.
+
+ghost use Rattle.std.specs.Prelude.{◌≡◌, ◌<◌, length, None, Some, OnOk};
+ghost use Rattle.bss_core.specs.Replies.{without, room_after, kept_after, IsWithin, IsRoomFor};
+
+use mac_frame::NoMemory;
+use powersave::{Keep, Unit, Whom};
+
+/// Which units leave.
+#[derive(Clone, Copy, Debug)]
+pub enum Leaving {
+    /// None does.
+    Nothing,
+    /// All for one do.
+    All(Whom),
+    /// The one that was kept first for one does.
+    Oldest(Whom),
+}
+
+/// What becomes of the units that are kept: first some leave, then one may come.
+#[derive(Debug, Drop)]
+pub struct Keeping {
+    /// Which leave.
+    pub leaving: Leaving,
+    /// Which one comes, and whom it is kept for.
+    pub arriving: Option<(Whom, Unit)>,
+}
+
+impl Leaving {
+    /// How many units are kept once these have left.
+    pub fn len_after(&self, keep: &Keep) -> usize
+        ensures { result ≡ length (without self.now keep.now.entries) }
+    {
+        match self {
+            Leaving::Nothing => keep.len(),
+            Leaving::All(whom) => keep.len() - keep.count_for(*whom),
+            Leaving::Oldest(whom) => keep.len() - keep.count_for(*whom).min(1),
+        }
+    }
+}
+
+impl Keeping {
+    /// All stay, and none comes.
+    pub fn nothing() -> Keeping
+        ensures { result ≡ record { leaving = Leaving.Nothing; arriving = None } }
+    {
+        Keeping {
+            leaving: Leaving::Nothing,
+            arriving: None,
+        }
+    }
+
+    /// Makes room for the unit that comes. The units stay as they are. `NoMemory` where the growth was refused.
+    pub fn reserve_in(&self, keep: &mut Keep) -> Result<(), NoMemory>
+        ensures entries { keep.new.entries ≡ keep.old.entries }
+        ensures quota { keep.new.quota ≡ keep.old.quota }
+        ensures room { OnOk result (IsRoomFor self.now.arriving keep.new) }
+    {
+        if let Some((whom, _)) = &self.arriving {
+            keep.reserve(*whom)?;
+        }
+        Ok(())
+    }
+
+    /// Changes the units that are kept. Takes no memory, since room was made.
+    pub fn change(self, keep: &mut Keep)
+        requires room { IsRoomFor self.arriving keep.old }
+        requires within { IsWithin keep.old.quota self.leaving keep.old.entries self.arriving }
+        ensures entries { keep.new.entries ≡ kept_after self keep.old.entries }
+        ensures quota { keep.new.quota ≡ keep.old.quota }
+    {
+        let Keeping { leaving, arriving } = self;
+        leave(leaving, keep);
+        if let Some((whom, unit)) = arriving {
+            keep.put(whom, unit).unwrap();
+        }
+    }
+}
+
+/// Takes out the units that leave.
+fn leave(leaving: Leaving, keep: &mut Keep)
+    ensures { keep.new ≡ record keep.old {
+      entries = without leaving keep.old.entries;
+      reserved = room_after leaving keep.old.reserved;
+    } }
+{
+    match leaving {
+        Leaving::Nothing => {}
+        Leaving::All(whom) => keep.drop_for(whom),
+        Leaving::Oldest(whom) => {
+            keep.oldest(whom);
+        }
+    }
+}
