@@ -2,16 +2,11 @@
 
 ghost use Rattle.std.specs.Prelude.{◌≡◌, ◌≤◌, ◌<◌, length};
 
+use crate::addresses::{NETWORK, STATION};
 use beacon::{Advert, write_beacon, write_probe_response};
 use mac_frame::{MacAddr, Octets};
 use std::test::Fail;
 use tim::Bitmap;
-
-/// The network.
-const BSSID: [u8; 6] = [0x02, 0, 0, 0, 0, 1];
-
-/// The station that asked.
-const STATION: [u8; 6] = [0x02, 0xaa, 0, 0, 0, 1];
 
 /// An announcement of the network `lab` with sequence number 0.
 fn lab(clock: u32) -> Advert<'static>
@@ -21,7 +16,7 @@ fn lab(clock: u32) -> Advert<'static>
     ensures clock { result.clock ≡ clock }
 {
     Advert {
-        bss: MacAddr::new(BSSID),
+        bss: MacAddr::new(NETWORK),
         ssid: b"lab",
         rates: &[0x82, 0x84, 0x0b, 0x16],
         channel: 6,
@@ -39,7 +34,7 @@ fn longest() -> Advert<'static>
     ensures clock { 1 ≤ result.clock }
 {
     Advert {
-        bss: MacAddr::new(BSSID),
+        bss: MacAddr::new(NETWORK),
         ssid: &[b'x'; 32],
         rates: &[0x82; 16],
         channel: 14,

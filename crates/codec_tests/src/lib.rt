@@ -5,6 +5,18 @@
 #![tactic(auto)]
 
 #[cfg(test)]
+mod addresses;
+#[cfg(test)]
+mod aid_pool_tests;
+#[cfg(test)]
+mod association_tests;
+#[cfg(test)]
 mod beacon_tests;
 #[cfg(test)]
+mod bridge_tests;
+#[cfg(test)]
 mod elements_tests;
+#[cfg(test)]
+mod mac_frame_tests;
+#[cfg(test)]
+mod tim_tests;
