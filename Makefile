@@ -1,35 +1,38 @@
 # The targets of this repository. All need the Rattle toolchain's command `rt` on the path, GNU make, bash, coreutils,
 # diffutils, grep and sed; `wrong` and `bench` need python3 too.
 
-.PHONY: run try test wrong bench apctl
+.PHONY: run try try-check test wrong bench apctl
 
-# What `run` and `try` give to the program: a configuration and a trace.
+# What `run` and `try` give to the program, a configuration and a trace: a file, named from the folder in which make
+# runs.
 INPUT = examples/three_networks_over_some_intervals/input
 
-# Proves what the program stands on, builds it and runs it. Lines on standard error tell how far it is; the report is all
-# that stands on standard output, and comes last.
+# Proves what the program stands on, builds it and runs it. Lines on standard error tell how far it is; the report is
+# all that stands on standard output, and comes last.
 run: apctl
-	@build/apctl < $(INPUT)
+	@build/apctl < "$(INPUT)"
 
-# Runs the program without any proof, and says so on standard error: the same report, within a minute.
+# Runs the program without any proof, and says so on standard error: the same report, where it has 1 MiB at most.
 try:
-	@mkdir -p build
-	@cd crates/apctl && rt try < ../../$(INPUT) 2> ../../build/log || { cat ../../build/log >&2; exit 1; }
-	@echo 'Nothing was proved. "make run" proves the program first.' >&2
+	@.ci/try < "$(INPUT)"
 
-# The gate. Proves every crate from nothing, tries each edit of crates/*/must-fail, runs each test, runs the program that was
-# built of what was proved over the examples and with one growth after another refused, and finds edits of wrong/ that can't
-# be applied. The last line is 'N passed, M failed'.
+# Reads the configuration of the file CONFIG alone, without any proof: how many networks it has, or its first fault.
+try-check:
+	@.ci/try "$(CONFIG)"
+
+# The gate. Proves every crate from nothing, tries each edit of crates/*/must-fail, runs each test, runs the program
+# that was built of what was proved over the examples and with one growth after another refused, and finds edits of
+# wrong/ that can't be applied. The last line is 'N passed, M failed'.
 test:
 	@.ci/gate
 
-# Tries the wrong bodies of wrong/, which the gate doesn't try: all, or with NAME=bss_core those of one crate, as many at a time as
-# there are processors, or with JOBS=2 two. The last line is 'N refused, M not'.
+# Tries the wrong bodies of wrong/, which the gate doesn't try: all, or with NAME=bss_core those of one crate, as many
+# at a time as there are processors, or with JOBS=2 two. The last line is 'N refused, M not'.
 wrong:
 	@JOBS="$(JOBS)" wrong/try $(NAME)
 
-# Measures the program on long traces: of probes, of stations that join, doze, poll and wake, of units between air and wire, of
-# beacons, and of all these in four networks.
+# Measures the program on long traces: of probes, of stations that join, doze, poll and wake, of units between air and
+# wire, of beacons, and of all these in four networks.
 bench: apctl
 	@bench/measure
 	@bench/stations

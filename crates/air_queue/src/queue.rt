@@ -58,9 +58,9 @@ impl AirQueue {
         Ok((AirQueue { queue }, nets, radio))
     }
 
-    /// Puts a frame at the end of the queue, by its network's pass (*profile*). The frame comes back only if the queue was
-    /// full at one moment of the call, which tests show; then the pass has pushed nothing. It may wait for other threads.
-    /// It takes no memory.
+    /// Puts a frame at the end of the queue, by its network's pass (*profile*). Where the frame comes back, the pass
+    /// has pushed nothing. That the queue was full then is no clause, and shown by a test on one thread alone. It may
+    /// wait for other threads. It takes no memory.
     pub fn push<R: Wait>(&self, rt: &R, pass: &mut NetPass, item: AirItem) -> Result<(), AirItem>
         requires queue { pass.old.name ≡ self.now.name }
         requires place { item.place ≡ pass.old.place }
@@ -72,9 +72,9 @@ impl AirQueue {
             .push_as::<Push, R>(rt, &mut pass.queue_pass, item)
     }
 
-    /// Takes the first frame of the queue, which is the last that left then (*profile*). `false` only if the queue was
-    /// empty at one moment of the call, which tests show; then nothing has changed. It may wait for other threads. It takes
-    /// no memory, but uses room that [`RadioPass::reserve`] made.
+    /// Takes the first frame of the queue, which is the last that left then (*profile*). After `false` nothing has
+    /// changed. That the queue was empty then is no clause, and shown by a test on one thread alone. It may wait for
+    /// other threads. It takes no memory, but uses room that [`RadioPass::reserve`] made.
     pub fn pop<R: Wait>(&self, rt: &R, pass: &mut RadioPass) -> bool
         requires queue { pass.old.name ≡ self.now.name }
         requires room { 1 ≤ pass.old.spare }

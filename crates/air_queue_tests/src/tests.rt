@@ -18,7 +18,7 @@ use std::thread::Threads;
 /// How many frames each thread pushes.
 const FRAMES: u8 = 100;
 
-/// How often a thread tries at most: one that pushes so often for each of its frames, the one that pops so often in all.
+/// How often a thread tries to push one frame at most, and how often one tries to pop in all.
 const TURNS: u32 = 1_000_000;
 
 /// The frame that a text spells, of the network at a place.

@@ -1,16 +1,17 @@
--- The faults of the program, the exit status that goes with each, and how many failures of its output (profile).
-use Rattle.std.specs.Prelude.{ℕ, ◌≡◌, List, Result, Ok, Err, string_bytes}
+-- The faults of the program, the exit status that goes with each, and how a run ends with it.
+use Rattle.std.specs.Prelude.{ℕ, ◌≡◌, List, codes, string_bytes}
+use Rattle.trace.specs.Endings.{Ending, Refused, WriteFailed, OutOfMemory}
+use Rattle.replay.specs.declared.fault.TextFault.{TextFault}
+use Rattle.replay.specs.declared.fault.TextFault.TheVariants as replay
 use Rattle.apctl.specs.declared.fault.Fault.{Fault}
 use Rattle.apctl.specs.declared.fault.Fault.TheVariants.{Config, Trace, Words, Memory, File, Output}
-use Rattle.apctl.specs.declared.text_fault.TextFault.{TextFault}
-use Rattle.apctl.specs.declared.text_fault.TextFault.TheVariants as replay
 
--- the fault of a replay that ended without a report
-abbrev pub of_replay : TextFault → Fault
-of_replay (replay.Config fault) = Config fault
-of_replay (replay.Trace fault) = Trace fault
-of_replay replay.NoMemory = Memory
-of_replay replay.Write = Output
+-- the fault of two texts that were not answered
+abbrev pub of_texts : TextFault → Fault
+of_texts (replay.Config fault) = Config fault
+of_texts (replay.Trace fault) = Trace fault
+of_texts replay.NoMemory = Memory
+of_texts replay.Write = Output
 
 abbrev pub status_of : Fault → ℕ
 status_of (Config fault) = 1
@@ -20,23 +21,18 @@ status_of Memory = 3
 status_of (File name) = 4
 status_of Output = 4
 
+-- the line of the fault that memory ran out
+abbrev pub memory_line : List ℕ
+memory_line = codes "fault memory\n"
+
 -- the fault of a file of this name that can't be read, or of memory that ran out meanwhile
 abbrev pub IsOfFile : List ℕ → Fault → Type 0
 IsOfFile wanted (File name) = string_bytes name ≡ wanted
 IsOfFile wanted Memory = Unit {0}
 IsOfFile wanted _ = ⊥
 
--- ---- how often the output failed
-
--- how many failures of its output a call met that answers a text so
-abbrev pub failures_of_text : Result Unit TextFault → ℕ
-failures_of_text (Ok u) = 0
-failures_of_text (Err (replay.Config fault)) = 0
-failures_of_text (Err (replay.Trace fault)) = 0
-failures_of_text (Err replay.NoMemory) = 0
-failures_of_text (Err replay.Write) = 1
-
--- how many failures of its output a run of the program met that ends so
-abbrev pub failures_of_run : Result Unit Fault → ℕ
-failures_of_run (Err Output) = 1
-failures_of_run _ = 0
+-- how a run of the program ends
+abbrev pub run_ending : Fault → Ending Fault
+run_ending Memory = OutOfMemory
+run_ending Output = WriteFailed
+run_ending fault = Refused fault

@@ -1,6 +1,3 @@
-pub mod Joined
-pub mod Replay
-pub mod Answer
-pub mod Checking
+-- All that stands here is the profile's.
 pub mod Faults
 pub mod Input

@@ -1,12 +1,13 @@
-//! What can go wrong, as a user meets it (*profile*): one line on standard error and an exit status.
+//! What can go wrong, as a user meets it: one line on standard error and an exit status.
 
-ghost use Rattle.std.specs.Prelude.{◌≡◌, ◌+◌, IfOk};
-ghost use Rattle.trace.specs.Sinks.{MayFail, failures_of_report};
-ghost use Rattle.apctl.specs.Faults.{of_replay, status_of, IsOfFile};
+ghost use Rattle.std.specs.Prelude.{◌≡◌, ◌≢◌, ◌+◌, IfOk, Ok, Err};
+ghost use Rattle.trace.specs.Endings.{Ends, failures_of};
+ghost use Rattle.trace.specs.Sinks.{MayFail, report_ending};
+ghost use Rattle.apctl.specs.Faults.{of_texts, status_of, memory_line, IsOfFile};
 ghost use Rattle.apctl.specs.declared.fault.Fault.TheVariants as faults;
 
-use crate::text_fault::TextFault;
 use bss_core::ConfigFault;
+use replay::TextFault;
 use std::alloc::{AllocError, Global};
 use thiserror::Error;
 use trace::{ReportFault, Sink, TraceFault, write_all};
@@ -36,7 +37,7 @@ pub enum Fault {
 
 impl Fault {
     /// The exit status of the program that ends with it: 1 for a fault of what it read, 2 for its words, 3 where
-    /// it ran out of memory, 4 for a file or a stream (*profile*).
+    /// it ran out of memory, 4 for a file or a stream.
     pub fn status(&self) -> u8
         ensures { result ≡ status_of self.now }
     {
@@ -60,7 +61,7 @@ impl Fault {
 }
 
 impl From<TextFault> for Fault {
-    ghost from_gives = { λ fault given. given ≡ of_replay fault };
+    ghost from_gives = { λ fault given. given ≡ of_texts fault };
 
     fn from(fault: TextFault) -> Fault {
         match fault {
@@ -80,14 +81,24 @@ impl From<AllocError> for Fault {
     }
 }
 
+/// The line of the fault that memory ran out.
+const MEMORY_LINE: &[u8] = b"fault memory\n";
+
 /// Writes the line of a fault, and answers the exit status that goes with it. `Write` where a write of `out`
-/// failed, `NoMemory` where a growth was refused.
+/// failed, `NoMemory` where a growth was refused: never of `Memory`, whose line takes no memory.
 pub fn show_fault<W: Sink>(alloc: Global, fault: &Fault, out: &mut W) -> Result<u8, ReportFault>
     requires { MayFail (W.failed out.old) }
     ensures status { IfOk result (λ status. status ≡ status_of fault.now) }
-    ensures failures { W.failed out.new ≡ W.failed out.old + failures_of_report result }
+    ensures memory { fault.now ≡ faults.Memory → result ≢ Err ReportFault.NoMemory }
+    ensures memory_line { fault.now ≡ faults.Memory →
+        Ends report_ending result (Ok memory_line) (W.taken out.old) (W.taken out.new) }
+    ensures failures { W.failed out.new ≡ W.failed out.old + failures_of report_ending result }
 {
-    let line = format!(in alloc; "{fault}\n")?;
-    write_all(out, line.as_bytes())?;
+    if let Fault::Memory = fault {
+        write_all(out, MEMORY_LINE)?;
+    } else {
+        let line = format!(in alloc; "{fault}\n")?;
+        write_all(out, line.as_bytes())?;
+    }
     Ok(fault.status())
 }

@@ -5,8 +5,8 @@ use crate::input::read_all;
 use std::fs::File;
 use std::io::ErrorKind;
 
-/// All that a file of this name holds, the word as it stands. `File` with its name where it can't be opened or read,
-/// or takes more than 4,294,967,295 reads; `Memory` where a growth was refused.
+/// All that a file of this name holds, the word as it stands. `File` with its name where it can't be opened or read;
+/// `Memory` where a growth was refused.
 pub fn read_file(rt: &HostRuntime, name: &str) -> Result<Vec<u8>, Fault> {
     match File::open(rt, name) {
         Ok(mut file) => read_all(rt.alloc(), &mut file, name),

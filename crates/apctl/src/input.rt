@@ -3,21 +3,18 @@
 //! It is all that the program does without words, but for its streams and the line of a fault.
 
 ghost use Rattle.std.specs.Prelude.{◌≡◌, ◌+◌, IfOk, IfErr, IfSome};
+ghost use Rattle.trace.specs.Endings.{failures_of};
 ghost use Rattle.trace.specs.Sinks.{MayFail};
-ghost use Rattle.apctl.specs.Faults.{IsOfFile, failures_of_run};
+ghost use Rattle.apctl.specs.Faults.{IsOfFile, run_ending};
 ghost use Rattle.apctl.specs.Input.{EndsInput};
 
 use crate::fault::Fault;
-use crate::joined::split_joined;
-use crate::replay::run_text;
+use replay::{run_text, split_joined};
 use std::alloc::Global;
 use std::io::{ErrorKind, Read};
 use trace::Sink;
 
-/// How many octets are read at a time.
-const READ_AT_ONCE: usize = 65536;
-
-/// The name of standard input in the line of a fault (*profile*).
+/// The name of standard input in the line of a fault.
 const STANDARD_INPUT: &str = "-";
 
 /// Reads a configuration and a trace in one text, to the end of the reader, and appends the report of them to what
@@ -28,7 +25,7 @@ const STANDARD_INPUT: &str = "-";
 pub fn run_input<R: Read, W: Sink>(alloc: Global, reader: &mut R, out: &mut W) -> Result<(), Fault>
     requires { MayFail (W.failed out.old) }
     ensures ends { EndsInput result (R.remaining reader.old) (W.taken out.old) (W.taken out.new) }
-    ensures failures { W.failed out.new ≡ W.failed out.old + failures_of_run result }
+    ensures failures { W.failed out.new ≡ W.failed out.old + failures_of run_ending result }
 {
     let input = read_all(alloc, reader, STANDARD_INPUT)?;
     let (config, trace) = split_joined(input.as_slice());
@@ -36,21 +33,16 @@ pub fn run_input<R: Read, W: Sink>(alloc: Global, reader: &mut R, out: &mut W) -
     Ok(())
 }
 
-/// All that a reader gives. An interrupted read is tried again; it gives up after 4,294,967,295 reads, as where the
-/// reader failed: `File` with this name then, and `Memory` where a growth was refused.
+/// All that a reader gives. An interrupted read is tried again. `File` with this name where the reader failed, and
+/// `Memory` where a growth was refused.
 pub fn read_all<R: Read>(alloc: Global, reader: &mut R, name: &str) -> Result<Vec<u8>, Fault>
     ensures ok { IfOk result (λ input. IfSome (R.remaining reader.old) (λ octets. input.items ≡ octets)) }
     ensures err { IfErr result (IsOfFile name.now) }
 {
     let mut input = Vec::new(alloc);
-    let mut piece = [0; READ_AT_ONCE];
-    for _ in 0..u32::MAX {
-        match reader.read(&mut piece) {
-            Ok(0) => return Ok(input),
-            Ok(count) => input.extend_from_slice(&piece[..count])?,
-            Err(error) if error.kind() == ErrorKind::Interrupted => {}
-            Err(_) => return Err(Fault::of_file(alloc, name)),
-        }
+    match reader.read_to_end(&mut input) {
+        Ok(_) => Ok(input),
+        Err(error) if error.kind() == ErrorKind::OutOfMemory => Err(Fault::Memory),
+        Err(_) => Err(Fault::of_file(alloc, name)),
     }
-    Err(Fault::of_file(alloc, name))
 }

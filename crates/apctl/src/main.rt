@@ -1,34 +1,26 @@
-//! The program `apctl`: from the octets of a configuration and a trace to the octets of a report.
+//! The program `apctl` (*profile*): words, files, streams and the lines of faults, around the library `replay`.
 //!
-//! It promises, on [`replay::run_text`], that where it ends well, what it wrote is the report of what each network
-//! alone makes of its own events of the trace; that a fault of the configuration or of the trace is the first one, and
-//! nothing was written then; and that where memory ran out or a write failed, what was written is nothing or a prefix
-//! of that report. [`input::run_input`] says the same of one text that is read and cut in two, and
-//! [`checking::check_text`] that it writes how many networks a configuration has, or answers its first fault.
+//! It promises, on [`input::run_input`], of one text that is read and cut in two what [`replay::run_text`] promises of
+//! the two; and on [`fault::show_fault`] the exit status of a fault, and that `fault memory` is written without taking
+//! any.
 //!
-//! It promises nothing of words, of the process's streams, or of the line of a fault. That the program is called as a
-//! user called it is shown by tests.
+//! It promises nothing of words, of the process's streams, or of the lines of other faults. That the program is called
+//! as a user called it is shown by tests.
 #![tactic(auto)]
 
-mod checking;
 mod fault;
 mod files;
 mod input;
-mod joined;
-mod left;
-mod replay;
-mod text_fault;
 mod words;
 
-use checking::check_text;
 use fault::{Fault, show_fault};
 use files::read_file;
 use input::run_input;
-use replay::run_text;
+use replay::{check_text, run_text};
 use std::env;
 use std::io::ErrorKind;
 use std::process::ExitCode;
-use trace::Counted;
+use trace::{Counted, ReportFault};
 use words::{Task, task_of};
 
 #[cfg(test)]
@@ -38,13 +30,21 @@ mod tests;
 const UNWRITTEN: u8 = 4;
 
 fn main(rt: HostRuntime) -> ExitCode {
-    let Err(fault) = run(&rt) else {
-        return ExitCode::SUCCESS;
-    };
-    match show_fault(rt.alloc(), &fault, &mut Counted::new(rt.stderr())) {
-        Ok(status) => ExitCode::from(status),
-        Err(_) => ExitCode::from(UNWRITTEN),
+    match run(&rt) {
+        Ok(()) => ExitCode::SUCCESS,
+        Err(fault) => ExitCode::from(tell(&rt, &fault)),
     }
+}
+
+/// Writes the line of a fault to standard error, or that of `Memory` where there is none for it, and answers the exit
+/// status that goes with what was written.
+fn tell(rt: &HostRuntime, fault: &Fault) -> u8 {
+    let mut out = Counted::new(rt.stderr());
+    let shown = match show_fault(rt.alloc(), fault, &mut out) {
+        Err(ReportFault::NoMemory) => show_fault(rt.alloc(), &Fault::Memory, &mut out),
+        shown => shown,
+    };
+    shown.unwrap_or(UNWRITTEN)
 }
 
 /// Does what the words ask for. Files are read whole, in the order of the words, before anything is done with them.

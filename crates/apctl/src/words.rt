@@ -1,4 +1,4 @@
-//! The words that the program is given after its name (*profile*).
+//! The words that the program is given after its name.
 
 use crate::fault::Fault;
 use clap::error::ErrorKind;

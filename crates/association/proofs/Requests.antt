@@ -1,6 +1,6 @@
 -- A request of a management frame, by the frame and the body that it stands on.
 use Rattle.std.proofs.Common.{◌≡◌, ℕ, Bool, true, false, eqb, List, Option, Result, Ok, Err, inl, inr, refl, sym, ap}
-use Rattle.std.proofs.Common.{subst, ◌∙◌}
+use Rattle.std.proofs.Common.{subst}
 use Rattle.std.specs.Prelude.{◌⊎◌, if◌then◌else◌}
 use borrow.Author.Tests.{eqb-true}
 use Rattle.mac_frame.specs.declared.frame.Unread.{Unread}

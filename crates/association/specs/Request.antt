@@ -1,6 +1,6 @@
 -- What a station asks (IEEE Std 802.11-2016, 9.3): the one request of a string of octets, and the first fault of a
 -- string that holds none. What the body of each kind says stands with its kind.
-use Rattle.std.specs.Prelude.{ℕ, ◌≡◌, ◌==◌, Bool, true, false, List, Option, Result, Ok, Err, if◌then◌else◌}
+use Rattle.std.specs.Prelude.{ℕ, ◌==◌, Bool, true, false, List, Option, Result, Ok, Err, if◌then◌else◌}
 use Rattle.mac_frame.specs.Management.{association_request_subtype, reassociation_request_subtype}
 use Rattle.mac_frame.specs.Management.{probe_request_subtype, disassociation_subtype}
 use Rattle.mac_frame.specs.Management.{authentication_subtype, deauthentication_subtype}

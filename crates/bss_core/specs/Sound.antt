@@ -35,7 +35,7 @@ pub record IsSoundNetwork (s : Setting) (events units : ℕ) (n : Network) : Typ
   pub quota : length n.kept ≤ s.network.quota
   -- twelve bits (9.2.4.4.2)
   pub sequence : n.sequence < 4096
-  -- no event is counted twice
+  -- no more events are unread than it took, and no more of them are ticks
   pub unread : n.unread ≤ events
   pub clock : n.clock ≤ events
   pub lost : n.lost + length n.kept ≤ units

@@ -3,7 +3,7 @@
 ghost use Rattle.std.specs.Prelude.{◌≡◌, length};
 ghost use Rattle.bss_core.specs.Configuration.{is_between, count_fits, ssid_fits};
 
-use aid_pool::MAX_AID;
+use mac_frame::MAX_AID;
 
 /// The least and the greatest value of a number.
 #[derive(Clone, Copy, Debug, PartialEq, Eq)]

@@ -7,9 +7,9 @@ ghost use Rattle.bss_core.specs.Stations.{with_table, link_of, standing_of, aid_
 ghost use Rattle.bss_core.specs.Stations.{may_associate, next_aid, is_associated, set_link, authenticate, associate};
 ghost use Rattle.bss_core.specs.Stations.{disassociate, forget, set_mode, with_mode, changed, IsAllowed, IsModeAlone};
 
-use aid_pool::{AidPool, MAX_AID};
+use aid_pool::AidPool;
 use indexmap::IndexMap;
-use mac_frame::{MacAddr, NoMemory};
+use mac_frame::{MAX_AID, MacAddr, NoMemory};
 use station_state::Standing;
 use std::alloc::Global;
 use std::marker::Model;

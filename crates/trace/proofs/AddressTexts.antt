@@ -1,5 +1,6 @@
 -- A word that spells an address is ASCII, so that a word that is no text spells none.
-use Rattle.std.proofs.Common.{◌≡◌, ℕ, ◌+◌, ◌*◌, ◌<◌, true, List, [], ◌∷◌, length, get_or, Option, Some, None, refl, arith, inl, inr, below_none, below_more}
+use Rattle.std.proofs.Common.{◌≡◌, ℕ, ◌+◌, ◌*◌, ◌<◌, true, List, [], ◌∷◌, length, get_or, Option, Some, None, refl}
+use Rattle.std.proofs.Common.{arith, inl, inr, below_none, below_more}
 use Rattle.std.specs.Option.{option_map, option_and_then}
 use Rattle.std.specs.Str.{IsUtf8, IsAscii}
 use Rattle.std.proofs.lemmas.Bool.{cases_Bool, cases_lt, and_parts, eqb-true}
@@ -20,7 +21,8 @@ record AreAscii (high low : ℕ) : Type 0 where
 digits_are_ascii : (high low v : ℕ) → octet_of high low ≡ Some v → AreAscii high low
 digits_are_ascii high low v is = by (hex_digit_value high) (hex_digit_value low) refl refl is
   where
-    by : (h l : Option ℕ) → hex_digit_value high ≡ h → hex_digit_value low ≡ l → option_and_then (λ x. option_map (λ y. 16 * x + y) l) h ≡ Some v → AreAscii high low
+    by : (h l : Option ℕ) → hex_digit_value high ≡ h → hex_digit_value low ≡ l
+        → option_and_then (λ x. option_map (λ y. 16 * x + y) l) h ≡ Some v → AreAscii high low
     by None l eh el is = absurd cc
     by (Some x) None eh el is = absurd cc
     by (Some x) (Some y) eh el is = record { first = digit_is_ascii high x eh; second = digit_is_ascii low y el }
@@ -54,7 +56,9 @@ parted text h =
       after_fifth = eqb-true _ _ e.1;
     }
 
-address_is_ascii : (text : List ℕ) (a b c d e f : ℕ) → IsParted text → octet_at text 0 ≡ Some a → octet_at text 1 ≡ Some b → octet_at text 2 ≡ Some c → octet_at text 3 ≡ Some d → octet_at text 4 ≡ Some e → octet_at text 5 ≡ Some f → IsAscii text
+address_is_ascii : (text : List ℕ) (a b c d e f : ℕ) → IsParted text → octet_at text 0 ≡ Some a
+    → octet_at text 1 ≡ Some b → octet_at text 2 ≡ Some c → octet_at text 3 ≡ Some d → octet_at text 4 ≡ Some e
+    → octet_at text 5 ≡ Some f → IsAscii text
 address_is_ascii text a b c d e f p first second third fourth fifth sixth =
     let d0 = digits_are_ascii (get_or text 0 0) (get_or text 1 0) a first in
     let d1 = digits_are_ascii (get_or text 3 0) (get_or text 4 0) b second in
@@ -63,11 +67,14 @@ address_is_ascii text a b c d e f p first second third fourth fifth sixth =
     let d4 = digits_are_ascii (get_or text 12 0) (get_or text 13 0) e fifth in
     let d5 = digits_are_ascii (get_or text 15 0) (get_or text 16 0) f sixth in
     let P : ℕ → Type 0 = AsciiAt text in
-    let k2 = below_more P 2 (below_more P 1 (below_more P 0 (below_none P) d0.first) d0.second) (omega (arith, p.after_first)) in
+    let k2 =
+    below_more P 2 (below_more P 1 (below_more P 0 (below_none P) d0.first) d0.second) (omega (arith, p.after_first)) in
     let k5 = below_more P 5 (below_more P 4 (below_more P 3 k2 d1.first) d1.second) (omega (arith, p.after_second)) in
     let k8 = below_more P 8 (below_more P 7 (below_more P 6 k5 d2.first) d2.second) (omega (arith, p.after_third)) in
-    let k11 = below_more P 11 (below_more P 10 (below_more P 9 k8 d3.first) d3.second) (omega (arith, p.after_fourth)) in
-    let k14 = below_more P 14 (below_more P 13 (below_more P 12 k11 d4.first) d4.second) (omega (arith, p.after_fifth)) in
+    let k11 =
+    below_more P 11 (below_more P 10 (below_more P 9 k8 d3.first) d3.second) (omega (arith, p.after_fourth)) in
+    let k14 =
+    below_more P 14 (below_more P 13 (below_more P 12 k11 d4.first) d4.second) (omega (arith, p.after_fifth)) in
     let k16 = below_more P 16 (below_more P 15 k14 d5.first) d5.second in
     λ k. elim (cases_lt k 17) [
       | inl within ↦ k16 k within
@@ -75,7 +82,8 @@ address_is_ascii text a b c d e f p first second third fourth fifth sixth =
     ]
 
 -- six octets that are not all there are none
-not_all : (oa ob oc od oe of : Option ℕ) → ((a b c d e f : ℕ) → oa ≡ Some a → ob ≡ Some b → oc ≡ Some c → od ≡ Some d → oe ≡ Some e → of ≡ Some f → ⊥)
+not_all : (oa ob oc od oe of : Option ℕ)
+    → ((a b c d e f : ℕ) → oa ≡ Some a → ob ≡ Some b → oc ≡ Some c → od ≡ Some d → oe ≡ Some e → of ≡ Some f → ⊥)
     → (do a ← oa; b ← ob; c ← oc; d ← od; e ← oe; f ← of; Some (a ∷ b ∷ c ∷ d ∷ e ∷ f ∷ [])) ≡ None
 not_all None ob oc od oe of h = refl
 not_all (Some a) None oc od oe of h = refl

@@ -1,5 +1,6 @@
 -- The networks of an array, as a loop over its values reads them.
-use Rattle.std.proofs.Common.{◌≡◌, ℕ, ◌<◌, ◌+◌, length, get_or, drop, List, [], ◌∷◌, ◌++◌, append_assoc, Option, Some, None, Result, Ok, Err, refl, sym, ap, ◌∙◌, ◌≤◌}
+use Rattle.std.proofs.Common.{◌≡◌, ℕ, ◌<◌, ◌+◌, length, get_or, drop, List, [], ◌∷◌, ◌++◌, append_assoc, Option, Some}
+use Rattle.std.proofs.Common.{None, Result, Ok, Err, refl, sym, ap, ◌∙◌, ◌≤◌}
 use Rattle.std.proofs.lemmas.List.{append-nil, at_drop_all}
 use Rattle.std.proofs.lemmas.Option.{same_Some, none-some}
 use Rattle.toml.specs.Data.{Data, Items, item, Members, table, as_table}
@@ -8,7 +9,8 @@ use Rattle.toml.specs.declared.value.Value.{Value}
 use Rattle.toml.proofs.Views.{items_view-drop}
 use Rattle.bss_core.specs.declared.config.NetConfig.{NetConfig}
 use Rattle.bss_core.specs.declared.config.ConfigFault.{ConfigFault}
-use Rattle.trace.specs.Faults.{◌>>=◌, IsFaultOf}
+use Rattle.trace.specs.Endings.{Ending, Well, Refused, WriteFailed, OutOfMemory, IsFaultOf}
+use Rattle.trace.specs.Faults.{◌>>=◌}
 use Rattle.trace.specs.ConfigurationText.{tables_in, network_of_table, networks_of}
 
 -- the networks so far, and those that are still to be read after them
@@ -16,7 +18,8 @@ unfoldable pub so_far : List NetConfig → Items → Result (List NetConfig) Con
 so_far done ds = networks_of done (tables_in ds) >>= (λ more. Ok (done ++ more))
 
 -- the first item is a table, or it is left out
-tables_in-table : (d : Data) (ds : Items) (ms : Members) → as_table d ≡ Some ms → tables_in (item d ds) ≡ ms ∷ tables_in ds
+tables_in-table : (d : Data) (ds : Items) (ms : Members) → as_table d ≡ Some ms
+    → tables_in (item d ds) ≡ ms ∷ tables_in ds
 tables_in-table (table ms) ds other is = ap (λ t. t ∷ tables_in ds) (same_Some _ _ is)
 tables_in-table d ds other is = absurd (none-some _ is)
 
@@ -26,17 +29,20 @@ tables_in-other d ds is = refl
 
 -- one more network, before the others or after those so far
 moved : (done : List NetConfig) (network : NetConfig) (read : Result (List NetConfig) ConfigFault)
-    → ((read >>= (λ more. Ok (network ∷ more))) >>= (λ more. Ok (done ++ more))) ≡ (read >>= (λ more. Ok ((done ++ network ∷ []) ++ more)))
+    → ((read >>= (λ more. Ok (network ∷ more))) >>= (λ more. Ok (done ++ more)))
+    ≡ (read >>= (λ more. Ok ((done ++ network ∷ []) ++ more)))
 moved done network (Ok more) = ap Ok (sym (append_assoc done (network ∷ []) more))
 moved done network (Err fault) = refl
 
 pub so_far-start : (ds : Items) → so_far [] ds ≡ networks_of [] (tables_in ds)
 unfolding so_far
 so_far-start ds =
-    elim (networks_of [] (tables_in ds)) as (λ read. (read >>= (λ more. Ok ([] ++ more))) ≡ read) [ Ok more ↦ refl | Err fault ↦ refl ]
+    elim (networks_of [] (tables_in ds)) as (λ read. (read >>= (λ more. Ok ([] ++ more))) ≡ read)
+    [ Ok more ↦ refl | Err fault ↦ refl ]
 
 -- at the end there are those so far
-pub so_far-end : (done : List NetConfig) (vs : List Value) (i : ℕ) → length vs ≤ i → so_far done (items_view (drop i vs)) ≡ Ok done
+pub so_far-end : (done : List NetConfig) (vs : List Value) (i : ℕ) → length vs ≤ i
+    → so_far done (items_view (drop i vs)) ≡ Ok done
 unfolding so_far
 so_far-end done vs i past = at_drop_all (λ xs. so_far done (items_view xs)) vs i past ∙ ap Ok (append-nil done)
 
@@ -59,8 +65,10 @@ module _ (vs : List Value) (i : ℕ) (v : Value) (within : i < length vs) (here 
   so_far-network done ms network is read = rw (from_here, tables_in-table _ _ ms (sym is), read) (moved done network _)
 
   -- a table with a fault
-  pub so_far-fault : (done : List NetConfig) (ms : Members) (fault : Option ConfigFault) → Some ms ≡ as_table (view v)
-      → IsFaultOf (network_of_table done ms) fault → IsFaultOf (so_far done (items_view (drop i vs))) fault
+  pub so_far-fault : (done : List NetConfig) (ms : Members) (end : Ending ConfigFault) → Some ms ≡ as_table (view v)
+      → IsFaultOf (network_of_table done ms) end → IsFaultOf (so_far done (items_view (drop i vs))) end
   unfolding so_far
-  so_far-fault done ms (Some fault) is read = rw (from_here, tables_in-table _ _ ms (sym is), read) refl
-  so_far-fault done ms None is read = tt
+  so_far-fault done ms (Refused fault) is read = rw (from_here, tables_in-table _ _ ms (sym is), read) refl
+  so_far-fault done ms Well is read = tt
+  so_far-fault done ms WriteFailed is read = tt
+  so_far-fault done ms OutOfMemory is read = tt

@@ -1,5 +1,7 @@
 -- Lists, tables and texts, as the readers of a configuration go over them.
-use Rattle.std.proofs.Common.{◌≡◌, ℕ, length, nat_le, codes, Ok, Err, if◌then◌else◌, Bool, true, false, List, [], ◌∷◌, map, Bor, Option, Some, None, String, Global, string_bytes, refl, subst, inl, inr, ◌∙◌, arith}
+use Rattle.std.proofs.Common.{◌≡◌, ℕ, length, nat_le, codes, Ok, Err, if◌then◌else◌, Bool, true, false, List, [], ◌∷◌}
+use Rattle.std.proofs.Common.{map, Bor, Option, Some, None, String, Global, string_bytes, refl, subst, inl, inr, ◌∙◌}
+use Rattle.std.proofs.Common.{arith}
 use Rattle.std.specs.List.{list_any, list_all}
 use Rattle.std.specs.Map.{keys_of}
 use Rattle.std.specs.Str.{bytes_eq, IsUtf8, is_utf8}
@@ -12,11 +14,14 @@ use Rattle.toml.specs.View.{view, items_of, items_view, members_view}
 use Rattle.toml.specs.declared.value.Value.{Value}
 use Rattle.toml.proofs.Views.{Entry, items_view-drop}
 use Rattle.bss_core.specs.declared.config.NetConfig.{NetConfig}
-use Rattle.bss_core.specs.Configuration.{is_between, dtim_fits, max_stations_fits, max_known_fits, quota_fits, max_events_fits}
-use Rattle.trace.specs.ConfigurationText.{number_at, bssid_at, ssid_at, rates_at, has_only, are_tables, tables_in, fault_after, network_of_table, document_of}
+use Rattle.bss_core.specs.Configuration.{is_between, dtim_fits, max_stations_fits, max_known_fits, quota_fits}
+use Rattle.bss_core.specs.Configuration.{max_events_fits}
+use Rattle.trace.specs.ConfigurationText.{number_at, bssid_at, ssid_at, rates_at, has_only, are_tables, tables_in}
+use Rattle.trace.specs.ConfigurationText.{fault_after, network_of_table, document_of}
 
 -- a test of what references point to
-pub among_texts : (p : List ℕ → Bool) (texts : List (Bor (List ℕ))) → list_any p (map (λ text. text.now) texts) ≡ list_any (λ text. p text.now) texts
+pub among_texts : (p : List ℕ → Bool) (texts : List (Bor (List ℕ)))
+    → list_any p (map (λ text. text.now) texts) ≡ list_any (λ text. p text.now) texts
 among_texts p [] = refl
 among_texts p (text ∷ texts) = rw (among_texts p texts)
 
@@ -25,7 +30,8 @@ abbrev pub is_among : List (List ℕ) → String Global → Bool
 is_among keys key = list_any (bytes_eq (string_bytes key)) keys
 
 -- the keys of a table's map
-pub has_only-keys : (keys : List (List ℕ)) (es : List Entry) → has_only keys (members_view es) ≡ list_all (is_among keys) (keys_of es)
+pub has_only-keys : (keys : List (List ℕ)) (es : List Entry)
+    → has_only keys (members_view es) ≡ list_all (is_among keys) (keys_of es)
 has_only-keys keys [] = refl
 has_only-keys keys (e ∷ es) = rw (has_only-keys keys es)
 
@@ -49,16 +55,13 @@ length_of_tables [] only = refl
 length_of_tables (table ms ∷ ds) only = omega (arith, length_of_tables ds only)
 length_of_tables (d ∷ ds) only = absurd (false≢true only)
 
-pub length_of_networks : (vs : List Value) → are_tables (items_view vs) ≡ true → length (tables_in (items_view vs)) ≡ length vs
+pub length_of_networks : (vs : List Value) → are_tables (items_view vs) ≡ true
+    → length (tables_in (items_view vs)) ≡ length vs
 length_of_networks vs only = length_of_tables (map view vs) only ∙ length-map vs view
 
--- the number at a key, by its greatest value
-pub number_at-most : (least most limit : ℕ) (key : List ℕ) (ms : Members) (n : Option ℕ) → most ≡ limit → number_at (is_between least most) key ms ≡ n → number_at (is_between least limit) key ms ≡ n
-number_at-most least most limit key ms n same read = subst (λ l. number_at (is_between least l) key ms ≡ n) same read
-
--- the network of a table, each key of which was read
 -- where each value is read, the network is theirs, unless fewer may be known than associated
-pub network_of_table-read : (earlier : List NetConfig) (ms : Members) (bssid ssid rates : List ℕ) (dtim max_stations max_known quota max_events : ℕ) (enough : Bool)
+pub network_of_table-read : (earlier : List NetConfig) (ms : Members) (bssid ssid rates : List ℕ)
+    (dtim max_stations max_known quota max_events : ℕ) (enough : Bool)
     → bssid_at earlier ms ≡ Some bssid → ssid_at ms ≡ Some ssid → rates_at ms ≡ Some rates
     → number_at dtim_fits (codes "dtim") ms ≡ Some dtim
     → number_at max_stations_fits (codes "max_stations") ms ≡ Some max_stations
@@ -69,9 +72,11 @@ pub network_of_table-read : (earlier : List NetConfig) (ms : Members) (bssid ssi
     → network_of_table earlier ms
     ≡ (if enough then Ok (record { bssid = bssid; ssid = ssid; rates = rates; dtim = dtim; max_stations = max_stations; max_known = max_known; quota = quota; max_events = max_events }) else Err (fault_after earlier 12))
 unfolding network_of_table
-network_of_table-read earlier ms bssid ssid rates dtim max_stations max_known quota max_events true b s r d stations known q events fits =
+network_of_table-read earlier ms bssid ssid rates dtim max_stations max_known quota max_events true b s r d stations
+    known q events fits =
     rw (b, s, r, d, stations, known, q, events, fits)
-network_of_table-read earlier ms bssid ssid rates dtim max_stations max_known quota max_events false b s r d stations known q events fits =
+network_of_table-read earlier ms bssid ssid rates dtim max_stations max_known quota max_events false b s r d stations
+    known q events fits =
     rw (b, s, r, d, stations, known, q, events, fits)
 
 pub ruleset counts = (length_of_networks)

@@ -5,18 +5,21 @@ use Rattle.std.specs.Str.{chars, is_utf8}
 use Rattle.toml.proofs.OnLiterals.{toml_on_literals}
 use Rattle.hex.proofs.OnLiterals.{hex_on_literals}
 use Rattle.bss_core.specs.Configuration.{of_radio, of_network}
-use Rattle.trace.specs.ConfigurationText.{number_at, text_at, array_at, bssid_at, ssid_at, rates_at, network_of_table, is_listed, networks_at, radio_of, document_of, configuration_of}
+use Rattle.trace.specs.ConfigurationText.{number_at, text_at, array_at, bssid_at, ssid_at, rates_at, network_of_table}
+use Rattle.trace.specs.ConfigurationText.{is_listed, networks_at, radio_of, document_of, configuration_of}
 
 -- what is opened to compute the configuration of a text
 unfoldable pub configuration_on_literals : ⊤
-unfolding toml_on_literals hex_on_literals chars is_utf8 number_at text_at array_at bssid_at ssid_at rates_at network_of_table is_listed networks_at radio_of document_of configuration_of
+unfolding toml_on_literals hex_on_literals chars is_utf8 number_at text_at array_at bssid_at ssid_at rates_at
+    network_of_table is_listed networks_at radio_of document_of configuration_of
 configuration_on_literals = tt
 
 -- ---- the texts
 
 -- the radio's keys, with this version and this channel
 abbrev radio_text : List ℕ → List ℕ → List ℕ
-radio_text version channel = codes "version = " ++ version ++ codes "\nchannel = " ++ channel ++ codes "\ninterval = 100\nqueue = 64\n"
+radio_text version channel =
+    codes "version = " ++ version ++ codes "\nchannel = " ++ channel ++ codes "\ninterval = 100\nqueue = 64\n"
 
 -- a network's keys, with these values of three of them
 abbrev keys_text : List ℕ → List ℕ → List ℕ → List ℕ
@@ -66,28 +69,34 @@ version_2_is_refused : configuration_of (radio_text (codes "2") (codes "6") ++ e
 unfolding configuration_on_literals
 version_2_is_refused = refl
 
-colour_at_the_top_is_unlisted : configuration_of (sound_radio ++ codes "colour = 1\n" ++ entry ++ sound_keys) ≡ Err (of_radio 3)
+colour_at_the_top_is_unlisted : configuration_of (sound_radio ++ codes "colour = 1\n" ++ entry ++ sound_keys) ≡ Err
+    (of_radio 3)
 unfolding configuration_on_literals
 colour_at_the_top_is_unlisted = refl
 
-colour_beside_a_number_is_unlisted : configuration_of (sound_radio ++ codes "network = [{ colour = 1 }, 2]\n") ≡ Err (of_radio 3)
+colour_beside_a_number_is_unlisted : configuration_of (sound_radio ++ codes "network = [{ colour = 1 }, 2]\n") ≡ Err
+    (of_radio 3)
 unfolding configuration_on_literals
 colour_beside_a_number_is_unlisted = refl
 
-channel_15_is_too_high : configuration_of (radio_text (codes "1") (codes "15") ++ entry ++ sound_keys) ≡ Err (of_radio 4)
+channel_15_is_too_high : configuration_of (radio_text (codes "1") (codes "15") ++ entry ++ sound_keys) ≡ Err
+    (of_radio 4)
 unfolding configuration_on_literals
 channel_15_is_too_high = refl
 
 -- their keys are not looked at either, but that each is listed
-nine_networks_are_too_many : configuration_of (sound_radio ++ codes "network = [{}, {}, {}, {}, {}, {}, {}, {}, {}]\n") ≡ Err (of_radio 7)
+nine_networks_are_too_many : configuration_of (sound_radio ++ codes "network = [{}, {}, {}, {}, {}, {}, {}, {}, {}]\n")
+    ≡ Err (of_radio 7)
 unfolding configuration_on_literals
 nine_networks_are_too_many = refl
 
-eight_networks_are_as_many_as_there_may_be : configuration_of (sound_radio ++ codes "network = [{}, {}, {}, {}, {}, {}, {}, {}]\n") ≡ Err (of_network 8 0)
+eight_networks_are_as_many_as_there_may_be : configuration_of
+    (sound_radio ++ codes "network = [{}, {}, {}, {}, {}, {}, {}, {}]\n") ≡ Err (of_network 8 0)
 unfolding configuration_on_literals
 eight_networks_are_as_many_as_there_may_be = refl
 
-address_of_an_earlier_network_is_refused : configuration_of (sound_radio ++ entry ++ sound_keys ++ entry ++ sound_keys) ≡ Err (of_network 8 1)
+address_of_an_earlier_network_is_refused : configuration_of (sound_radio ++ entry ++ sound_keys ++ entry ++ sound_keys)
+    ≡ Err (of_network 8 1)
 unfolding configuration_on_literals
 address_of_an_earlier_network_is_refused = refl
 
@@ -96,21 +105,29 @@ single_table_is_no_array : configuration_of (sound_radio ++ codes "[network]\nco
 unfolding configuration_on_literals
 single_table_is_no_array = refl
 
-group_address_is_refused : configuration_of (sound_radio ++ entry ++ keys_text (codes "03:00:00:00:00:01") (codes "82840b16") (codes "16")) ≡ Err (of_network 8 0)
+group_address_is_refused : configuration_of
+    (sound_radio ++ entry ++ keys_text (codes "03:00:00:00:00:01") (codes "82840b16") (codes "16"))
+    ≡ Err (of_network 8 0)
 unfolding configuration_on_literals
 group_address_is_refused = refl
 
 -- with the mark of a basic rate and without it
-rate_twice_is_refused : configuration_of (sound_radio ++ entry ++ keys_text (codes "02:00:00:00:00:01") (codes "8202") (codes "16")) ≡ Err (of_network 10 0)
+rate_twice_is_refused : configuration_of
+    (sound_radio ++ entry ++ keys_text (codes "02:00:00:00:00:01") (codes "8202") (codes "16"))
+    ≡ Err (of_network 10 0)
 unfolding configuration_on_literals
 rate_twice_is_refused = refl
 
-fewer_known_than_associated_is_refused : configuration_of (sound_radio ++ entry ++ keys_text (codes "02:00:00:00:00:01") (codes "82840b16") (codes "4")) ≡ Err (of_network 12 0)
+fewer_known_than_associated_is_refused : configuration_of
+    (sound_radio ++ entry ++ keys_text (codes "02:00:00:00:00:01") (codes "82840b16") (codes "4"))
+    ≡ Err (of_network 12 0)
 unfolding configuration_on_literals
 fewer_known_than_associated_is_refused = refl
 
 -- the BSSID is tried before the rates
-first_fault_is_named : configuration_of (sound_radio ++ entry ++ keys_text (codes "03:00:00:00:00:01") (codes "8202") (codes "4")) ≡ Err (of_network 8 0)
+first_fault_is_named : configuration_of
+    (sound_radio ++ entry ++ keys_text (codes "03:00:00:00:00:01") (codes "8202") (codes "4"))
+    ≡ Err (of_network 8 0)
 unfolding configuration_on_literals
 first_fault_is_named = refl
 
@@ -120,24 +137,29 @@ missing_version_is_refused : configuration_of (codes "channel = 6\n") ≡ Err (o
 unfolding configuration_on_literals
 missing_version_is_refused = refl
 
-version_as_a_text_is_refused : configuration_of (radio_text (codes "\"1\"") (codes "6") ++ entry ++ sound_keys) ≡ Err (of_radio 2)
+version_as_a_text_is_refused : configuration_of (radio_text (codes "\"1\"") (codes "6") ++ entry ++ sound_keys) ≡ Err
+    (of_radio 2)
 unfolding configuration_on_literals
 version_as_a_text_is_refused = refl
 
-version_comes_before_unlisted_keys : configuration_of (radio_text (codes "2") (codes "6") ++ codes "colour = 1\n" ++ entry ++ sound_keys) ≡ Err (of_radio 2)
+version_comes_before_unlisted_keys : configuration_of
+    (radio_text (codes "2") (codes "6") ++ codes "colour = 1\n" ++ entry ++ sound_keys) ≡ Err (of_radio 2)
 unfolding configuration_on_literals
 version_comes_before_unlisted_keys = refl
 
-unlisted_keys_come_before_the_channel : configuration_of (radio_text (codes "1") (codes "15") ++ codes "colour = 1\n" ++ entry ++ sound_keys) ≡ Err (of_radio 3)
+unlisted_keys_come_before_the_channel : configuration_of
+    (radio_text (codes "1") (codes "15") ++ codes "colour = 1\n" ++ entry ++ sound_keys) ≡ Err (of_radio 3)
 unfolding configuration_on_literals
 unlisted_keys_come_before_the_channel = refl
 
-colour_of_a_network_is_unlisted : configuration_of (sound_radio ++ entry ++ sound_keys ++ codes "colour = 1\n") ≡ Err (of_radio 3)
+colour_of_a_network_is_unlisted : configuration_of (sound_radio ++ entry ++ sound_keys ++ codes "colour = 1\n") ≡ Err
+    (of_radio 3)
 unfolding configuration_on_literals
 colour_of_a_network_is_unlisted = refl
 
 -- its keys are not looked at
-table_for_a_number_is_a_fault_of_its_key : configuration_of (radio_text (codes "1") (codes "{ colour = 1 }") ++ entry ++ sound_keys) ≡ Err (of_radio 4)
+table_for_a_number_is_a_fault_of_its_key : configuration_of
+    (radio_text (codes "1") (codes "{ colour = 1 }") ++ entry ++ sound_keys) ≡ Err (of_radio 4)
 unfolding configuration_on_literals
 table_for_a_number_is_a_fault_of_its_key = refl
 
@@ -146,31 +168,38 @@ table_for_a_number_is_a_fault_of_its_key = refl
 abbrev numbers_text : List ℕ → List ℕ → List ℕ
 numbers_text interval queue = codes "version = 1\nchannel = 6\n" ++ interval ++ queue ++ entry ++ sound_keys
 
-missing_channel_is_refused : configuration_of (codes "version = 1\ninterval = 100\nqueue = 64\n" ++ entry ++ sound_keys) ≡ Err (of_radio 4)
+missing_channel_is_refused : configuration_of (codes "version = 1\ninterval = 100\nqueue = 64\n" ++ entry ++ sound_keys)
+    ≡ Err (of_radio 4)
 unfolding configuration_on_literals
 missing_channel_is_refused = refl
 
-interval_65535_is_read : configuration_of (numbers_text (codes "interval = 65535\n") (codes "queue = 0\n")) ≡ Err (of_radio 6)
+interval_65535_is_read : configuration_of (numbers_text (codes "interval = 65535\n") (codes "queue = 0\n")) ≡ Err
+    (of_radio 6)
 unfolding configuration_on_literals
 interval_65535_is_read = refl
 
-interval_65536_is_too_long : configuration_of (numbers_text (codes "interval = 65536\n") (codes "queue = 64\n")) ≡ Err (of_radio 5)
+interval_65536_is_too_long : configuration_of (numbers_text (codes "interval = 65536\n") (codes "queue = 64\n")) ≡ Err
+    (of_radio 5)
 unfolding configuration_on_literals
 interval_65536_is_too_long = refl
 
-interval_below_0_is_refused : configuration_of (numbers_text (codes "interval = -1\n") (codes "queue = 64\n")) ≡ Err (of_radio 5)
+interval_below_0_is_refused : configuration_of (numbers_text (codes "interval = -1\n") (codes "queue = 64\n")) ≡ Err
+    (of_radio 5)
 unfolding configuration_on_literals
 interval_below_0_is_refused = refl
 
-interval_comes_before_queue : configuration_of (numbers_text (codes "interval = 0\n") (codes "queue = 0\n")) ≡ Err (of_radio 5)
+interval_comes_before_queue : configuration_of (numbers_text (codes "interval = 0\n") (codes "queue = 0\n")) ≡ Err
+    (of_radio 5)
 unfolding configuration_on_literals
 interval_comes_before_queue = refl
 
-queue_4097_is_too_long : configuration_of (numbers_text (codes "interval = 100\n") (codes "queue = 4097\n")) ≡ Err (of_radio 6)
+queue_4097_is_too_long : configuration_of (numbers_text (codes "interval = 100\n") (codes "queue = 4097\n")) ≡ Err
+    (of_radio 6)
 unfolding configuration_on_literals
 queue_4097_is_too_long = refl
 
-queue_as_a_text_is_refused : configuration_of (numbers_text (codes "interval = 100\n") (codes "queue = \"64\"\n")) ≡ Err (of_radio 6)
+queue_as_a_text_is_refused : configuration_of (numbers_text (codes "interval = 100\n") (codes "queue = \"64\"\n")) ≡ Err
+    (of_radio 6)
 unfolding configuration_on_literals
 queue_as_a_text_is_refused = refl
 
@@ -212,7 +241,8 @@ missing_bssid_is_refused : configuration_of (sound_radio ++ entry) ≡ Err (of_n
 unfolding configuration_on_literals
 missing_bssid_is_refused = refl
 
-bssid_of_five_pairs_is_refused : configuration_of (names_text (codes "\"02:00:00:00:01\"") lab lab_rates) ≡ Err (of_network 8 0)
+bssid_of_five_pairs_is_refused : configuration_of (names_text (codes "\"02:00:00:00:01\"") lab lab_rates) ≡ Err
+    (of_network 8 0)
 unfolding configuration_on_literals
 bssid_of_five_pairs_is_refused = refl
 
@@ -225,11 +255,15 @@ unfolding configuration_on_literals
 empty_ssid_is_refused = refl
 
 -- the next fault is that of the rates
-ssid_of_32_octets_is_read : configuration_of (names_text lab_bssid (codes "\"" ++ replicate 32 97 ++ codes "\"") (codes "\"\"")) ≡ Err (of_network 10 0)
+ssid_of_32_octets_is_read : configuration_of
+    (names_text lab_bssid (codes "\"" ++ replicate 32 97 ++ codes "\"") (codes "\"\""))
+    ≡ Err (of_network 10 0)
 unfolding configuration_on_literals
 ssid_of_32_octets_is_read = refl
 
-ssid_of_33_octets_is_refused : configuration_of (names_text lab_bssid (codes "\"" ++ replicate 33 97 ++ codes "\"") lab_rates) ≡ Err (of_network 9 0)
+ssid_of_33_octets_is_refused : configuration_of
+    (names_text lab_bssid (codes "\"" ++ replicate 33 97 ++ codes "\"") lab_rates)
+    ≡ Err (of_network 9 0)
 unfolding configuration_on_literals
 ssid_of_33_octets_is_refused = refl
 
@@ -237,19 +271,24 @@ ssid_comes_before_rates : configuration_of (names_text lab_bssid (codes "1") (co
 unfolding configuration_on_literals
 ssid_comes_before_rates = refl
 
-rates_in_upper_case_are_read : configuration_of (names_text lab_bssid lab (codes "\"82840B16\"")) ≡ configuration_of (names_text lab_bssid lab lab_rates)
+rates_in_upper_case_are_read : configuration_of (names_text lab_bssid lab (codes "\"82840B16\""))
+    ≡ configuration_of (names_text lab_bssid lab lab_rates)
 unfolding configuration_on_literals
 rates_in_upper_case_are_read = refl
 
-rates_with_a_space_are_refused : configuration_of (names_text lab_bssid lab (codes "\"8284 0b16\"")) ≡ Err (of_network 10 0)
+rates_with_a_space_are_refused : configuration_of (names_text lab_bssid lab (codes "\"8284 0b16\"")) ≡ Err
+    (of_network 10 0)
 unfolding configuration_on_literals
 rates_with_a_space_are_refused = refl
 
-rates_of_odd_digits_are_refused : configuration_of (names_text lab_bssid lab (codes "\"82840b1\"")) ≡ Err (of_network 10 0)
+rates_of_odd_digits_are_refused : configuration_of (names_text lab_bssid lab (codes "\"82840b1\"")) ≡ Err
+    (of_network 10 0)
 unfolding configuration_on_literals
 rates_of_odd_digits_are_refused = refl
 
-seventeen_rates_are_refused : configuration_of (names_text lab_bssid lab (codes "\"0102030405060708090a0b0c0d0e0f1011\"")) ≡ Err (of_network 10 0)
+seventeen_rates_are_refused : configuration_of
+    (names_text lab_bssid lab (codes "\"0102030405060708090a0b0c0d0e0f1011\""))
+    ≡ Err (of_network 10 0)
 unfolding configuration_on_literals
 seventeen_rates_are_refused = refl
 
@@ -260,44 +299,60 @@ rates_as_a_number_are_refused = refl
 -- ---- a network's numbers
 
 abbrev limits_text : List ℕ → List ℕ
-limits_text numbers = sound_radio ++ entry ++ codes "bssid = \"02:00:00:00:00:01\"\nssid = \"lab\"\nrates = \"82840b16\"\n" ++ numbers
+limits_text numbers =
+    sound_radio ++ entry ++ codes "bssid = \"02:00:00:00:00:01\"\nssid = \"lab\"\nrates = \"82840b16\"\n" ++ numbers
 
 missing_numbers_are_refused : configuration_of (limits_text []) ≡ Err (of_network 11 0)
 unfolding configuration_on_literals
 missing_numbers_are_refused = refl
 
-dtim_256_is_refused : configuration_of (limits_text (codes "dtim = 256\nmax_stations = 8\nmax_known = 16\nquota = 8\nmax_events = 100\n")) ≡ Err (of_network 11 0)
+dtim_256_is_refused : configuration_of
+    (limits_text (codes "dtim = 256\nmax_stations = 8\nmax_known = 16\nquota = 8\nmax_events = 100\n"))
+    ≡ Err (of_network 11 0)
 unfolding configuration_on_literals
 dtim_256_is_refused = refl
 
-max_stations_2008_is_refused : configuration_of (limits_text (codes "dtim = 1\nmax_stations = 2008\nmax_known = 3000\nquota = 8\nmax_events = 100\n")) ≡ Err (of_network 11 0)
+max_stations_2008_is_refused : configuration_of
+    (limits_text (codes "dtim = 1\nmax_stations = 2008\nmax_known = 3000\nquota = 8\nmax_events = 100\n"))
+    ≡ Err (of_network 11 0)
 unfolding configuration_on_literals
 max_stations_2008_is_refused = refl
 
-max_known_10001_is_refused : configuration_of (limits_text (codes "dtim = 1\nmax_stations = 8\nmax_known = 10001\nquota = 8\nmax_events = 100\n")) ≡ Err (of_network 11 0)
+max_known_10001_is_refused : configuration_of
+    (limits_text (codes "dtim = 1\nmax_stations = 8\nmax_known = 10001\nquota = 8\nmax_events = 100\n"))
+    ≡ Err (of_network 11 0)
 unfolding configuration_on_literals
 max_known_10001_is_refused = refl
 
-quota_below_0_is_refused : configuration_of (limits_text (codes "dtim = 1\nmax_stations = 8\nmax_known = 16\nquota = -1\nmax_events = 100\n")) ≡ Err (of_network 11 0)
+quota_below_0_is_refused : configuration_of
+    (limits_text (codes "dtim = 1\nmax_stations = 8\nmax_known = 16\nquota = -1\nmax_events = 100\n"))
+    ≡ Err (of_network 11 0)
 unfolding configuration_on_literals
 quota_below_0_is_refused = refl
 
-quota_100001_is_refused : configuration_of (limits_text (codes "dtim = 1\nmax_stations = 8\nmax_known = 16\nquota = 100001\nmax_events = 100\n")) ≡ Err (of_network 11 0)
+quota_100001_is_refused : configuration_of
+    (limits_text (codes "dtim = 1\nmax_stations = 8\nmax_known = 16\nquota = 100001\nmax_events = 100\n"))
+    ≡ Err (of_network 11 0)
 unfolding configuration_on_literals
 quota_100001_is_refused = refl
 
-missing_max_events_is_refused : configuration_of (limits_text (codes "dtim = 1\nmax_stations = 8\nmax_known = 16\nquota = 8\n")) ≡ Err (of_network 11 0)
+missing_max_events_is_refused : configuration_of
+    (limits_text (codes "dtim = 1\nmax_stations = 8\nmax_known = 16\nquota = 8\n"))
+    ≡ Err (of_network 11 0)
 unfolding configuration_on_literals
 missing_max_events_is_refused = refl
 
 -- also where fewer are known than associated
-max_events_1000001_is_refused : configuration_of (limits_text (codes "dtim = 1\nmax_stations = 8\nmax_known = 4\nquota = 8\nmax_events = 1000001\n")) ≡ Err (of_network 11 0)
+max_events_1000001_is_refused : configuration_of
+    (limits_text (codes "dtim = 1\nmax_stations = 8\nmax_known = 4\nquota = 8\nmax_events = 1000001\n"))
+    ≡ Err (of_network 11 0)
 unfolding configuration_on_literals
 max_events_1000001_is_refused = refl
 
 -- keys in another order
 order_of_keys_is_free :
-    configuration_of (codes "queue = 64\nchannel = 6\nversion = 1\ninterval = 100\n" ++ entry ++ codes "max_events = 100\nquota = 8\nmax_known = 16\nmax_stations = 8\ndtim = 1\nrates = \"82840b16\"\nssid = \"lab\"\nbssid = \"02:00:00:00:00:01\"\n")
+    configuration_of
+    (codes "queue = 64\nchannel = 6\nversion = 1\ninterval = 100\n" ++ entry ++ codes "max_events = 100\nquota = 8\nmax_known = 16\nmax_stations = 8\ndtim = 1\nrates = \"82840b16\"\nssid = \"lab\"\nbssid = \"02:00:00:00:00:01\"\n")
     ≡ configuration_of (sound_radio ++ entry ++ sound_keys)
 unfolding configuration_on_literals
 order_of_keys_is_free = refl

@@ -1,17 +1,24 @@
 -- A configuration that was read has no fault.
-use Rattle.std.proofs.Common.{◌≡◌, ℕ, ◌==◌, Bool, true, false, not, ◌&&◌, ◌||◌, if◌then◌else◌, nat_le, length, List, [], ◌∷◌, ◌++◌, Option, Some, None, IfSome, option_and_then, Result, Ok, Err, IfOk, codes, refl, arith}
+use Rattle.std.proofs.Common.{◌≡◌, ℕ, ◌==◌, Bool, true, false, not, ◌&&◌, ◌||◌, if◌then◌else◌, nat_le, length, List, []}
+use Rattle.std.proofs.Common.{◌∷◌, ◌++◌, Option, Some, None, IfSome, option_and_then, Result, Ok, Err, IfOk, codes}
+use Rattle.std.proofs.Common.{refl, arith}
 use Rattle.std.specs.Option.{ok_or}
 use Rattle.std.proofs.lemmas.Bool.{and_parts, or_parts, not-true, le-ltb, leb-true}
 use Rattle.std.proofs.lemmas.Result.{IfOk-at_ok}
 use Rattle.toml.specs.Data.{Members, get_member, as_integer}
 use Rattle.mac_frame.specs.Address.{is_group, address_of}
-use Rattle.bss_core.specs.Configuration.{channel_fits, interval_fits, queue_fits, count_fits, ssid_fits, rates_fit, dtim_fits, max_stations_fits, max_known_fits, quota_fits, max_events_fits, numbers_fit, is_taken, of_radio, fault_among, networks_fault, fault_of}
+use Rattle.bss_core.specs.Configuration.{channel_fits, interval_fits, queue_fits, count_fits, ssid_fits, rates_fit}
+use Rattle.bss_core.specs.Configuration.{dtim_fits, max_stations_fits, max_known_fits, quota_fits, max_events_fits}
+use Rattle.bss_core.specs.Configuration.{numbers_fit, is_taken, of_radio, fault_among, networks_fault, fault_of}
 use Rattle.bss_core.specs.declared.config.NetConfig.{NetConfig}
 use Rattle.bss_core.specs.declared.config.RadioConfig.{RadioConfig}
 use Rattle.bss_core.specs.declared.config.ConfigFault.{ConfigFault}
-use Rattle.trace.specs.declared.configuration.fault.ConfigTextFault.{ConfigTextFault}
-use Rattle.trace.specs.Faults.{◌>>=◌, Gives}
-use Rattle.trace.specs.ConfigurationText.{demand, passing, natural, octets_of_digits, text_at, array_at, number_at, bssid_at, ssid_at, rates_at, network_of_table, networks_of, are_tables, tables_in, networks_at, is_listed, document_of, radio_of, configuration_of, config_fault}
+use Rattle.trace.specs.Endings.{Gives}
+use Rattle.trace.specs.Faults.{◌>>=◌, read_ending}
+use Rattle.trace.specs.declared.read_fault.ReadFault.{ReadFault}
+use Rattle.trace.specs.ConfigurationText.{demand, passing, natural, octets_of_digits, text_at, array_at, number_at}
+use Rattle.trace.specs.ConfigurationText.{bssid_at, ssid_at, rates_at, network_of_table, networks_of, are_tables}
+use Rattle.trace.specs.ConfigurationText.{tables_in, networks_at, is_listed, document_of, radio_of, configuration_of}
 
 -- ---- what holds of what was read
 
@@ -22,7 +29,8 @@ record Reads {A : Type 0} (r : Result A ConfigFault) (P : A → Type 0) : Type 0
 record Finds {A : Type 0} (o : Option A) (P : A → Type 0) : Type 0 where
   finds : IfSome o P
 
-then_reads : {A B : Type 0} {r : Result A ConfigFault} {P : A → Type 0} (next : A → Result B ConfigFault) (Q : B → Type 0)
+then_reads : {A B : Type 0} {r : Result A ConfigFault} {P : A → Type 0} (next : A → Result B ConfigFault)
+    (Q : B → Type 0)
     → Reads r P → ((x : A) → P x → Reads (next x) Q) → Reads (r >>= next) Q
 then_reads {A} {r} {P} next Q first more = at r first.reads
   where
@@ -46,21 +54,28 @@ demand_reads true fault = record { reads = refl }
 demand_reads false fault = record { reads = tt }
 
 -- what passed a test
-passing_cases : {A : Type 0} (test : A → Bool) (x : A) (b : Bool) → test x ≡ b → IfSome (if b then Some x else None) (λ y. test y ≡ true)
+passing_cases : {A : Type 0} (test : A → Bool) (x : A) (b : Bool) → test x ≡ b
+    → IfSome (if b then Some x else None) (λ y. test y ≡ true)
 passing_cases test x true passes = passes
 passing_cases test x false fails = tt
 
-passing_finds : {A : Type 0} (test : A → Bool) (o : Option A) → Finds (option_and_then (passing test) o) (λ y. test y ≡ true)
+passing_finds : {A : Type 0} (test : A → Bool) (o : Option A)
+    → Finds (option_and_then (passing test) o) (λ y. test y ≡ true)
 passing_finds test (Some x) = record { finds = passing_cases test x (test x) refl }
 passing_finds test None = record { finds = tt }
 
-number_reads : (fits : ℕ → Bool) (key : List ℕ) (ms : Members) (fault : ConfigFault) → Reads (ok_or (number_at fits key ms) fault) (λ n. fits n ≡ true)
+number_reads : (fits : ℕ → Bool) (key : List ℕ) (ms : Members) (fault : ConfigFault)
+    → Reads (ok_or (number_at fits key ms) fault) (λ n. fits n ≡ true)
 unfolding number_at
-number_reads fits key ms fault = found_reads fault (passing_finds fits (option_and_then natural (option_and_then as_integer (get_member key ms))))
+number_reads fits key ms fault =
+    found_reads fault (passing_finds fits (option_and_then natural (option_and_then as_integer (get_member key ms))))
 
-bssid_finds : (earlier : List NetConfig) (ms : Members) → Finds (bssid_at earlier ms) (λ bssid. not (is_group bssid || is_taken earlier bssid) ≡ true)
+bssid_finds : (earlier : List NetConfig) (ms : Members)
+    → Finds (bssid_at earlier ms) (λ bssid. not (is_group bssid || is_taken earlier bssid) ≡ true)
 unfolding bssid_at
-bssid_finds earlier ms = passing_finds (λ bssid. not (is_group bssid || is_taken earlier bssid)) (option_and_then address_of (text_at (codes "bssid") ms))
+bssid_finds earlier ms =
+    passing_finds (λ bssid. not (is_group bssid || is_taken earlier bssid))
+    (option_and_then address_of (text_at (codes "bssid") ms))
 
 ssid_finds : (ms : Members) → Finds (ssid_at ms) (λ ssid. ssid_fits ssid ≡ true)
 unfolding ssid_at
@@ -70,21 +85,25 @@ rates_finds : (ms : Members) → Finds (rates_at ms) (λ rates. rates_fit rates 
 unfolding rates_at
 rates_finds ms = passing_finds rates_fit (option_and_then octets_of_digits (text_at (codes "rates") ms))
 
-networks_finds : (top : Members) → Finds (networks_at top) (λ ds. (are_tables ds && count_fits (length (tables_in ds))) ≡ true)
+networks_finds : (top : Members)
+    → Finds (networks_at top) (λ ds. (are_tables ds && count_fits (length (tables_in ds))) ≡ true)
 unfolding networks_at
-networks_finds top = passing_finds (λ ds. are_tables ds && count_fits (length (tables_in ds))) (array_at (codes "network") top)
+networks_finds top =
+    passing_finds (λ ds. are_tables ds && count_fits (length (tables_in ds))) (array_at (codes "network") top)
 
 -- ---- the networks, one after the other
 
 sound_network : (earlier : List NetConfig) (network : NetConfig)
-    → not (is_group network.bssid || is_taken earlier network.bssid) ≡ true → ssid_fits network.ssid ≡ true → rates_fit network.rates ≡ true
+    → not (is_group network.bssid || is_taken earlier network.bssid) ≡ true → ssid_fits network.ssid ≡ true → rates_fit
+    network.rates ≡ true
     → numbers_fit network ≡ true → nat_le network.max_stations network.max_known ≡ true
     → fault_among earlier network ≡ None
 sound_network earlier network b s r numbers enough =
     let (single, free) = or_parts (is_group network.bssid) (is_taken earlier network.bssid) (not-true _ b) in
     rw (free, single, s, r, numbers, le-ltb network.max_known network.max_stations (leb-true _ _ enough)) refl
 
-network_reads : (earlier : List NetConfig) (ms : Members) → Reads (network_of_table earlier ms) (λ network. fault_among earlier network ≡ None)
+network_reads : (earlier : List NetConfig) (ms : Members)
+    → Reads (network_of_table earlier ms) (λ network. fault_among earlier network ≡ None)
 unfolding network_of_table
 network_reads earlier ms =
     then_reads _ _ (found_reads _ (bssid_finds earlier ms)) λ bssid b.
@@ -96,11 +115,15 @@ network_reads earlier ms =
     then_reads _ _ (number_reads quota_fits (codes "quota") ms _) λ quota q.
     then_reads _ _ (number_reads max_events_fits (codes "max_events") ms _) λ max_events events.
     then_reads _ _ (demand_reads (nat_le max_stations max_known) _) λ _ enough.
-    let network : NetConfig = record { bssid = bssid; ssid = ssid; rates = rates; dtim = dtim; max_stations = max_stations; max_known = max_known; quota = quota; max_events = max_events } in
+    let network : NetConfig =
+    record
+    { bssid = bssid; ssid = ssid; rates = rates; dtim = dtim; max_stations = max_stations; max_known = max_known; quota = quota; max_events = max_events }
+    in
     record { reads = sound_network earlier network b s r (rw (d, stations, known, q, events) refl) enough }
 
 networks_reads : (earlier : List NetConfig) (tables : List Members)
-    → Reads (networks_of earlier tables) (λ networks. (networks_fault earlier networks ≡ None) × (length networks ≡ length tables))
+    → Reads (networks_of earlier tables)
+    (λ networks. (networks_fault earlier networks ≡ None) × (length networks ≡ length tables))
 networks_reads earlier [] = record { reads = (refl, refl) }
 networks_reads earlier (ms ∷ rest) =
     then_reads _ _ (network_reads earlier ms) λ network here.
@@ -120,7 +143,9 @@ radio_reads top =
     then_reads _ _ (found_reads _ (networks_finds top)) λ values v.
     then_reads _ _ (networks_reads [] (tables_in values)) λ networks n.
     let count : count_fits (length networks) ≡ true = rw n.1 ((and_parts _ _ v).1) in
-    let sound : fault_of (record { channel = channel; interval = interval; queue = queue; networks = networks }) ≡ None = rw (c, i, q, count) n.0 in
+    let sound : fault_of (record { channel = channel; interval = interval; queue = queue; networks = networks }) ≡ None
+    =
+    rw (c, i, q, count) n.0 in
     record { reads = sound }
 
 configuration_reads : (text : List ℕ) → Reads (configuration_of text) (λ c. fault_of c ≡ None)
@@ -132,6 +157,7 @@ pub configuration_is_sound : (text : List ℕ) (c : RadioConfig) → configurati
 configuration_is_sound text c is = IfOk-at_ok (λ found. fault_of found ≡ None) is (configuration_reads text).reads
 
 -- the same of what was answered for a document
-pub sound_from_exact : (top : Members) (answer : Result RadioConfig ConfigTextFault) → Gives (λ c. c) config_fault answer (radio_of top) → IfOk answer (λ c. fault_of c ≡ None)
+pub sound_from_exact : (top : Members) (answer : Result RadioConfig (ReadFault ConfigFault))
+    → Gives (λ c. c) read_ending answer (radio_of top) → IfOk answer (λ c. fault_of c ≡ None)
 sound_from_exact top (Ok c) exact = IfOk-at_ok (λ found. fault_of found ≡ None) exact (radio_reads top).reads
 sound_from_exact top (Err fault) exact = tt

@@ -6,6 +6,7 @@ pub mod ConfigurationSound
 pub mod TextLemmas
 pub mod TraceRows
 pub mod TraceSteps
+pub mod EndingLemmas
 pub mod SinkSteps
 pub mod BufferSteps
 pub mod ReportRows

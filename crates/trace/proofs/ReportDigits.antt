@@ -1,5 +1,6 @@
 -- Octets as digits, part by part.
-use Rattle.std.proofs.Common.{◌≡◌, ℕ, ◌/◌, ◌%◌, List, [], ◌∷◌, ◌++◌, slice_index, take, drop, refl, sym, ap, ◌∙◌, take-append-drop, append_assoc}
+use Rattle.std.proofs.Common.{◌≡◌, ℕ, ◌/◌, ◌%◌, List, [], ◌∷◌, ◌++◌, slice_index, take, drop, refl, sym, ap, ◌∙◌}
+use Rattle.std.proofs.Common.{take-append-drop, append_assoc}
 use Rattle.hex.specs.Hex.{encode_with, encode_lower, lower_digits}
 
 encode_with-append : (t xs ys : List ℕ) → encode_with t (xs ++ ys) ≡ encode_with t xs ++ encode_with t ys
@@ -16,16 +17,20 @@ pub encode_lower-append : (xs ys : List ℕ) → encode_lower (xs ++ ys) ≡ enc
 encode_lower-append = encode_with-append lower_digits
 
 -- a list that is cut in two
-pub prefix_and_suffix : (n : ℕ) (xs prefix suffix : List ℕ) → prefix ≡ take n xs → suffix ≡ drop n xs → xs ≡ prefix ++ suffix
+pub prefix_and_suffix : (n : ℕ) (xs prefix suffix : List ℕ) → prefix ≡ take n xs → suffix ≡ drop n xs
+    → xs ≡ prefix ++ suffix
 prefix_and_suffix n xs prefix suffix p s = rw (p, s) (sym (take-append-drop n xs))
 
 -- the octets so far, and then a prefix of the rest
-pub digits_grow : (octets done rest prefix suffix : List ℕ) → octets ≡ done ++ rest → rest ≡ prefix ++ suffix → octets ≡ (done ++ prefix) ++ suffix
-digits_grow octets done rest prefix suffix split cut = split ∙ ap (λ l. done ++ l) cut ∙ sym (append_assoc done prefix suffix)
+pub digits_grow : (octets done rest prefix suffix : List ℕ) → octets ≡ done ++ rest → rest ≡ prefix ++ suffix
+    → octets ≡ (done ++ prefix) ++ suffix
+digits_grow octets done rest prefix suffix split cut =
+    split ∙ ap (λ l. done ++ l) cut ∙ sym (append_assoc done prefix suffix)
 
 -- the digits so far, those of the prefix, and those of what is left
 pub digits_in_parts : (octets done rest prefix suffix : List ℕ) → octets ≡ done ++ rest → rest ≡ prefix ++ suffix
     → (encode_lower done ++ encode_lower prefix) ++ encode_lower suffix ≡ encode_lower octets
 digits_in_parts octets done rest prefix suffix split cut =
-    ap (λ l. l ++ encode_lower suffix) (sym (encode_lower-append done prefix)) ∙ sym (encode_lower-append (done ++ prefix) suffix)
+    ap (λ l. l ++ encode_lower suffix) (sym (encode_lower-append done prefix))
+    ∙ sym (encode_lower-append (done ++ prefix) suffix)
     ∙ ap encode_lower (sym (digits_grow octets done rest prefix suffix split cut))

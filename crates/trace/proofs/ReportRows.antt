@@ -44,7 +44,8 @@ idle_network_has_two_lines_and_end = refl
 
 -- the answer to a probe of 02:aa:00:00:00:01
 abbrev probe_response : List ℕ
-probe_response = 0x50 ∷ 0x00 ∷ 0x00 ∷ 0x00 ∷ 0x02 ∷ 0xaa ∷ 0x00 ∷ 0x00 ∷ 0x00 ∷ 0x01 ∷ 0x02 ∷ 0x00 ∷ 0x00 ∷ 0x00 ∷ 0x00 ∷ 0x01
+probe_response =
+    0x50 ∷ 0x00 ∷ 0x00 ∷ 0x00 ∷ 0x02 ∷ 0xaa ∷ 0x00 ∷ 0x00 ∷ 0x00 ∷ 0x01 ∷ 0x02 ∷ 0x00 ∷ 0x00 ∷ 0x00 ∷ 0x00 ∷ 0x01
     ∷ 0x02 ∷ 0x00 ∷ 0x00 ∷ 0x00 ∷ 0x00 ∷ 0x01 ∷ 0x00 ∷ 0x00 ∷ 0x00 ∷ 0x00 ∷ 0x00 ∷ 0x00 ∷ 0x00 ∷ 0x00 ∷ 0x00 ∷ 0x00
     ∷ 0x64 ∷ 0x00 ∷ 0x01 ∷ 0x00 ∷ 0x00 ∷ 0x03 ∷ 0x6c ∷ 0x61 ∷ 0x62 ∷ 0x01 ∷ 0x04 ∷ 0x82 ∷ 0x84 ∷ 0x0b ∷ 0x16 ∷ 0x03
     ∷ 0x01 ∷ 0x06 ∷ []
@@ -52,7 +53,8 @@ probe_response = 0x50 ∷ 0x00 ∷ 0x00 ∷ 0x00 ∷ 0x02 ∷ 0xaa ∷ 0x00 ∷ 
 pub probe_and_its_response : report_text (record idle { events = Air [] ∷ []; air = probe_response ∷ [] } ∷ [])
     ≡ codes "network 02:00:00:00:00:01 ssid 6c6162" ++ 10 ∷ []
     ++ codes "events 1 clock 0 unread 0 lost 0 kept 0" ++ 10 ∷ []
-    ++ codes "air 5000000002aa00000001020000000001020000000001000000000000000000006400010000036c6162010482840b16030106" ++ 10 ∷ []
+    ++ codes "air 5000000002aa00000001020000000001020000000001000000000000000000006400010000036c6162010482840b16030106"
+    ++ 10 ∷ []
     ++ codes "end" ++ 10 ∷ []
 unfolding section_text network_line counts_line frame_line digits encode_with
 probe_and_its_response = refl
@@ -60,13 +62,16 @@ probe_and_its_response = refl
 -- ---- stations
 
 abbrev station : Standing → StationRow
-station standing = record { addr = 0x02 ∷ 0xaa ∷ 0 ∷ 0 ∷ 0 ∷ 1 ∷ []; standing = standing; aid = 1; listen = 10; doze = false; kept = 0 }
+station standing =
+    record
+    { addr = 0x02 ∷ 0xaa ∷ 0 ∷ 0 ∷ 0 ∷ 1 ∷ []; standing = standing; aid = 1; listen = 10; doze = false; kept = 0 }
 
 pub unknown_station_has_no_line : station_line (station Unknown) ≡ []
 unfolding station_line
 unknown_station_has_no_line = refl
 
-pub authenticated_station : station_line (station Authenticated) ≡ codes "station 02:aa:00:00:00:01 authenticated" ++ 10 ∷ []
+pub authenticated_station : station_line (station Authenticated) ≡ codes "station 02:aa:00:00:00:01 authenticated" ++ 10
+    ∷ []
 unfolding station_line
 authenticated_station = refl
 
@@ -98,7 +103,8 @@ unfolding section_text network_line counts_line frame_line digits encode_with
 air_before_wire = refl
 
 -- each count after its word; how many events is the length of the history, whatever the counts say
-pub each_count_has_its_word : report_text (record idle { events = Air [] ∷ Air [] ∷ []; counts = record { events = 9; clock = 10; unread = 200; lost = 3; kept = 4294967295 } } ∷ [])
+pub each_count_has_its_word : report_text
+    (record idle { events = Air [] ∷ Air [] ∷ []; counts = record { events = 9; clock = 10; unread = 200; lost = 3; kept = 4294967295 } } ∷ [])
     ≡ codes "network 02:00:00:00:00:01 ssid 6c6162" ++ 10 ∷ []
     ++ codes "events 2 clock 10 unread 200 lost 3 kept 4294967295" ++ 10 ∷ []
     ++ codes "end" ++ 10 ∷ []
@@ -106,7 +112,8 @@ unfolding section_text network_line counts_line digits encode_with
 each_count_has_its_word = refl
 
 pub stations_stand_in_the_order_of_the_table :
-    report_text (record idle { table = station Authenticated ∷ station Unknown ∷ record (station Associated) { addr = 0x02 ∷ 0xaa ∷ 0 ∷ 0 ∷ 0 ∷ 2 ∷ [] } ∷ []; air = (1 ∷ []) ∷ [] } ∷ [])
+    report_text
+    (record idle { table = station Authenticated ∷ station Unknown ∷ record (station Associated) { addr = 0x02 ∷ 0xaa ∷ 0 ∷ 0 ∷ 0 ∷ 2 ∷ [] } ∷ []; air = (1 ∷ []) ∷ [] } ∷ [])
     ≡ codes "network 02:00:00:00:00:01 ssid 6c6162" ++ 10 ∷ []
     ++ codes "events 0 clock 0 unread 0 lost 0 kept 0" ++ 10 ∷ []
     ++ codes "station 02:aa:00:00:00:01 authenticated" ++ 10 ∷ []

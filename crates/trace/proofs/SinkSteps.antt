@@ -1,9 +1,10 @@
 -- Texts that go to a writer piece by piece.
-use Rattle.std.proofs.Common.{◌≡◌, ℕ, ◌-◌, List, [], ◌++◌, Option, length, take, drop, sym, ap, ◌∙◌, subst, append_assoc, append-nil, take-append-drop}
+use Rattle.std.proofs.Common.{◌≡◌, ℕ, ◌-◌, List, [], ◌++◌, Option, length, take, drop, sym, ap, ◌∙◌, subst}
+use Rattle.std.proofs.Common.{append_assoc, append-nil, take-append-drop}
 use Rattle.std.proofs.lemmas.List.{take_rest}
 use Rattle.std.specs.Io.KnownBytes.{Appends}
 use Rattle.std.proofs.KnownBytes.{Appends-nil, Appends-trans}
-use Rattle.trace.specs.Sinks.{AppendsPrefix}
+use Rattle.trace.specs.Endings.{AppendsPrefix}
 use Rattle.trace.specs.Buffers.{Delivers, Stops}
 
 -- ---- a text that is written part by part
@@ -28,25 +29,30 @@ pub Delivers-nothing : (known : Option (List ℕ)) (held : List ℕ) → Deliver
 Delivers-nothing known held = record { written = []; in_order = append-nil held; taken = Appends-nil known }
 
 -- the buffer took the text
-pub Delivers-grown : (known : Option (List ℕ)) {p q : List ℕ} (text : List ℕ) → q ≡ p ++ text → Delivers known p known q text
+pub Delivers-grown : (known : Option (List ℕ)) {p q : List ℕ} (text : List ℕ) → q ≡ p ++ text
+    → Delivers known p known q text
 Delivers-grown known text grown = record { written = []; in_order = sym grown; taken = Appends-nil known }
 
 -- what it held was written
 pub Delivers-held : {a b : Option (List ℕ)} {p : List ℕ} → Appends a b p → Delivers a p b [] []
-Delivers-held {p} taken = record { written = p; in_order = ap (λ l. l) (append-nil p ∙ sym (append-nil p)); taken = taken }
+Delivers-held {p} taken =
+    record { written = p; in_order = ap (λ l. l) (append-nil p ∙ sym (append-nil p)); taken = taken }
 
 -- one text, and then the next
-pub Delivers-then : {a b c : Option (List ℕ)} {p q s t u : List ℕ} → Delivers a p b q t → Delivers b q c s u → Delivers a p c s (t ++ u)
+pub Delivers-then : {a b c : Option (List ℕ)} {p q s t u : List ℕ} → Delivers a p b q t → Delivers b q c s u
+    → Delivers a p c s (t ++ u)
 Delivers-then {p} {s} {t} {u} d e = record {
   written = d.written ++ e.written;
   in_order =
-      sym (append_assoc p t u) ∙ ap (λ l. l ++ u) d.in_order ∙ append_assoc d.written _ u ∙ ap (λ l. d.written ++ l) e.in_order
+      sym (append_assoc p t u) ∙ ap (λ l. l ++ u) d.in_order ∙ append_assoc d.written _ u
+      ∙ ap (λ l. d.written ++ l) e.in_order
       ∙ sym (append_assoc d.written e.written s);
   taken = Appends-trans _ _ _ _ _ d.taken e.taken;
 }
 
 -- it stopped in the second of two texts
-pub Stops-second : {a b c : Option (List ℕ)} {p q t u : List ℕ} → Delivers a p b q t → Stops b q c u → Stops a p c (t ++ u)
+pub Stops-second : {a b c : Option (List ℕ)} {p q t u : List ℕ} → Delivers a p b q t → Stops b q c u
+    → Stops a p c (t ++ u)
 Stops-second d e = record { rest = e.rest; prefix = Delivers-then d e.prefix }
 
 -- it stopped in the first of two texts
@@ -75,7 +81,8 @@ Stops-written {p = p} h = record {
 
 pub Appends-delivered : {a b : Option (List ℕ)} {p q t : List ℕ} → Delivers a p b q t → p ≡ [] → q ≡ [] → Appends a b t
 Appends-delivered {a} {b} {t = t} d e f =
-    let whole : d.written ≡ t = sym (append-nil d.written) ∙ ap (λ l. d.written ++ l) (sym f) ∙ sym d.in_order ∙ ap (λ l. l ++ t) e in
+    let whole : d.written ≡ t =
+    sym (append-nil d.written) ∙ ap (λ l. d.written ++ l) (sym f) ∙ sym d.in_order ∙ ap (λ l. l ++ t) e in
     subst (Appends a b) whole d.taken
 
 pub AppendsPrefix-stopped : {a b : Option (List ℕ)} {p t : List ℕ} → Stops a p b t → p ≡ [] → AppendsPrefix a b t

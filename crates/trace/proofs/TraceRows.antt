@@ -26,7 +26,8 @@ fault code line = record { code = code; line = line }
 -- a probe request
 pub probe_is_read : (config : RadioConfig)
     → lines_of config (codes "A 40000000 ffffffffffff 02aa00000001 ffffffffffff 0000 0000 010402040b16" ++ lf)
-    ≡ Ok (Air (64 ∷ 0 ∷ 0 ∷ 0 ∷ 255 ∷ 255 ∷ 255 ∷ 255 ∷ 255 ∷ 255 ∷ 2 ∷ 170 ∷ 0 ∷ 0 ∷ 0 ∷ 1 ∷ 255 ∷ 255 ∷ 255 ∷ 255 ∷ 255 ∷ 255 ∷ 0 ∷ 0 ∷ 0 ∷ 0 ∷ 1 ∷ 4 ∷ 2 ∷ 4 ∷ 11 ∷ 22 ∷ []) ∷ [])
+    ≡ Ok
+    (Air (64 ∷ 0 ∷ 0 ∷ 0 ∷ 255 ∷ 255 ∷ 255 ∷ 255 ∷ 255 ∷ 255 ∷ 2 ∷ 170 ∷ 0 ∷ 0 ∷ 0 ∷ 1 ∷ 255 ∷ 255 ∷ 255 ∷ 255 ∷ 255 ∷ 255 ∷ 0 ∷ 0 ∷ 0 ∷ 0 ∷ 1 ∷ 4 ∷ 2 ∷ 4 ∷ 11 ∷ 22 ∷ []) ∷ [])
 unfolding hex_on_literals
 probe_is_read config = refl
 
@@ -36,7 +37,8 @@ unfolding hex_on_literals
 either_case config = refl
 
 -- also within an octet, and more than one
-pub spaces_among_digits : (config : RadioConfig) → lines_of config (codes "A   1  2 34 5 6 7 8") ≡ Ok (Air (18 ∷ 52 ∷ 86 ∷ 120 ∷ []) ∷ [])
+pub spaces_among_digits : (config : RadioConfig)
+    → lines_of config (codes "A   1  2 34 5 6 7 8") ≡ Ok (Air (18 ∷ 52 ∷ 86 ∷ 120 ∷ []) ∷ [])
 unfolding hex_on_literals
 spaces_among_digits config = refl
 
@@ -44,7 +46,8 @@ pub no_octets : (config : RadioConfig) → lines_of config (codes "A") ≡ Ok (A
 unfolding hex_on_literals
 no_octets config = refl
 
-pub most_octets_are_read : (config : RadioConfig) → lines_of config (codes "A " ++ replicate 8192 48) ≡ Ok (Air (replicate 4096 0) ∷ [])
+pub most_octets_are_read : (config : RadioConfig)
+    → lines_of config (codes "A " ++ replicate 8192 48) ≡ Ok (Air (replicate 4096 0) ∷ [])
 unfolding hex_on_literals
 most_octets_are_read config = refl
 
@@ -98,7 +101,8 @@ pub wired_frame_is_read :
 unfolding hex_on_literals
 wired_frame_is_read = refl
 
-pub each_network_by_its_place : lines_of two (codes "W 02:aa:00:00:00:02 00" ++ lf ++ codes "W 02:00:00:00:00:01 00") ≡ Ok (Wire 1 (0 ∷ []) ∷ Wire 0 (0 ∷ []) ∷ [])
+pub each_network_by_its_place : lines_of two (codes "W 02:aa:00:00:00:02 00" ++ lf ++ codes "W 02:00:00:00:00:01 00")
+    ≡ Ok (Wire 1 (0 ∷ []) ∷ Wire 0 (0 ∷ []) ∷ [])
 unfolding hex_on_literals
 each_network_by_its_place = refl
 
@@ -106,7 +110,8 @@ pub address_in_either_case : lines_of two (codes "W 02:aA:00:00:00:02 aB") ≡ O
 unfolding hex_on_literals
 address_in_either_case = refl
 
-pub any_run_of_spaces_parts_words : lines_of two (codes "W   02:00:00:00:00:01   0 80 0  " ++ cr ++ lf) ≡ Ok (Wire 0 (8 ∷ 0 ∷ []) ∷ [])
+pub any_run_of_spaces_parts_words : lines_of two (codes "W   02:00:00:00:00:01   0 80 0  " ++ cr ++ lf) ≡ Ok
+    (Wire 0 (8 ∷ 0 ∷ []) ∷ [])
 unfolding hex_on_literals
 any_run_of_spaces_parts_words = refl
 
@@ -129,26 +134,32 @@ address_of_no_network = refl
 pub broadcast_is_no_network : lines_of two (codes "W ff:ff:ff:ff:ff:ff 00") ≡ Err (fault 4 1)
 broadcast_is_no_network = refl
 
-pub no_space_after_the_address : (config : RadioConfig) → lines_of config (codes "W 02:00:00:00:00:0100") ≡ Err (fault 3 1)
+pub no_space_after_the_address : (config : RadioConfig)
+    → lines_of config (codes "W 02:00:00:00:00:0100") ≡ Err (fault 3 1)
 no_space_after_the_address config = refl
 
-pub tab_after_the_address : (config : RadioConfig) → lines_of config (codes "W 02:00:00:00:00:01" ++ tab ++ codes "00") ≡ Err (fault 3 1)
+pub tab_after_the_address : (config : RadioConfig)
+    → lines_of config (codes "W 02:00:00:00:00:01" ++ tab ++ codes "00") ≡ Err (fault 3 1)
 tab_after_the_address config = refl
 
-pub tab_before_the_address : (config : RadioConfig) → lines_of config (codes "W" ++ tab ++ codes "02:00:00:00:00:01 00") ≡ Err (fault 1 1)
+pub tab_before_the_address : (config : RadioConfig)
+    → lines_of config (codes "W" ++ tab ++ codes "02:00:00:00:00:01 00") ≡ Err (fault 1 1)
 tab_before_the_address config = refl
 
-pub carriage_return_after_the_address : (config : RadioConfig) → lines_of config (codes "W 02:00:00:00:00:01" ++ cr) ≡ Err (fault 3 1)
+pub carriage_return_after_the_address : (config : RadioConfig)
+    → lines_of config (codes "W 02:00:00:00:00:01" ++ cr) ≡ Err (fault 3 1)
 carriage_return_after_the_address config = refl
 
-pub lower_case_word_of_a_wired_frame : (config : RadioConfig) → lines_of config (codes "w 02:00:00:00:00:01 00") ≡ Err (fault 1 1)
+pub lower_case_word_of_a_wired_frame : (config : RadioConfig)
+    → lines_of config (codes "w 02:00:00:00:00:01 00") ≡ Err (fault 1 1)
 lower_case_word_of_a_wired_frame config = refl
 
 pub odd_digits_of_a_wired_frame : lines_of two (codes "W 02:00:00:00:00:01 4") ≡ Err (fault 2 1)
 unfolding hex_on_literals
 odd_digits_of_a_wired_frame = refl
 
-pub too_many_octets_of_a_wired_frame : lines_of two (codes "W 02:00:00:00:00:01 " ++ replicate 8194 48) ≡ Err (fault 5 1)
+pub too_many_octets_of_a_wired_frame : lines_of two (codes "W 02:00:00:00:00:01 " ++ replicate 8194 48) ≡ Err
+    (fault 5 1)
 unfolding hex_on_literals
 too_many_octets_of_a_wired_frame = refl
 
@@ -167,25 +178,31 @@ no_network_with_too_many_octets = refl
 pub tick_is_read : (config : RadioConfig) → lines_of config (codes "T") ≡ Ok (Tick ∷ [])
 tick_is_read config = refl
 
-pub tick_with_spaces_before_a_carriage_return : (config : RadioConfig) → lines_of config (codes "T  " ++ cr ++ lf) ≡ Ok (Tick ∷ [])
+pub tick_with_spaces_before_a_carriage_return : (config : RadioConfig)
+    → lines_of config (codes "T  " ++ cr ++ lf) ≡ Ok (Tick ∷ [])
 tick_with_spaces_before_a_carriage_return config = refl
 
 pub something_after_a_tick : (config : RadioConfig) → lines_of config (codes "T 00") ≡ Err (fault 1 1)
 something_after_a_tick config = refl
 
-pub tick_with_spaces_after_a_carriage_return : (config : RadioConfig) → lines_of config (codes "T" ++ cr ++ codes "  " ++ lf) ≡ Err (fault 1 1)
+pub tick_with_spaces_after_a_carriage_return : (config : RadioConfig)
+    → lines_of config (codes "T" ++ cr ++ codes "  " ++ lf) ≡ Err (fault 1 1)
 tick_with_spaces_after_a_carriage_return config = refl
 
-pub tick_with_two_carriage_returns : (config : RadioConfig) → lines_of config (codes "T" ++ cr ++ cr ++ lf) ≡ Err (fault 1 1)
+pub tick_with_two_carriage_returns : (config : RadioConfig)
+    → lines_of config (codes "T" ++ cr ++ cr ++ lf) ≡ Err (fault 1 1)
 tick_with_two_carriage_returns config = refl
 
-pub tick_with_a_carriage_return_at_the_very_end : (config : RadioConfig) → lines_of config (codes "T" ++ cr) ≡ Err (fault 1 1)
+pub tick_with_a_carriage_return_at_the_very_end : (config : RadioConfig)
+    → lines_of config (codes "T" ++ cr) ≡ Err (fault 1 1)
 tick_with_a_carriage_return_at_the_very_end config = refl
 
 pub lower_case_word_of_a_tick : (config : RadioConfig) → lines_of config (codes "t") ≡ Err (fault 1 1)
 lower_case_word_of_a_tick config = refl
 
-pub lines_of_each_kind : lines_of two (codes "T" ++ lf ++ codes "A 01" ++ lf ++ codes "W 02:aa:00:00:00:02 02" ++ lf ++ codes "T" ++ lf) ≡ Ok (Tick ∷ Air (1 ∷ []) ∷ Wire 1 (2 ∷ []) ∷ Tick ∷ [])
+pub lines_of_each_kind : lines_of two
+    (codes "T" ++ lf ++ codes "A 01" ++ lf ++ codes "W 02:aa:00:00:00:02 02" ++ lf ++ codes "T" ++ lf)
+    ≡ Ok (Tick ∷ Air (1 ∷ []) ∷ Wire 1 (2 ∷ []) ∷ Tick ∷ [])
 unfolding hex_on_literals
 lines_of_each_kind = refl
 
@@ -199,17 +216,20 @@ pub last_line_lacks_its_end : (config : RadioConfig)
 unfolding hex_on_literals
 last_line_lacks_its_end config = refl
 
-pub skipped_lines_count : (config : RadioConfig) → lines_of config (codes "# A 4" ++ lf ++ lf ++ codes "A 4" ++ lf) ≡ Err (fault 2 3)
+pub skipped_lines_count : (config : RadioConfig)
+    → lines_of config (codes "# A 4" ++ lf ++ lf ++ codes "A 4" ++ lf) ≡ Err (fault 2 3)
 unfolding hex_on_literals
 skipped_lines_count config = refl
 
-pub lines_of_spaces_are_skipped : (config : RadioConfig) → lines_of config (codes "  " ++ lf ++ codes " " ++ cr ++ lf ++ codes "   ") ≡ Ok []
+pub lines_of_spaces_are_skipped : (config : RadioConfig)
+    → lines_of config (codes "  " ++ lf ++ codes " " ++ cr ++ lf ++ codes "   ") ≡ Ok []
 lines_of_spaces_are_skipped config = refl
 
 pub space_before_a_comment : (config : RadioConfig) → lines_of config (codes " #") ≡ Err (fault 1 1)
 space_before_a_comment config = refl
 
-pub first_fault_of_two : (config : RadioConfig) → lines_of config (codes "A 00" ++ lf ++ codes "A 4" ++ lf ++ codes "X") ≡ Err (fault 2 2)
+pub first_fault_of_two : (config : RadioConfig)
+    → lines_of config (codes "A 00" ++ lf ++ codes "A 4" ++ lf ++ codes "X") ≡ Err (fault 2 2)
 unfolding hex_on_literals
 first_fault_of_two config = refl
 
@@ -219,11 +239,13 @@ pub carriage_return : (config : RadioConfig) → lines_of config (codes "A 00" +
 unfolding hex_on_literals
 carriage_return config = refl
 
-pub spaces_before_a_carriage_return : (config : RadioConfig) → lines_of config (codes "A 00  " ++ cr ++ lf) ≡ Ok (Air (0 ∷ []) ∷ [])
+pub spaces_before_a_carriage_return : (config : RadioConfig)
+    → lines_of config (codes "A 00  " ++ cr ++ lf) ≡ Ok (Air (0 ∷ []) ∷ [])
 unfolding hex_on_literals
 spaces_before_a_carriage_return config = refl
 
-pub spaces_after_a_carriage_return : (config : RadioConfig) → lines_of config (codes "A 00" ++ cr ++ codes " " ++ lf) ≡ Err (fault 2 1)
+pub spaces_after_a_carriage_return : (config : RadioConfig)
+    → lines_of config (codes "A 00" ++ cr ++ codes " " ++ lf) ≡ Err (fault 2 1)
 unfolding hex_on_literals
 spaces_after_a_carriage_return config = refl
 
@@ -248,14 +270,17 @@ pub most_lines_are_read : (config : RadioConfig) → lines_from config 1000000 (
 unfolding hex_on_literals
 most_lines_are_read config = refl
 
-pub one_line_too_many : (config : RadioConfig) → lines_from config 1000000 (codes "A" ∷ codes "X" ∷ []) ≡ Err (fault 5 1000001)
+pub one_line_too_many : (config : RadioConfig)
+    → lines_from config 1000000 (codes "A" ∷ codes "X" ∷ []) ≡ Err (fault 5 1000001)
 unfolding hex_on_literals
 one_line_too_many config = refl
 
-pub skipped_line_too_many : (config : RadioConfig) → lines_from config 1000000 (codes "#" ∷ codes "#" ∷ []) ≡ Err (fault 5 1000001)
+pub skipped_line_too_many : (config : RadioConfig)
+    → lines_from config 1000000 (codes "#" ∷ codes "#" ∷ []) ≡ Err (fault 5 1000001)
 skipped_line_too_many config = refl
 
-pub fault_before_the_limit : (config : RadioConfig) → lines_from config 1000000 (codes "X" ∷ codes "X" ∷ []) ≡ Err (fault 1 1000000)
+pub fault_before_the_limit : (config : RadioConfig)
+    → lines_from config 1000000 (codes "X" ∷ codes "X" ∷ []) ≡ Err (fault 1 1000000)
 fault_before_the_limit config = refl
 
 pub spaces_alone_after_the_word : (config : RadioConfig) → lines_of config (codes "A   " ++ lf) ≡ Ok (Air [] ∷ [])
@@ -267,15 +292,19 @@ pub unknown_word_with_odd_digits : (config : RadioConfig) → lines_of config (c
 unknown_word_with_odd_digits config = refl
 
 -- no digit comes before the number of octets
-pub no_digit_among_too_many : (config : RadioConfig) → lines_of config (codes "A g" ++ replicate 8193 48) ≡ Err (fault 2 1)
+pub no_digit_among_too_many : (config : RadioConfig)
+    → lines_of config (codes "A g" ++ replicate 8193 48) ≡ Err (fault 2 1)
 unfolding hex_on_literals
 no_digit_among_too_many config = refl
 
 -- a character of no text
-pub comment_of_any_octets : (config : RadioConfig) → lines_of config (codes "# " ++ 255 ∷ 0 ∷ 9 ∷ [] ++ lf ++ codes "A 01") ≡ Ok (Air (1 ∷ []) ∷ [])
+pub comment_of_any_octets : (config : RadioConfig)
+    → lines_of config (codes "# " ++ 255 ∷ 0 ∷ 9 ∷ [] ++ lf ++ codes "A 01") ≡ Ok (Air (1 ∷ []) ∷ [])
 unfolding hex_on_literals
 comment_of_any_octets config = refl
 
-pub lines_stay_in_order : (config : RadioConfig) → lines_of config (codes "A 01" ++ lf ++ codes "#" ++ lf ++ codes "A 02" ++ lf ++ codes "A 01" ++ lf) ≡ Ok (Air (1 ∷ []) ∷ Air (2 ∷ []) ∷ Air (1 ∷ []) ∷ [])
+pub lines_stay_in_order : (config : RadioConfig)
+    → lines_of config (codes "A 01" ++ lf ++ codes "#" ++ lf ++ codes "A 02" ++ lf ++ codes "A 01" ++ lf)
+    ≡ Ok (Air (1 ∷ []) ∷ Air (2 ∷ []) ∷ Air (1 ∷ []) ∷ [])
 unfolding hex_on_literals
 lines_stay_in_order config = refl

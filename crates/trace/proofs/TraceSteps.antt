@@ -1,5 +1,7 @@
 -- What the steps of reading a trace text rest on.
-use Rattle.std.proofs.Common.{◌≡◌, ℕ, ◌+◌, ◌<◌, Bool, true, false, cond, List, [], ◌∷◌, ◌++◌, length, take, drop, Option, Some, None, Result, Ok, Err, refl, ap, sym, ◌∙◌, get_or, append_assoc, one-add, arith}
+use Rattle.std.proofs.Common.{◌≡◌, ℕ, ◌+◌, ◌<◌, Bool, true, false, cond, List, [], ◌∷◌, ◌++◌, length, take, drop}
+use Rattle.std.proofs.Common.{Option, Some, None, Result, Ok, Err, refl, ap, sym, ◌∙◌, get_or, append_assoc, one-add}
+use Rattle.std.proofs.Common.{arith}
 use Rattle.std.specs.List.{position, slice_split, onto_first, list_any}
 use Rattle.std.specs.Str.Lines.{lines, lines_of_parts, strip_carriage_return}
 use Rattle.std.proofs.lemmas.Bool.{or_parts, eq-eqb, ne_eqb}
@@ -58,7 +60,8 @@ lines_last text e some = ap lines_of_parts (cut-last text (lacks_from_none text 
 -- ---- spaces at the start
 
 -- a space is dropped
-pub space_first : (text : List ℕ) → 0 < length text → get_or text 0 0 ≡ 32 → without_spaces_at_start text ≡ without_spaces_at_start (drop 1 text)
+pub space_first : (text : List ℕ) → 0 < length text → get_or text 0 0 ≡ 32
+    → without_spaces_at_start text ≡ without_spaces_at_start (drop 1 text)
 space_first [] some e = absurd (omega arith)
 space_first (x ∷ xs) some e = rw (eq-eqb x 32 e, one-add) refl
 
@@ -86,14 +89,21 @@ said_after before (Ok later) = Ok (before ++ later)
 said_after before (Err fault) = Err fault
 
 -- a line that says something stands before what the later lines say
-pub said-more : (config : RadioConfig) (number : ℕ) (line : List ℕ) (rest : List (List ℕ)) (before : List Line) (said : Line) → line_of config number line ≡ Ok (Some said)
-    → said_after before (lines_from config number (line ∷ rest)) ≡ said_after (before ++ said ∷ []) (lines_from config (number + 1) rest)
+pub said-more : (config : RadioConfig) (number : ℕ) (line : List ℕ) (rest : List (List ℕ)) (before : List Line)
+    (said : Line)
+    → line_of config number line ≡ Ok (Some said)
+    → said_after before (lines_from config number (line ∷ rest)) ≡ said_after (before ++ said ∷ [])
+    (lines_from config (number + 1) rest)
 said-more config number line rest before said e =
-    ap (λ (spoken : Result (Option Line) TraceFault). said_after before (spoken >>= λ o. later >>= λ ls. Ok (option_to_list o ++ ls))) e ∙ onto later
+    ap
+    (λ (spoken : Result (Option Line) TraceFault). said_after before (spoken >>= λ o. later >>= λ ls. Ok (option_to_list o ++ ls)))
+    e
+    ∙ onto later
   where
     later : Result (List Line) TraceFault
     later = lines_from config (number + 1) rest
 
-    onto : (r : Result (List Line) TraceFault) → said_after before (r >>= λ ls. Ok (said ∷ ls)) ≡ said_after (before ++ said ∷ []) r
+    onto : (r : Result (List Line) TraceFault)
+        → said_after before (r >>= λ ls. Ok (said ∷ ls)) ≡ said_after (before ++ said ∷ []) r
     onto (Ok ls) = ap (λ (all : List Line). Ok all) (sym (append_assoc before (said ∷ []) ls))
     onto (Err fault) = refl

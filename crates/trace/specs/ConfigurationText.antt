@@ -1,20 +1,22 @@
--- The configuration that a text writes, or its first fault (profile).
-use Rattle.std.specs.Prelude.{ℕ, ℤ, pos, negsuc, ◌==◌, nat_le, Bool, true, not, ◌&&◌, ◌||◌, if◌then◌else◌, ⊤, List, [], ◌∷◌, ◌++◌, length, codes, Option, Some, None, is_some, option_and_then, Result, Ok, Err}
+-- The configuration that a text writes, or its first fault.
+use Rattle.std.specs.Prelude.{ℕ, ℤ, pos, negsuc, ◌==◌, nat_le, Bool, true, not, ◌&&◌, ◌||◌, if◌then◌else◌, ⊤, List, []}
+use Rattle.std.specs.Prelude.{◌∷◌, ◌++◌, length, codes, Option, Some, None, is_some, option_and_then, Result, Ok, Err}
 use Rattle.std.specs.List.{list_any, list_all}
 use Rattle.std.specs.Option.{ok_or, option_map_or}
 use Rattle.std.specs.Result.{result_ok}
 use Rattle.std.specs.Str.{bytes_eq, is_utf8}
-use Rattle.toml.specs.Data.{table, Items, no_items, item, Members, no_members, member, get_member, as_str, as_integer, as_array, as_table}
+use Rattle.toml.specs.Data.{table, Items, no_items, item, Members, no_members, member, get_member, as_str, as_integer}
+use Rattle.toml.specs.Data.{as_array, as_table}
 use Rattle.toml.specs.Parse.{parse_document}
 use Rattle.hex.specs.Hex.{decode_of}
 use Rattle.mac_frame.specs.Address.{address_of, is_group}
-use Rattle.bss_core.specs.Configuration.{channel_fits, interval_fits, queue_fits, count_fits, ssid_fits, rates_fit, dtim_fits, max_stations_fits, max_known_fits, quota_fits, max_events_fits, is_taken, of_radio, of_network}
+use Rattle.bss_core.specs.Configuration.{channel_fits, interval_fits, queue_fits, count_fits, ssid_fits, rates_fit}
+use Rattle.bss_core.specs.Configuration.{dtim_fits, max_stations_fits, max_known_fits, quota_fits, max_events_fits}
+use Rattle.bss_core.specs.Configuration.{is_taken, of_radio, of_network}
 use Rattle.bss_core.specs.declared.config.NetConfig.{NetConfig}
 use Rattle.bss_core.specs.declared.config.RadioConfig.{RadioConfig}
 use Rattle.bss_core.specs.declared.config.ConfigFault.{ConfigFault}
 use Rattle.trace.specs.Faults.{◌>>=◌}
-use Rattle.trace.specs.declared.configuration.fault.ConfigTextFault.{ConfigTextFault}
-use Rattle.trace.specs.declared.configuration.fault.ConfigTextFault.TheVariants as outcome
 
 -- ---- tests
 
@@ -35,7 +37,8 @@ natural (negsuc n) = None
 
 -- the integer at a key, where it lies within its limits
 unfoldable pub number_at : (ℕ → Bool) → List ℕ → Members → Option ℕ
-number_at fits key ms = option_and_then (passing fits) (option_and_then natural (option_and_then as_integer (get_member key ms)))
+number_at fits key ms =
+    option_and_then (passing fits) (option_and_then natural (option_and_then as_integer (get_member key ms)))
 
 -- the text at a key
 unfoldable pub text_at : List ℕ → Members → Option (List ℕ)
@@ -51,7 +54,10 @@ abbrev pub radio_keys : List (List ℕ)
 radio_keys = codes "version" ∷ codes "channel" ∷ codes "interval" ∷ codes "queue" ∷ codes "network" ∷ []
 
 abbrev pub network_keys : List (List ℕ)
-network_keys = codes "bssid" ∷ codes "ssid" ∷ codes "rates" ∷ codes "dtim" ∷ codes "max_stations" ∷ codes "max_known" ∷ codes "quota" ∷ codes "max_events" ∷ []
+network_keys =
+    codes "bssid" ∷ codes "ssid" ∷ codes "rates" ∷ codes "dtim"
+    ∷ codes "max_stations" ∷ codes "max_known" ∷ codes "quota" ∷ codes "max_events"
+    ∷ []
 
 -- each key of a table is one of these
 abbrev pub has_only : List (List ℕ) → Members → Bool
@@ -79,7 +85,8 @@ fault_after earlier code = of_network code (length earlier)
 -- no group address, and no earlier network's
 unfoldable pub bssid_at : List NetConfig → Members → Option (List ℕ)
 bssid_at earlier ms =
-    option_and_then (passing (λ bssid. not (is_group bssid || is_taken earlier bssid))) (option_and_then address_of (text_at (codes "bssid") ms))
+    option_and_then (passing (λ bssid. not (is_group bssid || is_taken earlier bssid)))
+    (option_and_then address_of (text_at (codes "bssid") ms))
 
 unfoldable pub ssid_at : Members → Option (List ℕ)
 ssid_at ms = option_and_then (passing ssid_fits) (text_at (codes "ssid") ms)
@@ -103,7 +110,16 @@ network_of_table earlier ms = do
   quota ← ok_or (number_at quota_fits (codes "quota") ms) (fault_after earlier 11)
   max_events ← ok_or (number_at max_events_fits (codes "max_events") ms) (fault_after earlier 11)
   _ ← demand (nat_le max_stations max_known) (fault_after earlier 12)
-  Ok (record { bssid = bssid; ssid = ssid; rates = rates; dtim = dtim; max_stations = max_stations; max_known = max_known; quota = quota; max_events = max_events })
+  Ok (record {
+    bssid = bssid;
+    ssid = ssid;
+    rates = rates;
+    dtim = dtim;
+    max_stations = max_stations;
+    max_known = max_known;
+    quota = quota;
+    max_events = max_events;
+  })
 
 -- the networks of the tables from one on, after earlier networks
 abbrev pub networks_of : List NetConfig → List Members → Result (List NetConfig) ConfigFault
@@ -122,7 +138,9 @@ are_tables (item d ds) = is_some (as_table d) && are_tables ds
 
 -- the array of networks: tables alone, as many as there may be
 unfoldable pub networks_at : Members → Option Items
-networks_at top = option_and_then (passing (λ ds. are_tables ds && count_fits (length (tables_in ds)))) (array_at (codes "network") top)
+networks_at top =
+    option_and_then (passing (λ ds. are_tables ds && count_fits (length (tables_in ds))))
+    (array_at (codes "network") top)
 
 -- the configuration of a document
 unfoldable pub radio_of : Members → Result RadioConfig ConfigFault
@@ -145,10 +163,3 @@ unfoldable pub configuration_of : List ℕ → Result RadioConfig ConfigFault
 configuration_of text = do
   top ← ok_or (document_of text) (of_radio 1)
   radio_of top
-
--- ---- what a function answers
-
--- the fault that an error names, none where memory ran out
-abbrev pub config_fault : ConfigTextFault → Option ConfigFault
-config_fault (outcome.At fault) = Some fault
-config_fault outcome.NoMemory = None

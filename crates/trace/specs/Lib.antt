@@ -1,5 +1,7 @@
+-- All that stands here is the profile's.
 pub mod Texts
 pub mod Faults
+pub mod Endings
 pub mod ConfigurationText
 pub mod TraceText
 pub mod Sinks

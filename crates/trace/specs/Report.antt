@@ -1,4 +1,4 @@
--- The text of a report (profile).
+-- The text of a report.
 use Rattle.std.specs.Prelude.{ℕ, Bool, if◌then◌else◌, List, [], ◌++◌, length, codes, decimal, flat_map}
 use Rattle.hex.specs.Hex.{encode_lower}
 use Rattle.mac_frame.specs.Address.{address_text}
@@ -12,13 +12,18 @@ use Rattle.trace.specs.Texts.{ended}
 
 -- which network it is: its address, and its name as octets
 unfoldable pub network_line : NetConfig → List ℕ
-network_line config = ended (codes "network " ++ address_text config.bssid ++ codes " ssid " ++ encode_lower config.ssid)
+network_line config =
+    ended (codes "network " ++ address_text config.bssid ++ codes " ssid " ++ encode_lower config.ssid)
 
 -- how many events its history has, and what it counted
 unfoldable pub counts_line : ℕ → Counts → List ℕ
 counts_line events counts =
     ended
-    (codes "events " ++ decimal events ++ codes " clock " ++ decimal counts.clock ++ codes " unread " ++ decimal counts.unread
+    (codes "events " ++ decimal events
+    ++ codes " clock "
+    ++ decimal counts.clock
+    ++ codes " unread "
+    ++ decimal counts.unread
     ++ codes " lost "
     ++ decimal counts.lost
     ++ codes " kept "
@@ -34,7 +39,11 @@ standing_line Unknown row = []
 standing_line Authenticated row = ended (codes "station " ++ address_text row.addr ++ codes " authenticated")
 standing_line Associated row =
     ended
-    (codes "station " ++ address_text row.addr ++ codes " associated aid " ++ decimal row.aid ++ codes " listen " ++ decimal row.listen
+    (codes "station " ++ address_text row.addr
+    ++ codes " associated aid "
+    ++ decimal row.aid
+    ++ codes " listen "
+    ++ decimal row.listen
     ++ codes " "
     ++ mode_text row.doze
     ++ codes " kept "
@@ -50,7 +59,8 @@ frame_line word frame = ended (word ++ encode_lower frame)
 -- what a network did: its stations, then the frames that it sent on the air, then those on the wire
 unfoldable pub section_text : Section → List ℕ
 section_text section =
-    network_line section.config ++ counts_line (length section.events) section.counts ++ flat_map station_line section.table
+    network_line section.config ++ counts_line (length section.events) section.counts
+    ++ flat_map station_line section.table
     ++ flat_map (frame_line (codes "air ")) section.air
     ++ flat_map (frame_line (codes "wire ")) section.wire
     ++ ended (codes "end")

@@ -1,4 +1,4 @@
--- The lines of a text: each ends with LF, the last with LF or with the text (profile).
+-- The lines of a text: each ends with LF, the last with LF or with the text.
 use Rattle.std.specs.Prelude.{◌≢◌, ℕ, ◌==◌, Bool, List, [], ◌∷◌, ◌++◌, All}
 use Rattle.std.specs.List.{slice_split}
 

@@ -1,5 +1,6 @@
--- What a trace text says (profile): its lines, or the first fault with the number of its line.
-use Rattle.std.specs.Prelude.{ℕ, ◌+◌, ◌-◌, Bool, true, not, nat_lt, ◌==◌, List, [], ◌∷◌, ◌++◌, length, take, drop, filter, position, codes, Option, Some, None, Result, Ok, Err, if◌then◌else◌}
+-- What a trace text says: its lines, or the first fault with the number of its line.
+use Rattle.std.specs.Prelude.{ℕ, ◌+◌, ◌-◌, Bool, true, not, nat_lt, ◌==◌, List, [], ◌∷◌, ◌++◌, length, take, drop}
+use Rattle.std.specs.Prelude.{filter, position, codes, Option, Some, None, Result, Ok, Err, if◌then◌else◌}
 use Rattle.std.specs.List.{prefix_len, suffix_len, before_first, after_first}
 use Rattle.std.specs.Option.{ok_or, option_to_list}
 use Rattle.std.specs.Str.{bytes_eq}
@@ -14,10 +15,11 @@ use Rattle.bss_core.specs.declared.line.Line.{Line}
 use Rattle.bss_core.specs.declared.line.Line.TheVariants.{Air, Wire, Tick}
 use Rattle.trace.specs.Faults.{◌>>=◌}
 use Rattle.trace.specs.declared.fault.TraceFault.{TraceFault}
-use Rattle.trace.specs.declared.fault.TraceTextFault.{TraceTextFault}
-use Rattle.trace.specs.declared.fault.TraceTextFault.TheVariants.{At, NoMemory}
 use Rattle.trace.specs.declared.fault.LineFault.{LineFault}
-use Rattle.trace.specs.declared.fault.LineFault.TheVariants as line
+use Rattle.trace.specs.declared.fault.LineFault.TheVariants.{UnknownKind, NotHexadecimal, NoAddress, UnknownNetwork}
+use Rattle.trace.specs.declared.fault.LineFault.TheVariants.{TooMany}
+use Rattle.trace.specs.declared.read_fault.ReadFault.{ReadFault}
+use Rattle.trace.specs.declared.read_fault.ReadFault.TheVariants.{At, NoMemory}
 
 -- ---- the limits
 
@@ -27,27 +29,19 @@ max_lines = 1000000
 abbrev pub max_octets : ℕ
 max_octets = 4096
 
--- ---- the faults by their codes, as a user meets them
+-- ---- the faults
 
--- L1: the first word is no kind of line, or something follows `T`
-abbrev pub unknown_kind : ℕ
-unknown_kind = 1
+-- their codes, as a user meets them: `L1` to `L5`
+abbrev pub code_of : LineFault → ℕ
+code_of UnknownKind = 1
+code_of NotHexadecimal = 2
+code_of NoAddress = 3
+code_of UnknownNetwork = 4
+code_of TooMany = 5
 
--- L2: a string is not pairs of hexadecimal digits
-abbrev pub not_hexadecimal : ℕ
-not_hexadecimal = 2
-
--- L3: no address stands where one of a network should
-abbrev pub no_address : ℕ
-no_address = 3
-
--- L4: no network has the address
-abbrev pub unknown_network : ℕ
-unknown_network = 4
-
--- L5: too many octets, or too many lines
-abbrev pub too_many : ℕ
-too_many = 5
+-- the fault of a line, with the line's number
+abbrev pub fault_in : ℕ → LineFault → TraceFault
+fault_in number fault = record { code = code_of fault; line = number }
 
 -- ---- the parts of a line
 
@@ -79,12 +73,12 @@ abbrev pub digits_of : List ℕ → List ℕ
 digits_of text = filter (λ character. not (is_space character)) text
 
 -- what the digits spell, where they spell octets, and not too many
-abbrev pub within_limit : Result (List ℕ) FromHexError → Result (List ℕ) ℕ
-within_limit (Ok octets) = if nat_lt max_octets (length octets) then Err too_many else Ok octets
-within_limit (Err e) = Err not_hexadecimal
+abbrev pub within_limit : Result (List ℕ) FromHexError → Result (List ℕ) LineFault
+within_limit (Ok octets) = if nat_lt max_octets (length octets) then Err TooMany else Ok octets
+within_limit (Err e) = Err NotHexadecimal
 
 -- the octets that a text spells in hexadecimal digits of either case, with spaces among them; or its first fault
-abbrev pub octets_of : List ℕ → Result (List ℕ) ℕ
+abbrev pub octets_of : List ℕ → Result (List ℕ) LineFault
 octets_of text = within_limit (decode_of (digits_of text))
 
 -- the network has the address
@@ -96,43 +90,43 @@ abbrev pub place_with : List ℕ → List NetConfig → Option ℕ
 place_with bssid networks = position (has_address bssid) networks
 
 -- the place of the network whose address a word spells
-abbrev pub place_named : RadioConfig → List ℕ → Result ℕ ℕ
+abbrev pub place_named : RadioConfig → List ℕ → Result ℕ LineFault
 place_named config word = do
-  bssid ← ok_or (address_of word) no_address
-  ok_or (place_with bssid config.networks) unknown_network
+  bssid ← ok_or (address_of word) NoAddress
+  ok_or (place_with bssid config.networks) UnknownNetwork
 
 -- ---- what a line says after its first word
 
 -- `A`: a string that was heard
-abbrev pub air_line : List ℕ → Result Line ℕ
+abbrev pub air_line : List ℕ → Result Line LineFault
 air_line text = do
   octets ← octets_of text
   Ok (Air octets)
 
 -- `W`: the address of a network, and a frame that came over the wire to it
-abbrev pub wired_line : RadioConfig → List ℕ → Result Line ℕ
+abbrev pub wired_line : RadioConfig → List ℕ → Result Line LineFault
 wired_line config text = do
   place ← place_named config (first_word text)
   octets ← octets_of (after_first_word text)
   Ok (Wire place octets)
 
 -- `T`: nothing
-abbrev pub tick_line : List ℕ → Result Line ℕ
+abbrev pub tick_line : List ℕ → Result Line LineFault
 tick_line [] = Ok Tick
-tick_line (character ∷ characters) = Err unknown_kind
+tick_line (character ∷ characters) = Err UnknownKind
 
 -- ---- what a line says
 
 -- the line of a first word and the text after it
-abbrev pub line_with : RadioConfig → List ℕ → List ℕ → Result Line ℕ
+abbrev pub line_with : RadioConfig → List ℕ → List ℕ → Result Line LineFault
 line_with config word text =
     if bytes_eq word (codes "A") then air_line text
     else if bytes_eq word (codes "W") then wired_line config (without_spaces_at_start text)
     else if bytes_eq word (codes "T") then tick_line text
-    else Err unknown_kind
+    else Err UnknownKind
 
 -- what a line less the spaces at its end says, nothing where it is skipped; or its first fault
-abbrev pub content_of : RadioConfig → List ℕ → Result (Option Line) ℕ
+abbrev pub content_of : RadioConfig → List ℕ → Result (Option Line) LineFault
 content_of config line =
     if is_skipped line then Ok None
     else (line_with config (first_word line) (after_first_word line) >>= λ said. Ok (Some said))
@@ -140,14 +134,14 @@ content_of config line =
 -- ---- what a text says
 
 -- the fault of a line, at the line's number
-abbrev pub at_line : ℕ → Result (Option Line) ℕ → Result (Option Line) TraceFault
+abbrev pub at_line : ℕ → Result (Option Line) LineFault → Result (Option Line) TraceFault
 at_line number (Ok said) = Ok said
-at_line number (Err code) = Err (record { code = code; line = number })
+at_line number (Err fault) = Err (fault_in number fault)
 
 -- what the line with a number says, or its first fault
 abbrev pub line_of : RadioConfig → ℕ → List ℕ → Result (Option Line) TraceFault
 line_of config number line =
-    at_line number (if nat_lt max_lines number then Err too_many else content_of config (without_spaces_at_end line))
+    at_line number (if nat_lt max_lines number then Err TooMany else content_of config (without_spaces_at_end line))
 
 -- what lines say, the first of which has this number; or the first fault
 abbrev pub lines_from : RadioConfig → ℕ → List (List ℕ) → Result (List Line) TraceFault
@@ -162,32 +156,14 @@ lines_from config number (line ∷ rest) = do
 abbrev pub lines_of : RadioConfig → List ℕ → Result (List Line) TraceFault
 lines_of config text = lines_from config 1 (lines text)
 
--- ---- what a reader answers
+-- ---- why a text is not read
 
--- the fault that an error names, none where memory ran out
-abbrev pub trace_fault : TraceTextFault → Option TraceFault
-trace_fault (At fault) = Some fault
-trace_fault NoMemory = None
+-- the line of this number is not read
+abbrev pub text_fault : ℕ → ReadFault LineFault → ReadFault TraceFault
+text_fault number (At fault) = At (fault_in number fault)
+text_fault number NoMemory = NoMemory
 
--- the code of a line's fault, none where memory ran out
-abbrev pub line_fault : LineFault → Option ℕ
-line_fault line.UnknownKind = Some unknown_kind
-line_fault line.NotHexadecimal = Some not_hexadecimal
-line_fault line.NoAddress = Some no_address
-line_fault line.UnknownNetwork = Some unknown_network
-line_fault line.TooMany = Some too_many
-line_fault line.NoMemory = None
-
--- the fault of a text whose line of this number has the fault of a code
-abbrev pub fault_with : ℕ → Option ℕ → TraceTextFault
-fault_with number (Some code) = At (record { code = code; line = number })
-fault_with number None = NoMemory
-
--- the fault of a text whose line of this number has the fault
-abbrev pub text_fault : ℕ → LineFault → TraceTextFault
-text_fault number fault = fault_with number (line_fault fault)
-
--- the fault of a line whose digits have the fault
-abbrev pub hexadecimal_fault : FromHexError → LineFault
-hexadecimal_fault OutOfMemory = line.NoMemory
-hexadecimal_fault _ = line.NotHexadecimal
+-- the digits of a line are not read
+abbrev pub hexadecimal_fault : FromHexError → ReadFault LineFault
+hexadecimal_fault OutOfMemory = NoMemory
+hexadecimal_fault _ = At NotHexadecimal

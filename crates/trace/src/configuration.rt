@@ -1,4 +1,4 @@
-//! The configuration that a TOML text writes (*profile*).
+//! The configuration that a TOML text writes.
 //!
 //! [`read_config`] promises the configuration of a text, or its first fault in the order C1 to C12. `values` reads
 //! the value at one key, and `network` the table of one network.
@@ -7,15 +7,17 @@ ghost use Rattle.std.specs.Prelude.{◌≡◌, None, IfOk};
 ghost use Rattle.std.specs.Option.{ok_or};
 ghost use Rattle.bss_core.specs.Configuration.{fault_of, of_radio};
 ghost use Rattle.toml.specs.View.{table_view};
-ghost use Rattle.trace.specs.Faults.{Gives};
-ghost use Rattle.trace.specs.ConfigurationText.{config_fault, configuration_of, document_of, radio_of};
+ghost use Rattle.trace.specs.Endings.{Gives};
+ghost use Rattle.trace.specs.Faults.{read_ending};
+ghost use Rattle.trace.specs.ConfigurationText.{configuration_of, document_of, radio_of};
 
 mod fault;
 mod keys;
 mod network;
 mod values;
 
-use bss_core::{MAX_CHANNEL, MAX_QUEUE, RadioConfig};
+use crate::read_fault::ReadFault;
+use bss_core::{CHANNEL_LIMITS, INTERVAL_LIMITS, Limits, QUEUE_LIMITS, RadioConfig};
 pub use fault::ConfigTextFault;
 use fault::at_radio;
 use keys::is_listed;
@@ -25,13 +27,16 @@ use std::alloc::Global;
 use toml::Table;
 use values::number_at;
 
+/// The versions of configurations that are read.
+const VERSIONS: Limits = Limits { least: 1, most: 1 };
+
 /// The configuration that a text writes in TOML: all its keys are there, and no others.
 ///
 /// `At` names the first fault, in the order C1 to C12, where C8 to C12 are tried network by network. `NoMemory`
-/// says nothing of the text (*profile*).
+/// says nothing of the text.
 #[tactic(auto, unfolding(crate::specs::ConfigurationText::configuration_of))]
 pub fn read_config(alloc: Global, text: &[u8]) -> Result<RadioConfig, ConfigTextFault>
-    ensures exact { Gives (λ configuration. configuration) config_fault result (configuration_of text.now) }
+    ensures exact { Gives (λ configuration. configuration) read_ending result (configuration_of text.now) }
     ensures sound { IfOk result (λ configuration. fault_of configuration ≡ None) }
 {
     let top = read_document(alloc, text)?;
@@ -41,11 +46,11 @@ pub fn read_config(alloc: Global, text: &[u8]) -> Result<RadioConfig, ConfigText
 /// The document that a text is: its octets are UTF-8, and `toml` reads them.
 #[tactic(auto, using(crate::proofs::ConfigurationReading::documents))]
 fn read_document(alloc: Global, text: &[u8]) -> Result<Table, ConfigTextFault>
-    ensures { Gives table_view config_fault result (ok_or (document_of text.now) (of_radio 1)) }
+    ensures { Gives table_view read_ending result (ok_or (document_of text.now) (of_radio 1)) }
 {
     match toml::table_from_slice(alloc, text) {
         Ok(top) => Ok(top),
-        Err(error) if error.is_memory() => Err(ConfigTextFault::NoMemory),
+        Err(error) if error.is_memory() => Err(ReadFault::NoMemory),
         Err(_) => Err(at_radio(1)),
     }
 }
@@ -53,15 +58,15 @@ fn read_document(alloc: Global, text: &[u8]) -> Result<Table, ConfigTextFault>
 /// The configuration of a document.
 #[tactic(auto, unfolding(crate::specs::ConfigurationText::radio_of))]
 fn read_radio(alloc: Global, top: &Table) -> Result<RadioConfig, ConfigTextFault>
-    ensures { Gives (λ configuration. configuration) config_fault result (radio_of (table_view top.now)) }
+    ensures { Gives (λ configuration. configuration) read_ending result (radio_of (table_view top.now)) }
 {
-    number_at(top, "version", 1, 1).ok_or(at_radio(2))?;
+    number_at(top, "version", VERSIONS).ok_or(at_radio(2))?;
     if !is_listed(top) {
         return Err(at_radio(3));
     }
-    let channel = number_at(top, "channel", 1, u32::from(MAX_CHANNEL)).ok_or(at_radio(4))?;
-    let interval = number_at(top, "interval", 1, u32::from(u16::MAX)).ok_or(at_radio(5))?;
-    let queue = number_at(top, "queue", 1, u32::from(MAX_QUEUE)).ok_or(at_radio(6))?;
+    let channel = number_at(top, "channel", CHANNEL_LIMITS).ok_or(at_radio(4))?;
+    let interval = number_at(top, "interval", INTERVAL_LIMITS).ok_or(at_radio(5))?;
+    let queue = number_at(top, "queue", QUEUE_LIMITS).ok_or(at_radio(6))?;
     let values = networks_at(top).ok_or(at_radio(7))?;
     let networks = read_networks(alloc, values)?;
     Ok(RadioConfig {

@@ -1,12 +1,10 @@
-//! Why a text is no trace (*profile*).
+//! Why a text is no trace.
 
 ghost use Rattle.std.specs.Prelude.{◌≡◌};
-ghost use Rattle.trace.specs.TraceText.{line_fault, text_fault, hexadecimal_fault};
-ghost use Rattle.trace.specs.declared.fault.LineFault.TheVariants as line_faults;
-ghost use Rattle.trace.specs.declared.fault.TraceTextFault.TheVariants as text_faults;
+ghost use Rattle.trace.specs.TraceText.{code_of, fault_in, text_fault, hexadecimal_fault};
 
+use crate::read_fault::ReadFault;
 use hex::FromHexError;
-use std::alloc::{AllocError, AllocFailed};
 use std::fmt;
 
 /// The first fault of a trace text.
@@ -27,23 +25,9 @@ impl fmt::Display for TraceFault {
 }
 
 /// Why a trace text is not read.
-#[derive(Clone, Copy, Debug, PartialEq, Eq)]
-pub enum TraceTextFault {
-    /// The text has a fault.
-    At(TraceFault),
-    /// A growth was refused.
-    NoMemory,
-}
+pub type TraceTextFault = ReadFault<TraceFault>;
 
-impl<T: Drop> From<AllocFailed<T>> for TraceTextFault {
-    ghost from_gives = { λ _ fault. fault ≡ text_faults.NoMemory };
-
-    fn from(_e: AllocFailed<T>) -> TraceTextFault {
-        TraceTextFault::NoMemory
-    }
-}
-
-/// Why a line is not read.
+/// The first fault of a line.
 #[derive(Clone, Copy, Debug)]
 pub enum LineFault {
     /// Its first word is no kind of line, or something follows `T`.
@@ -56,51 +40,50 @@ pub enum LineFault {
     UnknownNetwork,
     /// Its string has too many octets, or its text too many lines.
     TooMany,
-    /// A growth was refused.
-    NoMemory,
 }
 
 impl LineFault {
-    /// The number of its code, as a user meets it: 1 to 5, for `L1` to `L5`. None where memory ran out.
-    fn code(self) -> Option<u8>
-        ensures { result ≡ line_fault self }
+    /// The number of its code, as a user meets it: 1 to 5, for `L1` to `L5`.
+    fn code(self) -> u8
+        ensures { result ≡ code_of self }
     {
         match self {
-            LineFault::UnknownKind => Some(1),
-            LineFault::NotHexadecimal => Some(2),
-            LineFault::NoAddress => Some(3),
-            LineFault::UnknownNetwork => Some(4),
-            LineFault::TooMany => Some(5),
-            LineFault::NoMemory => None,
+            LineFault::UnknownKind => 1,
+            LineFault::NotHexadecimal => 2,
+            LineFault::NoAddress => 3,
+            LineFault::UnknownNetwork => 4,
+            LineFault::TooMany => 5,
         }
     }
 
-    /// The fault of the text whose line of this number has the fault.
-    pub fn at(self, line: u32) -> TraceTextFault
-        ensures { result ≡ text_fault line self }
+    /// The fault in the line of this number.
+    pub fn at(self, line: u32) -> TraceFault
+        ensures { result ≡ fault_in line self }
     {
-        match self.code() {
-            Some(code) => TraceTextFault::At(TraceFault { code, line }),
-            None => TraceTextFault::NoMemory,
+        TraceFault {
+            code: self.code(),
+            line,
         }
     }
 }
 
-impl From<AllocError> for LineFault {
-    ghost from_gives = { λ _ fault. fault ≡ line_faults.NoMemory };
-
-    fn from(_e: AllocError) -> LineFault {
-        LineFault::NoMemory
+/// Why the text is not read whose line of this number is not read.
+pub fn in_text(fault: ReadFault<LineFault>, line: u32) -> TraceTextFault
+    ensures { result ≡ text_fault line fault }
+{
+    match fault {
+        ReadFault::At(fault) => ReadFault::At(fault.at(line)),
+        ReadFault::NoMemory => ReadFault::NoMemory,
     }
 }
 
-impl From<FromHexError> for LineFault {
+impl From<FromHexError> for ReadFault<LineFault> {
     ghost from_gives = { λ e fault. fault ≡ hexadecimal_fault e };
 
-    fn from(e: FromHexError) -> LineFault {
+    fn from(e: FromHexError) -> ReadFault<LineFault> {
         match e {
-            FromHexError::OutOfMemory => LineFault::NoMemory,
-            _ => LineFault::NotHexadecimal,
+            FromHexError::OutOfMemory => ReadFault::NoMemory,
+            _ => ReadFault::At(LineFault::NotHexadecimal),
         }
     }
 }

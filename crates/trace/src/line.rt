@@ -1,12 +1,16 @@
-//! One line of a trace text (*profile*).
+//! One line of a trace text.
 
 ghost use Rattle.std.specs.Prelude.{◌≡◌, IfOk};
-ghost use Rattle.trace.specs.Faults.{Gives};
+ghost use Rattle.trace.specs.Endings.{Gives};
+ghost use Rattle.trace.specs.Faults.{read_ending};
 ghost use Rattle.mac_frame.specs.Address.{address_of};
-ghost use Rattle.trace.specs.TraceText.{is_skipped, without_spaces_at_end, without_spaces_at_start, first_word, after_first_word, digits_of, octets_of, within_limit, place_with, place_named, wired_line, line_with, content_of, line_fault};
+ghost use Rattle.trace.specs.TraceText.{is_skipped, without_spaces_at_end, without_spaces_at_start, first_word};
+ghost use Rattle.trace.specs.TraceText.{after_first_word, digits_of, octets_of, within_limit, place_with, place_named};
+ghost use Rattle.trace.specs.TraceText.{wired_line, line_with, content_of};
 ghost use Rattle.hex.specs.Hex.{decode_of};
 
 use crate::fault::LineFault;
+use crate::read_fault::ReadFault;
 use crate::text::place_of;
 use bss_core::{Line, NetConfig, RadioConfig};
 use mac_frame::{MacAddr, Octets};
@@ -32,8 +36,8 @@ pub fn read_content(
     alloc: Global,
     config: &RadioConfig,
     line: &[u8],
-) -> Result<Option<Line>, LineFault>
-    ensures { Gives (λ said. said) line_fault result (content_of config.now line.now) }
+) -> Result<Option<Line>, ReadFault<LineFault>>
+    ensures { Gives (λ said. said) read_ending result (content_of config.now line.now) }
 {
     if is_skipped(line) {
         return Ok(None);
@@ -48,20 +52,24 @@ fn line_with(
     config: &RadioConfig,
     word: &[u8],
     text: &[u8],
-) -> Result<Line, LineFault>
-    ensures { Gives (λ line. line) line_fault result (line_with config.now word.now text.now) }
+) -> Result<Line, ReadFault<LineFault>>
+    ensures { Gives (λ line. line) read_ending result (line_with config.now word.now text.now) }
 {
     match word {
         b"A" => Ok(Line::Air(read_octets(alloc, text)?)),
         b"W" => wired_line(alloc, config, without_spaces_at_start(text)),
         b"T" if text.is_empty() => Ok(Line::Tick),
-        _ => Err(LineFault::UnknownKind),
+        _ => Err(ReadFault::At(LineFault::UnknownKind)),
     }
 }
 
 /// The line of an address and a frame that came over the wire to its network.
-fn wired_line(alloc: Global, config: &RadioConfig, text: &[u8]) -> Result<Line, LineFault>
-    ensures { Gives (λ line. line) line_fault result (wired_line config.now text.now) }
+fn wired_line(
+    alloc: Global,
+    config: &RadioConfig,
+    text: &[u8],
+) -> Result<Line, ReadFault<LineFault>>
+    ensures { Gives (λ line. line) read_ending result (wired_line config.now text.now) }
 {
     let (address, frame) = split_word(text);
     let place = place_named(config, address)?;
@@ -70,11 +78,11 @@ fn wired_line(alloc: Global, config: &RadioConfig, text: &[u8]) -> Result<Line, 
 }
 
 /// The place of the network whose address a word spells.
-fn place_named(config: &RadioConfig, word: &[u8]) -> Result<usize, LineFault>
-    ensures { Gives (λ place. place) line_fault result (place_named config.now word.now) }
+fn place_named(config: &RadioConfig, word: &[u8]) -> Result<usize, ReadFault<LineFault>>
+    ensures { Gives (λ place. place) read_ending result (place_named config.now word.now) }
 {
-    let bssid = address_of(word).ok_or(LineFault::NoAddress)?;
-    place_with(bssid, config.networks.as_slice()).ok_or(LineFault::UnknownNetwork)
+    let bssid = address_of(word).ok_or(ReadFault::At(LineFault::NoAddress))?;
+    place_with(bssid, config.networks.as_slice()).ok_or(ReadFault::At(LineFault::UnknownNetwork))
 }
 
 /// The address that a word spells.
@@ -127,8 +135,8 @@ fn split_word(line: &[u8]) -> (&[u8], &[u8])
 
 /// The octets that a text spells in hexadecimal digits with spaces among them.
 #[tactic(auto, using(crate::proofs::TraceSteps::digits_of_none))]
-fn read_octets(alloc: Global, text: &[u8]) -> Result<Octets, LineFault>
-    ensures { Gives (λ octets. octets) line_fault result (octets_of text.now) }
+fn read_octets(alloc: Global, text: &[u8]) -> Result<Octets, ReadFault<LineFault>>
+    ensures { Gives (λ octets. octets) read_ending result (octets_of text.now) }
 {
     if !text.contains(&b' ') {
         return read_digits(alloc, text);
@@ -147,12 +155,12 @@ fn without_spaces(alloc: Global, text: &[u8]) -> Result<Vec<u8>, AllocError>
 }
 
 /// The octets that hexadecimal digits spell.
-fn read_digits(alloc: Global, digits: &[u8]) -> Result<Octets, LineFault>
-    ensures { Gives (λ octets. octets) line_fault result (within_limit (decode_of digits.now)) }
+fn read_digits(alloc: Global, digits: &[u8]) -> Result<Octets, ReadFault<LineFault>>
+    ensures { Gives (λ octets. octets) read_ending result (within_limit (decode_of digits.now)) }
 {
     let octets = hex::decode(alloc, digits)?;
     if octets.len() > MAX_OCTETS {
-        return Err(LineFault::TooMany);
+        return Err(ReadFault::At(LineFault::TooMany));
     }
     Ok(Octets::from_vec(octets))
 }

@@ -1,14 +1,16 @@
-//! Trace texts: what happened to the networks of a radio, in lines (*profile*).
+//! Trace texts: what happened to the networks of a radio, in lines.
 //!
 //! [`read_trace`] gives the lines of a text, or its first fault with the number of its line.
 
 ghost use Rattle.std.specs.Prelude.{◌≡◌, ◌<◌, ◌≤◌, ◌∷◌, length, OnOk};
 ghost use Rattle.std.specs.Str.Lines.{lines, strip_carriage_return};
-ghost use Rattle.trace.specs.Faults.{Gives};
-ghost use Rattle.trace.specs.TraceText.{line_of, lines_of, trace_fault};
+ghost use Rattle.trace.specs.Endings.{Gives};
+ghost use Rattle.trace.specs.Faults.{read_ending};
+ghost use Rattle.trace.specs.TraceText.{line_of, lines_of};
 
-use crate::fault::{LineFault, TraceTextFault};
+use crate::fault::{LineFault, TraceTextFault, in_text};
 use crate::line::{read_content, without_spaces_at_end};
+use crate::read_fault::ReadFault;
 use crate::text::place_of;
 use bss_core::{Line, RadioConfig};
 use std::alloc::Global;
@@ -32,7 +34,7 @@ pub fn read_trace(
     config: &RadioConfig,
     text: &[u8],
 ) -> Result<Vec<Line>, TraceTextFault>
-    ensures exact { Gives (λ read. read.items) trace_fault result (lines_of config.now text.now) }
+    ensures exact { Gives (λ read. read.items) read_ending result (lines_of config.now text.now) }
 {
     let mut lines = Vec::new(alloc);
     let mut rest = text;
@@ -77,11 +79,11 @@ fn read_line(
     number: u32,
     line: &[u8],
 ) -> Result<Option<Line>, TraceTextFault>
-    ensures exact { Gives (λ said. said) trace_fault result (line_of config.now number line.now) }
+    ensures exact { Gives (λ said. said) read_ending result (line_of config.now number line.now) }
     ensures within { OnOk result (number ≤ MAX_LINES) }
 {
     if number > MAX_LINES {
-        return Err(LineFault::TooMany.at(number));
+        return Err(ReadFault::At(LineFault::TooMany.at(number)));
     }
-    read_content(alloc, config, without_spaces_at_end(line)).map_err(|fault| fault.at(number))
+    read_content(alloc, config, without_spaces_at_end(line)).map_err(|fault| in_text(fault, number))
 }

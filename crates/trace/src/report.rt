@@ -1,4 +1,4 @@
-//! The report: what each network did, as text (*profile*).
+//! The report: what each network did, as text.
 //!
 //! ```text
 //! network 02:00:00:00:00:07 ssid 63616665
@@ -15,11 +15,12 @@
 //! air, one for each that it sent on the wire, and `end`. Octets are pairs of hexadecimal digits in lower case,
 //! numbers are decimal.
 
-ghost use Rattle.std.specs.Prelude.{◌≡◌, ◌+◌, ◌≤◌, ◌++◌, length, flat_map, string_bytes, IfOk, OnOk, OnErr};
-ghost use Rattle.std.specs.Io.KnownBytes.{Appends};
+ghost use Rattle.std.specs.Prelude.{◌≡◌, ◌+◌, ◌≤◌, ◌++◌, Ok, length, flat_map, string_bytes, IfOk};
 ghost use Rattle.hex.specs.Hex.{encode_lower};
-ghost use Rattle.trace.specs.Report.{report_text, section_text, network_line, counts_line, station_line, mode_text, frame_line};
-ghost use Rattle.trace.specs.Sinks.{AppendsPrefix, MayFail, failures_of_report};
+ghost use Rattle.trace.specs.Endings.{Ends, failures_of};
+ghost use Rattle.trace.specs.Report.{report_text, section_text, network_line, counts_line, station_line, mode_text};
+ghost use Rattle.trace.specs.Report.{frame_line};
+ghost use Rattle.trace.specs.Sinks.{MayFail, report_ending};
 ghost use Rattle.trace.specs.Buffers.{Puts};
 ghost use Rattle.trace.specs.declared.report.ReportFault.TheVariants.{Write, NoMemory};
 
@@ -60,7 +61,7 @@ impl From<AllocError> for ReportFault {
 /// How many octets become digits at a time, in an array, so that no `String` is made for a frame.
 const OCTETS_AT_A_TIME: usize = 32;
 
-/// Has the sink take the report of the sections, whole (*profile*). Nothing is left in a buffer.
+/// Has the sink take the report of the sections, whole. Nothing is left in a buffer.
 ///
 /// `Write` comes exactly where a write to the sink failed, at which the call stops: the number of the sink's
 /// failures rose by one. `NoMemory` and `Ok` leave that number. After either fault the sink has taken a prefix of the
@@ -71,9 +72,8 @@ pub fn write_report<W: Sink>(
     out: &mut W,
 ) -> Result<(), ReportFault>
     requires { MayFail (W.failed out.old) }
-    ensures ok { OnOk result (Appends (W.taken out.old) (W.taken out.new) (report_text sections.now)) }
-    ensures prefix { OnErr result (AppendsPrefix (W.taken out.old) (W.taken out.new) (report_text sections.now)) }
-    ensures failures { W.failed out.new ≡ W.failed out.old + failures_of_report result }
+    ensures ends { Ends report_ending result (Ok (report_text sections.now)) (W.taken out.old) (W.taken out.new) }
+    ensures failures { W.failed out.new ≡ W.failed out.old + failures_of report_ending result }
 {
     let mut piece = Vec::with_capacity(alloc, PIECE)?;
     let mut buffered = Buffered::new(out, &mut piece);

@@ -1,8 +1,9 @@
-//! Where octets go: anything that takes octets, a part at a time, and counts how often it failed (*profile*).
+//! Where octets go: anything that takes octets, a part at a time, and counts how often it failed.
 
-ghost use Rattle.std.specs.Prelude.{◌≡◌, ℕ, ◌+◌, ◌<◌, ◌≤◌, List, Option, length, take, IfOk, OnOk, OnErr};
+ghost use Rattle.std.specs.Prelude.{◌≡◌, ℕ, ◌+◌, ◌<◌, ◌≤◌, List, Option, Ok, length, take, IfOk, OnErr};
 ghost use Rattle.std.specs.Io.KnownBytes.{Appends, Keeps};
-ghost use Rattle.trace.specs.Sinks.{AppendsPrefix, MayFail, failures_of_write};
+ghost use Rattle.trace.specs.Endings.{Ends, failures_of};
+ghost use Rattle.trace.specs.Sinks.{MayFail, write_ending};
 
 use std::io::Write;
 use std::marker::Model;
@@ -28,7 +29,7 @@ pub trait Sink {
         ensures prefix { IfOk result (λ count. (1 ≤ count) × (count ≤ length piece.now)
             × Appends (taken self.old) (taken self.new) (take count piece.now)) }
         ensures err { OnErr result (Keeps (taken self.old) (taken self.new)) }
-        ensures failures { failed self.new ≡ failed self.old + failures_of_write result };
+        ensures failures { failed self.new ≡ failed self.old + failures_of write_ending result };
 
     /// The number of its failures. It takes no memory.
     fn failures(&self) -> u64
@@ -93,9 +94,8 @@ impl<T: Write> Sink for Counted<T> {
 /// prefix of the text.
 pub fn write_all<W: Sink>(out: &mut W, text: &[u8]) -> Result<(), Failed>
     requires { MayFail (W.failed out.old) }
-    ensures ok { OnOk result (Appends (W.taken out.old) (W.taken out.new) text.now) }
-    ensures err { OnErr result (AppendsPrefix (W.taken out.old) (W.taken out.new) text.now) }
-    ensures failures { W.failed out.new ≡ W.failed out.old + failures_of_write result }
+    ensures ends { Ends write_ending result (Ok text.now) (W.taken out.old) (W.taken out.new) }
+    ensures failures { W.failed out.new ≡ W.failed out.old + failures_of write_ending result }
 {
     let mut rest = text;
     while !rest.is_empty() {

@@ -5,7 +5,9 @@ use trace::{ConfigTextFault, read_config};
 
 /// A sound configuration with one network.
 const BASE: &str =
-    "version = 1\nchannel = 6\ninterval = 100\nqueue = 64\n[[network]]\nbssid = \"02:00:00:00:00:01\"\nssid = \"lab\"\nrates = \"82840b16\"\ndtim = 1\nmax_stations = 8\nmax_known = 16\nquota = 8\nmax_events = 100\n";
+    "version = 1\nchannel = 6\ninterval = 100\nqueue = 64\n[[network]]\nbssid = \"02:00:00:00:00:01\"\n\
+        ssid = \"lab\"\nrates = \"82840b16\"\ndtim = 1\nmax_stations = 8\nmax_known = 16\nquota = 8\n\
+        max_events = 100\n";
 
 /// A part of the base, what stands in its place, and the fault of the radio that comes of it.
 const RADIO_FAULTS: [(&str, &str, u8); 7] = [

@@ -64,7 +64,9 @@ fn strings_are_read(rt: HostRuntime) -> Result<(), Fail> {
         octets_of(&lines[0]),
         Some((
             None,
-            b"\x40\0\0\0\xff\xff\xff\xff\xff\xff\x02\xaa\0\0\0\x01\xff\xff\xff\xff\xff\xff\0\0\0\0\x01\x04\x02\x04\x0b\x16".as_slice()
+            b"\x40\0\0\0\xff\xff\xff\xff\xff\xff\x02\xaa\0\0\0\x01\xff\xff\xff\xff\xff\xff\
+            \0\0\0\0\x01\x04\x02\x04\x0b\x16"
+                .as_slice()
         ))
     );
 

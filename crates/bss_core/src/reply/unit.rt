@@ -3,13 +3,10 @@
 ghost use Rattle.std.specs.Prelude.{◌≡◌, ◌+◌, ◌++◌, ◌^◌, ◌<◌, ◌≤◌, length, IfOk, OnOk, OnErr};
 ghost use Rattle.bss_core.specs.Arrivals.{body_octets, unit_shown};
 
-use bridge::{Ether, to_air};
+use bridge::{Ether, TYPED_HEADER_LEN, to_air};
 use mac_frame::{MacAddr, NoMemory, Octets};
 use powersave::{Unit, Whom};
 use std::alloc::Global;
-
-/// How many octets stand before the payload of a frame that names a type: the RFC 1042 header and the type.
-const RFC1042_LEN: usize = 8;
 
 /// How a unit is delivered on the air (11.2.3.2).
 #[derive(Clone, Copy, Debug)]
@@ -65,7 +62,7 @@ impl Body<'_> {
     {
         match self {
             Body::Plain(octets) => octets.len(),
-            Body::Wired(ether) => ether.payload.len() + RFC1042_LEN,
+            Body::Wired(ether) => ether.payload.len() + TYPED_HEADER_LEN,
         }
     }
 

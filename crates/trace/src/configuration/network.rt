@@ -1,15 +1,17 @@
 //! The networks of a configuration, one table each.
 
-ghost use Rattle.std.specs.Prelude.{◌≡◌, nat_le, [], IfOk, option_map, option_copied};
+ghost use Rattle.std.specs.Prelude.{◌≡◌, [], IfOk, option_map, option_copied};
 ghost use Rattle.toml.specs.View.{array_view, table_view, items_view};
-ghost use Rattle.trace.specs.Faults.{Gives};
-ghost use Rattle.trace.specs.ConfigurationText.{config_fault, bssid_at, ssid_at, rates_at, network_of_table, networks_of, networks_at, are_tables, tables_in};
+ghost use Rattle.trace.specs.Endings.{Gives};
+ghost use Rattle.trace.specs.Faults.{read_ending};
+ghost use Rattle.trace.specs.ConfigurationText.{bssid_at, ssid_at, rates_at, network_of_table, networks_of};
+ghost use Rattle.trace.specs.ConfigurationText.{networks_at, are_tables, tables_in};
 
 use crate::configuration::fault::{ConfigTextFault, at_network};
 use crate::configuration::values::{array_at, number_at, text_at};
 use bss_core::{
-    MAX_EVENTS, MAX_KNOWN, MAX_NETWORKS, MAX_QUOTA, MAX_SSID_LEN, MAX_STATIONS, NetConfig,
-    is_taken, rates_fit,
+    DTIM_LIMITS, EVENT_LIMITS, KNOWN_LIMITS, NetConfig, QUOTA_LIMITS, STATION_LIMITS, count_fits,
+    is_taken, rates_fit, ssid_fits, stations_fit,
 };
 use mac_frame::{MacAddr, NoMemory, Octets};
 use std::alloc::Global;
@@ -22,7 +24,7 @@ pub(super) fn networks_at(top: &Table) -> Option<&Array>
     ensures { option_map (λ values. array_view values.now) result ≡ networks_at (table_view top.now) }
 {
     let values = array_at(top, "network")?;
-    if are_tables(values) && (1..=MAX_NETWORKS).contains(&values.len()) {
+    if are_tables(values) && count_fits(values.len()) {
         Some(values)
     } else {
         None
@@ -47,7 +49,8 @@ pub(super) fn read_networks(
     alloc: Global,
     values: &[Value],
 ) -> Result<Vec<NetConfig>, ConfigTextFault>
-    ensures { Gives (λ networks. networks.items) config_fault result (networks_of [] (tables_in (items_view values.now))) }
+    ensures { Gives (λ networks. networks.items) read_ending result
+        (networks_of [] (tables_in (items_view values.now))) }
 {
     let mut networks = Vec::new(alloc);
     for value in values {
@@ -66,19 +69,19 @@ fn read_network(
     earlier: &[NetConfig],
     table: &Table,
 ) -> Result<NetConfig, ConfigTextFault>
-    ensures { Gives (λ network. network) config_fault result (network_of_table earlier.now (table_view table.now)) }
+    ensures { Gives (λ network. network) read_ending result (network_of_table earlier.now (table_view table.now)) }
 {
     let place = earlier.len();
     let bssid = bssid_at(earlier, table).ok_or(at_network(8, place))?;
     let ssid = ssid_at(table).ok_or(at_network(9, place))?;
     let rates = rates_at(alloc, table)?.ok_or(at_network(10, place))?;
     let fault = at_network(11, place);
-    let dtim = number_at(table, "dtim", 1, u32::from(u8::MAX)).ok_or(fault)?;
-    let max_stations = number_at(table, "max_stations", 1, u32::from(MAX_STATIONS)).ok_or(fault)?;
-    let max_known = number_at(table, "max_known", 1, u32::from(MAX_KNOWN)).ok_or(fault)?;
-    let quota = number_at(table, "quota", 0, MAX_QUOTA).ok_or(fault)?;
-    let max_events = number_at(table, "max_events", 1, MAX_EVENTS).ok_or(fault)?;
-    if !stations_fit(max_stations, max_known) {
+    let dtim = number_at(table, "dtim", DTIM_LIMITS).ok_or(fault)?;
+    let max_stations = number_at(table, "max_stations", STATION_LIMITS).ok_or(fault)?;
+    let max_known = number_at(table, "max_known", KNOWN_LIMITS).ok_or(fault)?;
+    let quota = number_at(table, "quota", QUOTA_LIMITS).ok_or(fault)?;
+    let max_events = number_at(table, "max_events", EVENT_LIMITS).ok_or(fault)?;
+    if !stations_fit(max_stations as u16, max_known as u16) {
         return Err(at_network(12, place));
     }
     Ok(NetConfig {
@@ -91,13 +94,6 @@ fn read_network(
         quota,
         max_events,
     })
-}
-
-/// Whether as many stations may be known as may be associated.
-fn stations_fit(max_stations: u32, max_known: u32) -> bool
-    ensures { result ≡ nat_le max_stations max_known }
-{
-    max_stations <= max_known
 }
 
 /// The address of a network: no group address, and no earlier network's.
@@ -113,17 +109,13 @@ fn bssid_at(earlier: &[NetConfig], table: &Table) -> Option<MacAddr>
     }
 }
 
-/// The name of a network: 1 to [`MAX_SSID_LEN`] octets.
+/// The name of a network.
 #[tactic(auto, unfolding(crate::specs::ConfigurationText::ssid_at))]
 fn ssid_at(table: &Table) -> Option<&[u8]>
     ensures { option_copied result ≡ ssid_at (table_view table.now) }
 {
     let ssid = text_at(table, "ssid")?.as_bytes();
-    if (1..=MAX_SSID_LEN).contains(&ssid.len()) {
-        Some(ssid)
-    } else {
-        None
-    }
+    if ssid_fits(ssid) { Some(ssid) } else { None }
 }
 
 /// The rates of a network, which hexadecimal digits spell.

@@ -6,6 +6,7 @@ ghost use Rattle.toml.specs.Data.{get_member};
 ghost use Rattle.toml.specs.View.{view, array_view, table_view};
 ghost use Rattle.trace.specs.ConfigurationText.{number_at, text_at, array_at};
 
+use bss_core::Limits;
 use toml::value::Array;
 use toml::{Table, Value};
 
@@ -16,15 +17,15 @@ fn value_at<'a>(table: &'a Table, key: &str) -> Option<&'a Value>
     table.get(key)
 }
 
-/// The integer at a key, where it lies from `least` to `most`.
+/// The integer at a key, where it lies within its limits.
 #[tactic(auto, unfolding(crate::specs::ConfigurationText::number_at))]
-pub(super) fn number_at(table: &Table, key: &str, least: u32, most: u32) -> Option<u32>
-    ensures value { result ≡ number_at (is_between least most) key.now (table_view table.now) }
-    ensures limits { IfSome result (λ number. (least ≤ number) × (number ≤ most)) }
+pub(super) fn number_at(table: &Table, key: &str, limits: Limits) -> Option<u32>
+    ensures value { result ≡ number_at (is_between limits.least limits.most) key.now (table_view table.now) }
+    ensures within { IfSome result (λ number. (limits.least ≤ number) × (number ≤ limits.most)) }
 {
     let number = value_at(table, key)?.as_integer()?;
     let number = u32::try_from(number).ok()?;
-    if least <= number && number <= most {
+    if limits.allow(number) {
         Some(number)
     } else {
         None

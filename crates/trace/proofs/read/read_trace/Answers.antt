@@ -12,10 +12,12 @@ loop-rest-preserved-in_ok-push c =
     let before = c.loop-rest.lines.items in
     let line = c.next_line.result.0.now in
     let rest = lines c.next_line.result.1.now in
-    let said : line_of config number line ≡ Ok (Some c.in-Some.line) = c.in_ok-line.ensures.exact ∙ ap Ok c.in-Some.is in (
+    let said : line_of config number line ≡ Ok (Some c.in-Some.line) = c.in_ok-line.ensures.exact
+    ∙ ap Ok c.in-Some.is in (
       omega (arith, c.in_ok-line.ensures.within),
       c.loop-rest.invariant.1
           ∙ ap (λ ls. said_after before (lines_from config number ls)) c.next_line.ensures.cut
           ∙ said-more config number line rest before c.in-Some.line said
-          ∙ ap (λ (ls : List Line). said_after ls (lines_from config (number + 1) rest)) (sym c.in_ok-push.ensures.items),
+          ∙ ap (λ (ls : List Line). said_after ls (lines_from config (number + 1) rest))
+          (sym c.in_ok-push.ensures.items),
     )

@@ -2,7 +2,8 @@
 use Rattle.std.proofs.Common.{[], ◌++◌, refl, subst}
 use Rattle.hex.specs.Hex.{encode_lower}
 use Rattle.trace.specs.Buffers.{Puts}
-use Rattle.trace.proofs.ReportDigits.{encode_lower-nil, encode_lower-append, prefix_and_suffix, digits_grow, digits_in_parts}
+use Rattle.trace.proofs.ReportDigits.{encode_lower-nil, encode_lower-append, prefix_and_suffix, digits_grow}
+use Rattle.trace.proofs.ReportDigits.{digits_in_parts}
 use Rattle.trace.proofs.BufferSteps.{Puts-nothing, Puts-then, Puts-first, Puts-err}
 use Rattle.trace.proofs.report.put_digits.Goals as goal
 

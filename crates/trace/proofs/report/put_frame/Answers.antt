@@ -10,7 +10,8 @@ returns-in_err-put g c = Puts-err _ c.from_residual.ensures.1 (Puts-first _ (Put
 pub returns-in_err-put_digits : goal.returns-in_err-put_digits
 unfolding frame_line
 returns-in_err-put_digits g c =
-    Puts-err _ c.from_residual-in_err-put_digits.ensures.1 (Puts-first _ (Puts-then c.in_ok-put.ensures c.in_err-put_digits.ensures))
+    Puts-err _ c.from_residual-in_err-put_digits.ensures.1
+    (Puts-first _ (Puts-then c.in_ok-put.ensures c.in_err-put_digits.ensures))
 
 pub returns : goal.returns
 unfolding frame_line

@@ -15,5 +15,6 @@ returns-in_err-put_frame g c =
 pub loop-frame-preserved : goal.loop-frame-preserved
 loop-frame-preserved g c =
     let word = c.args.word.now in
-    Puts-item (frame_line word) c.args.frames.now c.loop-frame.frame-index c.frame-item.result c.loop-frame-test.true c.frame-item.is c.loop-frame.invariant
+    Puts-item (frame_line word) c.args.frames.now c.loop-frame.frame-index c.frame-item.result c.loop-frame-test.true
+    c.frame-item.is c.loop-frame.invariant
     (subst (Puts _ _ _ _ _) (ap (frame_line word) c.as_slice.ensures) c.in_ok-put_frame.ensures)

@@ -6,4 +6,6 @@ use Rattle.trace.proofs.BufferSteps.{HasPut}
 use Rattle.trace.proofs.report.put_frames.Given as goal
 
 abbrev pub invariant-loop-frame : goal.invariant-loop-frame
-invariant-loop-frame g l = HasPut g.W.Sink.taken g.W.Sink.failed l.initial.out l.out (flat_map (frame_line l.word) (take l.frame-index l.frames))
+invariant-loop-frame g l =
+    HasPut g.W.Sink.taken g.W.Sink.failed l.initial.out l.out
+    (flat_map (frame_line l.word) (take l.frame-index l.frames))

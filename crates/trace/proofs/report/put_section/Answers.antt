@@ -9,7 +9,8 @@ use Rattle.trace.proofs.report.put_section.Goals as goal
 pub returns-in_err-put_heading : goal.returns-in_err-put_heading
 unfolding section_text
 returns-in_err-put_heading g c =
-    Puts-err _ c.from_residual.ensures.1 (Puts-first _ (Puts-first _ (Puts-first _ (Puts-first _ c.in_err-put_heading.ensures))))
+    Puts-err _ c.from_residual.ensures.1
+    (Puts-first _ (Puts-first _ (Puts-first _ (Puts-first _ c.in_err-put_heading.ensures))))
 
 pub returns-in_err-put_stations : goal.returns-in_err-put_stations
 unfolding section_text
@@ -33,7 +34,8 @@ returns-in_err-put_frames-2 g c =
     let stations = ap (flat_map station_line) c.as_slice.ensures in
     let air = ap (flat_map (frame_line (codes "air "))) c.as_slice-2.ensures in
     let wire = ap (flat_map (frame_line (codes "wire "))) c.as_slice-3.ensures in
-    let stations_put = Puts-then c.in_ok-put_heading.ensures (subst (Puts _ _ _ _ _) stations c.in_ok-put_stations.ensures) in
+    let stations_put =
+    Puts-then c.in_ok-put_heading.ensures (subst (Puts _ _ _ _ _) stations c.in_ok-put_stations.ensures) in
     let so_far = Puts-then stations_put (subst (Puts _ _ _ _ _) air c.in_ok-put_frames.ensures) in
     let stops = Puts-then so_far (subst (Puts _ _ _ _ _) wire c.in_err-put_frames-2.ensures) in
     Puts-err _ c.from_residual-in_err-put_frames-2.ensures.1 (Puts-first _ stops)
@@ -44,7 +46,8 @@ returns g c =
     let stations = ap (flat_map station_line) c.as_slice.ensures in
     let air = ap (flat_map (frame_line (codes "air "))) c.as_slice-2.ensures in
     let wire = ap (flat_map (frame_line (codes "wire "))) c.as_slice-3.ensures in
-    let stations_put = Puts-then c.in_ok-put_heading.ensures (subst (Puts _ _ _ _ _) stations c.in_ok-put_stations.ensures) in
+    let stations_put =
+    Puts-then c.in_ok-put_heading.ensures (subst (Puts _ _ _ _ _) stations c.in_ok-put_stations.ensures) in
     let air_put = Puts-then stations_put (subst (Puts _ _ _ _ _) air c.in_ok-put_frames.ensures) in
     let wire_put = Puts-then air_put (subst (Puts _ _ _ _ _) wire c.in_ok-put_frames-2.ensures) in
     Puts-then wire_put c.put.ensures

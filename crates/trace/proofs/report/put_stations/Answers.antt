@@ -7,7 +7,8 @@ use Rattle.trace.proofs.report.put_stations.Goals as goal
 
 pub returns-in_err-line : goal.returns-in_err-line
 returns-in_err-line g c =
-    Puts-err _ c.from_residual.ensures.1 (Puts-no_item station_line c.args.table.now c.loop-row.row-index c.loop-row.invariant)
+    Puts-err _ c.from_residual.ensures.1
+    (Puts-no_item station_line c.args.table.now c.loop-row.row-index c.loop-row.invariant)
 
 pub returns-in_err-put : goal.returns-in_err-put
 returns-in_err-put g c =
@@ -19,5 +20,6 @@ returns-in_err-put g c =
 pub loop-row-preserved : goal.loop-row-preserved
 loop-row-preserved g c =
     let line = c.as_bytes.ensures.value ∙ c.in_ok-line.ensures in
-    Puts-item station_line c.args.table.now c.loop-row.row-index c.row-item.result c.loop-row-test.true c.row-item.is c.loop-row.invariant
+    Puts-item station_line c.args.table.now c.loop-row.row-index c.row-item.result c.loop-row-test.true c.row-item.is
+    c.loop-row.invariant
     (subst (Puts _ _ _ _ _) line c.in_ok-put.ensures)

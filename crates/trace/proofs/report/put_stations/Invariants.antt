@@ -6,4 +6,5 @@ use Rattle.trace.proofs.BufferSteps.{HasPut}
 use Rattle.trace.proofs.report.put_stations.Given as goal
 
 abbrev pub invariant-loop-row : goal.invariant-loop-row
-invariant-loop-row g l = HasPut g.W.Sink.taken g.W.Sink.failed l.initial.out l.out (flat_map station_line (take l.row-index l.table))
+invariant-loop-row g l =
+    HasPut g.W.Sink.taken g.W.Sink.failed l.initial.out l.out (flat_map station_line (take l.row-index l.table))

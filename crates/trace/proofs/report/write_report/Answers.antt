@@ -1,52 +1,49 @@
 -- One more section is put, and in the end the piece is written. The sink after the piece is the one that was passed.
-use Rattle.std.proofs.Common.{rules, ◌≡◌, ◌∙◌, ℕ, List, [], Option, ap, subst}
-use Rattle.std.specs.Result.{OnOk, OnErr}
-use Rattle.std.specs.Io.KnownBytes.{Appends}
+use Rattle.std.proofs.Common.{rules, ◌≡◌, ◌∙◌, ℕ, List, [], Option, Ok, ap, subst}
+use Rattle.trace.specs.Endings.{Ends}
 use Rattle.trace.specs.Report.{report_text, section_text}
-use Rattle.trace.specs.Sinks.{AppendsPrefix}
-use Rattle.trace.proofs.BufferSteps.{OnErr-always, Puts-item, Puts-in_item, Puts-items, Puts-flushed, Puts-stopped}
+use Rattle.trace.specs.Sinks.{report_ending}
+use Rattle.trace.proofs.BufferSteps.{Puts-item, Puts-in_item, Puts-items, Puts-flushed, Puts-stopped}
 use Rattle.trace.proofs.report.write_report.Goals as goal
 
-pub returns-in_err-put_section-clause-prefix : goal.returns-in_err-put_section-clause-prefix
-returns-in_err-put_section-clause-prefix g c =
+pub returns-in_err-put_section-clause-ends : goal.returns-in_err-put_section-clause-ends
+returns-in_err-put_section-clause-ends g c =
     let sections = c.args.sections.now in
+    let text : List ℕ = report_text sections in
+    let after : Option (List ℕ) = g.W.Sink.taken c.put_section.new.out.sink.now in
     let stops =
-    Puts-in_item section_text sections c.loop-section.section-index c.section-item.result c.loop-section-test.true c.section-item.is c.loop-section.invariant
+    Puts-in_item section_text sections c.loop-section.section-index c.section-item.result c.loop-section-test.true
+    c.section-item.is c.loop-section.invariant
     c.in_err-put_section.ensures in
-    let empty : c.new-buffered.result.piece.now.items ≡ [] = ap (λ piece. piece.items) c.new-buffered.ensures.piece ∙ c.in_ok-piece.ensures.items in
+    let empty : c.new-buffered.result.piece.now.items ≡ [] =
+    ap (λ piece. piece.items) c.new-buffered.ensures.piece ∙ c.in_ok-piece.ensures.items in
     let same_sink = stops.same_sink ∙ c.new-buffered.ensures.same_sink in
-    let err : OnErr c.from_residual-in_err-put_section.result (AppendsPrefix (g.W.Sink.taken c.args.out.now) (g.W.Sink.taken c.put_section.new.out.sink.now) (report_text sections)) =
-    OnErr-always c.from_residual-in_err-put_section.result
-    (subst (λ s. AppendsPrefix (g.W.Sink.taken s) (g.W.Sink.taken c.put_section.new.out.sink.now) (report_text sections)) c.new-buffered.ensures.sink
-    (Puts-stopped stops empty)) in
+    let ends : Ends report_ending c.from_residual-in_err-put_section.result (Ok text) (g.W.Sink.taken c.args.out.now)
+    after =
+    subst (λ s. Ends report_ending c.from_residual-in_err-put_section.result (Ok text) (g.W.Sink.taken s) after)
+    c.new-buffered.ensures.sink
+    (Puts-stopped _ c.from_residual-in_err-put_section.ensures.1 stops empty) in
     search rules
 
 pub loop-section-preserved : goal.loop-section-preserved
 loop-section-preserved g c =
-    Puts-item section_text c.args.sections.now c.loop-section.section-index c.section-item.result c.loop-section-test.true c.section-item.is
+    Puts-item section_text c.args.sections.now c.loop-section.section-index c.section-item.result
+    c.loop-section-test.true c.section-item.is
     c.loop-section.invariant
     c.in_ok-put_section.ensures
 
-pub returns-clause-ok : goal.returns-clause-ok
-returns-clause-ok g c =
+pub returns-clause-ends : goal.returns-clause-ends
+returns-clause-ends g c =
     let text : List ℕ = report_text c.args.sections.now in
     let after : Option (List ℕ) = g.W.Sink.taken c.flush.new.self.sink.now in
-    let put = Puts-items section_text c.args.sections.now c.loop-section.section-index c.loop-section-test.false c.loop-section.invariant in
-    let empty : c.new-buffered.result.piece.now.items ≡ [] = ap (λ piece. piece.items) c.new-buffered.ensures.piece ∙ c.in_ok-piece.ensures.items in
-    let same_sink = c.flush.ensures.puts.same_sink ∙ c.loop-section.invariant.same_sink ∙ c.new-buffered.ensures.same_sink in
-    let ok : OnOk c.flush.result (Appends (g.W.Sink.taken c.args.out.now) after text) =
-    subst (λ s. OnOk c.flush.result (Appends (g.W.Sink.taken s) after text)) c.new-buffered.ensures.sink
-    (Puts-flushed c.flush.result put c.flush.ensures.puts c.flush.ensures.empty empty).0 in
-    search rules
-
-pub returns-clause-prefix : goal.returns-clause-prefix
-returns-clause-prefix g c =
-    let text : List ℕ = report_text c.args.sections.now in
-    let after : Option (List ℕ) = g.W.Sink.taken c.flush.new.self.sink.now in
-    let put = Puts-items section_text c.args.sections.now c.loop-section.section-index c.loop-section-test.false c.loop-section.invariant in
-    let empty : c.new-buffered.result.piece.now.items ≡ [] = ap (λ piece. piece.items) c.new-buffered.ensures.piece ∙ c.in_ok-piece.ensures.items in
-    let same_sink = c.flush.ensures.puts.same_sink ∙ c.loop-section.invariant.same_sink ∙ c.new-buffered.ensures.same_sink in
-    let err : OnErr c.flush.result (AppendsPrefix (g.W.Sink.taken c.args.out.now) after text) =
-    subst (λ s. OnErr c.flush.result (AppendsPrefix (g.W.Sink.taken s) after text)) c.new-buffered.ensures.sink
-    (Puts-flushed c.flush.result put c.flush.ensures.puts c.flush.ensures.empty empty).1 in
+    let put =
+    Puts-items section_text c.args.sections.now c.loop-section.section-index c.loop-section-test.false
+    c.loop-section.invariant in
+    let empty : c.new-buffered.result.piece.now.items ≡ [] =
+    ap (λ piece. piece.items) c.new-buffered.ensures.piece ∙ c.in_ok-piece.ensures.items in
+    let same_sink =
+    c.flush.ensures.puts.same_sink ∙ c.loop-section.invariant.same_sink ∙ c.new-buffered.ensures.same_sink in
+    let ends : Ends report_ending c.flush.result (Ok text) (g.W.Sink.taken c.args.out.now) after =
+    subst (λ s. Ends report_ending c.flush.result (Ok text) (g.W.Sink.taken s) after) c.new-buffered.ensures.sink
+    (Puts-flushed c.flush.result put c.flush.ensures.puts c.flush.ensures.empty empty) in
     search rules

@@ -6,4 +6,6 @@ use Rattle.trace.proofs.BufferSteps.{HasPut}
 use Rattle.trace.proofs.report.write_report.Given as goal
 
 abbrev pub invariant-loop-section : goal.invariant-loop-section
-invariant-loop-section g l = HasPut g.W.Sink.taken g.W.Sink.failed l.initial.buffered l.buffered (flat_map section_text (take l.section-index l.sections))
+invariant-loop-section g l =
+    HasPut g.W.Sink.taken g.W.Sink.failed l.initial.buffered l.buffered
+    (flat_map section_text (take l.section-index l.sections))

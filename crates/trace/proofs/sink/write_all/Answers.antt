@@ -7,6 +7,7 @@ pub loop-rest-preserved : goal.loop-rest-preserved
 loop-rest-preserved g c =
     let rest = c.loop-rest.rest.now in
     let count = c.in_ok-count.count in (
-      Delivers-prefix (take count rest) _ c.loop-rest.invariant.0 (prefix_and_rest rest count) c.in_ok-count.ensures.prefix.2,
+      Delivers-prefix (take count rest) _ c.loop-rest.invariant.0 (prefix_and_rest rest count)
+          c.in_ok-count.ensures.prefix.2,
       omega (arith, c.in_ok-count.ensures.failures, c.loop-rest.invariant.1),
     )

@@ -6,4 +6,6 @@ use Rattle.trace.proofs.ConfigurationReading.{is_among}
 use Rattle.trace.proofs.configuration.keys.has_only.Given as goal
 
 abbrev pub invariant-loop-key : goal.invariant-loop-key
-invariant-loop-key l = list_all (is_among (map (λ listed. listed.now) l.keys)) l.key-iterator ≡ has_only (map (λ listed. listed.now) l.keys) (table_view l.table)
+invariant-loop-key l =
+    list_all (is_among (map (λ listed. listed.now) l.keys)) l.key-iterator ≡ has_only
+    (map (λ listed. listed.now) l.keys) (table_view l.table)

@@ -1,7 +1,7 @@
 use Rattle.std.proofs.Common.{rules, true, false, Some, sym, ap, ◌∙◌}
 use Rattle.std.specs.Option.{option_copied}
 use Rattle.toml.specs.View.{table_view}
-use Rattle.trace.proofs.ConfigurationReading.{network_of_table-read, number_at-most}
+use Rattle.trace.proofs.ConfigurationReading.{network_of_table-read}
 use Rattle.trace.proofs.configuration.network.read_network.Goals as goal
 
 pub returns : goal.returns
@@ -10,9 +10,9 @@ returns c =
     (sym c.bssid_at.ensures ∙ c.in_ok-bssid.ensures.ok_part)
     (sym c.ssid_at.ensures ∙ ap option_copied c.in_ok-ssid.ensures.ok_part ∙ ap Some (sym c.in_ok-from_slice.ensures))
     (sym c.in_ok-rates_at.ensures ∙ c.in_ok-rates.ensures.ok_part)
-    (number_at-most 1 _ 255 _ _ _ c.from.ensures (sym c.number_at.ensures.value ∙ c.in_ok-dtim.ensures.ok_part))
-    (number_at-most 1 _ 2007 _ _ _ c.from-2.ensures (sym c.number_at-2.ensures.value ∙ c.in_ok-max_stations.ensures.ok_part))
-    (number_at-most 1 _ 10000 _ _ _ c.from-3.ensures (sym c.number_at-3.ensures.value ∙ c.in_ok-max_known.ensures.ok_part))
+    (sym c.number_at.ensures.value ∙ c.in_ok-dtim.ensures.ok_part)
+    (sym c.number_at-2.ensures.value ∙ c.in_ok-max_stations.ensures.ok_part)
+    (sym c.number_at-3.ensures.value ∙ c.in_ok-max_known.ensures.ok_part)
     (sym c.number_at-4.ensures.value ∙ c.in_ok-quota.ensures.ok_part)
     (sym c.number_at-5.ensures.value ∙ c.in_ok-max_events.ensures.ok_part)
     (search rules)
@@ -24,9 +24,9 @@ returns-then-not-stations_fit c =
     (sym c.bssid_at.ensures ∙ c.in_ok-bssid.ensures.ok_part)
     (sym c.ssid_at.ensures ∙ ap option_copied c.in_ok-ssid.ensures.ok_part)
     (sym c.in_ok-rates_at.ensures ∙ c.in_ok-rates.ensures.ok_part)
-    (number_at-most 1 _ 255 _ _ _ c.from.ensures (sym c.number_at.ensures.value ∙ c.in_ok-dtim.ensures.ok_part))
-    (number_at-most 1 _ 2007 _ _ _ c.from-2.ensures (sym c.number_at-2.ensures.value ∙ c.in_ok-max_stations.ensures.ok_part))
-    (number_at-most 1 _ 10000 _ _ _ c.from-3.ensures (sym c.number_at-3.ensures.value ∙ c.in_ok-max_known.ensures.ok_part))
+    (sym c.number_at.ensures.value ∙ c.in_ok-dtim.ensures.ok_part)
+    (sym c.number_at-2.ensures.value ∙ c.in_ok-max_stations.ensures.ok_part)
+    (sym c.number_at-3.ensures.value ∙ c.in_ok-max_known.ensures.ok_part)
     (sym c.number_at-4.ensures.value ∙ c.in_ok-quota.ensures.ok_part)
     (sym c.number_at-5.ensures.value ∙ c.in_ok-max_events.ensures.ok_part)
     (search rules))

@@ -1,6 +1,6 @@
 use Rattle.std.proofs.Common.{sym, ◌∙◌, arith}
 use Rattle.std.proofs.lemmas.Result.{err_from_is_err_and}
-use Rattle.trace.specs.ConfigurationText.{config_fault}
+use Rattle.trace.specs.Faults.{read_ending}
 use Rattle.trace.proofs.ConfigurationNetworks.{so_far-start, so_far-end, so_far-other, so_far-network, so_far-fault}
 use Rattle.trace.proofs.configuration.network.read_networks.Goals as goal
 use Rattle.trace.proofs.configuration.network.read_networks.Goals.{in-Some+in_ok-network+in_ok-push, in_default}
@@ -13,7 +13,7 @@ returns-in_err-network c =
     let p = err_from_is_err_and c.from_residual.result c.from_residual.ensures.1 in
     let read = rw c.deref.ensures.value at c.in_err-network.ensures in
     rw (p.1, p.2, ← c.loop-value.invariant)
-    (so_far-fault c.args.values.now c.loop-value.value-index _ (omega arith) c.value-item.is _ _ (config_fault c.in_err-network.field-0.0) c.in-Some.ensures read)
+    (so_far-fault c.args.values.now c.loop-value.value-index _ (omega arith) c.value-item.is _ _ (read_ending c.in_err-network.field-0.0) c.in-Some.ensures read)
 
 pub loop-value-preserved : goal.loop-value-preserved
 loop-value-preserved c =
@@ -28,4 +28,6 @@ loop-value-preserved c =
     ]
 
 pub returns : goal.returns
-returns c = sym c.loop-value.invariant ∙ so_far-end c.loop-value.networks.items c.args.values.now c.loop-value.value-index (omega arith)
+returns c =
+    sym c.loop-value.invariant
+    ∙ so_far-end c.loop-value.networks.items c.args.values.now c.loop-value.value-index (omega arith)

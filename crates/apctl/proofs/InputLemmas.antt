@@ -1,0 +1,60 @@
+-- What a run of a text that was read leaves.
+use Rattle.std.proofs.Common.{◌≡◌, ℕ, List, [], Option, Some, None, Result, Ok, Err, IfSome, refl, ap}
+use Rattle.std.proofs.KnownBytes.{Keeps-refl}
+use Rattle.std.specs.Result.{result_map_both}
+use Rattle.trace.specs.Endings.{Ends}
+use Rattle.trace.proofs.EndingLemmas.{nothing_written}
+use Rattle.replay.specs.Answer.{answer_of, text_ending}
+use Rattle.replay.specs.Joined.{joined_parts}
+use Rattle.replay.specs.declared.fault.TextFault.{TextFault}
+use Rattle.replay.specs.declared.fault.TextFault.TheVariants as replay
+use Rattle.apctl.specs.Faults.{IsOfFile, of_texts, run_ending}
+use Rattle.apctl.specs.Input.{EndsInput, EndsOn, joined_answer}
+use Rattle.apctl.specs.declared.fault.Fault.{Fault}
+use Rattle.apctl.specs.declared.fault.Fault.TheVariants.{Config, Trace, Words, Memory, File, Output}
+use Rattle.std.specs.Prelude.{codes}
+
+-- the run of two texts, with the program's faults
+as_run : (end : Result Unit TextFault) (answer : Result (List ℕ) TextFault) (old new : Option (List ℕ))
+    → Ends text_ending end answer old new
+    → Ends run_ending (result_map_both (λ u. u) of_texts end) (result_map_both (λ report. report) of_texts answer) old
+    new
+as_run (Ok u) (Ok text) old new h = h
+as_run (Ok u) (Err fault) old new h = absurd h
+as_run (Err (replay.Config fault)) answer old new h = (ap (result_map_both (λ report. report) of_texts) h.0, h.1)
+as_run (Err (replay.Trace fault)) answer old new h = (ap (result_map_both (λ report. report) of_texts) h.0, h.1)
+as_run (Err replay.Write) (Ok text) old new h = h
+as_run (Err replay.Write) (Err fault) old new h = absurd h
+as_run (Err replay.NoMemory) (Ok text) old new h = h
+as_run (Err replay.NoMemory) (Err fault) old new h = h
+
+-- the text was read, and its run ended with a fault
+pub fault_ends : (e : TextFault) (input : List ℕ) (left old new : Option (List ℕ))
+    → IfSome left (λ octets. input ≡ octets)
+    → Ends {A = Unit} text_ending (Err e) (answer_of (joined_parts input).0 (joined_parts input).1) old new
+    → EndsInput (Err (of_texts e)) left old new
+fault_ends (replay.Config fault) input left old new read h =
+    (input, read, as_run (Err (replay.Config fault)) _ old new h)
+fault_ends (replay.Trace fault) input left old new read h = (input, read, as_run (Err (replay.Trace fault)) _ old new h)
+fault_ends replay.Write input left old new read h = (input, read, as_run (Err replay.Write) _ old new h)
+fault_ends replay.NoMemory input left old new read h = (input, read, as_run (Err replay.NoMemory) _ old new h)
+
+-- the text was read, and its run ended well
+pub well_ends : (input : List ℕ) (left old new : Option (List ℕ)) → IfSome left (λ octets. input ≡ octets)
+    → Ends text_ending (Ok tt) (answer_of (joined_parts input).0 (joined_parts input).1) old new → EndsInput (Ok tt)
+    left old new
+well_ends input left old new read h = (input, read, as_run (Ok tt) _ old new h)
+
+-- memory ran out before all was read
+unread_ends : (left old : Option (List ℕ)) → EndsOn (Err Memory) left old old
+unread_ends None old = ([], tt, nothing_written (joined_answer []) old)
+unread_ends (Some octets) old = (octets, refl, nothing_written (joined_answer octets) old)
+
+-- it was not read
+pub read_ends : (e : Fault) (left old : Option (List ℕ)) → IsOfFile (codes "-") e → EndsInput (Err e) left old old
+read_ends (File name) left old is = (is, Keeps-refl old)
+read_ends Memory left old is = unread_ends left old
+read_ends (Config fault) left old is = absurd is
+read_ends (Trace fault) left old is = absurd is
+read_ends Words left old is = absurd is
+read_ends Output left old is = absurd is

@@ -1,6 +1,0 @@
--- What the reader gave stands in the input.
-use Rattle.std.specs.Io.KnownBytes.{Consumes}
-use Rattle.apctl.proofs.input.read_all.Given as goal
-
-abbrev pub invariant-loop : goal.invariant-loop
-invariant-loop g l = Consumes (g.R.Read.remaining l.initial.reader) (g.R.Read.remaining l.reader) l.input.items

@@ -1,0 +1,27 @@
+-- What each part of a check leaves, as the end of the whole.
+use Rattle.std.proofs.Common.{◌≡◌, ℕ, List, length, Option, Result, Ok, Err, ap}
+use Rattle.std.proofs.KnownBytes.{Keeps-refl}
+use Rattle.bss_core.specs.declared.config.RadioConfig.{RadioConfig}
+use Rattle.bss_core.specs.declared.config.ConfigFault.{ConfigFault}
+use Rattle.trace.specs.ConfigurationText.{configuration_of}
+use Rattle.trace.specs.Endings.{IsFaultOf, Ends}
+use Rattle.trace.specs.Faults.{read_ending}
+use Rattle.trace.specs.declared.read_fault.ReadFault.{ReadFault}
+use Rattle.trace.specs.declared.read_fault.ReadFault.TheVariants.{At, NoMemory}
+use Rattle.trace.proofs.EndingLemmas.{nothing_written}
+use Rattle.replay.specs.Answer.{text_ending, of_config}
+use Rattle.replay.specs.Checking.{count_line, checked, check_of}
+
+-- a fault of the configuration
+pub fault_ends : (e : ReadFault ConfigFault) (text : List ℕ) (old : Option (List ℕ))
+    → IsFaultOf (configuration_of text) (read_ending e)
+    → Ends {A = Unit} text_ending (Err (of_config e)) (check_of text) old old
+unfolding check_of
+fault_ends (At fault) text old h = (ap (λ (r : Result RadioConfig ConfigFault). checked r) h, Keeps-refl old)
+fault_ends NoMemory text old h = nothing_written (check_of text) old
+
+-- the number of networks, where there is no fault
+pub check_of-read : (c : RadioConfig) (line text : List ℕ) → configuration_of text ≡ Ok c
+    → line ≡ count_line (length c.networks) → check_of text ≡ Ok line
+unfolding check_of
+check_of-read c line text read same = rw same (ap (λ (r : Result RadioConfig ConfigFault). checked r) read)

@@ -1,0 +1,13 @@
+pub mod JoinedLines
+pub mod JoinedParts
+pub mod JoinedRows
+pub mod JoinedSteps
+pub mod CheckingLemmas
+pub mod DrainSteps
+pub mod TakeSteps
+pub mod LineSteps
+pub mod SectionSteps
+pub mod ReplayLemmas
+pub mod AnswerLemmas
+pub mod ReplayRows
+pub mod AnswerRows

@@ -1,0 +1,47 @@
+-- The events of a network, line by line.
+use Rattle.std.proofs.Common.{◌≡◌, ℕ, ◌≤◌, Bool, true, false, cond, ltb, eqb, List, [], ◌∷◌, ◌++◌, length, take, refl}
+use Rattle.std.proofs.Common.{sym, ap, ◌∙◌, append-nil, arith, inl, inr}
+use Rattle.std.proofs.lemmas.Bool.{cases_lt, lt-ltb, le-ltb}
+use Rattle.std.proofs.lemmas.List.{length-append, length-take-le, take_all, take-append-le, flat_map_more}
+use Rattle.mac_frame.specs.Hearing.{is_heard}
+use Rattle.bss_core.specs.declared.config.NetConfig.{NetConfig}
+use Rattle.bss_core.specs.declared.event.Event.{Event}
+use Rattle.bss_core.specs.declared.event.Event.TheVariants as event
+use Rattle.bss_core.specs.Lines.{heard_of, heard, own_events, taken_of}
+use Rattle.bss_core.specs.declared.line.Line.{Line}
+use Rattle.bss_core.specs.declared.line.Line.TheVariants.{Air, Wire, Tick}
+
+-- a line has one event at most
+cond_length : (b : Bool) (e : Event) → length (cond b (e ∷ []) []) ≤ 1
+cond_length true e = omega arith
+cond_length false e = omega arith
+
+one_at_most : (place : ℕ) (bss : List ℕ) (l : Line) → length (heard_of place bss l) ≤ 1
+one_at_most place bss (Air x) = cond_length (is_heard bss x) (event.Air x)
+one_at_most place bss (Wire named x) = cond_length (eqb named place) (event.Wire x)
+one_at_most place bss Tick = omega arith
+
+-- the prefix of a list with at most one item more
+take-push : (m : ℕ) (xs ys : List Event) → length ys ≤ 1
+    → take m (xs ++ ys) ≡ take m xs ++ cond (ltb (length (take m xs)) m) ys []
+take-push m xs ys one =
+    elim (cases_lt (length xs) m) [
+      | inl lt ↦
+          let whole : take m xs ≡ xs = take_all m xs (omega arith) in
+          let more : take m (xs ++ ys) ≡ xs ++ ys = take_all m (xs ++ ys) (omega (arith, length-append xs ys)) in
+          rw (whole, lt-ltb (length xs) m lt, more) refl
+      | inr ge ↦
+          let same : take m (xs ++ ys) ≡ take m xs = take-append-le m xs ys ge in
+          let full : length (take m xs) ≡ m = length-take-le m xs ge in
+          rw (same, full, le-ltb m m (omega arith)) (sym (append-nil (take m xs)))
+    ]
+
+pub own_events-none : (place : ℕ) (n : NetConfig) → own_events place n [] ≡ []
+own_events-none place n = take_all n.max_events [] (omega arith)
+
+-- the events of one more line
+pub own_events-push : (place : ℕ) (n : NetConfig) (ls : List Line) (l : Line)
+    → own_events place n (ls ++ l ∷ []) ≡ own_events place n ls ++ taken_of place n (own_events place n ls) l
+own_events-push place n ls l =
+    ap (take n.max_events) (sym (flat_map_more (heard_of place n.bssid) [] ls l))
+    ∙ take-push n.max_events (heard place n.bssid ls) (heard_of place n.bssid l) (one_at_most place n.bssid l)

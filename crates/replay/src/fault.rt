@@ -1,0 +1,80 @@
+//! Why a text was not answered.
+
+ghost use Rattle.std.specs.Prelude.{◌≡◌};
+ghost use Rattle.replay.specs.declared.fault.TextFault.TheVariants as faults;
+ghost use Rattle.replay.specs.Answer.{of_config, of_trace, of_report};
+
+use bss_core::ConfigFault;
+use mac_frame::NoMemory;
+use std::alloc::AllocError;
+use trace::{ConfigTextFault, Failed, ReportFault, TraceFault, TraceTextFault};
+
+/// Why a configuration's and a trace's text were not answered.
+#[derive(Clone, Copy, Debug, PartialEq, Eq)]
+pub enum TextFault {
+    /// The first fault of the configuration.
+    Config(ConfigFault),
+    /// The first fault of the trace, where the configuration has none.
+    Trace(TraceFault),
+    /// A growth was refused.
+    NoMemory,
+    /// A write failed.
+    Write,
+}
+
+impl From<ConfigTextFault> for TextFault {
+    ghost from_gives = { λ fault given. given ≡ of_config fault };
+
+    fn from(fault: ConfigTextFault) -> TextFault {
+        match fault {
+            ConfigTextFault::At(fault) => TextFault::Config(fault),
+            ConfigTextFault::NoMemory => TextFault::NoMemory,
+        }
+    }
+}
+
+impl From<TraceTextFault> for TextFault {
+    ghost from_gives = { λ fault given. given ≡ of_trace fault };
+
+    fn from(fault: TraceTextFault) -> TextFault {
+        match fault {
+            TraceTextFault::At(fault) => TextFault::Trace(fault),
+            TraceTextFault::NoMemory => TextFault::NoMemory,
+        }
+    }
+}
+
+impl From<ReportFault> for TextFault {
+    ghost from_gives = { λ fault given. given ≡ of_report fault };
+
+    fn from(fault: ReportFault) -> TextFault {
+        match fault {
+            ReportFault::Write => TextFault::Write,
+            ReportFault::NoMemory => TextFault::NoMemory,
+        }
+    }
+}
+
+impl From<AllocError> for TextFault {
+    ghost from_gives = { λ _ given. given ≡ faults.NoMemory };
+
+    fn from(_e: AllocError) -> TextFault {
+        TextFault::NoMemory
+    }
+}
+
+impl From<Failed> for TextFault {
+    ghost from_gives = { λ _ given. given ≡ faults.Write };
+
+    fn from(_e: Failed) -> TextFault {
+        TextFault::Write
+    }
+}
+
+impl From<NoMemory> for TextFault {
+    ghost from_gives = { λ _ given. given ≡ faults.NoMemory };
+
+    fn from(_e: NoMemory) -> TextFault {
+        TextFault::NoMemory
+    }
+}

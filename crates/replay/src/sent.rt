@@ -1,0 +1,54 @@
+//! The frames that left the air queue, network by network.
+
+ghost use Rattle.std.specs.Prelude.{◌≡◌, ◌<◌, ◌∷◌, [], length, map, IfOk, OnOk};
+ghost use Rattle.replay.specs.Frames.{none_sent, sends_more};
+
+use bss_core::AirItem;
+use mac_frame::{NoMemory, Octets};
+use std::alloc::Global;
+use std::marker::Model;
+
+/// The frames that left the air queue, for each network by its place, the first of them first. Contracts see it as a
+/// list of lists.
+#[derive(Debug, Drop)]
+pub struct SentFrames {
+    frames: Vec<Vec<Octets>>,
+}
+
+impl Model for SentFrames {
+    ghost use Rattle.std.specs.Prelude.{map};
+    ghost use Rattle.replay.specs.Frames.{FrameLists};
+
+    ghost Value = { FrameLists };
+
+    ghost view = { λ l. map (λ frames. frames.items) l.frames.items };
+}
+
+impl SentFrames {
+    /// No frame of so many networks. `NoMemory` where a growth was refused.
+    pub fn new(alloc: Global, networks: usize) -> Result<SentFrames, NoMemory>
+        ensures { IfOk result (λ sent. sent ≡ none_sent networks) }
+    {
+        let mut frames = Vec::new(alloc);
+        for _ in 0..networks {
+            frames.push(Vec::new(alloc))?;
+        }
+        Ok(SentFrames { frames })
+    }
+
+    /// A frame of the network at its place left after the others. `NoMemory` where a growth was refused.
+    pub fn push(&mut self, item: AirItem) -> Result<(), NoMemory>
+        requires { item.place < length self.old }
+        ensures { OnOk result (self.new ≡ sends_more self.old item.place (item.octets ∷ [])) }
+    {
+        self.frames[item.place].push(item.octets)?;
+        Ok(())
+    }
+
+    /// The frames of each network, in order of place.
+    pub fn into_vec(self) -> Vec<Vec<Octets>>
+        ensures { map (λ frames. frames.items) result.items ≡ self }
+    {
+        self.frames
+    }
+}

@@ -1,0 +1,54 @@
+//! The two texts, and the report of them.
+
+ghost use Rattle.std.specs.Prelude.{◌≡◌, ◌+◌, None, IfOk};
+ghost use Rattle.bss_core.specs.Configuration.{fault_of};
+ghost use Rattle.bss_core.specs.Lines.{sections_of_lines};
+ghost use Rattle.trace.specs.Endings.{Ends, failures_of};
+ghost use Rattle.trace.specs.Sinks.{MayFail};
+ghost use Rattle.replay.specs.Answer.{answer_of, text_ending};
+
+use crate::fault::TextFault;
+use crate::line_by_line::Replay;
+use bss_core::{Line, RadioConfig, Section};
+use mac_frame::NoMemory;
+use std::alloc::Global;
+use trace::{Sink, read_config, read_trace, write_report};
+
+/// Reads a configuration and a trace, lets each network take what it hears of the trace's lines, in order, and
+/// lets every frame leave as soon as it waits; then appends the report of all networks to what `out` has taken.
+///
+/// A fault of the configuration or of the trace is the first one, and nothing is written then. `Write` comes exactly
+/// where a write of `out` failed, and `NoMemory` where a growth was refused; what was written by then is nothing or
+/// a prefix of the report.
+pub fn run_text<W: Sink>(
+    alloc: Global,
+    config: &[u8],
+    trace: &[u8],
+    out: &mut W,
+) -> Result<(), TextFault>
+    requires { MayFail (W.failed out.old) }
+    ensures ends { Ends text_ending result (answer_of config.now trace.now) (W.taken out.old) (W.taken out.new) }
+    ensures failures { W.failed out.new ≡ W.failed out.old + failures_of text_ending result }
+{
+    let config = read_config(alloc, config)?;
+    let lines = read_trace(alloc, &config, trace)?;
+    let sections = replay_lines(alloc, config, lines)?;
+    write_report(alloc, sections.as_slice(), out)?;
+    Ok(())
+}
+
+/// The section of each network, in order of place: each takes what it hears of the lines.
+fn replay_lines(
+    alloc: Global,
+    config: RadioConfig,
+    lines: Vec<Line>,
+) -> Result<Vec<Section>, NoMemory>
+    requires { fault_of config ≡ None }
+    ensures { IfOk result (λ sections. sections.items ≡ sections_of_lines config lines.items) }
+{
+    let mut replay = Replay::new(alloc, config)?;
+    for line in lines {
+        replay.take(line)?;
+    }
+    replay.into_sections()
+}
