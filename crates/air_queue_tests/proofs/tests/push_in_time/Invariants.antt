@@ -1,5 +1,5 @@
 use Rattle.std.proofs.Common.{◌≡◌}
-use Rattle.air_queue.proofs.tests.push_in_time.Given as goal
+use Rattle.air_queue_tests.proofs.tests.push_in_time.Given as goal
 
 abbrev pub invariant-loop : goal.invariant-loop
 invariant-loop g l = record {

@@ -3,7 +3,7 @@ use Rattle.std.specs.Prelude.{All}
 use Rattle.std.specs.List.{AllByRecursion}
 use Rattle.std.specs.Vec.Iter.{into_iter_items}
 use Rattle.air_queue.specs.Passes.{NetPassView}
-use Rattle.air_queue.proofs.tests.push_each.Given as goal
+use Rattle.air_queue_tests.proofs.tests.push_each.Given as goal
 
 -- the passes that were pushed with and those to come are those that were given
 abbrev pub invariant-loop-pass : goal.invariant-loop-pass

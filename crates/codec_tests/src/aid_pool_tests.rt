@@ -1,6 +1,6 @@
 //! Runs of a pool.
 
-use crate::AidPool;
+use aid_pool::AidPool;
 use mac_frame::MAX_AID;
 use std::test::Fail;
 

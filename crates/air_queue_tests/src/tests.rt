@@ -4,8 +4,10 @@ ghost use Rattle.std.specs.Prelude.{◌≡◌, ◌≤◌, IfOk};
 ghost use Rattle.std.specs.FinMap as finite;
 ghost use Rattle.air_queue.specs.Passes.{AllThere, fresh_pass};
 
-use crate::{AirQueue, Left, NetPass, RadioPass};
+use air_queue::{AirQueue, Left, NetPass, RadioPass};
 use bss_core::AirItem;
+use fixtures::{guest, lab, octets};
+use hex::FromHexError;
 use mac_frame::{NoMemory, Octets};
 use std::alloc::Global;
 use std::sync::Wait;
@@ -18,6 +20,14 @@ const FRAMES: u8 = 100;
 
 /// How often a thread tries to push one frame at most, and how often one tries to pop in all.
 const TURNS: u32 = 1_000_000;
+
+/// The frame that a text spells, of the network at a place.
+fn frame(alloc: Global, place: usize, text: &str) -> Result<AirItem, FromHexError>
+    ensures { IfOk result (λ item. item.place ≡ place) }
+{
+    let octets = octets(alloc, text)?;
+    Ok(AirItem { place, octets })
+}
 
 /// A frame of one octet.
 fn item(alloc: Global, place: usize, octet: u8) -> Result<AirItem, NoMemory>
@@ -65,31 +75,76 @@ fn end_two<R: Wait>(
     queue.take_in(rt, radio, nets).map_err(|_fault| NoMemory)
 }
 
+/// Pushes a frame of each network. Whether the queue took both.
+fn push_both<R: Wait>(
+    rt: &R,
+    alloc: Global,
+    queue: &AirQueue,
+    first: &mut NetPass,
+    second: &mut NetPass,
+) -> Result<bool, FromHexError>
+    requires first { (first.old.name ≡ queue.now.name) × (first.old.place ≡ 0) }
+    requires second { (second.old.name ≡ queue.now.name) × (second.old.place ≡ 1) }
+    ensures first { (first.new.name ≡ queue.now.name) × (first.new.place ≡ 0) }
+    ensures second { (second.new.name ≡ queue.now.name) × (second.new.place ≡ 1) }
+{
+    let of_first = frame(alloc, 0, lab::BEACON)?;
+    let of_second = frame(alloc, 1, guest::BEACON)?;
+    Ok(queue.push(rt, first, of_first).is_ok() && queue.push(rt, second, of_second).is_ok())
+}
+
+/// Makes room for a frame and pops one. Whether it is the only one that left.
+fn pop_first<R: Wait>(rt: &R, queue: &AirQueue, radio: &mut RadioPass) -> Result<bool, NoMemory>
+    requires { radio.old.name ≡ queue.now.name }
+    ensures { (radio.new.name ≡ radio.old.name) × (radio.new.networks ≡ radio.old.networks) × (radio.new.taken_in ≡ radio.old.taken_in) }
+{
+    radio.reserve(1)?;
+    let has_room = radio.spare() >= 1;
+    Ok(queue.pop(rt, radio) && has_room && radio.left().len() == 1)
+}
+
+/// Whether an item is the frame that a text spells, of the network at a place.
+fn is_frame(
+    alloc: Global,
+    item: &AirItem,
+    (place, text): (usize, &str),
+) -> Result<bool, FromHexError> {
+    Ok(item.place == place && item.octets.as_slice() == octets(alloc, text)?.as_slice())
+}
+
+/// Whether items are such frames, in their order.
+fn are_frames(
+    alloc: Global,
+    items: &[AirItem],
+    frames: &[(usize, &str)],
+) -> Result<bool, FromHexError> {
+    for (item, frame) in items.iter().zip(frames) {
+        if !is_frame(alloc, item, *frame)? {
+            return Ok(false);
+        }
+    }
+    Ok(items.len() == frames.len())
+}
+
+/// The frame that the full queue of the test below gives back.
+const GIVEN_BACK: (usize, &str) = (0, lab::PROBE_RESPONSE);
+
+/// The frames in the order in which the queue took them.
+const TAKEN: [(usize, &str); 3] = [(0, lab::BEACON), (1, guest::BEACON), GIVEN_BACK];
+
 #[test]
 fn a_full_queue_gives_the_frame_back(rt: HostRuntime) -> Result<(), Fail> {
     let (queue, mut first, mut second, mut radio) = open_two(rt.alloc(), 2)?;
     assert_eq!(rt; (first.place(), second.place()), (0, 1));
-    assert!(rt; queue.push(&rt, &mut first, item(rt.alloc(), 0, 1)?).is_ok());
-    assert!(rt;
-        queue
-            .push(&rt, &mut second, item(rt.alloc(), 1, 2)?)
-            .is_ok()
-    );
-    let back = queue.push(&rt, &mut first, item(rt.alloc(), 0, 3)?);
-    let back = back.err().ok_or("the queue took a third frame")?;
-    assert_eq!(rt; back.octets.as_slice(), [3].as_slice());
-    radio.reserve(1)?;
-    assert!(rt; radio.spare() >= 1);
-    assert!(rt; queue.pop(&rt, &mut radio));
-    assert_eq!(rt; radio.left().len(), 1);
+    assert!(rt; push_both(&rt, rt.alloc(), &queue, &mut first, &mut second)?);
+    let third = frame(rt.alloc(), 0, lab::PROBE_RESPONSE)?;
+    let back = queue.push(&rt, &mut first, third).err();
+    let back = back.ok_or("the queue took a third frame")?;
+    assert!(rt; is_frame(rt.alloc(), &back, GIVEN_BACK)?);
+    assert!(rt; pop_first(&rt, &queue, &mut radio)?);
     assert!(rt; queue.push(&rt, &mut first, back).is_ok());
     let left = end_two(&rt, rt.alloc(), queue, first, second, radio)?;
-    let items = left.items.as_slice();
-    assert_eq!(rt; items.len(), 3);
-    for (item, (place, octet)) in items.iter().zip([(0, 1), (1, 2), (0, 3)]) {
-        assert_eq!(rt; item.place, place);
-        assert_eq!(rt; item.octets.as_slice(), [octet].as_slice());
-    }
+    assert!(rt; are_frames(rt.alloc(), left.items.as_slice(), &TAKEN)?);
     Ok(())
 }
 

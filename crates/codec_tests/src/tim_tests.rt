@@ -1,10 +1,10 @@
 //! Calls with ample memory, on TIMs that were written by hand.
 
-use crate::{Bitmap, numbers_are_aids, read_tim, write_tim};
 use mac_frame::{MAX_AID, Octets};
 use std::alloc::Global;
 use std::process::Abort;
 use std::test::Fail;
+use tim::{Bitmap, numbers_are_aids, read_tim, write_tim};
 
 /// Association identifiers, and the TIM that shows them at DTIM Count 0 and DTIM Period 1.
 const SHORT_TIMS: [(&[u16], &[u8]); 7] = [

@@ -3,7 +3,7 @@ use Rattle.std.specs.Vec.Iter.{into_iter_items}
 use Rattle.std.proofs.lemmas.List.{append-nil}
 use Rattle.std.proofs.lemmas.List.Elements.{recursion_from_All}
 use Rattle.air_queue.specs.Passes.{NetPassView}
-use Rattle.air_queue.proofs.tests.push_each.Goals as goal
+use Rattle.air_queue_tests.proofs.tests.push_each.Goals as goal
 
 no_passes : (passes : List NetPassView) → length passes ≡ 0 → passes ≡ []
 no_passes [] is = refl
