@@ -15,10 +15,10 @@ use Rattle.std.proofs.lemmas.Option.{none-some, same_Some, slice_get-map}
 use Rattle.powersave.specs.declared.unit.Whom.{Whom}
 use Rattle.powersave.specs.declared.unit.Unit.{Unit as Msdu}
 use Rattle.powersave.specs.declared.queues.Arrived.{Arrived}
-use Rattle.powersave.specs.Keep.{Entry, is_same, is_for, units_for, without_all, without_oldest, without_first, room_beside}
+use Rattle.powersave.specs.Keep.{Entry, is_same, is_for, units_for, without_first, room_beside}
 use Rattle.powersave.specs.Queues.{Queue, Queues, Arrival, is_whom, queue_for, unit_at, arrival_for, arrivals, entries_in, IsNumbered, AreNumbered, AreSound, AreKept, HasRoom, Pops, Removes, MakesRoom, Pushes}
 use Rattle.powersave.proofs.Parts.{msdu, same_whom, without_oldest_none, length-without_oldest, length-without_all}
-use Rattle.powersave.proofs.Merges.{passes, unit_of, IsOnce, others, units-arrivals, arrivals-pop, arrivals-remove, arrivals-set_same, arrivals-push, arrivals-insert_empty}
+use Rattle.powersave.proofs.Merges.{passes, unit_of, IsOnce, units-arrivals, arrivals-pop, arrivals-remove, arrivals-set_same, arrivals-push, arrivals-insert_empty}
 
 -- ---- the units of one
 

@@ -1,5 +1,5 @@
 -- The order in which the queues stand tells apart what `is_same` does.
-use Rattle.std.proofs.Common.{◌≡◌, ℕ, Bool, Option, Some, None, List, sym, ap, ◌∙◌, refl, subst}
+use Rattle.std.proofs.Common.{◌≡◌, ℕ, Some, None, List, sym, ap, ◌∙◌, refl, subst}
 use Rattle.std.specs.BTreeMap.{BTreeMap, get_by, is_at, IsOrdered}
 use Rattle.std.specs.Cmp.{both_ways}
 use Rattle.std.specs.Cmp.Lexicographic.{bytes_decides}
