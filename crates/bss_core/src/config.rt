@@ -3,8 +3,7 @@
 ghost use Rattle.std.specs.Prelude.{◌≡◌};
 ghost use Rattle.bss_core.specs.Configuration.{of_radio, of_network};
 
-use aid_pool::MAX_AID;
-use mac_frame::{List, MacAddr, Octets};
+use mac_frame::{List, MAX_AID, MacAddr, Octets};
 use std::fmt;
 
 /// The greatest number of a channel (*profile*; the field is IEEE Std 802.11-2016, 9.4.2.4).

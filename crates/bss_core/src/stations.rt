@@ -4,9 +4,9 @@ ghost use Rattle.std.specs.Prelude.{◌≡◌, ◌<◌, ◌≤◌, ℕ, List, []
 ghost use Rattle.bss_core.specs.declared.stations.Link.{Link as Linked};
 ghost use Rattle.bss_core.specs.Stations.{with_table, link_of, standing_of, aid_with, dozes_with, some_station_dozes, may_associate, next_aid, is_associated, set_link, authenticate, associate, disassociate, forget, set_mode, with_mode, changed, IsAllowed, IsModeAlone};
 
-use aid_pool::{AidPool, MAX_AID};
+use aid_pool::AidPool;
 use indexmap::IndexMap;
-use mac_frame::{MacAddr, NoMemory};
+use mac_frame::{MAX_AID, MacAddr, NoMemory};
 use station_state::Standing;
 use std::alloc::Global;
 use std::marker::Model;
