@@ -1,6 +1,6 @@
-use Rattle.std.proofs.Common.{◌≡◌, ◌<◌, ◌^◌, ◌∙◌, ℕ, get_or, sym, ap, arith, rules}
+use Rattle.std.proofs.Common.{◌<◌, ◌^◌, ◌∙◌, ℕ, get_or, ap, arith, rules}
 use Rattle.std.specs.FinSet as set
-use Rattle.tim.specs.Tim.{up_to_last, from_first_pair, virtual_bitmap, partial_of}
+use Rattle.tim.specs.Tim.{from_first_pair, virtual_bitmap, partial_of}
 use Rattle.tim.proofs.Aids.{octets-virtual_bitmap}
 use Rattle.tim.proofs.Partial.{get_or-up_to_last, partial_empty, partial_some}
 use Rattle.tim.proofs.bitmap.Bitmap.partial.Goals as goal
