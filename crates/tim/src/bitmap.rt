@@ -99,6 +99,13 @@ impl Bitmap {
     }
 }
 
+/// Whoever holds a set knows that it has no number but association identifiers (9.4.1.8).
+pub fn numbers_are_aids(bits: &Bitmap)
+    ensures { (n : ℕ) → IsTrue (set.contains bits.now n) → IsAid n }
+{
+    let _octets = &bits.octets;
+}
+
 /// The bit of a number.
 fn has_bit(octets: &[u8; BITMAP_LEN], aid: u16) -> bool
     requires { aid ≤ MAX_AID }
@@ -142,11 +149,4 @@ fn from_first_pair(octets: &[u8]) -> (u8, &[u8])
         passed += 1;
     }
     (passed, octets)
-}
-
-/// Whoever holds a set knows that it has no number but association identifiers (9.4.1.8).
-pub fn numbers_are_aids(bits: &Bitmap)
-    ensures { (n : ℕ) → IsTrue (set.contains bits.now n) → IsAid n }
-{
-    let _octets = &bits.octets;
 }
