@@ -1,7 +1,7 @@
 //! The numbers of a pool that are out: a bit for each association identifier (IEEE Std 802.11-2016, 9.4.1.8), 64 to a
 //! word.
 
-ghost use Rattle.std.specs.Prelude.{◌≡◌, ◌+◌, ◌*◌, ◌<◌, ◌≤◌, ℕ, true, false, length, position, IsTrue, IfSome, IfNone};
+ghost use Rattle.std.specs.Prelude.{◌≡◌, ◌*◌, ◌<◌, ◌≤◌, ℕ, true, false, position, IsTrue, IfSome, IfNone};
 ghost use Rattle.std.specs.Int.{bit_at};
 ghost use Rattle.std.specs.FinSet as set;
 ghost use Rattle.aid_pool.specs.Marks.{has_mark, has_clear_mark, IsFirstClear};

@@ -1,16 +1,16 @@
 -- Sets of association identifiers by the tests that they answer, and by the octets of their virtual bitmap.
-use Rattle.std.proofs.Common.{◌≡◌, ◌↔◌, IsTrue, ◌==◌, ℕ, zero, suc, ◌+◌, ◌-◌, ◌*◌, ◌/◌, ◌%◌, ◌^◌, ◌<◌, ◌≤◌, ◌≢◌, Bool, true, false, not, ◌&&◌, ◌||◌, cond, nat_le, nat_eq, filter, List, [], ◌∷◌, length, get_or, set, take, drop, ◌++◌, replicate, w8, bit_and, bit_or, refl, sym, ap, ◌∙◌, subst, inl, inr, ⊎_elim, arith}
+use Rattle.std.proofs.Common.{◌≡◌, ◌↔◌, IsTrue, ◌==◌, ℕ, zero, suc, ◌+◌, ◌-◌, ◌*◌, ◌/◌, ◌%◌, ◌^◌, ◌<◌, ◌≤◌, ◌≢◌, Bool, true, false, not, ◌&&◌, ◌||◌, cond, nat_le, nat_eq, filter, List, length, get_or, set, take, drop, ◌++◌, replicate, w8, bit_and, bit_or, refl, sym, ap, ◌∙◌, ⊎_elim, arith}
 use Rattle.std.specs.Int.{bit_at, bit_not, from_bool}
 use Rattle.std.specs.List.{range_with_len, list_any}
 use Rattle.std.specs.Ordering.{nat_cmp}
 use Rattle.std.specs.Cmp.{nat_cmp_total, unsigned_tied}
 use Rattle.std.specs.FinSet.{FinSet, contains, insert, remove, empty, contains-from_list_nat, contains-insert, contains-remove, contains-empty, same_set, nat_cmp-IsAntisymmetric}
-use Rattle.std.proofs.lemmas.Bool.{and_parts, leb-true, eqb-true, eq-eqb, ne_eqb, cases_eq, cases_Bool, le-leb, lt-leb, cases_lt, and_from, and_left, and_right, or_left, or_right, not_from_true, not_from_false}
+use Rattle.std.proofs.lemmas.Bool.{and_parts, leb-true, eqb-true, eq-eqb, ne_eqb, cases_eq, le-leb, lt-leb, cases_lt, and_from, and_left, and_right, or_left, not_from_true}
 use Rattle.std.proofs.lemmas.List.{get_or-set_other, get_or-replicate, get_or_past, length-replicate, length-take, get_or_append_left, get_or-append_right, get_or-take, get_or-drop}
 use Rattle.std.proofs.lemmas.Map.Views.{any-filter_same}
 use Rattle.std.proofs.lemmas.Grind.{get_or-set_at}
 use Rattle.std.proofs.lemmas.Nat.Bits.{bit_at-zero, bit_at-lt, bit_at_set_same, bit_at_set_other, bit_at_clear_same, bit_at_clear_other, same_from_bits_below}
-use Rattle.tim.specs.Tim.{max_aid, IsAid, HasNumber, is_shown, octet_at, virtual_bitmap}
+use Rattle.tim.specs.Tim.{max_aid, IsAid, HasNumber, is_shown, virtual_bitmap}
 use Rattle.tim.specs.Bitmap.{aids_where, has_bit, sent_at}
 use Rattle.tim.proofs.Octets.{bit_at-octet_at, octet_at-lt, virtual_bitmap-from}
 use Rattle.tim.proofs.Spelling.{sent_at-before, sent_at-from, sent_at-past, sent_at-has, has-sent_at}

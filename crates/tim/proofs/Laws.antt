@@ -149,9 +149,9 @@ same_tim count period group members others same = ap (λ bitmap. element_of coun
 -- ---- written
 
 -- the octets of a TIM, by what is sent of the virtual bitmap
-pub tim_octets_sent : (count period : ℕ) (group : Bool) (members : ℕ → Bool) (bitmap octets : List ℕ) (offset : ℕ) → bitmap ≡ virtual_bitmap members → (offset, octets) ≡ partial_of bitmap → tim_octets count period group members ≡ tim_id ∷ (length octets + 3) ∷ count ∷ period ∷ (2 * offset + from_bool group) ∷ octets
+pub tim_octets_sent : (count period : ℕ) (group : Bool) (members : ℕ → Bool) (octets : List ℕ) (offset : ℕ) → (offset, octets) ≡ partial_of (virtual_bitmap members) → tim_octets count period group members ≡ tim_id ∷ (length octets + 3) ∷ count ∷ period ∷ (2 * offset + from_bool group) ∷ octets
 unfolding tim_octets
-tim_octets_sent count period group members bitmap octets offset is sent = ap (element_of count period group) (sym (sent ∙ ap partial_of is))
+tim_octets_sent count period group members octets offset sent = ap (element_of count period group) (sym sent)
 
 -- the fields and then the octets, behind what was there
 pub tim_written : (old header octets : List ℕ) (count period offset bit : ℕ) (group : Bool) (members : ℕ → Bool) → header ≡ old ++ (tim_id ∷ (length octets + 3) ∷ count ∷ period ∷ (2 * offset + bit) ∷ []) → bit ≡ from_bool group → tim_octets count period group members ≡ tim_id ∷ (length octets + 3) ∷ count ∷ period ∷ (2 * offset + from_bool group) ∷ octets → header ++ octets ≡ old ++ tim_octets count period group members

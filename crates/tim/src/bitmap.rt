@@ -1,8 +1,8 @@
 //! A set of association identifiers (IEEE Std 802.11-2016, 9.4.1.8), kept as its virtual bitmap (9.4.2.6).
 
-ghost use Rattle.std.specs.Prelude.{◌≡◌, ◌+◌, ◌<◌, ◌≤◌, ◌↔◌, ◌^◌, ℕ, IsTrue, length, slice_index};
+ghost use Rattle.std.specs.Prelude.{◌≡◌, ◌+◌, ◌*◌, ◌≤◌, ◌↔◌, ℕ, IsTrue, length, slice_index};
 ghost use Rattle.std.specs.FinSet as set;
-ghost use Rattle.tim.specs.Tim.{HasNumber, IsAid, virtual_bitmap};
+ghost use Rattle.tim.specs.Tim.{HasNumber, IsAid, virtual_bitmap, up_to_last, from_first_pair, partial_of};
 ghost use Rattle.tim.specs.Bitmap.{has_bit, sent_at};
 
 use mac_frame::MAX_AID;
@@ -84,13 +84,26 @@ impl Bitmap {
         }
     }
 
-    /// The octets of the virtual bitmap (9.4.2.6): bit n mod 8 of octet n / 8 tells whether the set has n.
-    pub(crate) fn virtual_bitmap(&self) -> &[u8]
-        ensures octets { result.now ≡ virtual_bitmap (set.contains self.now) }
-        ensures len { length result.now ≡ BITMAP_LEN }
+    /// What is sent of the virtual bitmap (9.4.2.6; which octets is *profile*): the Bitmap Offset, and the octets from the
+    /// first pair that isn't 0 and 0 up to the last octet that isn't 0, or one 0 where there is none.
+    pub(crate) fn partial(&self) -> (u8, &[u8])
+        ensures octets { (result.0, result.1.now) ≡ partial_of (virtual_bitmap (set.contains self.now)) }
+        ensures within { 2 * result.0 + length result.1.now ≤ BITMAP_LEN }
     {
-        below_256(&self.octets)
+        let used = up_to_last(&self.octets);
+        let (offset, octets) = from_first_pair(used);
+        if octets.is_empty() {
+            return (offset, &[0]);
+        }
+        (offset, octets)
     }
+}
+
+/// Whoever holds a set knows that it has no number but association identifiers (9.4.1.8).
+pub fn numbers_are_aids(bits: &Bitmap)
+    ensures { (n : ℕ) → IsTrue (set.contains bits.now n) → IsAid n }
+{
+    let _octets = &bits.octets;
 }
 
 /// The bit of a number.
@@ -111,17 +124,29 @@ fn from_place(first: usize, octets: &[u8]) -> [u8; BITMAP_LEN]
     bitmap
 }
 
-/// The octets, of which each is below 256.
-fn below_256(octets: &[u8]) -> &[u8]
-    ensures octets { result.now ≡ octets.now }
-    ensures below { (place : ℕ) → slice_index octets.now place < 2 ^ 8 }
+/// The octets up to the last that isn't 0.
+fn up_to_last(octets: &[u8]) -> &[u8]
+    ensures octets { result.now ≡ up_to_last octets.now }
+    ensures within { length result.now ≤ length octets.now }
 {
+    let mut octets = octets;
+    while let [others @ .., 0] = octets {
+        octets = others;
+    }
     octets
 }
 
-/// Whoever holds a set knows that it has no number but association identifiers (9.4.1.8).
-pub fn numbers_are_aids(bits: &Bitmap)
-    ensures { (n : ℕ) → IsTrue (set.contains bits.now n) → IsAid n }
+/// The octets from the first pair on that isn't 0 and 0, and how many pairs stand before it.
+fn from_first_pair(octets: &[u8]) -> (u8, &[u8])
+    requires { length octets.now ≤ BITMAP_LEN }
+    ensures octets { (result.0, result.1.now) ≡ from_first_pair 0 octets.now }
+    ensures within { 2 * result.0 + length result.1.now ≤ BITMAP_LEN }
 {
-    let _octets = &bits.octets;
+    let mut octets = octets;
+    let mut passed = 0;
+    while let [0, 0, others @ ..] = octets {
+        octets = others;
+        passed += 1;
+    }
+    (passed, octets)
 }

@@ -1,8 +1,8 @@
 //! The TIM element (IEEE Std 802.11-2016, 9.4.2.6), read and written.
 
-ghost use Rattle.std.specs.Prelude.{◌≡◌, ◌+◌, ◌*◌, ◌++◌, ◌<◌, ◌≤◌, ◌^◌, ◌∷◌, ℕ, Bool, List, IsTrue, IsSome, IsSomeAnd, IfSome, length, OnOk, OnErr};
+ghost use Rattle.std.specs.Prelude.{◌≡◌, ◌+◌, ◌++◌, ◌<◌, ◌≤◌, ◌^◌, ◌∷◌, ℕ, Bool, List, IsTrue, IsSome, IsSomeAnd, IfSome, length, OnOk, OnErr};
 ghost use Rattle.std.specs.FinSet as set;
-ghost use Rattle.tim.specs.Tim.{ShowsTim, IsAid, SameNumbers, up_to_last, from_first_pair, partial_of, tim_octets};
+ghost use Rattle.tim.specs.Tim.{ShowsTim, IsAid, SameNumbers, tim_octets};
 ghost use Rattle.tim.specs.Spelling.{is_placed, is_trimmed, is_spelled};
 
 use crate::bitmap::{BITMAP_LEN, Bitmap};
@@ -118,47 +118,6 @@ fn is_trimmed(first: usize, octets: &[u8]) -> bool
         && !(octets.len() > 1 && octets[0] == 0 && octets[1] == 0)
 }
 
-/// The octets up to the last that isn't 0.
-fn up_to_last(octets: &[u8]) -> &[u8]
-    ensures octets { result.now ≡ up_to_last octets.now }
-    ensures within { length result.now ≤ length octets.now }
-{
-    let mut octets = octets;
-    while let [others @ .., 0] = octets {
-        octets = others;
-    }
-    octets
-}
-
-/// The octets from the first pair on that isn't 0 and 0, and how many pairs stand before it.
-fn from_first_pair(octets: &[u8]) -> (u8, &[u8])
-    requires { length octets.now ≤ BITMAP_LEN }
-    ensures octets { (result.0, result.1.now) ≡ from_first_pair 0 octets.now }
-    ensures within { 2 * result.0 + length result.1.now ≤ BITMAP_LEN }
-{
-    let mut octets = octets;
-    let mut passed = 0;
-    while let [0, 0, others @ ..] = octets {
-        octets = others;
-        passed += 1;
-    }
-    (passed, octets)
-}
-
-/// What is sent of the octets of a virtual bitmap (*profile*): the Bitmap Offset, and the octets from the first pair
-/// that isn't 0 and 0 up to the last octet that isn't 0, or one 0 where there is none.
-fn partial(bitmap: &[u8]) -> (u8, &[u8])
-    requires { length bitmap.now ≤ BITMAP_LEN }
-    ensures octets { (result.0, result.1.now) ≡ partial_of bitmap.now }
-    ensures within { 2 * result.0 + length result.1.now ≤ BITMAP_LEN }
-{
-    let (offset, octets) = from_first_pair(up_to_last(bitmap));
-    if octets.is_empty() {
-        return (offset, &[0]);
-    }
-    (offset, octets)
-}
-
 /// Appends the TIM that shows the stations `bits` as those that have units (9.4.2.6). DTIM Count and DTIM Period are
 /// numbers of beacons, the count below the period. `group`, the Traffic Indicator, tells that the group has units, and is
 /// true at count 0 alone. Which octets of the virtual bitmap are sent is *profile*. After `NoMemory` `out` is as it was.
@@ -176,8 +135,7 @@ pub fn write_tim(
         count period group (set.contains bits.now) }
     ensures err { OnErr result (out.new ≡ out.old) }
 {
-    let bitmap = bits.virtual_bitmap();
-    let (offset, octets) = partial(bitmap);
+    let (offset, octets) = bits.partial();
     let control = 2 * offset + u8::from(group);
     let len = out.as_slice().len();
     out.append(&[TIM, octets.len() as u8 + FIELDS_LEN, count, period, control])?;

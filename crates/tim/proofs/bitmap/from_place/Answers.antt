@@ -1,4 +1,4 @@
-use Rattle.std.proofs.Common.{◌≡◌, ◌+◌, ◌-◌, ◌≤◌, ℕ, length, arith}
+use Rattle.std.proofs.Common.{◌+◌, ◌-◌, ◌≤◌, ℕ, length, arith}
 use Rattle.std.proofs.lemmas.List.{length-replicate}
 use Rattle.std.specs.Prelude.{replicate}
 use Rattle.tim.proofs.Aids.{get_or-placed, get_or-zeros}

@@ -15,6 +15,6 @@ both_ok (Err e) last same give p q = p
 
 pub returns-clause-ok : goal.returns-clause-ok
 returns-clause-ok c =
-    let is = tim_octets_sent c.args.count c.args.period c.args.group _ _ _ _ c.virtual_bitmap-bitmap.ensures.octets c.partial-offset.ensures.octets in
+    let is = tim_octets_sent c.args.count c.args.period c.args.group _ _ _ c.partial-offset.ensures.octets in
     let all = tim_written c.args.out.now c.append.new.self c.partial-offset.result.1.now c.args.count c.args.period c.partial-offset.result.0 c.from.result c.args.group _ c.in_ok-append.ensures.ok c.from.ensures is in
     both_ok c.roll_back.result c.append-written.result c.roll_back.ensures.answer (λ rolled written. rolled ∙ written ∙ all) c.roll_back.ensures.ok c.append-written.ensures.ok

@@ -1,7 +1,7 @@
-use Rattle.std.proofs.Common.{◌≡◌, ◌∙◌, ◌*◌, ◌<◌, ◌≤◌, sym, ap, inl, inr, false, arith}
+use Rattle.std.proofs.Common.{◌≡◌, ◌∙◌, sym, ap, inl, inr, arith}
 use Rattle.std.specs.FinSet as set
 use Rattle.std.proofs.lemmas.Bool.{both_ways, cases_lt}
-use Rattle.aid_pool.specs.Marks.{has_mark, numbers_of}
+use Rattle.aid_pool.specs.Marks.{has_mark}
 use Rattle.aid_pool.proofs.Numbers.{contains-numbers_of, not_contained}
 use Rattle.aid_pool.proofs.marks.Marks.least_absent.Goals as goal
 

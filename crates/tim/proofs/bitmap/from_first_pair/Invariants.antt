@@ -1,6 +1,6 @@
 use Rattle.std.proofs.Common.{◌≡◌, ◌+◌, ◌*◌, ◌≤◌, length}
 use Rattle.tim.specs.Tim.{from_first_pair}
-use Rattle.tim.proofs.element.from_first_pair.Given as goal
+use Rattle.tim.proofs.bitmap.from_first_pair.Given as goal
 
 abbrev pub invariant-loop-octets : goal.invariant-loop-octets
 invariant-loop-octets l =

@@ -1,7 +1,7 @@
 use Rattle.std.proofs.Common.{◌∙◌, arith, rules}
 use Rattle.std.proofs.lemmas.List.{length-take}
 use Rattle.tim.proofs.Partial.{up_to_last_zero, up_to_last_other}
-use Rattle.tim.proofs.element.up_to_last.Goals as goal
+use Rattle.tim.proofs.bitmap.up_to_last.Goals as goal
 
 pub loop-octets-preserved : goal.loop-octets-preserved
 loop-octets-preserved c = (search (rules, length-take), up_to_last_zero _ (omega arith) (search rules) ∙ c.loop-octets.invariant.1)

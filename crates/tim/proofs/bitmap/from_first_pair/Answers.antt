@@ -1,8 +1,8 @@
 use Rattle.std.proofs.Common.{◌∙◌, arith, rules, length-drop}
 use Rattle.std.proofs.lemmas.List.{length-take}
 use Rattle.tim.proofs.Partial.{from_first_pair_zero, from_first_pair_other}
-use Rattle.tim.proofs.element.from_first_pair.Goals as goal
-use Rattle.tim.proofs.element.from_first_pair.Goals.{in_default, in_default-2, in_default-3}
+use Rattle.tim.proofs.bitmap.from_first_pair.Goals as goal
+use Rattle.tim.proofs.bitmap.from_first_pair.Goals.{in_default, in_default-2, in_default-3}
 
 pub loop-octets-preserved : goal.loop-octets-preserved
 loop-octets-preserved c = (search (rules, length-take, length-drop), from_first_pair_zero _ _ (omega arith) (search rules) (search rules) ∙ c.loop-octets.invariant.1)
