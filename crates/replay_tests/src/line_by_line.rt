@@ -1,4 +1,4 @@
-use crate::samples::{config, two_networks};
+use crate::samples::{config_with, two_networks};
 use bss_core::{Line, Section};
 use mac_frame::Octets;
 use replay::Replay;
@@ -47,7 +47,10 @@ fn each_network_takes_its_own_lines(rt: HostRuntime) -> Result<(), Fail> {
 #[test]
 fn a_full_history_takes_no_line(rt: HostRuntime) -> Result<(), Fail> {
     let alloc = rt.alloc();
-    let config = read_config(alloc, config(alloc, 6, "82840b16", 16, 2)?.as_bytes())?;
+    let config = read_config(
+        alloc,
+        config_with(alloc, "max_events = 100", "max_events = 2")?.as_bytes(),
+    )?;
     let mut replay = Replay::new(alloc, config)?;
     for _ in 0..5 {
         replay.take(Line::Tick)?;

@@ -1,25 +1,16 @@
-use crate::samples::{PROBE, TICK, config, two_networks};
+use crate::samples::{config_with, two_networks};
 use bss_core::ConfigFault;
+use fixtures::texts::{
+    ANSWERED_REPORT, CONFIGURATION, IDLE_REPORT, OTHER_NAME_PROBE_LINE, PROBE_LINE, TICK_LINE,
+};
 use replay::{TextFault, check_text, run_text, split_joined};
 use std::alloc::{AllocError, Global};
 use std::str;
 use std::test::Fail;
 use trace::{Counted, Sink, TraceFault};
 
-const OTHER_NAME: &str =
-    "A 40000000 ffffffffffff 02aa00000001 ffffffffffff 0000 00056f74686572 010402040b16\n";
-
-const ANSWERED: &str = "network 02:00:00:00:00:01 ssid 6c6162\n\
-    events 1 clock 0 unread 0 lost 0 kept 0\n\
-    air 5000000002aa00000001020000000001020000000001000000000000000000006400010000036c6162010482840b16030106\n\
-    end\n";
-
 const NOT_ANSWERED: &str = "network 02:00:00:00:00:01 ssid 6c6162\n\
     events 1 clock 0 unread 0 lost 0 kept 0\n\
-    end\n";
-
-const NOTHING_HAPPENED: &str = "network 02:00:00:00:00:01 ssid 6c6162\n\
-    events 0 clock 0 unread 0 lost 0 kept 0\n\
     end\n";
 
 const NINE_RATES: &str = "network 02:00:00:00:00:01 ssid 6c6162\n\
@@ -56,16 +47,15 @@ fn run(
 #[test]
 fn probes_are_answered(rt: HostRuntime) -> Result<(), Fail> {
     let alloc = rt.alloc();
-    let twice = format!(in alloc; "{PROBE}{PROBE}")?;
-    let base = config(alloc, 6, "82840b16", 16, 100)?;
-    let full = config(alloc, 6, "82840b16", 16, 1)?;
-    let nine = config(alloc, 6, "82848b960c12182430", 16, 100)?;
+    let twice = format!(in alloc; "{PROBE_LINE}{PROBE_LINE}")?;
+    let full = config_with(alloc, "max_events = 100", "max_events = 1")?;
+    let nine = config_with(alloc, "82840b16", "82848b960c12182430")?;
     for (config, trace, report) in [
-        (base.as_str(), PROBE, ANSWERED),
-        (base.as_str(), OTHER_NAME, NOT_ANSWERED),
-        (full.as_str(), twice.as_str(), ANSWERED),
-        (base.as_str(), "", NOTHING_HAPPENED),
-        (nine.as_str(), PROBE, NINE_RATES),
+        (CONFIGURATION, PROBE_LINE, ANSWERED_REPORT),
+        (CONFIGURATION, OTHER_NAME_PROBE_LINE, NOT_ANSWERED),
+        (full.as_str(), twice.as_str(), ANSWERED_REPORT),
+        (CONFIGURATION, "", IDLE_REPORT),
+        (nine.as_str(), PROBE_LINE, NINE_RATES),
     ] {
         let (answer, written) = run(alloc, config, trace)?;
         assert_eq!(rt; answer, Ok(()));
@@ -77,8 +67,11 @@ fn probes_are_answered(rt: HostRuntime) -> Result<(), Fail> {
 #[test]
 fn sequence_numbers_begin_again(rt: HostRuntime) -> Result<(), Fail> {
     let alloc = rt.alloc();
-    let base = config(alloc, 6, "82840b16", 16, 5000)?;
-    for (line, last_two) in [(PROBE, LAST_TWO_OF_4097), (TICK, LAST_TWO_BEACONS_OF_4097)] {
+    let base = config_with(alloc, "max_events = 100", "max_events = 5000")?;
+    for (line, last_two) in [
+        (PROBE_LINE, LAST_TWO_OF_4097),
+        (TICK_LINE, LAST_TWO_BEACONS_OF_4097),
+    ] {
         let mut trace = String::new(alloc);
         for _ in 0..4097 {
             trace.push_str(line)?;
@@ -113,11 +106,10 @@ fn lines_of_each_kind_are_taken(rt: HostRuntime) -> Result<(), Fail> {
 #[test]
 fn faults_are_answered_and_nothing_is_written(rt: HostRuntime) -> Result<(), Fail> {
     let alloc = rt.alloc();
-    let base = config(alloc, 6, "82840b16", 16, 100)?;
-    let channel = config(alloc, 15, "82840b16", 16, 100)?;
-    let rates = config(alloc, 6, "8202", 16, 100)?;
-    let known = config(alloc, 6, "82840b16", 4, 100)?;
-    let unlisted = format!(in alloc; "colour = 1\n{base}")?;
+    let channel = config_with(alloc, "channel = 6", "channel = 15")?;
+    let rates = config_with(alloc, "82840b16", "8202")?;
+    let known = config_with(alloc, "max_known = 16", "max_known = 4")?;
+    let unlisted = format!(in alloc; "colour = 1\n{CONFIGURATION}")?;
     let of_radio = |code: u8| TextFault::Config(ConfigFault { code, place: None });
     let of_network = |code: u8| {
         TextFault::Config(ConfigFault {
@@ -131,16 +123,16 @@ fn faults_are_answered_and_nothing_is_written(rt: HostRuntime) -> Result<(), Fai
         long.push_str("00")?;
     }
     for (config, trace, fault) in [
-        ("version = ", PROBE, of_radio(1)),
-        (unlisted.as_str(), PROBE, of_radio(3)),
-        (channel.as_str(), PROBE, of_radio(4)),
-        (rates.as_str(), PROBE, of_network(10)),
-        (known.as_str(), PROBE, of_network(12)),
-        (base.as_str(), "X\n", of_line(1)),
-        (base.as_str(), "A 4\n", of_line(2)),
-        (base.as_str(), "W 02:00:00:00:00 00\n", of_line(3)),
-        (base.as_str(), "W 02:00:00:00:00:09 00\n", of_line(4)),
-        (base.as_str(), long.as_str(), of_line(5)),
+        ("version = ", PROBE_LINE, of_radio(1)),
+        (unlisted.as_str(), PROBE_LINE, of_radio(3)),
+        (channel.as_str(), PROBE_LINE, of_radio(4)),
+        (rates.as_str(), PROBE_LINE, of_network(10)),
+        (known.as_str(), PROBE_LINE, of_network(12)),
+        (CONFIGURATION, "X\n", of_line(1)),
+        (CONFIGURATION, "A 4\n", of_line(2)),
+        (CONFIGURATION, "W 02:00:00:00:00 00\n", of_line(3)),
+        (CONFIGURATION, "W 02:00:00:00:00:09 00\n", of_line(4)),
+        (CONFIGURATION, long.as_str(), of_line(5)),
         (channel.as_str(), "X\n", of_radio(4)),
     ] {
         let (answer, written) = run(alloc, config, trace)?;
@@ -153,15 +145,19 @@ fn faults_are_answered_and_nothing_is_written(rt: HostRuntime) -> Result<(), Fai
 #[test]
 fn a_failing_output_keeps_what_it_took(rt: HostRuntime) -> Result<(), Fail> {
     let alloc = rt.alloc();
-    let base = config(alloc, 6, "82840b16", 16, 100)?;
-    for room in [0, 1, 38, 100, ANSWERED.len() - 1] {
+    for room in [0, 1, 38, 100, ANSWERED_REPORT.len() - 1] {
         let mut device = vec![in alloc; 0; room]?;
         let mut out = Counted::new(device.as_mut_slice());
-        let answer = run_text(alloc, base.as_bytes(), PROBE.as_bytes(), &mut out);
+        let answer = run_text(
+            alloc,
+            CONFIGURATION.as_bytes(),
+            PROBE_LINE.as_bytes(),
+            &mut out,
+        );
         assert_eq!(rt; answer, Err(TextFault::Write));
         assert_eq!(rt; out.failures(), 1);
         assert!(rt; out.into_inner().is_empty());
-        assert!(rt; ANSWERED.as_bytes().starts_with(device.as_slice()));
+        assert!(rt; ANSWERED_REPORT.as_bytes().starts_with(device.as_slice()));
     }
     Ok(())
 }
@@ -176,9 +172,11 @@ fn a_joined_text_is_cut_in_two(rt: HostRuntime) {
 #[test]
 fn a_configuration_is_checked(rt: HostRuntime) -> Result<(), Fail> {
     let alloc = rt.alloc();
-    let base = config(alloc, 6, "82840b16", 16, 100)?;
     let mut out = Counted::new(Vec::new(alloc));
-    assert_eq!(rt; check_text(alloc, base.as_bytes(), &mut out), Ok(()));
+    assert_eq!(rt;
+        check_text(alloc, CONFIGURATION.as_bytes(), &mut out),
+        Ok(())
+    );
     let written = out.into_inner();
     assert_eq!(rt; written.as_slice(), b"ok 1\n".as_slice());
     Ok(())

@@ -1,13 +1,8 @@
 use bss_core::{ConfigFault, NetConfig};
+use fixtures::texts::CONFIGURATION;
 use std::alloc::Global;
 use std::test::Fail;
 use trace::{ConfigTextFault, read_config};
-
-/// A sound configuration with one network.
-const BASE: &str =
-    "version = 1\nchannel = 6\ninterval = 100\nqueue = 64\n[[network]]\nbssid = \"02:00:00:00:00:01\"\n\
-        ssid = \"lab\"\nrates = \"82840b16\"\ndtim = 1\nmax_stations = 8\nmax_known = 16\nquota = 8\n\
-        max_events = 100\n";
 
 /// A part of the base, what stands in its place, and the fault of the radio that comes of it.
 const RADIO_FAULTS: [(&str, &str, u8); 7] = [
@@ -40,7 +35,7 @@ fn fault_of(alloc: Global, text: &[u8]) -> Option<ConfigFault> {
 
 /// The fault of the base with a part of it replaced.
 fn fault_with(alloc: Global, part: &str, new: &str) -> Result<Option<ConfigFault>, Fail> {
-    let text = BASE.replace(alloc, part, new)?;
+    let text = CONFIGURATION.replace(alloc, part, new)?;
     Ok(fault_of(alloc, text.as_bytes()))
 }
 
@@ -57,7 +52,7 @@ fn numbers_of(network: &NetConfig) -> [u32; 5] {
 
 #[test]
 fn each_key_is_read(rt: HostRuntime) -> Result<(), Fail> {
-    let config = read_config(rt.alloc(), BASE.as_bytes())?;
+    let config = read_config(rt.alloc(), CONFIGURATION.as_bytes())?;
     assert_eq!(rt;
         (config.channel, config.interval, config.queue),
         (6, 100, 64)

@@ -1,19 +1,11 @@
 use bss_core::{Counts, Event, NetConfig, Section, StationRow};
+use fixtures::texts::ANSWERED_REPORT;
+use fixtures::{PROBE_REQUEST, lab, octets};
 use mac_frame::{List, MacAddr, Octets};
 use station_state::Standing;
 use std::alloc::{AllocError, Global};
 use std::test::Fail;
 use trace::{Counted, ReportFault, Sink, write_report};
-
-const PROBE: &str = "40000000ffffffffffff02aa00000001ffffffffffff00000000010402040b16";
-
-const RESPONSE: &str = "5000000002aa0000000102000000000102000000000100000000000000000000\
-    6400010000036c6162010482840b16030106";
-
-const PROBED: &str = "network 02:00:00:00:00:01 ssid 6c6162\n\
-    events 1 clock 0 unread 0 lost 0 kept 0\n\
-    air 5000000002aa00000001020000000001020000000001000000000000000000006400010000036c6162010482840b16030106\n\
-    end\n";
 
 const IDLE: &str = "network 02:00:00:00:00:01 ssid 6c6162\n\
     events 0 clock 0 unread 0 lost 0 kept 0\n";
@@ -26,27 +18,6 @@ const STATIONS: &str = "network 02:00:00:00:00:01 ssid 6c6162\n\
     wire 00ff\n\
     wire \n\
     end\n";
-
-/// The octets that a text of digits spells.
-fn octets(alloc: Global, digits: &str) -> Result<Octets, Fail> {
-    Ok(Octets::from_slice(alloc, hex::decode(alloc, digits)?.as_slice())?)
-}
-
-/// The configuration of the network 02:00:00:00:00:01 with the name lab.
-fn lab(alloc: Global) -> Result<NetConfig, Fail> {
-    let ssid = Octets::from_slice(alloc, b"lab")?;
-    let rates = Octets::from_slice(alloc, &[0x82, 0x84, 0x0b, 0x16])?;
-    Ok(NetConfig {
-        bssid: MacAddr::new([2, 0, 0, 0, 0, 1]),
-        ssid,
-        rates,
-        dtim: 1,
-        max_stations: 8,
-        max_known: 16,
-        quota: 8,
-        max_events: 100,
-    })
-}
 
 /// The section of a network that did nothing.
 fn section_of(alloc: Global, config: NetConfig) -> Section {
@@ -68,15 +39,15 @@ fn section_of(alloc: Global, config: NetConfig) -> Section {
 
 /// The network with the name lab, which did nothing.
 fn idle(alloc: Global) -> Result<Section, Fail> {
-    Ok(section_of(alloc, lab(alloc)?))
+    Ok(section_of(alloc, lab::config(alloc, 100)?))
 }
 
 /// The same network, which took a probe and answered it.
 fn probed(alloc: Global) -> Result<Section, Fail> {
     let mut section = idle(alloc)?;
-    section.events = List::from_vec(vec![in alloc; Event::Air(octets(alloc, PROBE)?)]?);
+    section.events = List::from_vec(vec![in alloc; Event::Air(octets(alloc, PROBE_REQUEST)?)]?);
     section.counts.events = 1;
-    section.air = List::from_vec(vec![in alloc; octets(alloc, RESPONSE)?]?);
+    section.air = List::from_vec(vec![in alloc; octets(alloc, lab::PROBE_RESPONSE)?]?);
     Ok(section)
 }
 
@@ -141,7 +112,7 @@ fn report_of(alloc: Global, sections: &[Section]) -> Result<Vec<u8>, Fail> {
 fn probe_and_its_response(rt: HostRuntime) -> Result<(), Fail> {
     let alloc = rt.alloc();
     let report = report_of(alloc, &[probed(alloc)?])?;
-    assert_eq!(rt; report.as_slice(), PROBED.as_bytes());
+    assert_eq!(rt; report.as_slice(), ANSWERED_REPORT.as_bytes());
     Ok(())
 }
 
@@ -166,7 +137,7 @@ fn report_of_two(alloc: Global) -> Result<Vec<u8>, Fail> {
 #[test]
 fn two_sections_stand_in_order(rt: HostRuntime) -> Result<(), Fail> {
     let alloc = rt.alloc();
-    let text = format!(in alloc; "{PROBED}{IDLE}end\n")?;
+    let text = format!(in alloc; "{ANSWERED_REPORT}{IDLE}end\n")?;
     let report = report_of_two(alloc)?;
     assert_eq!(rt; report.as_slice(), text.as_bytes());
     Ok(())
@@ -198,7 +169,7 @@ fn write_into(
 fn failing_writer(rt: HostRuntime) -> Result<(), Fail> {
     let alloc = rt.alloc();
     let sections = [probed(alloc)?];
-    for room in [0, 1, 17, PROBED.len() - 1] {
+    for room in [0, 1, 17, ANSWERED_REPORT.len() - 1] {
         let (answer, failures, left, taken) = write_into(alloc, &sections, room)?;
         assert_eq!(rt;
             (answer, failures, left),
@@ -206,7 +177,7 @@ fn failing_writer(rt: HostRuntime) -> Result<(), Fail> {
             "at {room}"
         );
         assert!(rt;
-            PROBED.as_bytes().starts_with(taken.as_slice()),
+            ANSWERED_REPORT.as_bytes().starts_with(taken.as_slice()),
             "at {room}"
         );
     }
@@ -239,6 +210,6 @@ fn a_counted_writer_gives_back_its_writer(rt: HostRuntime) -> Result<(), Fail> {
     assert_eq!(rt; write_report(alloc, &sections, &mut grows), Ok(()));
     assert_eq!(rt; grows.failures(), 0);
     let taken: Vec<u8> = grows.into_inner();
-    assert_eq!(rt; taken.as_slice(), PROBED.as_bytes());
+    assert_eq!(rt; taken.as_slice(), ANSWERED_REPORT.as_bytes());
     Ok(())
 }

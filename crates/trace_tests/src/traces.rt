@@ -1,32 +1,23 @@
 use bss_core::{Line, NetConfig, RadioConfig};
-use mac_frame::{List, MacAddr, Octets};
+use fixtures::{lab, radio_config};
+use mac_frame::{MacAddr, NoMemory};
 use std::alloc::{AllocError, Global};
 use std::test::Fail;
 use trace::{TraceFault, TraceTextFault, read_trace};
 
-/// A network whose address ends with this octet.
-fn network(alloc: Global, last: u8) -> NetConfig {
-    NetConfig {
-        bssid: MacAddr::new([2, 0xaa, 0, 0, 0, last]),
-        ssid: Octets::new(alloc),
-        rates: Octets::new(alloc),
-        dtim: 1,
-        max_stations: 8,
-        max_known: 16,
-        quota: 8,
-        max_events: 100,
-    }
+/// A network whose address has a letter among its digits, and ends with this octet.
+fn network(alloc: Global, last: u8) -> Result<NetConfig, NoMemory> {
+    let mut network = lab::config(alloc, 100)?;
+    network.bssid = MacAddr::new([2, 0xaa, 0, 0, 0, last]);
+    Ok(network)
 }
 
 /// A configuration of the networks 02:aa:00:00:00:01 and 02:aa:00:00:00:02.
-fn config(alloc: Global) -> Result<RadioConfig, AllocError> {
-    let networks = vec![in alloc; network(alloc, 1), network(alloc, 2)]?;
-    Ok(RadioConfig {
-        channel: 6,
-        interval: 100,
-        queue: 64,
-        networks: List::from_vec(networks),
-    })
+fn config(alloc: Global) -> Result<RadioConfig, NoMemory> {
+    let mut networks = Vec::new(alloc);
+    networks.push(network(alloc, 1)?)?;
+    networks.push(network(alloc, 2)?)?;
+    Ok(radio_config(64, networks))
 }
 
 /// What the two networks read in a text.
