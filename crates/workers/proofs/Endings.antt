@@ -5,7 +5,6 @@ use Rattle.std.specs.List.{AllByRecursion, AllZip, enumerate_from, range_with_le
 use Rattle.std.proofs.lemmas.List.{length-map, length_push}
 use Rattle.std.proofs.lemmas.List.FromFn.{length-range_with_len}
 use Rattle.air_queue.specs.Passes.{QueueName, NetPassView}
-use Rattle.bss_core.specs.Network.{Setting, alone, table_of, counts_of}
 use Rattle.bss_core.specs.Radio.{setting_at, items_of}
 use Rattle.bss_core.specs.Running.{section_with}
 use Rattle.bss_core.specs.Section.{section_of}
@@ -13,6 +12,7 @@ use Rattle.bss_core.specs.State.{State, network_of}
 use Rattle.bss_core.specs.declared.config.RadioConfig.{RadioConfig}
 use Rattle.bss_core.specs.declared.event.Event.{Event}
 use Rattle.bss_core.specs.declared.section.Section.{Section}
+use Rattle.bss_core.specs.declared.setting.Setting.{Setting}
 use Rattle.bss_core.specs.declared.step.AirItem.{AirItem}
 use Rattle.workers.specs.Ending.{IsSectionAt, AreSeated, IsSent, AreSent, IsEnded, AreEnded, items_at}
 use Rattle.workers.specs.Seats.{IsSeated}

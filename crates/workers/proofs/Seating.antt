@@ -2,12 +2,13 @@
 use Rattle.std.proofs.Common.{◌≡◌, ℕ, ◌<◌, ◌≤◌, List, [], ◌∷◌, ◌++◌, length, Result, Ok, Err, refl, sym, ap, ◌∙◌, subst, arith, append_assoc}
 use Rattle.std.specs.Prelude.{OnOk, OnErr}
 use Rattle.air_queue.specs.Passes.{QueueName, NetPassView}
-use Rattle.bss_core.specs.Network.{Setting, alone}
+use Rattle.bss_core.specs.Network.{alone}
 use Rattle.bss_core.specs.Radio.{setting_at}
 use Rattle.bss_core.specs.State.{State, network_of}
 use Rattle.bss_core.specs.declared.bss.Refusal.{Refusal}
 use Rattle.bss_core.specs.declared.config.RadioConfig.{RadioConfig}
 use Rattle.bss_core.specs.declared.event.Event.{Event}
+use Rattle.bss_core.specs.declared.setting.Setting.{Setting}
 use Rattle.workers.specs.Seats.{IsSeated, IsNetworkOf}
 
 -- frames go from the network to the pass, or stay: together they are the same
