@@ -2,8 +2,9 @@
 use Rattle.std.proofs.Common.{◌≡◌, ℕ, zero, suc, ◌+◌, ◌<◌, ◌≤◌, List, [], ◌∷◌, ◌++◌, length, map, drop, get_or, Some, refl, sym, ap, ◌∙◌, subst, arith}
 use Rattle.std.specs.Prelude.{slice_get}
 use Rattle.std.specs.List.{AllByRecursion, AllZip, enumerate_from, range_with_len}
-use Rattle.std.proofs.lemmas.List.{length-map, length_push}
-use Rattle.std.proofs.lemmas.List.FromFn.{length-range_with_len}
+use Rattle.std.proofs.lemmas.List.{length-map, length_push, map-append}
+use Rattle.std.proofs.lemmas.List.FromFn.{length-range_with_len, map-range_with_len_more}
+use Rattle.std.proofs.lemmas.Slice.Zip.{AllZip-long}
 use Rattle.air_queue.specs.Passes.{QueueName, NetPassView}
 use Rattle.bss_core.specs.Radio.{setting_at, items_of}
 use Rattle.bss_core.specs.Running.{section_with}
@@ -32,6 +33,23 @@ named-seated config queue [] (p ∷ ps) all = absurd all
 named-seated config queue (b ∷ bs) [] all = absurd all
 named-seated config queue (b ∷ bs) (p ∷ ps) all = (all.0.named, named-seated config queue bs ps all.1)
 
+-- one pass more, of the next place
+pub placed-push : (ps ps' : List NetPassView) (p : NetPassView) (count : ℕ) → ps' ≡ ps ++ p ∷ [] → p.place ≡ count → map (λ pass. pass.place) ps ≡ range_with_len 0 count → map (λ pass. pass.place) ps' ≡ range_with_len 0 (count + 1)
+placed-push ps ps' p count is here placed =
+    ap (map (λ (pass : NetPassView). pass.place)) is
+    ∙ map-append (λ (pass : NetPassView). pass.place) ps (p ∷ [])
+    ∙ (λ i. placed i ++ here i ∷ []) ∙ sym (range-more count)
+  where
+    range-same : (from n : ℕ) → map (λ (k : ℕ). k) (range_with_len from n) ≡ range_with_len from n
+    range-same from zero = refl
+    range-same from (suc n) = ap (λ ks. from ∷ ks) (range-same (from + 1) n)
+
+    range-more : (n : ℕ) → range_with_len 0 (n + 1) ≡ range_with_len 0 n ++ n ∷ []
+    range-more n =
+        let at : 0 + n ≡ n = omega arith in
+        sym (range-same 0 (n + 1)) ∙ map-range_with_len_more (λ (k : ℕ). k) 0 n n at
+        ∙ ap (λ ks. ks ++ n ∷ []) (range-same 0 n)
+
 sent-from : (config : RadioConfig) (queue : QueueName) (left : List AirItem) (place : ℕ) (bs : List State) (ps : List NetPassView) → AllZip (IsSeated config queue) bs ps → map (λ pass. pass.place) ps ≡ range_with_len place (length ps) → AllByRecursion (λ pass. items_of pass.place left ≡ pass.pushed) ps → AllByRecursion (λ n. IsSent config left n.0 n.1) (enumerate_from place bs)
 sent-from config queue left place [] ps all placed whole = tt
 sent-from config queue left place (b ∷ bs) [] all placed whole = absurd all
@@ -47,6 +65,12 @@ sent-from config queue left place (b ∷ bs) (p ∷ ps) all placed whole =
       },
       sent-from config queue left (place + 1) bs ps all.1 (ap (drop 1) placed) whole.1,
     )
+
+pub seats-count : (config : RadioConfig) (queue : QueueName) (bs : List State) (ps : List NetPassView) → AreSeated config queue bs ps → length bs ≡ length config.networks
+seats-count config queue bs ps seats =
+    sym (AllZip-long (IsSeated config queue) bs ps seats.seated)
+    ∙ sym (length-map ps (λ (p : NetPassView). p.place)) ∙ ap length seats.there.placed
+    ∙ length-range_with_len 0 (length config.networks)
 
 -- what the queue held left, so what left of each network and then what waits is all that it sent
 pub all-sent : (config : RadioConfig) (queue : QueueName) (left : List AirItem) (bs : List State) (ps : List NetPassView) → AreSeated config queue bs ps → AllByRecursion (λ pass. items_of pass.place left ≡ pass.pushed) ps → AreSent config left bs

@@ -46,3 +46,21 @@ pub all_ready : (config : RadioConfig) (queue : QueueName) → AllByRecursion (�
 all_ready config queue sound =
     let count : 0 + length config.networks ≡ length config.networks = omega arith in
     ready_from config queue 0 config.networks count (λ i lt. (let at : i ≡ 0 + i = omega arith in ap (network_at config) at)) sound
+
+-- each network has a pass
+count_from : (queue : QueueName) (place : ℕ) (networks : List NetConfig) → length (zip networks (map (fresh_pass queue) (range_with_len place (length networks)))) ≡ length networks
+count_from queue place [] = refl
+count_from queue place (n ∷ ns) = ap suc (count_from queue (place + 1) ns)
+
+pub count_ready : (queue : QueueName) (networks : List NetConfig) → length (zip networks (fresh_passes queue (length networks))) ≡ length networks
+count_ready queue networks = count_from queue 0 networks
+
+-- where one list is empty, no pairs are left
+pub none_first : {A B : Type 0} (xs : List A) (ys : List B) → length xs ≡ 0 → length (zip xs ys) ≡ 0
+none_first [] ys none = refl
+none_first (x ∷ xs) ys none = absurd (omega (arith, none))
+
+pub none_second : {A B : Type 0} (xs : List A) (ys : List B) → length ys ≡ 0 → length (zip xs ys) ≡ 0
+none_second [] ys none = refl
+none_second (x ∷ xs) [] none = refl
+none_second (x ∷ xs) (y ∷ ys) none = absurd (omega (arith, none))
