@@ -1,6 +1,6 @@
 -- Copies of an event, one pair for each place (profile).
-use Rattle.std.specs.Prelude.{ℕ, ◌≡◌, ◌<◌, ◌↔◌, List, [], ◌∷◌, length, Option, Some, None, IfSome}
-use Rattle.std.specs.List.{slice_index_or}
+use Rattle.std.specs.Prelude.{ℕ, ◌≡◌, ◌<◌, ◌↔◌, List, [], ◌∷◌, length, map, Option, Some, None, IfSome}
+use Rattle.std.specs.List.{slice_index_or, range_with_len}
 use Rattle.bss_core.specs.declared.config.RadioConfig.{RadioConfig}
 use Rattle.bss_core.specs.declared.event.Event.{Event}
 use Rattle.bss_core.specs.declared.line.Line.{Line}
@@ -19,6 +19,10 @@ copies_of (e ∷ es) = Some (copies_of_event e)
 -- those of the event of a line at a place, if there is a network that hears it
 abbrev pub copies_at : RadioConfig → Line → ℕ → Option Copies
 copies_at config line place = copies_of (heard_at config line place)
+
+-- those of all places
+abbrev pub AreCopies : RadioConfig → Line → List (Option Copies) → Type 0
+AreCopies config line copies = copies ≡ map (copies_at config line) (range_with_len 0 8)
 
 -- copies are for places that have a network
 abbrev pub HaveNetworks : RadioConfig → List (Option Copies) → Type 0

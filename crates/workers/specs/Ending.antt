@@ -1,5 +1,5 @@
 -- How an access point ends (profile).
-use Rattle.std.specs.Prelude.{ℕ, ◌<◌, ◌≤◌, ◌≡◌, ◌++◌, List, length, map}
+use Rattle.std.specs.Prelude.{ℕ, ◌<◌, ◌≤◌, ◌≡◌, ◌++◌, All, List, length, map, Some, slice_get}
 use Rattle.std.specs.List.{AllByRecursion, AllZip, enumerate_from}
 use Rattle.air_queue.specs.Passes.{QueueName, NetPassView, AllThere}
 use Rattle.bss_core.specs.Radio.{network_at, setting_at, items_of}
@@ -15,6 +15,20 @@ pub record IsSectionAt (config : RadioConfig) (place : ℕ) (section : Section) 
   pub alone : section ≡ section_of (setting_at config place) section.events
   pub bounded : length section.events ≤ (network_at config place).max_events
 
+-- one for each network, in order of place
+abbrev pub AreSections : RadioConfig → List Section → Type 0
+AreSections config sections =
+    (place : ℕ) (section : Section) → slice_get sections place ≡ Some section → IsSectionAt config place section
+
+-- what left of the network at each place is what its section has on the air
+abbrev pub HaveLeft : List Section → List AirItem → Type 0
+HaveLeft sections left =
+    (place : ℕ) (section : Section) → slice_get sections place ≡ Some section → items_of place left ≡ section.air
+
+-- each item is of a network that is there
+abbrev pub ArePlaced : RadioConfig → List AirItem → Type 0
+ArePlaced config items = All (λ item. item.place < length config.networks) items
+
 -- the frames of the network at a place
 abbrev pub items_at : ℕ → List (List ℕ) → List AirItem
 items_at place frames = map (λ octets. record { place = place; octets = octets }) frames
@@ -22,7 +36,8 @@ items_at place frames = map (λ octets. record { place = place; octets = octets 
 -- ---- on the way
 
 -- each network with its pass, in order of place
-pub record AreSeated (config : RadioConfig) (queue : QueueName) (networks : List State) (passes : List NetPassView) : Type 0 where
+pub record AreSeated (config : RadioConfig) (queue : QueueName) (networks : List State) (passes : List NetPassView)
+    : Type 0 where
   pub there : AllThere queue (length config.networks) passes
   pub seated : AllZip (IsSeated config queue) networks passes
 

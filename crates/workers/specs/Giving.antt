@@ -1,5 +1,5 @@
 -- What a caller gives to the networks of an access point, and what it keeps of their answers (profile).
-use Rattle.std.specs.Prelude.{ℕ, ◌≡◌, ◌<◌, ◌↔◌, ◌==◌, Bool, true, List, [], ◌∷◌, Some, slice_get, if◌then◌else◌}
+use Rattle.std.specs.Prelude.{ℕ, ◌≡◌, ◌<◌, ◌↔◌, ◌==◌, Bool, true, List, [], ◌∷◌, ◌++◌, Some, slice_get, if◌then◌else◌}
 use Rattle.std.specs.List.{flat_map, enumerate_from}
 use Rattle.mac_frame.specs.Hearing.{is_heard}
 use Rattle.bss_core.specs.Lines.{heard_of}
@@ -24,8 +24,8 @@ abbrev pub heard_at : RadioConfig → Line → ℕ → List Event
 heard_at config line place =
     if names_network config place then heard_of place (network_at config place).bssid line else []
 
--- Of the outcomes of a line, one for each place, those are `NotHeard` whose place has no network or one that does not hear
--- the line.
+-- Of the outcomes of a line, one for each place, those are `NotHeard` whose place has no network or one that does not
+-- hear the line.
 abbrev pub AreHeard : RadioConfig → Line → List Outcome → Type 0
 AreHeard config line outcomes =
     (place : ℕ) → place < 8 → (slice_get outcomes place ≡ Some NotHeard) ↔ (heard_at config line place ≡ [])
@@ -42,6 +42,10 @@ entry_of e place NoMemory = Refused place refusals.NoMemory ∷ []
 -- those of all its outcomes, in order of place
 abbrev pub entries_of : Event → List Outcome → List Entry
 entries_of e outcomes = flat_map (λ o. entry_of e o.0 o.1) (enumerate_from 0 outcomes)
+
+-- after the old entries
+abbrev pub AddsEntries : Event → List Entry → List Entry → List Outcome → Type 0
+AddsEntries e old new outcomes = new ≡ old ++ entries_of e outcomes
 
 -- ---- a line as it is lent
 

@@ -17,8 +17,8 @@ pub record SeatView : Type 0 where
   pub network : State
   pub pass : NetPassView
 
--- The network is the one at the pass's place of the configuration, the pass is one to the queue of this name, and what was
--- pushed and then what waits is all that the network alone sends for its history.
+-- The network is the one at the pass's place of the configuration, the pass is one to the queue of this name, and
+-- what was pushed and then what waits is all that the network alone sends for its history.
 pub record IsSeated (config : RadioConfig) (queue : QueueName) (network : State) (pass : NetPassView) : Type 0 where
   pub named : pass.name ≡ queue
   pub placed : pass.place < length config.networks
@@ -52,7 +52,10 @@ AnswersEvent event old new NoMemory = (length old.history ≢ old.setting.networ
 -- of its frames that wait, the first was pushed, none waited, or the first came back from a full queue
 abbrev pub HandsFrame : SeatView → SeatView → Handed → Type 0
 HandsFrame old new Moved =
-    (octets : List ℕ) × (old.network.waiting ≡ octets ∷ new.network.waiting) × (new.pass.pushed ≡ old.pass.pushed ++ octets ∷ [])
-HandsFrame old new Nothing = (old.network.waiting ≡ []) × (new.network.waiting ≡ []) × (new.pass.pushed ≡ old.pass.pushed)
+    (octets : List ℕ)
+    × (old.network.waiting ≡ octets ∷ new.network.waiting)
+    × (new.pass.pushed ≡ old.pass.pushed ++ octets ∷ [])
+HandsFrame old new Nothing =
+    (old.network.waiting ≡ []) × (new.network.waiting ≡ []) × (new.pass.pushed ≡ old.pass.pushed)
 HandsFrame old new QueueFull =
     (old.network.waiting ≢ []) × (new.network.waiting ≡ old.network.waiting) × (new.pass.pushed ≡ old.pass.pushed)

@@ -1,14 +1,14 @@
 //! An access point whose networks run at the same time (*profile*).
 
-ghost use Rattle.std.specs.Prelude.{◌≡◌, ◌≢◌, ◌+◌, ◌<◌, ◌≤◌, ◌++◌, ◌∷◌, ◌↔◌, [], IfOk, OnErr, MatchBool, vec_len, vec_capacity, length, map};
-ghost use Rattle.std.specs.List.{range_with_len};
+ghost use Rattle.std.specs.Prelude.{◌≡◌, ◌≢◌, ◌+◌, ◌<◌, ◌≤◌, ◌++◌, ◌∷◌, [], length, map};
+ghost use Rattle.std.specs.Prelude.{IfOk, OnErr, MatchBool, vec_len, vec_capacity};
 ghost use Rattle.std.specs.Fn.{FnOnceTakesAt, FnOnceReturnsAt};
 ghost use Rattle.bss_core.specs.State.{State};
 ghost use Rattle.bss_core.specs.declared.event.Event.{Event};
 ghost use Rattle.bss_core.specs.declared.line.Line.TheVariants as line;
 ghost use Rattle.bss_core.specs.declared.step.AirItem.{AirItem};
-ghost use Rattle.workers.specs.Copies.{copies_at, HaveNetworks, AreOf, AreOffered};
-ghost use Rattle.workers.specs.Giving.{AreHeard, line_of, event_of, entry_of, entries_of};
+ghost use Rattle.workers.specs.Copies.{copies_at, AreCopies, HaveNetworks, AreOf, AreOffered};
+ghost use Rattle.workers.specs.Giving.{AreHeard, AddsEntries, line_of, event_of, entry_of};
 ghost use Rattle.workers.specs.Seats.{IsNetworkOf};
 
 use crate::caller::{Caller, Entry};
@@ -25,9 +25,9 @@ use std::alloc::Global;
 use std::marker::Model;
 use std::sync::{Mutex, Wait};
 
-/// The access point N: its networks, each under a lock of its own, and the air queue in which their frames meet (*profile*).
-/// Threads share it by reference. Contracts see its configuration; what stands under a lock another thread may change at
-/// any moment, so of it they say what its type keeps.
+/// The access point N: its networks, each under a lock of its own, and the air queue in which their frames meet
+/// (*profile*). Threads share it by reference. Contracts see its configuration; what stands under a lock another
+/// thread may change at any moment, so of it they say what its type keeps.
 #[derive(Drop)]
 pub struct Ap<N: ApName> {
     pub(crate) alloc: Global,
@@ -58,10 +58,10 @@ impl<N: ApName> Ap<N> {
         self.seats.len()
     }
 
-    /// Gives a string of octets that was heard on the air to each network that hears it, in order of place, and answers
-    /// what each made of it (*profile*). For each that took or refused it the caller has an entry more. A refusal of one network
-    /// does not keep the others from it. `NoMemory` where a growth was refused, before any network was touched; then the
-    /// caller is as it was. It may wait for other threads.
+    /// Gives a string of octets that was heard on the air to each network that hears it, in order of place, and
+    /// answers what each made of it (*profile*). For each that took or refused it the caller has an entry more. A
+    /// refusal of one network does not keep the others from it. `NoMemory` where a growth was refused, before any
+    /// network was touched; then the caller is as it was. It may wait for other threads.
     pub fn air<R: Wait>(
         &self,
         rt: &R,
@@ -69,14 +69,14 @@ impl<N: ApName> Ap<N> {
         frame: &[u8],
     ) -> Result<[Outcome; MAX_NETWORKS], NoMemory>
         ensures heard { IfOk result (AreHeard N.config (line.Air frame.now)) }
-        ensures entries { IfOk result (λ outcomes. caller.new ≡ caller.old ++ entries_of (Event.Air frame.now) outcomes) }
+        ensures entries { IfOk result (AddsEntries (Event.Air frame.now) caller.old caller.new) }
         ensures err { OnErr result (caller.new ≡ caller.old) }
     {
         self.give(rt, caller, Given::Air(frame))
     }
 
-    /// Gives a frame that came over the wire to the network at a place, and answers as [`Ap::air`] does (*profile*). Where
-    /// there is no network at that place, nobody hears it.
+    /// Gives a frame that came over the wire to the network at a place, and answers as [`Ap::air`] does (*profile*).
+    /// Where there is no network at that place, nobody hears it.
     pub fn wire<R: Wait>(
         &self,
         rt: &R,
@@ -85,7 +85,7 @@ impl<N: ApName> Ap<N> {
         octets: &[u8],
     ) -> Result<[Outcome; MAX_NETWORKS], NoMemory>
         ensures heard { IfOk result (AreHeard N.config (line.Wire place octets.now)) }
-        ensures entries { IfOk result (λ outcomes. caller.new ≡ caller.old ++ entries_of (Event.Wire octets.now) outcomes) }
+        ensures entries { IfOk result (AddsEntries (Event.Wire octets.now) caller.old caller.new) }
         ensures err { OnErr result (caller.new ≡ caller.old) }
     {
         self.give(rt, caller, Given::Wire { place, octets })
@@ -98,7 +98,7 @@ impl<N: ApName> Ap<N> {
         caller: &mut Caller,
     ) -> Result<[Outcome; MAX_NETWORKS], NoMemory>
         ensures heard { IfOk result (AreHeard N.config line.Tick) }
-        ensures entries { IfOk result (λ outcomes. caller.new ≡ caller.old ++ entries_of Event.Tick outcomes) }
+        ensures entries { IfOk result (AddsEntries Event.Tick caller.old caller.new) }
         ensures err { OnErr result (caller.new ≡ caller.old) }
     {
         self.give(rt, caller, Given::Tick)
@@ -112,7 +112,7 @@ impl<N: ApName> Ap<N> {
         given: Given<'_>,
     ) -> Result<[Outcome; MAX_NETWORKS], NoMemory>
         ensures heard { IfOk result (AreHeard N.config (line_of given.entry)) }
-        ensures entries { IfOk result (λ outcomes. caller.new ≡ caller.old ++ entries_of (event_of (line_of given.entry)) outcomes) }
+        ensures entries { IfOk result (AddsEntries (event_of (line_of given.entry)) caller.old caller.new) }
         ensures err { OnErr result (caller.new ≡ caller.old) }
     {
         let copies = self.copies(given)?;
@@ -122,7 +122,7 @@ impl<N: ApName> Ap<N> {
 
     /// For each place, copies of the event if the network there hears the line.
     fn copies(&self, given: Given<'_>) -> Result<Vec<Option<Copies>>, NoMemory>
-        ensures { IfOk result (λ copies. copies.items ≡ map (copies_at N.config (line_of given.entry)) (range_with_len 0 MAX_NETWORKS)) }
+        ensures { IfOk result (λ copies. AreCopies N.config (line_of given.entry) copies.items) }
     {
         let mut copies = Vec::with_capacity(self.alloc, MAX_NETWORKS)?;
         for place in 0..MAX_NETWORKS {
@@ -141,7 +141,8 @@ impl<N: ApName> Ap<N> {
         Ok(Some(Copies::of(self.alloc, given)?))
     }
 
-    /// Offers the event to the network at each place that has copies of it, and keeps the entries, for which there is room.
+    /// Offers the event to the network at each place that has copies of it, and keeps the entries, for which there is
+    /// room.
     fn offer_each<R: Wait>(
         &self,
         rt: &R,
@@ -152,7 +153,8 @@ impl<N: ApName> Ap<N> {
         requires places { HaveNetworks N.config copies.items }
         requires room { vec_len entries.old + MAX_NETWORKS ≤ vec_capacity entries.old }
         ensures heard { AreOffered copies.items result }
-        ensures entries { (event : Event) → AreOf event copies.items → entries.new.items ≡ entries.old.items ++ entries_of event result }
+        ensures entries { (event : Event) → AreOf event copies.items →
+            AddsEntries event entries.old.items entries.new.items result }
     {
         let mut outcomes = [Outcome::NotHeard; MAX_NETWORKS];
         for place in 0..MAX_NETWORKS {
@@ -175,7 +177,8 @@ impl<N: ApName> Ap<N> {
         requires room { vec_len entries.old < vec_capacity entries.old }
         ensures heard { result ≢ Outcome.NotHeard }
         ensures entries { entries.new.items ≡ entries.old.items ++ entry_of copies.kept place result }
-        ensures growth { (vec_len entries.new ≤ vec_len entries.old + 1) × (vec_capacity entries.new ≡ vec_capacity entries.old) }
+        ensures len { vec_len entries.new ≤ vec_len entries.old + 1 }
+        ensures capacity { vec_capacity entries.new ≡ vec_capacity entries.old }
     {
         let Copies { offered, kept } = copies;
         let outcome = self.seats[place].lock(rt).take(offered);
@@ -185,8 +188,8 @@ impl<N: ApName> Ap<N> {
         outcome
     }
 
-    /// Hands frames of the network at a place to the air queue, the first that waits first, until none waits or the queue
-    /// is full, and answers how many went there (*profile*). It takes no memory. It may wait for other threads.
+    /// Hands frames of the network at a place to the air queue, the first that waits first, until none waits or the
+    /// queue is full, and answers how many went there (*profile*). It takes no memory. It may wait for other threads.
     pub fn pump<R: Wait>(&self, rt: &R, place: usize) -> u32
         requires { place < length N.config.networks }
     {
@@ -205,12 +208,13 @@ impl<N: ApName> Ap<N> {
         self.seats[place].lock(rt).hand(rt, &self.queue)
     }
 
-    /// Lets the first frame of the air queue leave, after room was made for it: it is the last that left then. `false`, and
-    /// no change, only where the queue was empty at one moment of the call, which tests show; `NoMemory`, and no change, where the
-    /// growth was refused (*profile*). It may wait for other threads.
+    /// Lets the first frame of the air queue leave, after room was made for it: it is the last that left then.
+    /// `false`, and no change, only where the queue was empty at one moment of the call, which tests show;
+    /// `NoMemory`, and no change, where the growth was refused (*profile*). It may wait for other threads.
     pub fn leave<R: Wait>(&self, rt: &R, transmitter: &mut Transmitter<N>) -> Result<bool, NoMemory>
         ensures left { IfOk result (λ left. MatchBool left
-            ((item : AirItem) × (item.place < length N.config.networks) × (transmitter.new ≡ transmitter.old ++ item ∷ []))
+            ((item : AirItem) × (item.place < length N.config.networks)
+            × (transmitter.new ≡ transmitter.old ++ item ∷ []))
             (transmitter.new ≡ transmitter.old)) }
         ensures err { OnErr result (transmitter.new ≡ transmitter.old) }
     {
@@ -218,8 +222,9 @@ impl<N: ApName> Ap<N> {
         Ok(self.queue.pop(rt, &mut transmitter.pass))
     }
 
-    /// What `f` answers of the network at a place, which it is shown under that network's lock alone. It may be called on every network of
-    /// the configuration, and was called on one of them (*profile*). It may wait for other threads.
+    /// What `f` answers of the network at a place, which it is shown under that network's lock alone. It may be
+    /// called on every network of the configuration, and was called on one of them (*profile*). It may wait for other
+    /// threads.
     pub fn inspect<R: Wait, T, F: FnOnce(&Bss) -> T>(&self, rt: &R, place: usize, f: F) -> T
         requires place { place < length N.config.networks }
         requires callable { (network : State) → IsNetworkOf N.config network → FnOnceTakesAt F.FnOnce f network }

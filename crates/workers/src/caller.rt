@@ -53,8 +53,8 @@ impl Entry {
     }
 }
 
-/// Who gives events to an access point, and keeps what it is answered (*profile*). Contracts see its entries, the first of
-/// them first.
+/// Who gives events to an access point, and keeps what it is answered (*profile*). Contracts see its entries, the
+/// first of them first.
 #[derive(Debug, Drop)]
 pub struct Caller {
     pub(crate) entries: Vec<Entry>,

@@ -1,11 +1,10 @@
 //! The end of an access point: all that waits or is queued leaves, and every network has its section (*profile*).
 
-ghost use Rattle.std.specs.Prelude.{◌≡◌, ◌≤◌, ◌<◌, ◌++◌, ℕ, Some, All, IfOk, OnOk, vec_len, length, slice_get};
+ghost use Rattle.std.specs.Prelude.{◌≡◌, ◌++◌, IfOk, OnOk, vec_len, length};
 ghost use Rattle.air_queue.specs.Passes.{BeginsWith};
 ghost use Rattle.bss_core.specs.Radio.{items_of};
 ghost use Rattle.bss_core.specs.Running.{section_with};
-ghost use Rattle.bss_core.specs.declared.section.Section.{Section};
-ghost use Rattle.workers.specs.Ending.{IsSectionAt, AreSeated, AreSent, AreEnded, items_at};
+ghost use Rattle.workers.specs.Ending.{AreSections, HaveLeft, ArePlaced, AreSeated, AreSent, AreEnded, items_at};
 ghost use Rattle.workers.specs.declared.finish.FinishFault.TheVariants as faults;
 
 use crate::ap::Ap;
@@ -90,11 +89,11 @@ impl<N: ApName> Ap<N> {
     ) -> Result<Finished, FinishFault>
         // Each section is that of the network alone, with its own events, as many at most as it may take.
         ensures networks { IfOk result (λ end. length end.sections ≡ length N.config.networks) }
-        ensures sections { IfOk result (λ end. (place : ℕ) (section : Section) → slice_get end.sections place ≡ Some section → IsSectionAt N.config place section) }
+        ensures sections { IfOk result (λ end. AreSections N.config end.sections) }
 
         // What left of a network is all that it sent on the air, and nothing else left.
-        ensures air { IfOk result (λ end. (place : ℕ) (section : Section) → slice_get end.sections place ≡ Some section → items_of place end.left ≡ section.air) }
-        ensures nothing_else { IfOk result (λ end. All (λ item. item.place < length N.config.networks) end.left) }
+        ensures air { IfOk result (λ end. HaveLeft end.sections end.left) }
+        ensures nothing_else { IfOk result (λ end. ArePlaced N.config end.left) }
         ensures begins { IfOk result (λ end. BeginsWith transmitter end.left) }
     {
         drop(callers);
@@ -148,7 +147,7 @@ fn end_networks<N: ApName>(
     requires { AreSent N.config left.old.items networks.items }
     ensures ended { IfOk result (λ sections. AreEnded N.config left.new.items sections.items) }
     ensures count { IfOk result (λ sections. vec_len sections ≡ vec_len networks) }
-    ensures placed { OnOk result (All (λ item. item.place < length N.config.networks) left.old.items → All (λ item. item.place < length N.config.networks) left.new.items) }
+    ensures placed { OnOk result (ArePlaced N.config left.old.items → ArePlaced N.config left.new.items) }
     ensures begins { OnOk result (BeginsWith left.old.items left.new.items) }
 {
     let mut sections = Vec::with_capacity(alloc, networks.len())?;

@@ -1,22 +1,43 @@
-//! An access point whose networks run at the same time, each under a lock of its own (*profile*; a network is that of IEEE
-//! Std 802.11-2016, 11.1 to 11.3).
+//! An access point whose networks run at the same time, each under a lock of its own (*profile*; a network is that of
+//! IEEE Std 802.11-2016, 11.1 to 11.3).
 //!
-//! Threads share an [`Ap`] by reference. [`Caller`]s give it what was heard on the air, what came over the wire and ticks,
-//! and keep what it answered; any thread pumps frames that wait into the air queue; the [`Transmitter`] lets them leave.
-//! [`Ap::finish`] promises that each network's section is what the network alone gives for its own events, and that what left of it is all that
-//! it sent, in order, whatever the threads did and in which order their calls fell. Under a lock that much holds at every
-//! moment: what was pushed and then what waits is what the network alone sends.
+//! Threads share an [`Ap`] by reference. A [`Caller`] gives it what was heard on the air, what came over the wire, and
+//! ticks, and keeps what it is answered; any thread pumps frames that wait into the air queue; the [`Transmitter`] lets
+//! them leave. [`Ap::finish`] promises that each network's section is what the network alone gives for its own events,
+//! and that what left of it is all that it sent, in order, whichever thread called what, and when. Under a network's
+//! lock that much holds at every moment: what was pushed and then what waits is all that the network alone sends for
+//! its history.
 //!
-//! That a call gets its lock, the order of calls of different callers, fairness, progress and time are promised by nothing
-//! here; that networks do run at the same time, and that an event changes its network at once, tests show. Which thread
-//! calls what is left to the crates above.
+//! That a call gets its lock, the order of calls of different callers, fairness, progress and time are promised by
+//! nothing here. That networks have locks of their own, and that an event changes its network at once, tests show.
+//! Which thread calls what is left to the crates above.
 //!
-//! An access point has a name, for contracts alone ([`ApName`]), which a call of a generic function picks:
+//! An access point has a name, for contracts alone ([`ApName`]). So who uses one is a function that is generic in it,
+//! and the call of that function picks the name, by the parts that it hands on:
 //!
 //! ```text
-//! fn serve(rt: &impl Wait, alloc: Global, config: RadioConfig) -> Result<Finished, Fault> {
-//!     serve_named::<Brand, _>(rt, alloc, Parts::open(alloc, config, 1)?)
+//! fn beacons<R: Wait>(rt: &R, alloc: Global, config: RadioConfig) -> Result<Finished, Fail> {
+//!     beacons_of::<Brand, R>(rt, alloc, Parts::open(alloc, config, 1)?)
 //! }
+//!
+//! fn beacons_of<N: ApName, R: Wait>(rt: &R, alloc: Global, parts: Parts) -> Result<Finished, Fail>
+//!     requires { AreNamed N.config N.queue parts }
+//! {
+//!     let (ap, mut callers, transmitter) = Ap::<N>::start(alloc, parts)?;
+//!     for caller in callers.iter_mut() {
+//!         ap.tick(rt, caller)?;
+//!     }
+//!     for place in 0..ap.networks() {
+//!         ap.pump(rt, place);
+//!     }
+//!     Ok(ap.finish(rt, callers, transmitter)?)
+//! }
+//! ```
+//!
+//! and in `proofs/beacons/Invariants.antt`, the pick:
+//!
+//! ```text
+//! ghosts-beacons_of g a = record { config = a.parts.config; queue = a.parts.queue }
 //! ```
 #![tactic(auto)]
 

@@ -13,8 +13,8 @@ use std::marker::Model;
 /// The most callers of an access point (*profile*).
 pub const MAX_CALLERS: u32 = 64;
 
-/// What an access point is made of (*profile*): a configuration without a fault, an empty air queue with its passes, and how
-/// many callers there are to be. Contracts see the configuration, the queue's name and the number of callers.
+/// What an access point is made of (*profile*): a configuration without a fault, an empty air queue with its passes,
+/// and how many callers there are to be. Contracts see the configuration, the queue's name and the number of callers.
 #[derive(Drop)]
 pub struct Parts {
     pub(crate) config: RadioConfig,
@@ -45,8 +45,10 @@ impl Parts {
     /// where the configuration has one, which is tested first; else `Callers` exactly where there are not 1 to
     /// [`MAX_CALLERS`] of them; `NoMemory` where a growth was refused (*profile*).
     pub fn open(alloc: Global, config: RadioConfig, callers: u32) -> Result<Parts, OpenFault>
-        ensures fault { (fault : ConfigFault) → (result ≡ Err (OpenFault.Config fault)) ↔ (fault_of config ≡ Some fault) }
-        ensures callers { (result ≡ Err OpenFault.Callers) ↔ ((fault_of config ≡ None) × (callers_fit callers ≡ false)) }
+        ensures fault { (fault : ConfigFault) →
+            (result ≡ Err (OpenFault.Config fault)) ↔ (fault_of config ≡ Some fault) }
+        ensures callers { (result ≡ Err OpenFault.Callers) ↔
+            ((fault_of config ≡ None) × (callers_fit callers ≡ false)) }
         ensures opened { IfOk result (λ parts. (parts.config ≡ config) × (parts.callers ≡ callers)) }
     {
         if let Some(fault) = config.check() {

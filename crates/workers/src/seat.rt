@@ -13,8 +13,9 @@ use bss_core::{AirItem, Bss, Event, Handed};
 use std::marker::{Model, PhantomData};
 use std::sync::Wait;
 
-/// A network of the access point N with its pass to the air queue, as they stand under one lock (*profile*). What was pushed
-/// and then what waits is all that the network alone sends for its history: no frame is lost, doubled or overtaken.
+/// A network of the access point N with its pass to the air queue, as they stand under one lock (*profile*). What was
+/// pushed and then what waits is all that the network alone sends for its history: no frame is lost, doubled or
+/// overtaken.
 #[derive(Drop)]
 pub struct Seat<N: ApName> {
     bss: Bss,

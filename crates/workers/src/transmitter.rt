@@ -7,7 +7,8 @@ use air_queue::RadioPass;
 use bss_core::AirItem;
 use std::marker::{Model, PhantomData};
 
-/// The one right to let frames leave the access point N (*profile*). Contracts see the frames that left by it, in order.
+/// The one right to let frames leave the access point N (*profile*). Contracts see the frames that left by it, in
+/// order.
 #[derive(Drop)]
 pub struct Transmitter<N: ApName> {
     pub(crate) pass: RadioPass,

@@ -11,8 +11,8 @@ use std::sync::Wait;
 use std::test::Fail;
 use workers::{Ap, ApName, Caller, Entry, Outcome, Parts, Transmitter};
 
-/// How many events a network took, how many intervals began, how many of its events are unread, and how many stations it
-/// knows.
+/// How many events a network took, how many intervals began, how many of its events are unread, and how many stations
+/// it knows.
 fn shown(bss: &Bss) -> [usize; 4] {
     let counts = bss.counts();
     [

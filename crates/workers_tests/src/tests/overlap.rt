@@ -19,10 +19,16 @@ use workers::{Ap, ApName, Caller, Outcome, Parts};
 /// How often a thread looks at most.
 const TURNS: u32 = 1_000_000;
 
-/// Whether the other thread was answered in time.
-fn comes(answered: &AtomicU64) -> bool {
+/// What the threads tell each other: that the first network is looked at, and that the second has answered.
+struct Signs {
+    looking: AtomicU64,
+    answered: AtomicU64,
+}
+
+/// Whether a sign is given in time.
+fn comes(sign: &AtomicU64) -> bool {
     for _ in 0..TURNS {
-        if answered.load(Ordering::SeqCst) == 1 {
+        if sign.load(Ordering::SeqCst) == 1 {
             return true;
         }
         thread::yield_now();
@@ -31,20 +37,22 @@ fn comes(answered: &AtomicU64) -> bool {
 }
 
 /// Whether this is the first network, and the other thread was answered while it was looked at.
-fn is_answered_beside(first: &Bss, answered: &AtomicU64) -> bool {
-    first.config().bssid == MacAddr::new(BSSIDS[0]) && comes(answered)
+fn is_answered_beside(first: &Bss, signs: &Signs) -> bool {
+    signs.looking.store(1, Ordering::SeqCst);
+    first.config().bssid == MacAddr::new(BSSIDS[0]) && comes(&signs.answered)
 }
 
-/// Gives a frame to the second network, and tells that it was answered.
+/// Gives a frame to the second network while the first is looked at, and tells that it was answered.
 fn answer<N: ApName, R: Wait>(
     rt: &R,
     ap: &Ap<N>,
     caller: &mut Caller,
-    answered: &AtomicU64,
-) -> Result<[Outcome; 8], NoMemory> {
+    signs: &Signs,
+) -> (bool, Result<[Outcome; 8], NoMemory>) {
+    let looking = comes(&signs.looking);
     let outcomes = ap.wire(rt, caller, 1, &[0; 13]);
-    answered.store(1, Ordering::SeqCst);
-    outcomes
+    signs.answered.store(1, Ordering::SeqCst);
+    (looking, outcomes)
 }
 
 /// One thread looks at the first network until the other's frame for the second was answered.
@@ -52,17 +60,20 @@ fn both<N: ApName + Send + Sync, R: Threads + Wait + Sync>(
     rt: &R,
     ap: &Ap<N>,
     caller: &mut Caller,
-) -> (bool, Result<[Outcome; 8], NoMemory>)
+) -> (bool, (bool, Result<[Outcome; 8], NoMemory>))
     requires { 0 < length N.config.networks }
 {
-    let answered = AtomicU64::new(0);
-    let flag = &answered;
+    let signs = Signs {
+        looking: AtomicU64::new(0),
+        answered: AtomicU64::new(0),
+    };
+    let seen = &signs;
     thread::join(
         rt,
         move ||
             requires { 0 < length N.config.networks }
-        { ap.inspect(rt, 0, |bss| is_answered_beside(bss, flag)) },
-        move || answer(rt, ap, caller, flag),
+        { ap.inspect(rt, 0, |bss| is_answered_beside(bss, seen)) },
+        move || answer(rt, ap, caller, seen),
     )
 }
 
@@ -78,8 +89,9 @@ fn other_network_answers_of<N: ApName + Send + Sync, R: Threads + Wait + Abort +
     if ap.networks() == 0 {
         return Err(Fail::from("no network"));
     }
-    let (beside, outcomes) = both(rt, &ap, &mut caller);
-    assert!(rt; beside);
+    let (answered, (looking, outcomes)) = both(rt, &ap, &mut caller);
+    assert!(rt; looking);
+    assert!(rt; answered);
     let mut expected = NOBODY;
     expected[1] = Outcome::Took(0);
     assert_eq!(rt; outcomes?, expected);

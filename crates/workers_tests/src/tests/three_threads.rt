@@ -29,8 +29,8 @@ const REQUESTS: [&str; 2] = [
     "b0000000 020000000002 02aa00000001 020000000002 0000 0000 0100 0000",
 ];
 
-/// Gives the request to the network at a place so many times, and hands what it sends. Answers whether all went well, and
-/// tells the third thread that it is done.
+/// Gives the request to the network at a place so many times, and hands what it sends. Answers whether all went well,
+/// and tells the third thread that it is done.
 fn feed<N: ApName, R: Wait>(
     rt: &R,
     ap: &Ap<N>,

@@ -22,8 +22,8 @@ const SECOND_WIRED: &str = "02aa00000001 02bb00000001 0800 02";
 /// It polls.
 const POLL: &str = "a400 01c0 020000000001 02aa00000001";
 
-/// What the network sends for all this: it answers both requests, tells in its beacon that units wait for the station, and
-/// sends them as it polls, the first with More Data.
+/// What the network sends for all this: it answers both requests, tells in its beacon that units wait for the
+/// station, and sends them as it polls, the first with More Data.
 const SENT: [&str; 5] = [
     "b0000000 02aa00000001 020000000001 020000000001 0000 0000 0200 0000",
     "10000000 02aa00000001 020000000001 020000000001 1000 0100 0000 01c0 010482840b16",

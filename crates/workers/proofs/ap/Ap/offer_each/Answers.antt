@@ -35,14 +35,15 @@ loop-place-preserved g c =
     let room = i.room in
     elim c.match-take.branch [
       | in-Some w ↦
-          let growth = w.offer.ensures.growth in
+          let more = w.offer.ensures.len in
+          let same = w.offer.ensures.capacity in
           let len = ap vec_len w.entries-is in
           let capacity = ap vec_capacity w.entries-is in
           record {
             count = count;
             long = ap length w.outcomes-is ∙ length-set outcomes place w.offer.result ∙ long;
             offered = offered-some _ copies _ outcomes _ _ _ _ place w.in-Some.copies w.offer.result within (old ∙ w.in-Some.is) taken w.outcomes-is w.offer.ensures.heard (ap (λ v. v.items) w.entries-is ∙ w.offer.ensures.entries) i.offered;
-            room = omega (arith, room, growth.0, growth.1, len, capacity);
+            room = omega (arith, room, more, same, len, capacity);
           }
       | in_default w ↦
           let len = ap vec_len w.entries-is in
