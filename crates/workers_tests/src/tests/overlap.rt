@@ -20,6 +20,7 @@ use workers::{Ap, ApName, Caller, Outcome, Parts};
 const TURNS: u32 = 1_000_000;
 
 /// What the threads tell each other: that the first network is looked at, and that the second has answered.
+#[derive(Drop)]
 struct Signs {
     looking: AtomicU64,
     answered: AtomicU64,
