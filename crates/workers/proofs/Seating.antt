@@ -4,7 +4,7 @@ use Rattle.std.specs.Prelude.{OnOk, OnErr}
 use Rattle.air_queue.specs.Passes.{QueueName, NetPassView}
 use Rattle.bss_core.specs.Network.{alone}
 use Rattle.bss_core.specs.Radio.{setting_at}
-use Rattle.bss_core.specs.State.{State, network_of}
+use Rattle.bss_core.specs.BssView.{BssView, network_of}
 use Rattle.bss_core.specs.declared.bss.Refusal.{Refusal}
 use Rattle.bss_core.specs.declared.config.RadioConfig.{RadioConfig}
 use Rattle.bss_core.specs.declared.event.Event.{Event}
@@ -12,7 +12,7 @@ use Rattle.bss_core.specs.declared.setting.Setting.{Setting}
 use Rattle.workers.specs.Seats.{IsSeated, IsNetworkOf}
 
 -- frames go from the network to the pass, or stay: together they are the same
-pub seated-moved : (config : RadioConfig) (queue : QueueName) (b b' : State) (p p' : NetPassView) → b'.setting ≡ b.setting → b'.history ≡ b.history → p'.name ≡ p.name → p'.place ≡ p.place → p'.pushed ++ b'.waiting ≡ p.pushed ++ b.waiting → IsSeated config queue b p → IsSeated config queue b' p'
+pub seated-moved : (config : RadioConfig) (queue : QueueName) (b b' : BssView) (p p' : NetPassView) → b'.setting ≡ b.setting → b'.history ≡ b.history → p'.name ≡ p.name → p'.place ≡ p.place → p'.pushed ++ b'.waiting ≡ p.pushed ++ b.waiting → IsSeated config queue b p → IsSeated config queue b' p'
 seated-moved config queue b b' p p' setting history name place frames h = record {
   named = name ∙ h.named;
   placed = subst (λ n. n < length config.networks) (sym place) h.placed;
@@ -22,7 +22,7 @@ seated-moved config queue b b' p p' setting history name place frames h = record
 }
 
 -- the network takes an event, or refuses it
-pub seated-taken : (config : RadioConfig) (queue : QueueName) (answer : Result ℕ Refusal) (b b' : State) (p : NetPassView) (new : List (List ℕ)) → b'.setting ≡ b.setting → OnOk answer (b'.waiting ≡ b.waiting ++ new) → OnOk answer ((network_of b').air ≡ (network_of b).air ++ new) → length b'.history ≤ b'.setting.network.max_events → OnErr answer (b' ≡ b) → IsSeated config queue b p → IsSeated config queue b' p
+pub seated-taken : (config : RadioConfig) (queue : QueueName) (answer : Result ℕ Refusal) (b b' : BssView) (p : NetPassView) (new : List (List ℕ)) → b'.setting ≡ b.setting → OnOk answer (b'.waiting ≡ b.waiting ++ new) → OnOk answer ((network_of b').air ≡ (network_of b).air ++ new) → length b'.history ≤ b'.setting.network.max_events → OnErr answer (b' ≡ b) → IsSeated config queue b p → IsSeated config queue b' p
 seated-taken config queue (Ok number) b b' p new setting waiting air bounded same h = record {
   named = h.named;
   placed = h.placed;
@@ -33,7 +33,7 @@ seated-taken config queue (Ok number) b b' p new setting waiting air bounded sam
 seated-taken config queue (Err refusal) b b' p new setting waiting air bounded same h = subst (λ s. IsSeated config queue s p) (sym same) h
 
 -- a seat has one of the networks
-pub network-seated : (config : RadioConfig) (queue : QueueName) (b : State) (p : NetPassView) → IsSeated config queue b p → IsNetworkOf config b
+pub network-seated : (config : RadioConfig) (queue : QueueName) (b : BssView) (p : NetPassView) → IsSeated config queue b p → IsNetworkOf config b
 network-seated config queue b p h = record {
   place = p.place;
   placed = h.placed;

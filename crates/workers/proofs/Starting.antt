@@ -6,7 +6,7 @@ use Rattle.bss_core.specs.Configuration.{network_fault}
 use Rattle.bss_core.specs.Network.{alone}
 use Rattle.bss_core.specs.Radio.{no_network, network_at, setting_in, setting_at}
 use Rattle.bss_core.specs.RadioView.{opened}
-use Rattle.bss_core.specs.State.{State, network_of}
+use Rattle.bss_core.specs.BssView.{BssView, network_of}
 use Rattle.bss_core.specs.declared.config.NetConfig.{NetConfig}
 use Rattle.bss_core.specs.declared.config.RadioConfig.{RadioConfig}
 use Rattle.workers.specs.Seats.{IsSeated}

@@ -4,10 +4,10 @@ use Rattle.std.specs.List.{AllByRecursion, AllZip, enumerate_from}
 use Rattle.air_queue.specs.Passes.{QueueName, NetPassView, AllThere}
 use Rattle.bss_core.specs.Radio.{network_at, setting_at, items_of}
 use Rattle.bss_core.specs.Section.{section_of}
-use Rattle.bss_core.specs.State.{State, network_of}
+use Rattle.bss_core.specs.BssView.{BssView, network_of}
 use Rattle.bss_core.specs.declared.config.RadioConfig.{RadioConfig}
 use Rattle.bss_core.specs.declared.section.Section.{Section}
-use Rattle.bss_core.specs.declared.step.AirItem.{AirItem}
+use Rattle.bss_core.specs.declared.radio.step.AirItem.{AirItem}
 use Rattle.workers.specs.Seats.{IsSeated}
 
 -- the section of the network at a place, alone with its own events, which are as many at most as it may take
@@ -36,19 +36,19 @@ items_at place frames = map (λ octets. record { place = place; octets = octets 
 -- ---- on the way
 
 -- each network with its pass, in order of place
-pub record AreSeated (config : RadioConfig) (queue : QueueName) (networks : List State) (passes : List NetPassView)
+pub record AreSeated (config : RadioConfig) (queue : QueueName) (networks : List BssView) (passes : List NetPassView)
     : Type 0 where
   pub there : AllThere queue (length config.networks) passes
   pub seated : AllZip (IsSeated config queue) networks passes
 
 -- what left of the network at a place and then what waits is all that it sent
-pub record IsSent (config : RadioConfig) (left : List AirItem) (place : ℕ) (network : State) : Type 0 where
+pub record IsSent (config : RadioConfig) (left : List AirItem) (place : ℕ) (network : BssView) : Type 0 where
   pub setting : network.setting ≡ setting_at config place
   pub bounded : length network.history ≤ network.setting.network.max_events
   pub placed : place < length config.networks
   pub sent : items_of place left ++ network.waiting ≡ (network_of network).air
 
-abbrev pub AreSent : RadioConfig → List AirItem → List State → Type 0
+abbrev pub AreSent : RadioConfig → List AirItem → List BssView → Type 0
 AreSent config left networks = AllByRecursion (λ n. IsSent config left n.0 n.1) (enumerate_from 0 networks)
 
 -- the section of the network at a place, all of whose frames left

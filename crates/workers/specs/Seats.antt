@@ -4,22 +4,22 @@ use Rattle.std.specs.FinMap as finite
 use Rattle.air_queue.specs.Passes.{QueueName, NetPassView, RadioPassView}
 use Rattle.bss_core.specs.Radio.{setting_at}
 use Rattle.bss_core.specs.RadioView.{IsSuffix}
-use Rattle.bss_core.specs.State.{State, network_of}
+use Rattle.bss_core.specs.BssView.{BssView, network_of}
 use Rattle.bss_core.specs.declared.config.RadioConfig.{RadioConfig}
 use Rattle.bss_core.specs.declared.event.Event.{Event}
-use Rattle.bss_core.specs.declared.step.Handed.{Handed}
-use Rattle.bss_core.specs.declared.step.Handed.TheVariants.{Moved, Nothing, QueueFull}
+use Rattle.bss_core.specs.declared.radio.step.Handed.{Handed}
+use Rattle.bss_core.specs.declared.radio.step.Handed.TheVariants.{Moved, Nothing, QueueFull}
 use Rattle.workers.specs.declared.outcome.Outcome.{Outcome}
 use Rattle.workers.specs.declared.outcome.Outcome.TheVariants.{NotHeard, Took, Full, NoMemory}
 
 -- a network, and its right to push to the air queue
 pub record SeatView : Type 0 where
-  pub network : State
+  pub network : BssView
   pub pass : NetPassView
 
 -- The network is the one at the pass's place of the configuration, the pass is one to the queue of this name, and
 -- what was pushed and then what waits is all that the network alone sends for its history.
-pub record IsSeated (config : RadioConfig) (queue : QueueName) (network : State) (pass : NetPassView) : Type 0 where
+pub record IsSeated (config : RadioConfig) (queue : QueueName) (network : BssView) (pass : NetPassView) : Type 0 where
   pub named : pass.name ≡ queue
   pub placed : pass.place < length config.networks
   pub setting : network.setting ≡ setting_at config pass.place
@@ -27,7 +27,7 @@ pub record IsSeated (config : RadioConfig) (queue : QueueName) (network : State)
   pub sent : pass.pushed ++ network.waiting ≡ (network_of network).air
 
 -- one of the networks of a configuration, at some moment of its life: what waits is the end of all that it sent
-pub record IsNetworkOf (config : RadioConfig) (network : State) : Type 0 where
+pub record IsNetworkOf (config : RadioConfig) (network : BssView) : Type 0 where
   pub place : ℕ
   pub placed : place < length config.networks
   pub setting : network.setting ≡ setting_at config place
@@ -43,7 +43,7 @@ pub record IsRadioOf (config : RadioConfig) (queue : QueueName) (pass : RadioPas
 -- ---- what becomes of a network
 
 -- an event was offered to it
-abbrev pub AnswersEvent : Event → State → State → Outcome → Type 0
+abbrev pub AnswersEvent : Event → BssView → BssView → Outcome → Type 0
 AnswersEvent event old new NotHeard = ⊥
 AnswersEvent event old new (Took number) = (number ≡ length old.history) × (new.history ≡ old.history ++ event ∷ [])
 AnswersEvent event old new Full = (length old.history ≡ old.setting.network.max_events) × (new ≡ old)

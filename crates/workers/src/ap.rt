@@ -3,10 +3,10 @@
 ghost use Rattle.std.specs.Prelude.{◌≡◌, ◌≢◌, ◌+◌, ◌<◌, ◌≤◌, ◌++◌, ◌∷◌, [], length, map};
 ghost use Rattle.std.specs.Prelude.{IfOk, OnErr, MatchBool, vec_len, vec_capacity};
 ghost use Rattle.std.specs.Fn.{FnOnceTakesAt, FnOnceReturnsAt};
-ghost use Rattle.bss_core.specs.State.{State};
+ghost use Rattle.bss_core.specs.BssView.{BssView};
 ghost use Rattle.bss_core.specs.declared.event.Event.{Event};
 ghost use Rattle.bss_core.specs.declared.line.Line.TheVariants as line;
-ghost use Rattle.bss_core.specs.declared.step.AirItem.{AirItem};
+ghost use Rattle.bss_core.specs.declared.radio.step.AirItem.{AirItem};
 ghost use Rattle.workers.specs.Copies.{copies_at, AreCopies, HaveNetworks, AreOf, AreOffered};
 ghost use Rattle.workers.specs.Giving.{AreHeard, AddsEntries, line_of, event_of, entry_of};
 ghost use Rattle.workers.specs.Seats.{IsNetworkOf};
@@ -227,8 +227,8 @@ impl<N: ApName> Ap<N> {
     /// threads.
     pub fn inspect<R: Wait, T, F: FnOnce(&Bss) -> T>(&self, rt: &R, place: usize, f: F) -> T
         requires place { place < length N.config.networks }
-        requires callable { (network : State) → IsNetworkOf N.config network → FnOnceTakesAt F.FnOnce f network }
-        ensures { (network : State) × IsNetworkOf N.config network × FnOnceReturnsAt F.FnOnce f network result }
+        requires callable { (network : BssView) → IsNetworkOf N.config network → FnOnceTakesAt F.FnOnce f network }
+        ensures { (network : BssView) × IsNetworkOf N.config network × FnOnceReturnsAt F.FnOnce f network result }
     {
         self.seats[place].lock(rt).show(f)
     }

@@ -1,7 +1,7 @@
 //! The end of an access point: all that waits or is queued leaves, and every network has its section (*profile*).
 
 ghost use Rattle.std.specs.Prelude.{◌≡◌, ◌++◌, IfOk, OnOk, vec_len, length};
-ghost use Rattle.air_queue.specs.Passes.{BeginsWith};
+ghost use Rattle.bss_core.specs.Lists.{IsPrefix};
 ghost use Rattle.bss_core.specs.Radio.{items_of};
 ghost use Rattle.bss_core.specs.Running.{section_with};
 ghost use Rattle.workers.specs.Ending.{AreSections, HaveLeft, ArePlaced, AreSeated, AreSent, AreEnded, items_at};
@@ -94,7 +94,7 @@ impl<N: ApName> Ap<N> {
         // What left of a network is all that it sent on the air, and nothing else left.
         ensures air { IfOk result (λ end. HaveLeft end.sections end.left) }
         ensures nothing_else { IfOk result (λ end. ArePlaced N.config end.left) }
-        ensures begins { IfOk result (λ end. BeginsWith transmitter end.left) }
+        ensures begins { IfOk result (λ end. IsPrefix transmitter end.left) }
     {
         drop(callers);
         let Ap {
@@ -148,7 +148,7 @@ fn end_networks<N: ApName>(
     ensures ended { IfOk result (λ sections. AreEnded N.config left.new.items sections.items) }
     ensures count { IfOk result (λ sections. vec_len sections ≡ vec_len networks) }
     ensures placed { OnOk result (ArePlaced N.config left.old.items → ArePlaced N.config left.new.items) }
-    ensures begins { OnOk result (BeginsWith left.old.items left.new.items) }
+    ensures begins { OnOk result (IsPrefix left.old.items left.new.items) }
 {
     let mut sections = Vec::with_capacity(alloc, networks.len())?;
     for network in networks {

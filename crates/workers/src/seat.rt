@@ -3,7 +3,7 @@
 ghost use Rattle.std.specs.Prelude.{◌≡◌, []};
 ghost use Rattle.std.specs.Fn.{FnOnceTakesAt, FnOnceReturnsAt};
 ghost use Rattle.air_queue.specs.Passes.{NetPassView};
-ghost use Rattle.bss_core.specs.State.{State};
+ghost use Rattle.bss_core.specs.BssView.{BssView};
 ghost use Rattle.workers.specs.Seats.{IsSeated, IsNetworkOf, AnswersEvent, HandsFrame};
 
 use crate::name::ApName;
@@ -75,8 +75,8 @@ impl<N: ApName> Seat<N> {
 
     /// What `f` answers of the network.
     pub(crate) fn show<T, F: FnOnce(&Bss) -> T>(&self, f: F) -> T
-        requires { (network : State) → IsNetworkOf N.config network → FnOnceTakesAt F.FnOnce f network }
-        ensures { (network : State) × IsNetworkOf N.config network × FnOnceReturnsAt F.FnOnce f network result }
+        requires { (network : BssView) → IsNetworkOf N.config network → FnOnceTakesAt F.FnOnce f network }
+        ensures { (network : BssView) × IsNetworkOf N.config network × FnOnceReturnsAt F.FnOnce f network result }
     {
         f(&self.bss)
     }

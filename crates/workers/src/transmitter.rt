@@ -17,7 +17,7 @@ pub struct Transmitter<N: ApName> {
 
 impl<N: ApName> Model for Transmitter<N> {
     ghost use Rattle.std.specs.Prelude.{List};
-    ghost use Rattle.bss_core.specs.declared.step.AirItem.{AirItem};
+    ghost use Rattle.bss_core.specs.declared.radio.step.AirItem.{AirItem};
     ghost use Rattle.workers.specs.Seats.{IsRadioOf};
 
     ghost Value = { List AirItem };

@@ -3,9 +3,9 @@ use Rattle.std.proofs.lemmas.List.{length_push}
 use Rattle.std.specs.Prelude.{All}
 use Rattle.std.specs.List.{AllByRecursion, enumerate_from}
 use Rattle.std.specs.Vec.Iter.{into_iter_items}
-use Rattle.bss_core.specs.State.{State}
+use Rattle.bss_core.specs.BssView.{BssView}
 use Rattle.bss_core.specs.declared.section.Section.{Section}
-use Rattle.bss_core.specs.declared.step.AirItem.{AirItem}
+use Rattle.bss_core.specs.declared.radio.step.AirItem.{AirItem}
 use Rattle.workers.specs.Ending.{IsSent, items_at}
 use Rattle.workers.proofs.Endings.{ended-step, sent-step}
 use Rattle.workers.proofs.Frames.{placed-more}
@@ -19,13 +19,13 @@ loop-network-preserved g c =
     let left' : List AirItem = c.end_network.new.left.items in
     let sections : List Section = c.loop-network.sections.items in
     let section : Section = c.in_ok-end_network.field-0 in
-    let b : State = c.in-Some.network in
-    let rest : List State = into_iter_items c.next.new.self in
+    let b : BssView = c.in-Some.network in
+    let rest : List BssView = into_iter_items c.next.new.self in
     let place : ℕ = c.len-place.result in
     let at : place ≡ length sections = c.len-place.ensures ∙ c.loop-network.sections.ok.0 in
     let more : left' ≡ left ++ items_at place b.waiting = c.in_ok-end_network.ensures.left in
     let pushed : c.push.new.self.items ≡ sections ++ section ∷ [] = c.in_ok-push.ensures.items in
-    let coming = subst (λ (states : List State). AllByRecursion (λ (n : ℕ × State). IsSent config left n.0 n.1) (enumerate_from (length sections) states)) c.in-Some.ensures.steps.0 i.sent in
+    let coming = subst (λ (states : List BssView). AllByRecursion (λ (n : ℕ × BssView). IsSent config left n.0 n.1) (enumerate_from (length sections) states)) c.in-Some.ensures.steps.0 i.sent in
     let within : place < length config.networks = subst (λ n. n < length config.networks) (sym at) coming.0.placed in
     record {
       ended = ended-step config left left' sections c.push.new.self.items section place b rest at more c.in_ok-end_network.ensures.section pushed i.ended coming;

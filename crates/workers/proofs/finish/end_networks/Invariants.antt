@@ -2,7 +2,7 @@ use Rattle.std.proofs.Common.{◌≡◌, ◌+◌, ◌<◌, length, vec_len}
 use Rattle.std.specs.Prelude.{All}
 use Rattle.std.specs.List.{AllByRecursion, enumerate_from}
 use Rattle.std.specs.Vec.Iter.{into_iter_items}
-use Rattle.air_queue.specs.Passes.{BeginsWith}
+use Rattle.bss_core.specs.Lists.{IsPrefix}
 use Rattle.workers.specs.Ending.{IsSent, AreEnded}
 use Rattle.workers.proofs.finish.end_networks.Given as goal
 
@@ -18,5 +18,5 @@ invariant-loop-network g l = record {
   placed :
       All (λ item. item.place < length g.N.ApName.config.networks) l.initial.left.items
       → All (λ item. item.place < length g.N.ApName.config.networks) l.left.items;
-  begins : BeginsWith l.initial.left.items l.left.items;
+  begins : IsPrefix l.initial.left.items l.left.items;
 }

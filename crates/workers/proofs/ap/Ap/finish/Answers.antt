@@ -2,7 +2,7 @@ use Rattle.std.proofs.Common.{◌≡◌, List, Some, length, sym, ap, subst, ◌
 use Rattle.std.specs.Prelude.{slice_get}
 use Rattle.bss_core.specs.Radio.{items_of}
 use Rattle.bss_core.specs.declared.section.Section.{Section}
-use Rattle.bss_core.specs.declared.step.AirItem.{AirItem}
+use Rattle.bss_core.specs.declared.radio.step.AirItem.{AirItem}
 use Rattle.workers.specs.Ending.{AreSent}
 use Rattle.workers.proofs.Endings.{seats-count, all-sent, ended-at}
 use Rattle.workers.proofs.ap.Ap.finish.Goals as goal
