@@ -3,7 +3,7 @@ use Rattle.std.specs.Prelude.{ℕ, ◌<◌, ◌≤◌, ◌≡◌, ◌≢◌, [],
 use Rattle.std.specs.FinMap as finite
 use Rattle.air_queue.specs.Passes.{QueueName, NetPassView, RadioPassView}
 use Rattle.bss_core.specs.Radio.{setting_at}
-use Rattle.bss_core.specs.RadioView.{IsSuffix}
+use Rattle.bss_core.specs.Lists.{IsSuffix}
 use Rattle.bss_core.specs.BssView.{BssView, network_of}
 use Rattle.bss_core.specs.declared.config.RadioConfig.{RadioConfig}
 use Rattle.bss_core.specs.declared.event.Event.{Event}
