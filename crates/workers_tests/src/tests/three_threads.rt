@@ -94,16 +94,16 @@ fn feed_and_transmit<N: ApName + Send + Sync, R: Threads + Wait + Sync>(
 fn run_three<N: ApName + Send + Sync, R: Threads + Wait + Sync>(
     rt: &R,
     ap: &Ap<N>,
-    callers: (&mut Caller, &mut Caller),
+    first: &mut Caller,
+    second: &mut Caller,
     transmitter: &mut Transmitter<N>,
-    requests: (&[u8], &[u8]),
+    one: &[u8],
+    two: &[u8],
 ) -> bool
     requires { 1 < length N.config.networks }
 {
     let done = AtomicU64::new(0);
     let flag = &done;
-    let (first, second) = callers;
-    let (one, two) = requests;
     let (fed, others) = thread::join(
         rt,
         move ||
@@ -131,14 +131,16 @@ fn fed_of<N: ApName + Send + Sync, R: Threads + Wait + Sync>(
     }
     let one = octets(alloc, REQUESTS[0])?;
     let two = octets(alloc, REQUESTS[1])?;
-    let requests = (one.as_slice(), two.as_slice());
-    if !run_three(
+    let fed = run_three(
         rt,
         &ap,
-        (&mut first, &mut second),
+        &mut first,
+        &mut second,
         &mut transmitter,
-        requests,
-    ) {
+        one.as_slice(),
+        two.as_slice(),
+    );
+    if !fed {
         return Err(Fail::from("a thread did not come to its end"));
     }
     Ok(ap.finish(rt, callers, transmitter)?)

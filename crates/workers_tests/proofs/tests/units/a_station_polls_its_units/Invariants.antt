@@ -2,4 +2,4 @@ use Rattle.workers_tests.proofs.tests.units.a_station_polls_its_units.Given as g
 
 -- the access point of these parts
 abbrev pub ghosts-polled_of : goal.ghosts-polled_of
-ghosts-polled_of a = record { config = a.parts.config; queue = a.parts.queue }
+ghosts-polled_of g a = record { config = a.parts.config; queue = a.parts.queue }
