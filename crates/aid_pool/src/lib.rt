@@ -11,6 +11,3 @@ mod marks;
 mod pool;
 
 pub use pool::{AidPool, least_is_free};
-
-#[cfg(test)]
-mod tests;

@@ -24,6 +24,3 @@ pub use laws::rule_is_kept;
 pub use pass::{NetPass, RadioPass};
 pub use queue::AirQueue;
 pub use taking::{Left, TakeInFault};
-
-#[cfg(test)]
-mod tests;

@@ -40,10 +40,10 @@ fault_ends replay.Write input left old new read h = (input, read, as_run (Err re
 fault_ends replay.NoMemory input left old new read h = (input, read, as_run (Err replay.NoMemory) _ old new h)
 
 -- the text was read, and its run ended well
-pub well_ends : (input : List ℕ) (left old new : Option (List ℕ)) → IfSome left (λ octets. input ≡ octets)
-    → Ends text_ending (Ok tt) (answer_of (joined_parts input).0 (joined_parts input).1) old new → EndsInput (Ok tt)
-    left old new
-well_ends input left old new read h = (input, read, as_run (Ok tt) _ old new h)
+pub well_ends : (u : Unit {0}) (input : List ℕ) (left old new : Option (List ℕ)) → IfSome left (λ octets. input ≡ octets)
+    → Ends text_ending (Ok u) (answer_of (joined_parts input).0 (joined_parts input).1) old new
+    → EndsInput (Ok u) left old new
+well_ends u input left old new read h = (input, read, as_run (Ok u) _ old new h)
 
 -- memory ran out before all was read
 unread_ends : (left old : Option (List ℕ)) → EndsOn (Err Memory) left old old

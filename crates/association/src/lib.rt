@@ -19,8 +19,6 @@ mod management;
 mod probe;
 mod request;
 mod status;
-#[cfg(test)]
-mod tests;
 
 pub use authentication::{auth_status, write_auth};
 pub use joining::{assoc_status, write_assoc};

@@ -9,8 +9,6 @@
 mod advert;
 mod beacon_frame;
 mod probe_response;
-#[cfg(test)]
-mod tests;
 
 pub use advert::Advert;
 pub use beacon_frame::{dtim_count, write_beacon};

@@ -12,8 +12,6 @@
 
 mod encapsulation;
 mod ethernet;
-#[cfg(test)]
-mod tests;
 
 pub use encapsulation::{TYPED_HEADER_LEN, body_comes_back, frame_comes_back, to_air, to_wire};
 pub use ethernet::{Ether, Kind, one_ethernet_frame};

@@ -74,7 +74,7 @@ pub struct Bss {
 }
 
 impl Model for Bss {
-    ghost use Rattle.std.specs.Prelude.{◌≡◌, ◌<◌, IsTrue, []};
+    ghost use Rattle.std.specs.Prelude.{◌≡◌, ◌<◌, ◌≤◌, IsTrue, length, []};
     ghost use Rattle.std.specs.VecDeque.{deque_len, deque_capacity};
     ghost use Rattle.bss_core.specs.BssView.{BssView, IsAfterHistory};
 
@@ -100,6 +100,7 @@ impl Model for Bss {
         })
         × (b.stations.most ≡ b.setting.network.max_stations)
         × (b.kept.quota ≡ b.setting.network.quota)
+        × (b.kept.puts ≤ length b.history.items)
         × (IsTrue b.has_slot → deque_len b.waiting < deque_capacity b.waiting) };
 }
 

@@ -1,4 +1,5 @@
-//! Tests of the crate `bss_core`, over its public calls.
+//! Tests of the crate `bss_core`, over its public calls: on one network (`network`, `events`), on a radio of two (`radio`) and
+//! on runs of such a radio (`runs`).
 //!
 //! They show what no contract says: that calls succeed where there is memory, on octets from outside. They stand beside
 //! that crate since a crate with tests is proved twice.

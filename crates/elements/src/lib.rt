@@ -16,6 +16,3 @@ pub use element::{
 pub use rates::{
     BASIC_RATE, is_rate_among, units_of, write_extended_rates, write_rates, write_supported_rates,
 };
-
-#[cfg(test)]
-mod tests;

@@ -33,6 +33,3 @@ pub use management::{
 pub use memory::NoMemory;
 pub use octet_string::Octets;
 pub use ps_poll::AID_HIGH_BITS;
-
-#[cfg(test)]
-mod tests;

@@ -1,11 +1,13 @@
 -- What the definitions say of some lists.
-use Rattle.std.proofs.Common.{◌≡◌, [], ◌∷◌, Some, None, refl}
+use Rattle.std.proofs.Common.{◌≡◌, [], ◌∷◌, length, map, Some, None, refl}
 use Rattle.std.specs.List.{slice_get}
 use Rattle.powersave.specs.declared.unit.Whom.TheVariants.{One, Group}
 use Rattle.powersave.specs.Keep.{units_for, without_oldest, without_all, room_beside}
 use Rattle.mac_frame.specs.Address.{broadcast}
 use Rattle.mac_frame.proofs.Samples.{station}
-use Rattle.powersave.proofs.Samples.{other_station, unit_to, for_station, for_other, for_group, three}
+use Rattle.powersave.specs.Queues.{merged}
+use Rattle.powersave.proofs.Samples.{other_station, unit_to, for_station, for_other, for_group, three, arrived}
+use Rattle.powersave.proofs.QueueSteps.{entry_of}
 
 units_for_a_station_are_in_order_of_arrival : units_for (One station) three ≡ unit_to station 1 ∷ unit_to station 3 ∷ []
 units_for_a_station_are_in_order_of_arrival = refl
@@ -51,3 +53,25 @@ room_for_another_stays = refl
 
 room_for_the_group_stays : room_beside (One station) (Some Group) ≡ Some Group
 room_for_the_group_stays = refl
+
+-- ---- a run: the oldest of a station is taken out of the three, then all of it
+
+the_second_of_the_station_is_its_first_then : units_for (One station) (without_oldest (One station) three) ≡ unit_to station 3 ∷ []
+the_second_of_the_station_is_its_first_then = refl
+
+the_groups_first_is_the_same_then : slice_get (units_for Group (without_oldest (One station) three)) 0 ≡ Some (unit_to broadcast 2)
+the_groups_first_is_the_same_then = refl
+
+one_is_left_in_the_end : length (without_all (One station) (without_oldest (One station) three)) ≡ 1
+one_is_left_in_the_end = refl
+
+-- ---- queues by the numbers of arrival
+
+two_queues_make_one_list : map entry_of (merged (One station) (arrived 0 (unit_to station 1) ∷ arrived 2 (unit_to station 3) ∷ []) (merged Group (arrived 1 (unit_to broadcast 2) ∷ []) [])) ≡ three
+two_queues_make_one_list = refl
+
+in_whatever_order_they_stand : map entry_of (merged Group (arrived 1 (unit_to broadcast 2) ∷ []) (merged (One station) (arrived 0 (unit_to station 1) ∷ arrived 2 (unit_to station 3) ∷ []) [])) ≡ three
+in_whatever_order_they_stand = refl
+
+an_empty_queue_adds_nothing : map entry_of (merged (One other_station) [] (merged Group (arrived 1 (unit_to broadcast 2) ∷ []) [])) ≡ for_group 2 ∷ []
+an_empty_queue_adds_nothing = refl

@@ -1,15 +1,15 @@
 -- The part of the list for one, and the parts for others.
-use Rattle.std.proofs.Common.{◌≡◌, ◌≢◌, ℕ, Bool, true, false, not, cond, List, [], ◌∷◌, ◌++◌, map, filter, drop, get_or, Option, Some, None, refl, sym, ap, ◌∙◌}
-use Rattle.std.specs.List.{slice_get, position}
-use Rattle.std.specs.Option.{option_map}
+use Rattle.std.proofs.Common.{◌≡◌, ◌≢◌, ℕ, suc, ◌+◌, Bool, true, false, not, cond, List, [], ◌∷◌, ◌++◌, length, map, filter, drop, Option, Some, None, refl, sym, ap, ◌∙◌, arith}
+use Rattle.std.specs.List.{slice_get}
 use Rattle.std.specs.Cmp.Lexicographic.{bytes_decides}
 use Rattle.std.proofs.lemmas.Bool.{false_from_ne_true}
-use Rattle.std.proofs.lemmas.Option.{slice_get-map, slice_get-get_or}
+use Rattle.std.proofs.lemmas.List.{length-map}
+use Rattle.std.proofs.lemmas.List.Filters.{length-filter_both}
+use Rattle.std.proofs.lemmas.Option.{none-some}
 use Rattle.powersave.specs.declared.unit.Whom.{Whom}
 use Rattle.powersave.specs.declared.unit.Whom.TheVariants.{One, Group}
 use Rattle.powersave.specs.declared.unit.Unit.{Unit as Msdu}
 use Rattle.powersave.specs.Keep.{Entry, is_same, is_for, units_for, without_all, without_oldest, room_beside}
-use Rattle.powersave.proofs.Lists.{first_is, none_is}
 
 -- ---- for whom
 
@@ -36,25 +36,32 @@ room_for_others whom other differ =
     let room : Bool → Option Whom = λ b. cond b None (Some other) in
     ap room (other_whom other whom (λ same. differ (sym same)))
 
--- ---- the first for one
+-- ---- how many there are
 
--- the unit at the place of the first entry for one is its first unit
-pub first_unit : (whom : Whom) (entries : List Entry) (place : ℕ) (entry : Entry) → position (is_for whom) entries ≡ Some place → entry ≡ get_or entries place entry → Some entry.1 ≡ slice_get (units_for whom entries) 0
-first_unit whom entries place entry e read =
-    let f = first_is (is_for whom) entries place e in
-    let within = f.within in
-    let there : slice_get entries place ≡ Some entry = slice_get-get_or entries place entry within ∙ ap Some (sym read) in
-    sym (slice_get-map msdu (filter (is_for whom) entries) 0 ∙ ap (option_map msdu) (f.found ∙ there))
+-- where none is for one, its oldest takes none out
+pub without_oldest_none : (whom : Whom) (es : List Entry) → None ≡ slice_get (units_for whom es) 0 → without_oldest whom es ≡ es
+without_oldest_none whom [] none = refl
+without_oldest_none whom (e ∷ es) none = tested (is_for whom e) none (without_oldest_none whom es)
+  where
+    tested : (d : Bool) → None ≡ slice_get (map msdu (cond d (e ∷ filter (is_for whom) es) (filter (is_for whom) es))) 0 → (None ≡ slice_get (units_for whom es) 0 → without_oldest whom es ≡ es) → cond d es (e ∷ without_oldest whom es) ≡ e ∷ es
+    tested true some later = absurd (none-some e.1 some)
+    tested false others later = ap (λ fs. e ∷ fs) (later others)
 
--- where no entry is for one, it has no first unit
-pub no_unit : (whom : Whom) (entries : List Entry) → position (is_for whom) entries ≡ None → None ≡ slice_get (units_for whom entries) 0
-no_unit whom entries e = sym (slice_get-map msdu (filter (is_for whom) entries) 0 ∙ ap (option_map msdu) (none_is (is_for whom) entries e).0)
+-- its oldest takes one out
+pub length-without_oldest : (whom : Whom) (es : List Entry) (unit : Msdu) → Some unit ≡ slice_get (units_for whom es) 0 → length es ≡ length (without_oldest whom es) + 1
+length-without_oldest whom [] unit some = absurd (none-some unit (sym some))
+length-without_oldest whom (e ∷ es) unit some = tested (is_for whom e) some (length-without_oldest whom es unit)
+  where
+    tested : (d : Bool) → Some unit ≡ slice_get (map msdu (cond d (e ∷ filter (is_for whom) es) (filter (is_for whom) es))) 0 → (Some unit ≡ slice_get (units_for whom es) 0 → length es ≡ length (without_oldest whom es) + 1) → suc (length es) ≡ length (cond d es (e ∷ without_oldest whom es)) + 1
+    tested true here later = omega arith
+    tested false others later = let rest = later others in omega arith
 
--- the n-th entry for one, in a list that is shown, has its n-th unit
-pub nth_unit : (whom : Whom) (entries shown : List Entry) (n : ℕ) (r : Option Entry) → shown ≡ entries → r ≡ slice_get (filter (is_for whom) shown) n → option_map msdu r ≡ slice_get (units_for whom entries) n
-nth_unit whom entries shown n r same read =
-    ap (option_map msdu) (read ∙ ap (λ es. slice_get (filter (is_for whom) es) n) same)
-    ∙ sym (slice_get-map msdu (filter (is_for whom) entries) n)
+-- those for one, and the others
+pub length-without_all : (whom : Whom) (es : List Entry) → length (without_all whom es) + length (units_for whom es) ≡ length es
+length-without_all whom es =
+    let both = length-filter_both (is_for whom) (λ entry. not (is_for whom entry)) (λ entry. refl) es in
+    let units = length-map (filter (is_for whom) es) msdu in
+    omega arith
 
 -- ---- what is put, and what is taken out
 

@@ -3,6 +3,7 @@ use Rattle.std.proofs.Common.{ℕ, List, [], ◌∷◌}
 use Rattle.mac_frame.specs.Address.{broadcast}
 use Rattle.mac_frame.proofs.Samples.{station, host}
 use Rattle.powersave.specs.declared.unit.Whom.TheVariants.{One, Group}
+use Rattle.powersave.specs.declared.queues.Arrived.{Arrived}
 use Rattle.powersave.specs.declared.unit.Unit.{Unit as Msdu}
 use Rattle.powersave.specs.Keep.{Entry}
 
@@ -26,3 +27,7 @@ for_group octet = (Group, unit_to broadcast octet)
 -- what came for one station, the group, and the same station again
 abbrev pub three : List Entry
 three = for_station 1 ∷ for_group 2 ∷ for_station 3 ∷ []
+
+-- a unit before which this many were put
+abbrev pub arrived : ℕ → Msdu → Arrived
+arrived number unit = record { number = number; unit = unit }

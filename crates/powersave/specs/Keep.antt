@@ -1,4 +1,5 @@
--- The units that a network keeps for stations that doze (IEEE Std 802.11-2016, 11.2.3): one list, of which a part is for each.
+-- The units that a network keeps for stations that doze (IEEE Std 802.11-2016, 11.2.3): one list, of which a part is
+-- for each.
 use Rattle.std.specs.Prelude.{ℕ, Bool, true, false, not, List, [], ◌∷◌, map, filter, Option, Some, None, if◌then◌else◌}
 use Rattle.std.specs.Str.{bytes_eq}
 use Rattle.powersave.specs.declared.unit.Whom.{Whom}
@@ -9,11 +10,12 @@ use Rattle.powersave.specs.declared.unit.Unit.{Unit as Msdu}
 abbrev pub Entry : Type 0
 Entry = Whom × Msdu
 
--- the quota (profile), the units in order of arrival, and for whom room is reserved, if for any
+-- the quota (profile), the units in order of arrival, for whom room is reserved, if for any, and how many were put
 pub record Kept : Type 0 where
   pub quota : ℕ
   pub entries : List Entry
   pub reserved : Option Whom
+  pub puts : ℕ
 
 -- ---- for whom
 

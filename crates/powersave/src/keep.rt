@@ -1,46 +1,59 @@
-//! The units that are kept (IEEE Std 802.11-2016, 11.2.3): one list in order of arrival.
+//! The units that are kept (IEEE Std 802.11-2016, 11.2.3): one list in order of arrival, made of a queue for each whom.
 
-ghost use Rattle.std.specs.Prelude.{◌≡◌, ◌≢◌, ◌<◌, ◌≤◌, ◌++◌, ◌↔◌, List, [], ◌∷◌, length, drop, filter, position, slice_get, IsTrue, Some, None, OnOk, OnErr, IsOk, IsSome};
+ghost use Rattle.std.specs.Prelude.{◌≡◌, ◌≢◌, ◌<◌, ◌≤◌, ◌+◌, ◌^◌, ◌++◌, ◌↔◌, List, [], ◌∷◌, length, drop, slice_get, IsTrue, Some, None, OnOk, OnErr, IsOk};
 ghost use Rattle.std.specs.Option.{option_copied};
 ghost use Rattle.powersave.specs.declared.unit.Whom.{Whom};
 ghost use Rattle.powersave.specs.declared.unit.Unit.{Unit as Msdu};
-ghost use Rattle.powersave.specs.Keep.{Entry, is_for, units_for, without_oldest, without_all, room_beside};
+ghost use Rattle.powersave.specs.Keep.{Entry, units_for, without_oldest, without_all, room_beside};
+ghost use Rattle.powersave.specs.Queues.{HasRoom, MakesRoom};
 
+use crate::queues::{Arrived, Queues};
 use crate::unit::{Unit, Whom};
 use mac_frame::NoMemory;
 use std::alloc::Global;
 use std::marker::Model;
 
-/// The units that a network keeps for stations that doze (11.2.3). Contracts see it as its quota, the list of its units in order
-/// of arrival, each with whom it is kept for, and for whom room is reserved.
+/// The units that a network keeps for stations that doze (11.2.3). Contracts see it as its quota, the list of its units
+/// in order of arrival, each with whom it is kept for, for whom room is reserved, and how many units were put so far.
+/// No call walks over the units of others, and [`oldest`](Keep::oldest) leaves a queue that has become empty: it goes
+/// with [`drop_for`](Keep::drop_for).
 #[derive(Debug, Drop)]
 pub struct Keep {
     quota: u32,
-    entries: Vec<(Whom, Unit)>,
+    queues: Queues,
+    // how many units all queues have
+    len: usize,
+    puts: u64,
     reserved: Option<Whom>,
 }
 
 impl Model for Keep {
-    ghost use Rattle.std.specs.Prelude.{◌<◌, IsSome};
-    ghost use Rattle.std.specs.Vec.{vec_len, vec_capacity};
     ghost use Rattle.powersave.specs.Keep.{Kept};
+    ghost use Rattle.powersave.specs.Queues.{entries_in, AreKept};
 
     ghost Value = { Kept };
 
-    ghost view = { λ k. record { quota = k.quota; entries = k.entries.items; reserved = k.reserved } };
+    // The units of all queues, by the numbers of their arrivals.
+    ghost view = { λ k. record {
+      quota = k.quota;
+      entries = entries_in k.queues.map.entries;
+      reserved = k.reserved;
+      puts = k.puts;
+    } };
 
-    // Where room is reserved, the next unit needs no memory.
-    ghost invariant = { λ k. IsSome k.reserved → vec_len k.entries < vec_capacity k.entries };
+    ghost invariant = { λ k. AreKept k.len k.puts k.reserved k.queues.map.entries };
 }
 
 impl Keep {
     /// A list without units that is full at `quota` units (*profile*). No room is reserved. It takes no memory.
     pub fn new(alloc: Global, quota: u32) -> Keep
-        ensures { result ≡ record { quota = quota; entries = []; reserved = None } }
+        ensures { result ≡ record { quota = quota; entries = []; reserved = None; puts = 0 } }
     {
         Keep {
             quota,
-            entries: Vec::new(alloc),
+            queues: Queues::new(alloc),
+            len: 0,
+            puts: 0,
             reserved: None,
         }
     }
@@ -49,40 +62,46 @@ impl Keep {
     pub fn len(&self) -> usize
         ensures { result ≡ length self.now.entries }
     {
-        self.entries.len()
+        self.len
     }
 
     /// Whether no unit is kept.
     pub fn is_empty(&self) -> bool
         ensures { IsTrue result ↔ (self.now.entries ≡ []) }
     {
-        self.entries.is_empty()
+        self.len == 0
     }
 
     /// Whether as many units are kept as the quota allows, whoever they are for (*profile*).
     pub fn is_full(&self) -> bool
         ensures { IsTrue result ↔ (self.now.quota ≤ length self.now.entries) }
     {
-        self.entries.len() >= self.quota as usize
+        self.len >= self.quota as usize
+    }
+
+    /// The number of units that were put since the list was new: of calls of [`put`](Keep::put) that answered `Ok`.
+    pub fn puts(&self) -> u64
+        ensures { result ≡ self.now.puts }
+    {
+        self.puts
     }
 
     /// The number of units that are kept for `whom`.
     pub fn count_for(&self, whom: Whom) -> usize
         ensures { result ≡ length (units_for whom self.now.entries) }
     {
-        count_of(&self.entries, whom)
+        self.queues.count_for(&whom)
     }
 
     /// The unit for `whom` that `n` others for `whom` came before, or `None` where `n` units or fewer are kept for it.
     pub fn nth(&self, whom: Whom, n: usize) -> Option<&Unit>
         ensures { option_copied result ≡ slice_get (units_for whom self.now.entries) n }
     {
-        let entry = nth_of(&self.entries, whom, n)?;
-        Some(&entry.1)
+        self.queues.nth(&whom, n)
     }
 
-    /// Takes out the first unit that came for `whom`, or gives `None` where none is kept for it. The others stay in their order.
-    /// A reservation for `whom` ends.
+    /// Takes out the first unit that came for `whom`, or gives `None` where none is kept for it. The others stay in
+    /// their order. A reservation for `whom` ends.
     pub fn oldest(&mut self, whom: Whom) -> Option<Unit>
         ensures unit { result ≡ slice_get (units_for whom self.old.entries) 0 }
         ensures after { self.new ≡ record self.old {
@@ -90,9 +109,9 @@ impl Keep {
           reserved = room_beside whom self.old.reserved;
         } }
     {
-        let place = first_of(&self.entries, whom);
-        self.reserved = room_beside(self.reserved, whom);
-        let (_, unit) = self.entries.remove(place?);
+        self.reserved = room_beside(self.reserved, &whom);
+        let unit = self.queues.pop(&whom)?;
+        self.len -= 1;
         Some(unit)
     }
 
@@ -103,29 +122,43 @@ impl Keep {
           reserved = room_beside whom self.old.reserved;
         } }
     {
-        self.reserved = room_beside(self.reserved, whom);
-        self.entries.retain(|entry| !is_for(whom, entry));
+        self.reserved = room_beside(self.reserved, &whom);
+        self.len -= self.queues.remove(&whom);
     }
 
-    /// Appends a unit for `whom` to a list that is not full. It needs no memory where room is reserved for `whom`. A reservation,
-    /// whoever it is for, ends. After `NoMemory` all is as it was, and the unit is dropped.
+    /// Appends a unit for `whom` to a list that is not full and has seen fewer than 2^62 puts. It needs no memory where
+    /// room is reserved for `whom`. A reservation, whoever it is for, ends. After `NoMemory` all is as it was, and the
+    /// unit is dropped.
     pub fn put(&mut self, whom: Whom, unit: Unit) -> Result<(), NoMemory>
-        requires { length self.old.entries < self.old.quota }
-        ensures ok { OnOk result (self.new ≡ record self.old { entries = self.old.entries ++ (whom, unit) ∷ []; reserved = None }) }
+        requires not_full { length self.old.entries < self.old.quota }
+        requires countable { self.old.puts < 2 ^ 62 }
+        ensures ok { OnOk result (self.new ≡ record self.old {
+          entries = self.old.entries ++ (whom, unit) ∷ [];
+          reserved = None;
+          puts = self.old.puts + 1;
+        }) }
         ensures err { OnErr result (self.new ≡ self.old) }
         ensures room { self.old.reserved ≡ Some whom → IsOk result }
     {
-        self.entries.push((whom, unit))?;
+        make_room_unless(&mut self.queues, self.reserved, &whom)?;
+        let arrived = Arrived {
+            number: self.puts,
+            unit,
+        };
+        self.queues.push(&whom, arrived);
+        self.len += 1;
+        self.puts += 1;
         self.reserved = None;
         Ok(())
     }
 
-    /// Reserves room for the next unit, which is for `whom`. An earlier reservation ends. After `NoMemory` all is as it was.
+    /// Reserves room for the next unit, which is for `whom`, and a queue for it where there is none. An earlier
+    /// reservation ends. After `NoMemory` all is as it was.
     pub fn reserve(&mut self, whom: Whom) -> Result<(), NoMemory>
         ensures ok { OnOk result (self.new ≡ record self.old { reserved = Some whom }) }
         ensures err { OnErr result (self.new ≡ self.old) }
     {
-        self.entries.reserve(1)?;
+        self.queues.make_room(&whom)?;
         self.reserved = Some(whom);
         Ok(())
     }
@@ -138,48 +171,36 @@ impl Keep {
     }
 }
 
+/// Makes room for one more unit for `whom`, unless room is reserved for it.
+fn make_room_unless(
+    queues: &mut Queues,
+    reserved: Option<Whom>,
+    whom: &Whom,
+) -> Result<(), NoMemory>
+    requires { HasRoom reserved queues.old.map.entries }
+    ensures ok { OnOk result (HasRoom (Some whom.now) queues.new.map.entries) }
+    ensures units { MakesRoom queues.old.map.entries queues.new.map.entries }
+    ensures room { reserved ≡ Some whom.now → IsOk result }
+{
+    if reserved == Some(*whom) {
+        return Ok(());
+    }
+    queues.make_room(whom)
+}
+
 /// The reservation, unless it is for `whom`.
-fn room_beside(reserved: Option<Whom>, whom: Whom) -> Option<Whom>
-    ensures room { result ≡ room_beside whom reserved }
-    ensures some { IsSome result → IsSome reserved }
+fn room_beside(reserved: Option<Whom>, whom: &Whom) -> Option<Whom>
+    ensures { result ≡ room_beside whom.now reserved }
 {
     match reserved {
-        Some(other) if other != whom => Some(other),
+        Some(other) if other != *whom => Some(other),
         _ => None,
     }
 }
 
-/// Whether an entry is for `whom`.
-fn is_for(whom: Whom, entry: &(Whom, Unit)) -> bool
-    ensures { result ≡ is_for whom entry.now }
-{
-    entry.0 == whom
-}
-
-/// The number of entries that are for `whom`.
-fn count_of(entries: &[(Whom, Unit)], whom: Whom) -> usize
-    ensures { result ≡ length (filter (is_for whom) entries.now) }
-{
-    entries.iter().filter(|entry| is_for(whom, entry)).count()
-}
-
-/// The entry for `whom` that `n` others for `whom` stand before.
-fn nth_of(entries: &[(Whom, Unit)], whom: Whom, n: usize) -> Option<&(Whom, Unit)>
-    ensures { option_copied result ≡ slice_get (filter (is_for whom) entries.now) n }
-{
-    entries.iter().filter(|entry| is_for(whom, entry)).nth(n)
-}
-
-/// The place of the first entry for `whom`.
-fn first_of(entries: &[(Whom, Unit)], whom: Whom) -> Option<usize>
-    ensures { result ≡ position (is_for whom) entries.now }
-{
-    entries.iter().position(|entry| is_for(whom, entry))
-}
-
-/// The units for one station, or for the group, don't depend on those for others (*profile*): a unit is put last among those for
-/// the same one, the oldest of these leaves first, and dropping leaves none of them. The units for any other stay as they were, and
-/// so does a reservation for another.
+/// The units for one station, or for the group, don't depend on those for others (*profile*): a unit is put last among
+/// those for the same one, the oldest of these leaves first, and dropping leaves none of them. The units for any other
+/// stay as they were, and so does a reservation for another.
 pub fn parts_stay()
     ensures put { (whom : Whom) (unit : Msdu) (es : List Entry) → units_for whom (es ++ (whom, unit) ∷ []) ≡ units_for whom es ++ unit ∷ [] }
     ensures oldest { (whom : Whom) (es : List Entry) → units_for whom (without_oldest whom es) ≡ drop 1 (units_for whom es) }

@@ -9,8 +9,6 @@
 
 mod bitmap;
 mod element;
-#[cfg(test)]
-mod tests;
 
 pub use bitmap::{Bitmap, numbers_are_aids};
 pub use element::{TIM, Tim, one_tim, read_tim, write_tim};

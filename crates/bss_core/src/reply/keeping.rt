@@ -1,6 +1,6 @@
 //! What becomes of the units that a network keeps.
 
-ghost use Rattle.std.specs.Prelude.{◌≡◌, ◌<◌, length, None, Some, OnOk};
+ghost use Rattle.std.specs.Prelude.{◌≡◌, ◌<◌, ◌≤◌, ◌+◌, ◌^◌, length, None, Some, OnOk};
 ghost use Rattle.bss_core.specs.Replies.{without, room_after, kept_after, IsWithin, IsRoomFor};
 
 use mac_frame::NoMemory;
@@ -54,6 +54,7 @@ impl Keeping {
     pub fn reserve_in(&self, keep: &mut Keep) -> Result<(), NoMemory>
         ensures entries { keep.new.entries ≡ keep.old.entries }
         ensures quota { keep.new.quota ≡ keep.old.quota }
+        ensures puts { keep.new.puts ≡ keep.old.puts }
         ensures room { OnOk result (IsRoomFor self.now.arriving keep.new) }
     {
         if let Some((whom, _)) = &self.arriving {
@@ -66,8 +67,10 @@ impl Keeping {
     pub fn change(self, keep: &mut Keep)
         requires room { IsRoomFor self.arriving keep.old }
         requires within { IsWithin keep.old.quota self.leaving keep.old.entries self.arriving }
+        requires countable { keep.old.puts < 2 ^ 62 }
         ensures entries { keep.new.entries ≡ kept_after self keep.old.entries }
         ensures quota { keep.new.quota ≡ keep.old.quota }
+        ensures puts { keep.new.puts ≤ keep.old.puts + 1 }
     {
         let Keeping { leaving, arriving } = self;
         leave(leaving, keep);

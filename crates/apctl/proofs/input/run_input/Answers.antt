@@ -29,4 +29,4 @@ returns-clause-ends g c =
     let after : c.split_joined.result.1.now ≡ (joined_parts input).1 =
     c.split_joined.ensures.after ∙ ap (λ t. (joined_parts t).1) c.as_slice.ensures.value in
     let ends = rw (before, after) at c.in_ok-run_text.ensures.ends in
-    well_ends input _ _ _ c.in_ok-input.ensures.ok ends
+    well_ends _ input _ _ _ c.in_ok-input.ensures.ok ends

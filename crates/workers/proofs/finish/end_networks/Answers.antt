@@ -40,6 +40,8 @@ loop-network-preserved g c =
       placed = λ before. subst (λ (items : List AirItem). All (λ (item : AirItem). item.place < length config.networks) items) (sym more) (placed-more (length config.networks) place left b.waiting within (i.placed before));
       begins = (
         i.begins.0 ++ items_at place b.waiting,
-        more ∙ ap (λ (items : List AirItem). items ++ items_at place b.waiting) i.begins.1 ∙ append_assoc c.args.left.now.items i.begins.0 (items_at place b.waiting),
+        sym (append_assoc c.args.left.now.items i.begins.0 (items_at place b.waiting))
+        ∙ ap (λ (items : List AirItem). items ++ items_at place b.waiting) i.begins.1
+        ∙ sym more,
       );
     }

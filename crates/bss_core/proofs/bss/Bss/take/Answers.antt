@@ -1,4 +1,5 @@
-use Rattle.std.proofs.Common.{◌≡◌, ℕ, ◌<◌, ◌++◌, ◌∷◌, [], List, length, option_to_list, subst, sym, ap, ◌∙◌, arith}
+use Rattle.std.proofs.Common.{◌≡◌, ℕ, ◌+◌, ◌<◌, ◌++◌, ◌∷◌, [], List, length, option_to_list, subst, sym, ap, ◌∙◌, arith}
+use Rattle.std.proofs.lemmas.List.{length_push}
 use Rattle.bss_core.specs.Network.{Setting, step, alone}
 use Rattle.bss_core.specs.Replies.{after_reply, kept_after}
 use Rattle.bss_core.specs.BssView.{BssView, network_of, sent_by, wired_by}
@@ -56,6 +57,8 @@ invariant_of-self-2 c =
       rw (items, changed, units, wire) kept,
       ap (λ (k : StationTable). k.most) changed ∙ c.self.invariant.1,
       c.change-2.ensures.quota ∙ c.in_ok-reserve_in-2.ensures.quota ∙ c.self.invariant.2,
+      (let longer : length c.push_reserved.new.self.items ≡ length es + 1 = ap length items ∙ length_push es c.args.event in
+      omega (arith, longer, c.change-2.ensures.puts, c.in_ok-reserve_in-2.ensures.puts, c.self.invariant.3)),
       λ h. absurd cc,
     )
 
@@ -83,3 +86,11 @@ returns-clause-wire c =
     let replied = subst (IsReply c.args.event c.in_ok-reply.reply) (sym c.self.view_is) c.in_ok-reply.ensures.step in
     ap (λ (h : List Event). (alone s h).wire) items ∙ wire-push s es c.args.event c.in_ok-reply.reply replied
     ∙ ap (λ (st : BssView). (network_of st).wire ++ wired_by st.setting st.history c.args.event) c.self.view_is
+
+-- fewer units were put than a history may have events
+pub change-requires-2-clause-countable : goal.change-requires-2-clause-countable
+change-requires-2-clause-countable c =
+    let s : Setting = c.self.inside.setting in
+    let len : c.len.result ≡ length c.self.inside.history.items = c.len.ensures ∙ c.self.inside.history.ok.0 in
+    let room : length c.self.inside.history.items < s.network.max_events = omega (arith, c.if-len-self.false) in
+    omega (arith, room, c.in_ok-reserve_in-2.ensures.puts, c.self.invariant.3, (numbers_bounded s.network c.self.invariant.0.sound).events)

@@ -1,12 +1,10 @@
-use Rattle.std.proofs.Common.{◌≡◌, List, length, filter, sym, ap, ◌∙◌}
-use Rattle.std.proofs.lemmas.List.{length-map}
-use Rattle.powersave.specs.Keep.{Entry, is_for}
+use Rattle.std.proofs.Common.{length, ap, ◌∙◌}
+use Rattle.powersave.specs.Keep.{units_for}
+use Rattle.powersave.proofs.QueueSteps.{count-units}
 use Rattle.powersave.proofs.keep.Keep.count_for.Goals as goal
 
 pub returns : goal.returns
 returns c =
-    let mine = is_for c.args.whom in
-    let entries_are : c.deref.result.now ≡ c.args.self.now.entries = c.deref.ensures.value ∙ ap (λ k. k.entries) c.self.view_is in
-    c.count_of.ensures
-    ∙ ap (λ (es : List Entry). length (filter mine es)) entries_are
-    ∙ sym (length-map (filter mine c.args.self.now.entries) (λ (e : Entry). e.1))
+    c.count_for.ensures
+    ∙ count-units c.self.inside.puts c.args.whom c.self.inside.queues.map.entries c.self.invariant.sound
+    ∙ ap (λ k. length (units_for c.args.whom k.entries)) c.self.view_is

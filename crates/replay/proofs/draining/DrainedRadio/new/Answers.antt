@@ -9,7 +9,7 @@ use Rattle.replay.proofs.draining.DrainedRadio.new.Goals as goal
 pub returns : goal.returns
 returns c =
     let config : RadioConfig = c.args.config in
-    let radio : c.in_ok-radio.radio ≡ fresh_radio config = c.in_ok-radio.ensures in
+    let radio : c.in_ok-radio.radio ≡ fresh_radio config = c.in_ok-radio.ensures.opened in
     let count : c.networks.result ≡ length config.networks =
     c.networks.ensures.count ∙ ap (λ (r : RadioView). length r.config.networks) radio in
     let sent : c.in_ok-sent.sent ≡ none_sent (length config.networks) = c.in_ok-sent.ensures ∙ ap none_sent count in

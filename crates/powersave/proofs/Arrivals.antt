@@ -1,0 +1,176 @@
+-- Units in order of arrival: one more in its place, and what a test leaves of them.
+use Rattle.std.proofs.Common.{◌≡◌, ℕ, ◌<◌, ◌≤◌, Bool, true, false, cond, ltb, List, [], ◌∷◌, ◌++◌, filter, refl, sym, ap, ◌∙◌, arith}
+use Rattle.std.proofs.lemmas.Bool.{ltb-true, ltb-false, lt-ltb, le-ltb}
+use Rattle.powersave.specs.Keep.{without_first}
+use Rattle.powersave.specs.Queues.{Arrival, put_in_order}
+
+-- ---- bounds of the numbers
+
+abbrev pub AllAbove : ℕ → List Arrival → Type 0
+AllAbove n [] = Unit {0}
+AllAbove n (b ∷ bs) = (n < b.0) × AllAbove n bs
+
+abbrev pub AllFrom : ℕ → List Arrival → Type 0
+AllFrom n [] = Unit {0}
+AllFrom n (b ∷ bs) = (n ≤ b.0) × AllFrom n bs
+
+abbrev pub AllBelow : ℕ → List Arrival → Type 0
+AllBelow n [] = Unit {0}
+AllBelow n (b ∷ bs) = (b.0 < n) × AllBelow n bs
+
+-- the numbers don't fall
+abbrev pub IsInOrder : List Arrival → Type 0
+IsInOrder [] = Unit {0}
+IsInOrder (b ∷ bs) = AllFrom b.0 bs × IsInOrder bs
+
+AllFrom-weaker : (m n : ℕ) (bs : List Arrival) → m ≤ n → AllFrom n bs → AllFrom m bs
+AllFrom-weaker m n [] le from = tt
+AllFrom-weaker m n (b ∷ bs) le from = let here = from.0 in (omega arith, AllFrom-weaker m n bs le from.1)
+
+AllAbove-from : (m n : ℕ) (bs : List Arrival) → m < n → AllFrom n bs → AllAbove m bs
+AllAbove-from m n [] lt from = tt
+AllAbove-from m n (b ∷ bs) lt from = let here = from.0 in (omega arith, AllAbove-from m n bs lt from.1)
+
+AllFrom-put : (n : ℕ) (a : Arrival) (bs : List Arrival) → n ≤ a.0 → AllFrom n bs → AllFrom n (put_in_order a bs)
+AllFrom-put n a [] le from = (le, tt)
+AllFrom-put n a (b ∷ bs) le from = placed (ltb a.0 b.0) (AllFrom-put n a bs le from.1)
+  where
+    placed : (c : Bool) → AllFrom n (put_in_order a bs) → AllFrom n (cond c (a ∷ b ∷ bs) (b ∷ put_in_order a bs))
+    placed true later = (le, from)
+    placed false later = (from.0, later)
+
+pub AllBelow-put : (n : ℕ) (a : Arrival) (bs : List Arrival) → a.0 < n → AllBelow n bs → AllBelow n (put_in_order a bs)
+AllBelow-put n a [] lt below = (lt, tt)
+AllBelow-put n a (b ∷ bs) lt below = placed (ltb a.0 b.0) (AllBelow-put n a bs lt below.1)
+  where
+    placed : (c : Bool) → AllBelow n (put_in_order a bs) → AllBelow n (cond c (a ∷ b ∷ bs) (b ∷ put_in_order a bs))
+    placed true later = (lt, below)
+    placed false later = (below.0, later)
+
+pub IsInOrder-put : (a : Arrival) (bs : List Arrival) → IsInOrder bs → IsInOrder (put_in_order a bs)
+IsInOrder-put a [] order = (tt, tt)
+IsInOrder-put a (b ∷ bs) order = placed (ltb a.0 b.0) refl (IsInOrder-put a bs order.1)
+  where
+    placed : (c : Bool) → ltb a.0 b.0 ≡ c → IsInOrder (put_in_order a bs) → IsInOrder (cond c (a ∷ b ∷ bs) (b ∷ put_in_order a bs))
+    placed true e later = let lt = ltb-true a.0 b.0 e in ((omega arith, AllFrom-weaker a.0 b.0 bs (omega arith) order.0), order)
+    placed false e later = (AllFrom-put b.0 a bs (ltb-false a.0 b.0 e) order.0, later)
+
+-- ---- first and last
+
+pub put_first : (a : Arrival) (bs : List Arrival) → AllAbove a.0 bs → put_in_order a bs ≡ a ∷ bs
+put_first a [] above = refl
+put_first a (b ∷ bs) above = ap (λ c. cond c (a ∷ b ∷ bs) (b ∷ put_in_order a bs)) (lt-ltb a.0 b.0 above.0)
+
+pub put_last : (a : Arrival) (bs : List Arrival) → AllBelow a.0 bs → put_in_order a bs ≡ bs ++ a ∷ []
+put_last a [] below = refl
+put_last a (b ∷ bs) below =
+    let here = below.0 in
+    ap (λ c. cond c (a ∷ b ∷ bs) (b ∷ put_in_order a bs)) (le-ltb a.0 b.0 (omega arith))
+    ∙ ap (λ es. b ∷ es) (put_last a bs below.1)
+
+-- one that is not last goes before the last
+pub put_before_last : (a last : Arrival) (bs : List Arrival) → a.0 < last.0 → put_in_order a (bs ++ last ∷ []) ≡ put_in_order a bs ++ last ∷ []
+put_before_last a last [] lt = ap (λ c. cond c (a ∷ last ∷ []) (last ∷ a ∷ [])) (lt-ltb a.0 last.0 lt)
+put_before_last a last (b ∷ bs) lt = placed (ltb a.0 b.0) (put_before_last a last bs lt)
+  where
+    placed : (c : Bool) → put_in_order a (bs ++ last ∷ []) ≡ put_in_order a bs ++ last ∷ [] → cond c (a ∷ b ∷ (bs ++ last ∷ [])) (b ∷ put_in_order a (bs ++ last ∷ [])) ≡ cond c (a ∷ b ∷ bs) (b ∷ put_in_order a bs) ++ last ∷ []
+    placed true later = refl
+    placed false later = ap (λ es. b ∷ es) later
+
+-- ---- what a test leaves
+
+module _ (p : Arrival → Bool) where
+  AllAbove-filter : (n : ℕ) (bs : List Arrival) → AllAbove n bs → AllAbove n (filter p bs)
+  AllAbove-filter n [] above = tt
+  AllAbove-filter n (b ∷ bs) above = tested (p b) (AllAbove-filter n bs above.1)
+    where
+      tested : (d : Bool) → AllAbove n (filter p bs) → AllAbove n (cond d (b ∷ filter p bs) (filter p bs))
+      tested true later = (above.0, later)
+      tested false later = later
+
+  AllAbove-without_first : (n : ℕ) (bs : List Arrival) → AllAbove n bs → AllAbove n (without_first p bs)
+  AllAbove-without_first n [] above = tt
+  AllAbove-without_first n (b ∷ bs) above = tested (p b) (AllAbove-without_first n bs above.1)
+    where
+      tested : (d : Bool) → AllAbove n (without_first p bs) → AllAbove n (cond d bs (b ∷ without_first p bs))
+      tested true later = above.1
+      tested false later = (above.0, later)
+
+  -- one that fails
+  pub filter-put_failing : (a : Arrival) (bs : List Arrival) → p a ≡ false → filter p (put_in_order a bs) ≡ filter p bs
+  filter-put_failing a [] fails = ap (λ d. cond d (a ∷ []) []) fails
+  filter-put_failing a (b ∷ bs) fails = placed (ltb a.0 b.0) (filter-put_failing a bs fails)
+    where
+      placed : (c : Bool) → filter p (put_in_order a bs) ≡ filter p bs → filter p (cond c (a ∷ b ∷ bs) (b ∷ put_in_order a bs)) ≡ filter p (b ∷ bs)
+      placed true later = ap (λ d. cond d (a ∷ filter p (b ∷ bs)) (filter p (b ∷ bs))) fails
+      placed false later = ap (λ es. cond (p b) (b ∷ es) es) later
+
+  -- one that passes, where none that passes comes before it
+  pub filter-put_earliest : (a : Arrival) (bs : List Arrival) → p a ≡ true → AllAbove a.0 (filter p bs) → filter p (put_in_order a bs) ≡ a ∷ filter p bs
+  filter-put_earliest a [] passes above = ap (λ d. cond d (a ∷ []) []) passes
+  filter-put_earliest a (b ∷ bs) passes above = placed (ltb a.0 b.0) refl (filter-put_earliest a bs passes)
+    where
+      late : (d : Bool) → b.0 ≤ a.0 → AllAbove a.0 (cond d (b ∷ filter p bs) (filter p bs)) → (AllAbove a.0 (filter p bs) → filter p (put_in_order a bs) ≡ a ∷ filter p bs) → cond d (b ∷ filter p (put_in_order a bs)) (filter p (put_in_order a bs)) ≡ a ∷ cond d (b ∷ filter p bs) (filter p bs)
+      late true le others later = let here = others.0 in absurd (omega arith)
+      late false le others later = later others
+
+      placed : (c : Bool) → ltb a.0 b.0 ≡ c → (AllAbove a.0 (filter p bs) → filter p (put_in_order a bs) ≡ a ∷ filter p bs) → filter p (cond c (a ∷ b ∷ bs) (b ∷ put_in_order a bs)) ≡ a ∷ filter p (b ∷ bs)
+      placed true e later = ap (λ d. cond d (a ∷ filter p (b ∷ bs)) (filter p (b ∷ bs))) passes
+      placed false e later = late (p b) (ltb-false a.0 b.0 e) above later
+
+  -- the first that passes is this one
+  pub without_first-put_earliest : (a : Arrival) (bs : List Arrival) → p a ≡ true → AllAbove a.0 (filter p bs) → without_first p (put_in_order a bs) ≡ bs
+  without_first-put_earliest a [] passes above = ap (λ d. cond d [] (a ∷ [])) passes
+  without_first-put_earliest a (b ∷ bs) passes above = placed (ltb a.0 b.0) refl (without_first-put_earliest a bs passes)
+    where
+      late : (d : Bool) → b.0 ≤ a.0 → AllAbove a.0 (cond d (b ∷ filter p bs) (filter p bs)) → (AllAbove a.0 (filter p bs) → without_first p (put_in_order a bs) ≡ bs) → cond d (put_in_order a bs) (b ∷ without_first p (put_in_order a bs)) ≡ b ∷ bs
+      late true le others later = let here = others.0 in absurd (omega arith)
+      late false le others later = ap (λ es. b ∷ es) (later others)
+
+      placed : (c : Bool) → ltb a.0 b.0 ≡ c → (AllAbove a.0 (filter p bs) → without_first p (put_in_order a bs) ≡ bs) → without_first p (cond c (a ∷ b ∷ bs) (b ∷ put_in_order a bs)) ≡ b ∷ bs
+      placed true e later = ap (λ d. cond d (b ∷ bs) (a ∷ without_first p (b ∷ bs))) passes
+      placed false e later = late (p b) (ltb-false a.0 b.0 e) above later
+
+  -- what is put among those in order stays in its place when others are left out
+  pub filter-put : (a : Arrival) (bs : List Arrival) → p a ≡ true → IsInOrder bs → filter p (put_in_order a bs) ≡ put_in_order a (filter p bs)
+  filter-put a [] passes order = ap (λ d. cond d (a ∷ []) []) passes
+  filter-put a (b ∷ bs) passes order = placed (ltb a.0 b.0) refl (filter-put a bs passes order.1)
+    where
+      late : (d : Bool) → b.0 ≤ a.0 → filter p (put_in_order a bs) ≡ put_in_order a (filter p bs) → cond d (b ∷ filter p (put_in_order a bs)) (filter p (put_in_order a bs)) ≡ put_in_order a (cond d (b ∷ filter p bs) (filter p bs))
+      late true le later =
+          ap (λ es. b ∷ es) later
+          ∙ sym (ap (λ c. cond c (a ∷ b ∷ filter p bs) (b ∷ put_in_order a (filter p bs))) (le-ltb a.0 b.0 le))
+      late false le later = later
+
+      placed : (c : Bool) → ltb a.0 b.0 ≡ c → filter p (put_in_order a bs) ≡ put_in_order a (filter p bs) → filter p (cond c (a ∷ b ∷ bs) (b ∷ put_in_order a bs)) ≡ put_in_order a (filter p (b ∷ bs))
+      placed true e later =
+          let lt = ltb-true a.0 b.0 e in
+          ap (λ d. cond d (a ∷ filter p (b ∷ bs)) (filter p (b ∷ bs))) passes
+          ∙ sym (put_first a (filter p (b ∷ bs)) (AllAbove-filter a.0 (b ∷ bs) (lt, AllAbove-from a.0 b.0 bs lt order.0)))
+      placed false e later = late (p b) (ltb-false a.0 b.0 e) later
+
+  pub without_first-put : (a : Arrival) (bs : List Arrival) → p a ≡ false → IsInOrder bs → without_first p (put_in_order a bs) ≡ put_in_order a (without_first p bs)
+  without_first-put a [] fails order = ap (λ d. cond d [] (a ∷ [])) fails
+  without_first-put a (b ∷ bs) fails order = placed (ltb a.0 b.0) refl (without_first-put a bs fails order.1)
+    where
+      late : (d : Bool) → b.0 ≤ a.0 → without_first p (put_in_order a bs) ≡ put_in_order a (without_first p bs) → cond d (put_in_order a bs) (b ∷ without_first p (put_in_order a bs)) ≡ put_in_order a (cond d bs (b ∷ without_first p bs))
+      late true le later = refl
+      late false le later =
+          ap (λ es. b ∷ es) later
+          ∙ sym (ap (λ c. cond c (a ∷ b ∷ without_first p bs) (b ∷ put_in_order a (without_first p bs))) (le-ltb a.0 b.0 le))
+
+      placed : (c : Bool) → ltb a.0 b.0 ≡ c → without_first p (put_in_order a bs) ≡ put_in_order a (without_first p bs) → without_first p (cond c (a ∷ b ∷ bs) (b ∷ put_in_order a bs)) ≡ put_in_order a (without_first p (b ∷ bs))
+      placed true e later =
+          let lt = ltb-true a.0 b.0 e in
+          ap (λ d. cond d (b ∷ bs) (a ∷ without_first p (b ∷ bs))) fails
+          ∙ sym (put_first a (without_first p (b ∷ bs)) (AllAbove-without_first a.0 (b ∷ bs) (lt, AllAbove-from a.0 b.0 bs lt order.0)))
+      placed false e later = late (p b) (ltb-false a.0 b.0 e) later
+
+  -- where none passes
+  pub without_first-none : (bs : List Arrival) → filter p bs ≡ [] → without_first p bs ≡ bs
+  without_first-none [] none = refl
+  without_first-none (b ∷ bs) none = tested (p b) none (without_first-none bs)
+    where
+      tested : (d : Bool) → cond d (b ∷ filter p bs) (filter p bs) ≡ [] → (filter p bs ≡ [] → without_first p bs ≡ bs) → cond d bs (b ∷ without_first p bs) ≡ b ∷ bs
+      tested true some later = absurd (cc some)
+      tested false others later = ap (λ es. b ∷ es) (later others)

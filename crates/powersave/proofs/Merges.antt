@@ -1,0 +1,190 @@
+-- A queue among the units of others, and all queues: what is left for one, what is left without it, and what comes last.
+use Rattle.std.proofs.Common.{◌≡◌, ℕ, ◌<◌, Bool, true, false, not, cond, List, [], ◌∷◌, ◌++◌, map, filter, drop, Option, Some, None, refl, sym, ap, ◌∙◌, subst}
+use Rattle.std.specs.List.{AllByRecursion}
+use Rattle.std.specs.Map.{lookup, set_value, remove_entry}
+use Rattle.std.specs.BTreeMap.{insert_entry, is_at}
+use Rattle.std.specs.declared.cmp.Ordering.{Ordering}
+use Rattle.std.specs.declared.cmp.Ordering.TheVariants.{Less, Equal, Greater}
+use Rattle.std.specs.Ordering.{is_eq, match_ordering}
+use Rattle.std.specs.Option.{option_map, unwrap_or}
+use Rattle.std.proofs.lemmas.Map.{NonePasses}
+use Rattle.std.proofs.lemmas.Option.{none-some, same_Some}
+use Rattle.powersave.specs.declared.unit.Whom.{Whom}
+use Rattle.powersave.specs.declared.unit.Unit.{Unit as Msdu}
+use Rattle.powersave.specs.declared.queues.Arrived.{Arrived}
+use Rattle.powersave.specs.Keep.{without_first}
+use Rattle.powersave.specs.Queues.{Queue, Queues, Arrival, arrival_for, put_in_order, merged, arrivals, IsNumbered, AreNumbered}
+use Rattle.powersave.proofs.Arrivals.{AllAbove, AllBelow, IsInOrder, AllBelow-put, IsInOrder-put, put_last, put_before_last, filter-put_failing, filter-put_earliest, without_first-put_earliest, filter-put, without_first-put, without_first-none}
+
+-- whether a unit is for one that passes a test
+abbrev pub passes : (Whom → Bool) → Arrival → Bool
+passes t a = t a.1.0
+
+-- the unit itself
+abbrev pub unit_of : Arrival → Msdu
+unit_of a = a.1.1
+
+-- ---- one queue
+
+AllAbove-queue : (n : ℕ) (k : Whom) (queue : List Arrived) → AllByRecursion (λ b. n < b.number) queue → AllAbove n (map (arrival_for k) queue)
+AllAbove-queue n k [] above = tt
+AllAbove-queue n k (a ∷ queue) above = (above.0, AllAbove-queue n k queue above.1)
+
+units-queue : (k : Whom) (queue : List Arrived) → map unit_of (map (arrival_for k) queue) ≡ map (λ a. a.unit) queue
+units-queue k [] = refl
+units-queue k (a ∷ queue) = ap (λ us. a.unit ∷ us) (units-queue k queue)
+
+AllBelow-merged : (n : ℕ) (k : Whom) (queue : List Arrived) (others : List Arrival) → IsNumbered n queue → AllBelow n others → AllBelow n (merged k queue others)
+AllBelow-merged n k [] others numbered below = below
+AllBelow-merged n k (a ∷ queue) others numbered below = AllBelow-put n (arrival_for k a) (merged k queue others) numbered.0 (AllBelow-merged n k queue others numbered.2 below)
+
+IsInOrder-merged : (k : Whom) (queue : List Arrived) (others : List Arrival) → IsInOrder others → IsInOrder (merged k queue others)
+IsInOrder-merged k [] others order = order
+IsInOrder-merged k (a ∷ queue) others order = IsInOrder-put (arrival_for k a) (merged k queue others) (IsInOrder-merged k queue others order)
+
+-- one more unit, which came after all
+merged-push : (k : Whom) (queue : List Arrived) (last : Arrived) (others : List Arrival) → IsNumbered last.number queue → AllBelow last.number others → merged k (queue ++ last ∷ []) others ≡ merged k queue others ++ arrival_for k last ∷ []
+merged-push k [] last others numbered below = put_last (arrival_for k last) others below
+merged-push k (a ∷ queue) last others numbered below =
+    ap (put_in_order (arrival_for k a)) (merged-push k queue last others numbered.2 below)
+    ∙ put_before_last (arrival_for k a) (arrival_for k last) (merged k queue others) numbered.0
+
+-- the same, where it is for another
+merged-before_last : (k : Whom) (queue : List Arrived) (last : Arrival) (others : List Arrival) → IsNumbered last.0 queue → merged k queue (others ++ last ∷ []) ≡ merged k queue others ++ last ∷ []
+merged-before_last k [] last others numbered = refl
+merged-before_last k (a ∷ queue) last others numbered =
+    ap (put_in_order (arrival_for k a)) (merged-before_last k queue last others numbered.2)
+    ∙ put_before_last (arrival_for k a) last (merged k queue others) numbered.0
+
+module _ (t : Whom → Bool) where
+  -- the queue of one that fails
+  filter-merged_failing : (k : Whom) (queue : List Arrived) (others : List Arrival) → t k ≡ false → filter (passes t) (merged k queue others) ≡ filter (passes t) others
+  filter-merged_failing k [] others fails = refl
+  filter-merged_failing k (a ∷ queue) others fails =
+      filter-put_failing (passes t) (arrival_for k a) (merged k queue others) fails ∙ filter-merged_failing k queue others fails
+
+  without_first-merged_failing : (k : Whom) (queue : List Arrived) (others : List Arrival) → t k ≡ false → IsInOrder others → without_first (passes t) (merged k queue others) ≡ merged k queue (without_first (passes t) others)
+  without_first-merged_failing k [] others fails order = refl
+  without_first-merged_failing k (a ∷ queue) others fails order =
+      without_first-put (passes t) (arrival_for k a) (merged k queue others) fails (IsInOrder-merged k queue others order)
+      ∙ ap (put_in_order (arrival_for k a)) (without_first-merged_failing k queue others fails order)
+
+  -- the queue of one that passes
+  filter-merged_passing : (k : Whom) (queue : List Arrived) (others : List Arrival) → t k ≡ true → IsInOrder others → filter (passes t) (merged k queue others) ≡ merged k queue (filter (passes t) others)
+  filter-merged_passing k [] others here order = refl
+  filter-merged_passing k (a ∷ queue) others here order =
+      filter-put (passes t) (arrival_for k a) (merged k queue others) here (IsInOrder-merged k queue others order)
+      ∙ ap (put_in_order (arrival_for k a)) (filter-merged_passing k queue others here order)
+
+  -- the queue of the only one that passes
+  filter-merged_only : (n : ℕ) (k : Whom) (queue : List Arrived) (others : List Arrival) → t k ≡ true → IsNumbered n queue → filter (passes t) others ≡ [] → filter (passes t) (merged k queue others) ≡ map (arrival_for k) queue
+  filter-merged_only n k [] others here numbered none = none
+  filter-merged_only n k (a ∷ queue) others here numbered none =
+      let later = filter-merged_only n k queue others here numbered.2 none in
+      filter-put_earliest (passes t) (arrival_for k a) (merged k queue others) here (subst (AllAbove a.number) (sym later) (AllAbove-queue a.number k queue numbered.1))
+      ∙ ap (λ es. arrival_for k a ∷ es) later
+
+  without_first-merged_only : (n : ℕ) (k : Whom) (queue : List Arrived) (others : List Arrival) → t k ≡ true → IsNumbered n queue → filter (passes t) others ≡ [] → without_first (passes t) (merged k queue others) ≡ merged k (drop 1 queue) others
+  without_first-merged_only n k [] others here numbered none = without_first-none (passes t) others none
+  without_first-merged_only n k (a ∷ queue) others here numbered none =
+      let later = filter-merged_only n k queue others here numbered.2 none in
+      without_first-put_earliest (passes t) (arrival_for k a) (merged k queue others) here (subst (AllAbove a.number) (sym later) (AllAbove-queue a.number k queue numbered.1))
+
+-- ---- all queues
+
+pub AllBelow-arrivals : (n : ℕ) (queues : Queues) → AreNumbered n queues → AllBelow n (arrivals queues)
+AllBelow-arrivals n [] numbered = tt
+AllBelow-arrivals n (q ∷ queues) numbered = AllBelow-merged n q.0 q.1.items (arrivals queues) numbered.0 (AllBelow-arrivals n queues numbered.1)
+
+pub IsInOrder-arrivals : (queues : Queues) → IsInOrder (arrivals queues)
+IsInOrder-arrivals [] = tt
+IsInOrder-arrivals (q ∷ queues) = IsInOrder-merged q.0 q.1.items (arrivals queues) (IsInOrder-arrivals queues)
+
+-- an empty queue, wherever it stands, has no part in the list
+pub arrivals-insert_empty : (cmp : Whom → Whom → Ordering) (whom : Whom) (w : Queue) (queues : Queues) → NonePasses (is_at (cmp whom)) queues → w.items ≡ [] → arrivals (insert_entry cmp queues whom w) ≡ arrivals queues
+arrivals-insert_empty cmp whom w [] none empty = ap (λ queue. merged whom queue []) empty
+arrivals-insert_empty cmp whom w (e ∷ es) none empty = placed (cmp whom e.0) none.0 (arrivals-insert_empty cmp whom w es none.1 empty)
+  where
+    placed : (o : Ordering) → is_eq o ≡ false → arrivals (insert_entry cmp es whom w) ≡ arrivals es → arrivals (match_ordering o ((whom, w) ∷ e ∷ es) ((e.0, w) ∷ es) (e ∷ insert_entry cmp es whom w)) ≡ arrivals (e ∷ es)
+    placed Less other later = ap (λ queue. merged whom queue (arrivals (e ∷ es))) empty
+    placed Equal other later = absurd (cc other)
+    placed Greater other later = ap (merged e.0 e.1.items) later
+
+module _ (t : Whom → Bool) where
+  -- where one passes, no later one does
+  abbrev pub IsOnce : Queues → Type 0
+  IsOnce [] = Unit {0}
+  IsOnce (q ∷ queues) = (t q.0 ≡ true → NonePasses t queues) × IsOnce queues
+
+  filter-arrivals_none : (queues : Queues) → NonePasses t queues → filter (passes t) (arrivals queues) ≡ []
+  filter-arrivals_none [] none = refl
+  filter-arrivals_none (q ∷ queues) none =
+      filter-merged_failing t q.0 q.1.items (arrivals queues) none.0 ∙ filter-arrivals_none queues none.1
+
+  abbrev pub others : Whom → Bool
+  others k = not (t k)
+
+  filter-arrivals_others : (queues : Queues) → NonePasses t queues → filter (passes others) (arrivals queues) ≡ arrivals queues
+  filter-arrivals_others [] none = refl
+  filter-arrivals_others (q ∷ queues) none =
+      filter-merged_passing others q.0 q.1.items (arrivals queues) (ap not none.0) (IsInOrder-arrivals queues)
+      ∙ ap (merged q.0 q.1.items) (filter-arrivals_others queues none.1)
+
+  -- the units for one that passes are those of its queue, in its order
+  pub units-arrivals : (n : ℕ) (queues : Queues) → AreNumbered n queues → IsOnce queues → map unit_of (filter (passes t) (arrivals queues)) ≡ map (λ a. a.unit) (unwrap_or (option_map (λ q. q.items) (lookup t queues)) [])
+  units-arrivals n [] numbered once = refl
+  units-arrivals n (e ∷ es) numbered once = tested (t e.0) refl (units-arrivals n es numbered.1 once.1)
+    where
+      tested : (d : Bool) → t e.0 ≡ d → map unit_of (filter (passes t) (arrivals es)) ≡ map (λ a. a.unit) (unwrap_or (option_map (λ q. q.items) (lookup t es)) []) → map unit_of (filter (passes t) (merged e.0 e.1.items (arrivals es))) ≡ map (λ a. a.unit) (unwrap_or (option_map (λ q. q.items) (cond d (Some e.1) (lookup t es))) [])
+      tested true here later =
+          ap (map unit_of) (filter-merged_only t n e.0 e.1.items (arrivals es) here numbered.0 (filter-arrivals_none es (once.0 here)))
+          ∙ units-queue e.0 e.1.items
+      tested false other later = ap (map unit_of) (filter-merged_failing t e.0 e.1.items (arrivals es) other) ∙ later
+
+  -- a queue that has lost its first unit
+  pub arrivals-pop : (n : ℕ) (queues : Queues) (q w : Queue) → AreNumbered n queues → IsOnce queues → lookup t queues ≡ Some q → w.items ≡ drop 1 q.items → arrivals (set_value t queues w) ≡ without_first (passes t) (arrivals queues)
+  arrivals-pop n [] q w numbered once found left = refl
+  arrivals-pop n (e ∷ es) q w numbered once found left = tested (t e.0) refl found (λ f. arrivals-pop n es q w numbered.1 once.1 f left)
+    where
+      tested : (d : Bool) → t e.0 ≡ d → cond d (Some e.1) (lookup t es) ≡ Some q → (lookup t es ≡ Some q → arrivals (set_value t es w) ≡ without_first (passes t) (arrivals es)) → arrivals (cond d ((e.0, w) ∷ es) (e ∷ set_value t es w)) ≡ without_first (passes t) (merged e.0 e.1.items (arrivals es))
+      tested true here f later =
+          ap (λ queue. merged e.0 queue (arrivals es)) (left ∙ ap (λ (v : Queue). drop 1 v.items) (sym (same_Some e.1 q f)))
+          ∙ sym (without_first-merged_only t n e.0 e.1.items (arrivals es) here numbered.0 (filter-arrivals_none es (once.0 here)))
+      tested false other f later =
+          ap (merged e.0 e.1.items) (later f)
+          ∙ sym (without_first-merged_failing t e.0 e.1.items (arrivals es) other (IsInOrder-arrivals es))
+
+  -- a queue that is removed
+  pub arrivals-remove : (queues : Queues) → IsOnce queues → arrivals (remove_entry t queues) ≡ filter (passes others) (arrivals queues)
+  arrivals-remove [] once = refl
+  arrivals-remove (e ∷ es) once = tested (t e.0) refl (arrivals-remove es once.1)
+    where
+      tested : (d : Bool) → t e.0 ≡ d → arrivals (remove_entry t es) ≡ filter (passes others) (arrivals es) → arrivals (cond d es (e ∷ remove_entry t es)) ≡ filter (passes others) (merged e.0 e.1.items (arrivals es))
+      tested true here later =
+          sym (filter-merged_failing others e.0 e.1.items (arrivals es) (ap not here) ∙ filter-arrivals_others es (once.0 here))
+      tested false other later =
+          ap (merged e.0 e.1.items) later
+          ∙ sym (filter-merged_passing others e.0 e.1.items (arrivals es) (ap not other) (IsInOrder-arrivals es))
+
+  -- a queue whose units stay
+  pub arrivals-set_same : (queues : Queues) (q w : Queue) → lookup t queues ≡ Some q → w.items ≡ q.items → arrivals (set_value t queues w) ≡ arrivals queues
+  arrivals-set_same [] q w found same = refl
+  arrivals-set_same (e ∷ es) q w found same = tested (t e.0) found (λ f. arrivals-set_same es q w f same)
+    where
+      tested : (d : Bool) → cond d (Some e.1) (lookup t es) ≡ Some q → (lookup t es ≡ Some q → arrivals (set_value t es w) ≡ arrivals es) → arrivals (cond d ((e.0, w) ∷ es) (e ∷ set_value t es w)) ≡ merged e.0 e.1.items (arrivals es)
+      tested true f later = ap (λ queue. merged e.0 queue (arrivals es)) (same ∙ ap (λ (v : Queue). v.items) (sym (same_Some e.1 q f)))
+      tested false f later = ap (merged e.0 e.1.items) (later f)
+
+  -- a queue with one unit more, which came after all
+  pub arrivals-push : (whom : Whom) → ((k : Whom) → t k ≡ true → k ≡ whom) → (last : Arrived) (queues : Queues) (q w : Queue) → AreNumbered last.number queues → lookup t queues ≡ Some q → w.items ≡ q.items ++ last ∷ [] → arrivals (set_value t queues w) ≡ arrivals queues ++ arrival_for whom last ∷ []
+  arrivals-push whom exact last [] q w numbered found more = absurd (none-some q found)
+  arrivals-push whom exact last (e ∷ es) q w numbered found more = tested (t e.0) refl found (λ f. arrivals-push whom exact last es q w numbered.1 f more)
+    where
+      tested : (d : Bool) → t e.0 ≡ d → cond d (Some e.1) (lookup t es) ≡ Some q → (lookup t es ≡ Some q → arrivals (set_value t es w) ≡ arrivals es ++ arrival_for whom last ∷ []) → arrivals (cond d ((e.0, w) ∷ es) (e ∷ set_value t es w)) ≡ merged e.0 e.1.items (arrivals es) ++ arrival_for whom last ∷ []
+      tested true here f later =
+          ap (λ queue. merged e.0 queue (arrivals es)) (more ∙ ap (λ (v : Queue). v.items ++ last ∷ []) (sym (same_Some e.1 q f)))
+          ∙ merged-push e.0 e.1.items last (arrivals es) numbered.0 (AllBelow-arrivals last.number es numbered.1)
+          ∙ ap (λ k. merged e.0 e.1.items (arrivals es) ++ arrival_for k last ∷ []) (exact e.0 here)
+      tested false other f later =
+          ap (merged e.0 e.1.items) (later f)
+          ∙ merged-before_last e.0 e.1.items (arrival_for whom last) (arrivals es) numbered.0

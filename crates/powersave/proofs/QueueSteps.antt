@@ -1,0 +1,356 @@
+-- What becomes of the queues where one is changed, removed or made.
+use Rattle.std.proofs.Common.{◌≡◌, ℕ, ◌+◌, ◌-◌, ◌<◌, ◌≤◌, Bool, true, false, not, cond, List, [], ◌∷◌, ◌++◌, length, map, filter, drop, Option, Some, None, refl, sym, ap, ◌∙◌, subst, arith}
+use Rattle.std.specs.List.{AllByRecursion, IsDistinct, slice_get}
+use Rattle.std.specs.Map.{keys_of, lookup, set_value, remove_entry}
+use Rattle.std.specs.BTreeMap.{insert_entry, is_at}
+use Rattle.std.specs.declared.cmp.Ordering.{Ordering}
+use Rattle.std.specs.declared.cmp.Ordering.TheVariants.{Less, Equal, Greater}
+use Rattle.std.specs.Ordering.{match_ordering}
+use Rattle.std.specs.Option.{option_map, unwrap_or, IsSomeAnd}
+use Rattle.std.proofs.lemmas.Bool.{false_from_ne_true, true≢false}
+use Rattle.std.proofs.lemmas.List.{length-map, map-append}
+use Rattle.std.proofs.lemmas.Map.{NonePasses, keys-set_value}
+use Rattle.std.proofs.lemmas.Map.Keys.{IsDistinct-head, IsDistinct-tail}
+use Rattle.std.proofs.lemmas.Option.{none-some, same_Some, slice_get-map}
+use Rattle.powersave.specs.declared.unit.Whom.{Whom}
+use Rattle.powersave.specs.declared.unit.Unit.{Unit as Msdu}
+use Rattle.powersave.specs.declared.queues.Arrived.{Arrived}
+use Rattle.powersave.specs.Keep.{Entry, is_same, is_for, units_for, without_all, without_oldest, without_first, room_beside}
+use Rattle.powersave.specs.Queues.{Queue, Queues, Arrival, is_whom, queue_for, unit_at, arrival_for, arrivals, entries_in, IsNumbered, AreNumbered, AreSound, AreKept, HasRoom, Pops, Removes, MakesRoom, Pushes}
+use Rattle.powersave.proofs.Parts.{msdu, same_whom, without_oldest_none, length-without_oldest, length-without_all}
+use Rattle.powersave.proofs.Merges.{passes, unit_of, IsOnce, others, units-arrivals, arrivals-pop, arrivals-remove, arrivals-set_same, arrivals-push, arrivals-insert_empty}
+
+-- ---- the units of one
+
+abbrev pub entry_of : Arrival → Entry
+entry_of a = a.1
+
+module _ {X Y : Type 0} (f : X → Y) (p : Y → Bool) where
+  filter-map : (xs : List X) → filter p (map f xs) ≡ map f (filter (λ x. p (f x)) xs)
+  filter-map [] = refl
+  filter-map (x ∷ xs) = tested (p (f x)) (filter-map xs)
+    where
+      tested : (d : Bool) → filter p (map f xs) ≡ map f (filter (λ x. p (f x)) xs) → cond d (f x ∷ filter p (map f xs)) (filter p (map f xs)) ≡ map f (cond d (x ∷ filter (λ x. p (f x)) xs) (filter (λ x. p (f x)) xs))
+      tested true later = ap (λ ys. f x ∷ ys) later
+      tested false later = later
+
+  without_first-map : (xs : List X) → without_first p (map f xs) ≡ map f (without_first (λ x. p (f x)) xs)
+  without_first-map [] = refl
+  without_first-map (x ∷ xs) = tested (p (f x)) (without_first-map xs)
+    where
+      tested : (d : Bool) → without_first p (map f xs) ≡ map f (without_first (λ x. p (f x)) xs) → cond d (map f xs) (f x ∷ without_first p (map f xs)) ≡ map f (cond d xs (x ∷ without_first (λ x. p (f x)) xs))
+      tested true later = refl
+      tested false later = ap (λ ys. f x ∷ ys) later
+
+units-entries : (bs : List Arrival) → map msdu (map entry_of bs) ≡ map unit_of bs
+units-entries [] = refl
+units-entries (b ∷ bs) = ap (λ us. unit_of b ∷ us) (units-entries bs)
+
+none_named : (whom k : Whom) (queues : Queues) → is_whom whom k ≡ true → AllByRecursion (λ y. is_whom k y ≡ false) (keys_of queues) → NonePasses (is_whom whom) queues
+none_named whom k [] here apart = tt
+none_named whom k (e ∷ es) here apart = (subst (λ w. is_whom w e.0 ≡ false) (same_whom k whom here) apart.0, none_named whom k es here apart.1)
+
+once : (whom : Whom) (queues : Queues) → IsDistinct is_whom (keys_of queues) → IsOnce (is_whom whom) queues
+once whom [] apart = tt
+once whom (e ∷ es) apart = ((λ here. none_named whom e.0 es here (IsDistinct-head is_whom e.0 (keys_of es) apart)), once whom es (IsDistinct-tail is_whom e.0 (keys_of es) apart))
+
+pub units_for-entries_in : (next : ℕ) (whom : Whom) (queues : Queues) → AreSound next queues → units_for whom (entries_in queues) ≡ map (λ a. a.unit) (queue_for whom queues)
+units_for-entries_in next whom queues sound =
+    ap (map msdu) (filter-map entry_of (is_for whom) (arrivals queues))
+    ∙ units-entries (filter (passes (is_whom whom)) (arrivals queues))
+    ∙ units-arrivals (is_whom whom) next queues sound.numbered (once whom queues sound.one_each)
+
+-- ---- their numbers
+
+IsNumbered-drop : (next : ℕ) (queue : List Arrived) → IsNumbered next queue → IsNumbered next (drop 1 queue)
+IsNumbered-drop next [] numbered = tt
+IsNumbered-drop next (a ∷ queue) numbered = numbered.2
+
+IsNumbered-later : (next : ℕ) (queue : List Arrived) → IsNumbered next queue → IsNumbered (next + 1) queue
+IsNumbered-later next [] numbered = tt
+IsNumbered-later next (a ∷ queue) numbered = let here = numbered.0 in (omega arith, numbered.1, IsNumbered-later next queue numbered.2)
+
+above_all : (n : ℕ) (queue : List Arrived) (last : Arrived) → AllByRecursion (λ b. n < b.number) queue → n < last.number → AllByRecursion (λ b. n < b.number) (queue ++ last ∷ [])
+above_all n [] last above lt = (lt, tt)
+above_all n (a ∷ queue) last above lt = (above.0, above_all n queue last above.1 lt)
+
+IsNumbered-push : (queue : List Arrived) (last : Arrived) → IsNumbered last.number queue → IsNumbered (last.number + 1) (queue ++ last ∷ [])
+IsNumbered-push [] last numbered = (omega arith, tt, tt)
+IsNumbered-push (a ∷ queue) last numbered =
+    let here = numbered.0 in
+    (omega arith, above_all a.number queue last numbered.1 here, IsNumbered-push queue last numbered.2)
+
+AreNumbered-later : (next : ℕ) (queues : Queues) → AreNumbered next queues → AreNumbered (next + 1) queues
+AreNumbered-later next [] numbered = tt
+AreNumbered-later next (e ∷ es) numbered = (IsNumbered-later next e.1.items numbered.0, AreNumbered-later next es numbered.1)
+
+AreNumbered-insert_empty : (next : ℕ) (cmp : Whom → Whom → Ordering) (whom : Whom) (w : Queue) (queues : Queues) → w.items ≡ [] → AreNumbered next queues → AreNumbered next (insert_entry cmp queues whom w)
+AreNumbered-insert_empty next cmp whom w [] empty numbered = (subst (IsNumbered next) (sym empty) tt, tt)
+AreNumbered-insert_empty next cmp whom w (e ∷ es) empty numbered = placed (cmp whom e.0) (AreNumbered-insert_empty next cmp whom w es empty numbered.1)
+  where
+    here : IsNumbered next w.items
+    here = subst (IsNumbered next) (sym empty) tt
+
+    placed : (o : Ordering) → AreNumbered next (insert_entry cmp es whom w) → AreNumbered next (match_ordering o ((whom, w) ∷ e ∷ es) ((e.0, w) ∷ es) (e ∷ insert_entry cmp es whom w))
+    placed Less later = (here, numbered)
+    placed Equal later = (here, numbered.1)
+    placed Greater later = (numbered.0, later)
+
+module _ (t : Whom → Bool) (next : ℕ) where
+  AreNumbered-set_value : (queues : Queues) (w : Queue) → AreNumbered next queues → IsNumbered next w.items → AreNumbered next (set_value t queues w)
+  AreNumbered-set_value [] w numbered here = tt
+  AreNumbered-set_value (e ∷ es) w numbered here = tested (t e.0) (AreNumbered-set_value es w numbered.1 here)
+    where
+      tested : (d : Bool) → AreNumbered next (set_value t es w) → AreNumbered next (cond d ((e.0, w) ∷ es) (e ∷ set_value t es w))
+      tested true later = (here, numbered.1)
+      tested false later = (numbered.0, later)
+
+  AreNumbered-remove : (queues : Queues) → AreNumbered next queues → AreNumbered next (remove_entry t queues)
+  AreNumbered-remove [] numbered = tt
+  AreNumbered-remove (e ∷ es) numbered = tested (t e.0) (AreNumbered-remove es numbered.1)
+    where
+      tested : (d : Bool) → AreNumbered next (remove_entry t es) → AreNumbered next (cond d es (e ∷ remove_entry t es))
+      tested true later = numbered.1
+      tested false later = (numbered.0, later)
+
+  IsNumbered-found : (queues : Queues) (q : Queue) → AreNumbered next queues → lookup t queues ≡ Some q → IsNumbered next q.items
+  IsNumbered-found [] q numbered found = absurd (none-some q found)
+  IsNumbered-found (e ∷ es) q numbered found = tested (t e.0) found (IsNumbered-found es q numbered.1)
+    where
+      tested : (d : Bool) → cond d (Some e.1) (lookup t es) ≡ Some q → (lookup t es ≡ Some q → IsNumbered next q.items) → IsNumbered next q.items
+      tested true f later = subst (λ (v : Queue). IsNumbered next v.items) (same_Some e.1 q f) numbered.0
+      tested false f later = later f
+
+-- ---- room
+
+-- a queue has room for one unit more
+abbrev pub HasSpace : Queue → Type 0
+HasSpace q = q.len < q.cap
+
+module _ (u : Whom → Bool) where
+  -- one queue stays, and something becomes of the others
+  still : (g : Bool) (e : Queue) (old new : Option Queue) → IsSomeAnd (cond g (Some e) old) HasSpace → (IsSomeAnd old HasSpace → IsSomeAnd new HasSpace) → IsSomeAnd (cond g (Some e) new) HasSpace
+  still true e old new space later = space
+  still false e old new space later = later space
+
+  -- one queue takes another's place
+  replaced : (g : Bool) (e w : Queue) (old : Option Queue) → (HasSpace e → HasSpace w) → IsSomeAnd (cond g (Some e) old) HasSpace → IsSomeAnd (cond g (Some w) old) HasSpace
+  replaced true e w old keeps space = keeps space
+  replaced false e w old keeps space = space
+
+  -- one queue more, which has room
+  added : (g : Bool) (w : Queue) (old : Option Queue) → HasSpace w → IsSomeAnd old HasSpace → IsSomeAnd (cond g (Some w) old) HasSpace
+  added true w old here space = here
+  added false w old here space = space
+
+  HasSpace-set_value : (t : Whom → Bool) (queues : Queues) (q w : Queue) → lookup t queues ≡ Some q → (HasSpace q → HasSpace w) → IsSomeAnd (lookup u queues) HasSpace → IsSomeAnd (lookup u (set_value t queues w)) HasSpace
+  HasSpace-set_value t [] q w found keeps space = space
+  HasSpace-set_value t (e ∷ es) q w found keeps space = tested (t e.0) found (λ f. HasSpace-set_value t es q w f keeps)
+    where
+      tested : (d : Bool) → cond d (Some e.1) (lookup t es) ≡ Some q → (lookup t es ≡ Some q → IsSomeAnd (lookup u es) HasSpace → IsSomeAnd (lookup u (set_value t es w)) HasSpace) → IsSomeAnd (lookup u (cond d ((e.0, w) ∷ es) (e ∷ set_value t es w))) HasSpace
+      tested true f later = replaced (u e.0) e.1 w (lookup u es) (λ s. keeps (subst HasSpace (same_Some e.1 q f) s)) space
+      tested false f later = still (u e.0) e.1 (lookup u es) (lookup u (set_value t es w)) space (later f)
+
+  HasSpace-insert : (cmp : Whom → Whom → Ordering) (whom : Whom) (w : Queue) (queues : Queues) → HasSpace w → IsSomeAnd (lookup u queues) HasSpace → IsSomeAnd (lookup u (insert_entry cmp queues whom w)) HasSpace
+  HasSpace-insert cmp whom w [] here space = absurd space
+  HasSpace-insert cmp whom w (e ∷ es) here space = placed (cmp whom e.0) (HasSpace-insert cmp whom w es here)
+    where
+      placed : (o : Ordering) → (IsSomeAnd (lookup u es) HasSpace → IsSomeAnd (lookup u (insert_entry cmp es whom w)) HasSpace) → IsSomeAnd (lookup u (match_ordering o ((whom, w) ∷ e ∷ es) ((e.0, w) ∷ es) (e ∷ insert_entry cmp es whom w))) HasSpace
+      placed Less later = added (u whom) w (lookup u (e ∷ es)) here space
+      placed Equal later = replaced (u e.0) e.1 w (lookup u es) (λ s. here) space
+      placed Greater later = still (u e.0) e.1 (lookup u es) (lookup u (insert_entry cmp es whom w)) space later
+
+-- a changed queue is found where it stood
+lookup-set : (t : Whom → Bool) (queues : Queues) (q w : Queue) → lookup t queues ≡ Some q → lookup t (set_value t queues w) ≡ Some w
+lookup-set t [] q w found = absurd (none-some q found)
+lookup-set t (e ∷ es) q w found = tested (t e.0) refl found (lookup-set t es q w)
+  where
+    tested : (d : Bool) → t e.0 ≡ d → cond d (Some e.1) (lookup t es) ≡ Some q → (lookup t es ≡ Some q → lookup t (set_value t es w) ≡ Some w) → lookup t (cond d ((e.0, w) ∷ es) (e ∷ set_value t es w)) ≡ Some w
+    tested true here f later = ap (λ d. cond d (Some w) (lookup t es)) here
+    tested false other f later = ap (λ d. cond d (Some e.1) (lookup t (set_value t es w))) other ∙ later f
+
+pub lookup-set_here : (whom : Whom) (queues : Queues) (q w : Queue) → lookup (is_whom whom) queues ≡ Some q → lookup (is_whom whom) (set_value (is_whom whom) queues w) ≡ Some w
+lookup-set_here whom queues q w found = lookup-set (is_whom whom) queues q w found
+
+lookup-remove_other : (t u : Whom → Bool) → ((k : Whom) → t k ≡ true → u k ≡ false) → (queues : Queues) → lookup u (remove_entry t queues) ≡ lookup u queues
+lookup-remove_other t u apart [] = refl
+lookup-remove_other t u apart (e ∷ es) = tested (t e.0) refl (lookup-remove_other t u apart es)
+  where
+    tested : (d : Bool) → t e.0 ≡ d → lookup u (remove_entry t es) ≡ lookup u es → lookup u (cond d es (e ∷ remove_entry t es)) ≡ cond (u e.0) (Some e.1) (lookup u es)
+    tested true here later = sym (ap (λ f. cond f (Some e.1) (lookup u es)) (apart e.0 here))
+    tested false other later = ap (λ found. cond (u e.0) (Some e.1) found) later
+
+-- what room there is stays where every queue's does
+HasRoom-kept : (old new : Queues) → ((whom : Whom) → IsSomeAnd (lookup (is_whom whom) old) HasSpace → IsSomeAnd (lookup (is_whom whom) new) HasSpace) → (reserved : Option Whom) → HasRoom reserved old → HasRoom reserved new
+HasRoom-kept old new keeps None room = tt
+HasRoom-kept old new keeps (Some whom) room = keeps whom room
+
+-- what room there is but for one stays where every other queue's does
+HasRoom-beside : (whom : Whom) (old new : Queues) → ((other : Whom) → is_same other whom ≡ false → IsSomeAnd (lookup (is_whom other) old) HasSpace → IsSomeAnd (lookup (is_whom other) new) HasSpace) → (reserved : Option Whom) → HasRoom reserved old → HasRoom (room_beside whom reserved) new
+HasRoom-beside whom old new keeps None room = tt
+HasRoom-beside whom old new keeps (Some other) room = tested (is_same other whom) refl
+  where
+    tested : (d : Bool) → is_same other whom ≡ d → HasRoom (cond d None (Some other)) new
+    tested true same = tt
+    tested false apart = keeps other apart room
+
+-- one that is the same as this is not the same as another
+apart_from : (whom other k : Whom) → is_same other whom ≡ false → is_whom whom k ≡ true → is_whom other k ≡ false
+apart_from whom other k apart here =
+    let moved : is_same k other ≡ true → is_same other whom ≡ true = λ there. subst (λ w. is_same w whom ≡ true) (same_whom k other there) here in
+    false_from_ne_true (is_same k other) (λ there. true≢false (sym (moved there) ∙ apart))
+
+-- ---- what the calls do
+
+pub queue_found : (whom : Whom) (queues : Queues) (q : Queue) → lookup (is_whom whom) queues ≡ Some q → queue_for whom queues ≡ q.items
+queue_found whom queues q found = ap (λ o. unwrap_or (option_map (λ (v : Queue). v.items) o) []) found
+
+pub queue_missing : (whom : Whom) (queues : Queues) → lookup (is_whom whom) queues ≡ None → queue_for whom queues ≡ []
+queue_missing whom queues missing = ap (λ o. unwrap_or (option_map (λ (v : Queue). v.items) o) []) missing
+
+pub count-units : (next : ℕ) (whom : Whom) (queues : Queues) → AreSound next queues → length (queue_for whom queues) ≡ length (units_for whom (entries_in queues))
+count-units next whom queues sound =
+    sym (length-map (queue_for whom queues) (λ (a : Arrived). a.unit)) ∙ ap length (sym (units_for-entries_in next whom queues sound))
+
+pub unit_at-units : (next : ℕ) (whom : Whom) (queues : Queues) (n : ℕ) → AreSound next queues → unit_at (queue_for whom queues) n ≡ slice_get (units_for whom (entries_in queues)) n
+unit_at-units next whom queues n sound =
+    sym (slice_get-map (λ (a : Arrived). a.unit) (queue_for whom queues) n)
+    ∙ ap (λ us. slice_get us n) (sym (units_for-entries_in next whom queues sound))
+
+first_unit : (next : ℕ) (whom : Whom) (queues : Queues) (queue : List Arrived) → queue_for whom queues ≡ queue → AreSound next queues → unit_at queue 0 ≡ slice_get (units_for whom (entries_in queues)) 0
+first_unit next whom queues queue is sound = ap (λ ns. unit_at ns 0) (sym is) ∙ unit_at-units next whom queues 0 sound
+
+module _ (whom : Whom) (old new : Queues) where
+  -- the keys stay, and the queue for one has other units
+  sound_after_set : (next : ℕ) (w : Queue) → new ≡ set_value (is_whom whom) old w → AreSound next old → IsNumbered next w.items → AreSound next new
+  sound_after_set next w is sound numbered = subst (AreSound next) (sym is) (record {
+    one_each = subst (IsDistinct is_whom) (sym (keys-set_value (is_whom whom) old w)) sound.one_each;
+    numbered = AreNumbered-set_value (is_whom whom) next old w sound.numbered numbered;
+  })
+
+  pub pops : (q w : Queue) (taken : Option Msdu) → lookup (is_whom whom) old ≡ Some q → new ≡ set_value (is_whom whom) old w → w.items ≡ drop 1 q.items → (HasSpace q → HasSpace w) → taken ≡ unit_at q.items 0 → Pops whom old taken new
+  pops q w taken found is left keeps first = record {
+    unit = λ next sound. first ∙ first_unit next whom old q.items (queue_found whom old q found) sound;
+    rest = λ next sound.
+        ap entries_in is
+        ∙ ap (map entry_of) (arrivals-pop (is_whom whom) next old q w sound.numbered (once whom old sound.one_each) found left)
+        ∙ sym (without_first-map entry_of (is_for whom) (arrivals old));
+    sound = λ next sound. sound_after_set next w is sound (subst (IsNumbered next) (sym left) (IsNumbered-drop next q.items (IsNumbered-found (is_whom whom) next old q sound.numbered found)));
+    room = HasRoom-beside whom old new (λ other apart room. subst (λ (es : Queues). IsSomeAnd (lookup (is_whom other) es) HasSpace) (sym is) (HasSpace-set_value (is_whom other) (is_whom whom) old q w found keeps room));
+  }
+
+  pub pops_none : (taken : Option Msdu) → lookup (is_whom whom) old ≡ None → new ≡ old → taken ≡ None → Pops whom old taken new
+  pops_none taken missing is none = record {
+    unit = λ next sound. none ∙ first_unit next whom old [] (queue_missing whom old missing) sound;
+    rest = λ next sound. ap entries_in is ∙ sym (without_oldest_none whom (entries_in old) (first_unit next whom old [] (queue_missing whom old missing) sound));
+    sound = λ next sound. subst (AreSound next) (sym is) sound;
+    room = HasRoom-beside whom old new (λ other apart room. subst (λ (es : Queues). IsSomeAnd (lookup (is_whom other) es) HasSpace) (sym is) room);
+  }
+
+  pub removes : (removed : ℕ) → new ≡ remove_entry (is_whom whom) old → IsDistinct is_whom (keys_of new) → removed ≡ length (queue_for whom old) → Removes whom old removed new
+  removes removed is one_each all = record {
+    count = λ next sound. all ∙ count-units next whom old sound;
+    rest = λ next sound.
+        ap entries_in is
+        ∙ ap (map entry_of) (arrivals-remove (is_whom whom) old (once whom old sound.one_each))
+        ∙ sym (filter-map entry_of (λ entry. not (is_for whom entry)) (arrivals old));
+    sound = λ next sound. record {
+      one_each = one_each;
+      numbered = subst (AreNumbered next) (sym is) (AreNumbered-remove (is_whom whom) next old sound.numbered);
+    };
+    room = HasRoom-beside whom old new (λ other apart room.
+        subst (λ o. IsSomeAnd o HasSpace)
+        (sym (ap (lookup (is_whom other)) is ∙ lookup-remove_other (is_whom whom) (is_whom other) (λ k here. apart_from whom other k apart here) old))
+        room);
+  }
+
+  pub pushes : (q w : Queue) (arrived : Arrived) → lookup (is_whom whom) old ≡ Some q → new ≡ set_value (is_whom whom) old w → w.items ≡ q.items ++ arrived ∷ [] → AreSound arrived.number old → Pushes whom arrived old new
+  pushes q w arrived found is more sound = record {
+    units =
+        ap entries_in is
+        ∙ ap (map entry_of) (arrivals-push (is_whom whom) whom (λ k here. same_whom k whom here) arrived old q w sound.numbered found more)
+        ∙ map-append entry_of (arrivals old) (arrival_for whom arrived ∷ []);
+    sound = sound_after_set (arrived.number + 1) w is
+        (record { one_each = sound.one_each; numbered = AreNumbered-later arrived.number old sound.numbered })
+        (subst (IsNumbered (arrived.number + 1)) (sym more) (IsNumbered-push q.items arrived (IsNumbered-found (is_whom whom) arrived.number old q sound.numbered found)));
+  }
+
+  pub makes_room_in : (q w : Queue) → lookup (is_whom whom) old ≡ Some q → new ≡ set_value (is_whom whom) old w → w.items ≡ q.items → (HasSpace q → HasSpace w) → MakesRoom old new
+  makes_room_in q w found is same keeps = record {
+    units = ap entries_in is ∙ ap (map entry_of) (arrivals-set_same (is_whom whom) old q w found same);
+    sound = λ next sound. sound_after_set next w is sound (subst (IsNumbered next) (sym same) (IsNumbered-found (is_whom whom) next old q sound.numbered found));
+    room = HasRoom-kept old new (λ other room. subst (λ (es : Queues). IsSomeAnd (lookup (is_whom other) es) HasSpace) (sym is) (HasSpace-set_value (is_whom other) (is_whom whom) old q w found keeps room));
+  }
+
+  pub makes_room_new : (cmp : Whom → Whom → Ordering) (w : Queue) → NonePasses (is_at (cmp whom)) old → new ≡ insert_entry cmp old whom w → IsDistinct is_whom (keys_of new) → w.items ≡ [] → HasSpace w → MakesRoom old new
+  makes_room_new cmp w none is one_each empty here = record {
+    units = ap entries_in is ∙ ap (map entry_of) (arrivals-insert_empty cmp whom w old none empty);
+    sound = λ next sound. record {
+      one_each = one_each;
+      numbered = subst (AreNumbered next) (sym is) (AreNumbered-insert_empty next cmp whom w old empty sound.numbered);
+    };
+    room = HasRoom-kept old new (λ other room. subst (λ (es : Queues). IsSomeAnd (lookup (is_whom other) es) HasSpace) (sym is) (HasSpace-insert (is_whom other) cmp whom w old here room));
+  }
+
+  pub makes_room_same : new ≡ old → MakesRoom old new
+  makes_room_same is = record {
+    units = ap entries_in is;
+    sound = λ next sound. subst (AreSound next) (sym is) sound;
+    room = λ reserved room. subst (HasRoom reserved) (sym is) room;
+  }
+
+-- ---- what the list keeps
+
+no_queues : IsDistinct is_whom []
+unfolding IsDistinct
+no_queues = tt
+
+pub kept_new : (queues : Queues) → queues ≡ [] → AreKept 0 0 None queues
+kept_new queues none = subst (AreKept 0 0 None) (sym none) (record { sound = record { one_each = no_queues; numbered = tt }; counted = refl; room = tt })
+
+module _ (len next : ℕ) (reserved : Option Whom) (old new : Queues) (kept : AreKept len next reserved old) where
+  pub kept_same : MakesRoom old new → AreKept len next reserved new
+  kept_same made = record { sound = made.sound next kept.sound; counted = kept.counted ∙ ap length (sym made.units); room = made.room reserved kept.room }
+
+  pub kept_reserved : (whom : Whom) → MakesRoom old new → HasRoom (Some whom) new → AreKept len next (Some whom) new
+  kept_reserved whom made room = record { sound = made.sound next kept.sound; counted = kept.counted ∙ ap length (sym made.units); room = room }
+
+  pub kept_empty : (whom : Whom) (room : Option Whom) → Pops whom old None new → room ≡ room_beside whom reserved → AreKept len next room new
+  kept_empty whom room popped is = record {
+    sound = popped.sound next kept.sound;
+    counted = kept.counted ∙ ap length (sym (popped.rest next kept.sound ∙ without_oldest_none whom (entries_in old) (popped.unit next kept.sound)));
+    room = subst (λ r. HasRoom r new) (sym is) (popped.room reserved kept.room);
+  }
+
+  one_less : (whom : Whom) (unit : Msdu) → Pops whom old (Some unit) new → len ≡ length (entries_in new) + 1
+  one_less whom unit popped =
+      kept.counted
+      ∙ length-without_oldest whom (entries_in old) unit (popped.unit next kept.sound)
+      ∙ ap (λ es. length es + 1) (sym (popped.rest next kept.sound))
+
+  pub some_left : (whom : Whom) (unit : Msdu) → Pops whom old (Some unit) new → 1 ≤ len
+  some_left whom unit popped = let count = one_less whom unit popped in omega arith
+
+  pub kept_popped : (whom : Whom) (unit : Msdu) (room : Option Whom) → Pops whom old (Some unit) new → room ≡ room_beside whom reserved → AreKept (len - 1) next room new
+  kept_popped whom unit room popped is = record {
+    sound = popped.sound next kept.sound;
+    counted = let count = one_less whom unit popped in omega arith;
+    room = subst (λ r. HasRoom r new) (sym is) (popped.room reserved kept.room);
+  }
+
+  fewer : (whom : Whom) (removed : ℕ) → Removes whom old removed new → len ≡ length (entries_in new) + removed
+  fewer whom removed gone =
+      kept.counted
+      ∙ sym (length-without_all whom (entries_in old))
+      ∙ ap (λ es. length es + length (units_for whom (entries_in old))) (sym (gone.rest next kept.sound))
+      ∙ ap (λ n. length (entries_in new) + n) (sym (gone.count next kept.sound))
+
+  pub so_many_left : (whom : Whom) (removed : ℕ) → Removes whom old removed new → removed ≤ len
+  so_many_left whom removed gone = let count = fewer whom removed gone in omega arith
+
+  pub kept_removed : (whom : Whom) (removed : ℕ) (room : Option Whom) → Removes whom old removed new → room ≡ room_beside whom reserved → AreKept (len - removed) next room new
+  kept_removed whom removed room gone is = record {
+    sound = gone.sound next kept.sound;
+    counted = let count = fewer whom removed gone in omega arith;
+    room = subst (λ r. HasRoom r new) (sym is) (gone.room reserved kept.room);
+  }

@@ -1,0 +1,112 @@
+-- The queues of the units that are kept, one for each for whom units are kept, and the one list that they make.
+use Rattle.std.specs.Prelude.{ℕ, ◌≡◌, ◌+◌, ◌<◌, ◌++◌, Bool, List, [], ◌∷◌, length, map, nat_lt, Option, Some, None, unwrap_or, if◌then◌else◌}
+use Rattle.std.specs.List.{AllByRecursion, IsDistinct, slice_get}
+use Rattle.std.specs.Map.{keys_of, lookup}
+use Rattle.std.specs.Option.{option_map, IsSomeAnd}
+use Rattle.std.specs.declared.alloc.Global.{Global}
+use Rattle.std.specs.declared.collections.VecDeque.{VecDeque}
+use Rattle.powersave.specs.declared.unit.Whom.{Whom}
+use Rattle.powersave.specs.declared.unit.Unit.{Unit as Msdu}
+use Rattle.powersave.specs.declared.queues.Arrived.{Arrived}
+use Rattle.powersave.specs.Keep.{Entry, is_same, units_for, without_all, without_oldest, room_beside}
+
+abbrev pub Queue : Type 0
+Queue = VecDeque Arrived Global
+
+-- each queue, with whom it is for
+abbrev pub Queues : Type 0
+Queues = List (Whom × Queue)
+
+-- ---- the queue for one
+
+-- the same as this one
+abbrev pub is_whom : Whom → Whom → Bool
+is_whom whom other = is_same other whom
+
+-- its units, each with its number; where there is no queue, none
+abbrev pub queue_for : Whom → Queues → List Arrived
+queue_for whom queues = unwrap_or (option_map (λ q. q.items) (lookup (is_whom whom) queues)) []
+
+-- the unit that this many others stand before
+abbrev pub unit_at : List Arrived → ℕ → Option Msdu
+unit_at queue n = option_map (λ a. a.unit) (slice_get queue n)
+
+-- ---- one list of all units, by the numbers of their arrivals
+
+-- a number, and the unit with whom it is kept for
+abbrev pub Arrival : Type 0
+Arrival = ℕ × Entry
+
+abbrev pub arrival_for : Whom → Arrived → Arrival
+arrival_for whom a = (a.number, (whom, a.unit))
+
+-- one more, before the first that has a greater number
+abbrev pub put_in_order : Arrival → List Arrival → List Arrival
+put_in_order a [] = a ∷ []
+put_in_order a (b ∷ bs) = if nat_lt a.0 b.0 then a ∷ b ∷ bs else b ∷ put_in_order a bs
+
+-- a queue among the units of others
+abbrev pub merged : Whom → List Arrived → List Arrival → List Arrival
+merged whom [] others = others
+merged whom (a ∷ queue) others = put_in_order (arrival_for whom a) (merged whom queue others)
+
+abbrev pub arrivals : Queues → List Arrival
+arrivals [] = []
+arrivals (q ∷ queues) = merged q.0 q.1.items (arrivals queues)
+
+abbrev pub entries_in : Queues → List Entry
+entries_in queues = map (λ a. a.1) (arrivals queues)
+
+-- ---- what the queues keep
+
+-- the numbers of a queue rise, and are below that of the next unit that comes
+abbrev pub IsNumbered : ℕ → List Arrived → Type 0
+IsNumbered next [] = Unit {0}
+IsNumbered next (a ∷ queue) =
+    (a.number < next) × AllByRecursion (λ b. a.number < b.number) queue × IsNumbered next queue
+
+abbrev pub AreNumbered : ℕ → Queues → Type 0
+AreNumbered next queues = AllByRecursion (λ q. IsNumbered next q.1.items) queues
+
+-- no two are for one
+pub record AreSound (next : ℕ) (queues : Queues) : Type 0 where
+  pub one_each : IsDistinct is_whom (keys_of queues)
+  pub numbered : AreNumbered next queues
+
+-- the one for whom room is reserved, if for any, has a queue with room for one unit more
+abbrev pub HasRoom : Option Whom → Queues → Type 0
+HasRoom None queues = Unit {0}
+HasRoom (Some whom) queues = IsSomeAnd (lookup (is_whom whom) queues) (λ q. q.len < q.cap)
+
+-- what the list keeps: the next unit's number, how many units there are, and for whom there is room
+pub record AreKept (len next : ℕ) (reserved : Option Whom) (queues : Queues) : Type 0 where
+  pub sound : AreSound next queues
+  pub counted : len ≡ length (entries_in queues)
+  pub room : HasRoom reserved queues
+
+-- ---- what becomes of them
+
+-- the oldest unit for one is gone
+pub record Pops (whom : Whom) (old : Queues) (taken : Option Msdu) (new : Queues) : Type 0 where
+  pub unit : (next : ℕ) → AreSound next old → taken ≡ slice_get (units_for whom (entries_in old)) 0
+  pub rest : (next : ℕ) → AreSound next old → entries_in new ≡ without_oldest whom (entries_in old)
+  pub sound : (next : ℕ) → AreSound next old → AreSound next new
+  pub room : (reserved : Option Whom) → HasRoom reserved old → HasRoom (room_beside whom reserved) new
+
+-- all units for one are gone, as many as are told
+pub record Removes (whom : Whom) (old : Queues) (removed : ℕ) (new : Queues) : Type 0 where
+  pub count : (next : ℕ) → AreSound next old → removed ≡ length (units_for whom (entries_in old))
+  pub rest : (next : ℕ) → AreSound next old → entries_in new ≡ without_all whom (entries_in old)
+  pub sound : (next : ℕ) → AreSound next old → AreSound next new
+  pub room : (reserved : Option Whom) → HasRoom reserved old → HasRoom (room_beside whom reserved) new
+
+-- the units stay, and so does the room that there was
+pub record MakesRoom (old new : Queues) : Type 0 where
+  pub units : entries_in new ≡ entries_in old
+  pub sound : (next : ℕ) → AreSound next old → AreSound next new
+  pub room : (reserved : Option Whom) → HasRoom reserved old → HasRoom reserved new
+
+-- a unit for one came, the last of all
+pub record Pushes (whom : Whom) (arrived : Arrived) (old new : Queues) : Type 0 where
+  pub units : entries_in new ≡ entries_in old ++ (whom, arrived.unit) ∷ []
+  pub sound : AreSound (arrived.number + 1) new

@@ -1,0 +1,100 @@
+//! The queues that a [`Keep`](crate::Keep) is made of: one for each for whom units are kept, found without a walk over
+//! the others.
+
+ghost use Rattle.std.specs.Prelude.{◌≡◌, ◌≤◌, [], length, OnOk, OnErr, Some, None};
+ghost use Rattle.std.specs.Option.{option_map, option_copied};
+ghost use Rattle.powersave.specs.Queues.{queue_for, unit_at, HasRoom, Pops, Removes, MakesRoom, Pushes, AreSound};
+
+use crate::unit::{Unit, Whom};
+use mac_frame::NoMemory;
+use std::alloc::Global;
+use std::collections::{BTreeMap, VecDeque};
+
+/// A unit, and the number of its arrival: how many were put before it.
+#[derive(Debug, Drop)]
+pub(crate) struct Arrived {
+    pub(crate) number: u64,
+    pub(crate) unit: Unit,
+}
+
+/// The queues, each in order of arrival. One that has become empty stays until it is removed, so that a unit put into
+/// it needs no new queue.
+#[derive(Debug, Drop)]
+pub(crate) struct Queues {
+    alloc: Global,
+    map: BTreeMap<Whom, VecDeque<Arrived>>,
+}
+
+impl Queues {
+    /// No queue. It takes no memory.
+    pub(crate) fn new(alloc: Global) -> Queues
+        ensures { result.map.entries ≡ [] }
+    {
+        Queues {
+            alloc,
+            map: BTreeMap::new(alloc),
+        }
+    }
+
+    /// How many units the queue for `whom` has.
+    pub(crate) fn count_for(&self, whom: &Whom) -> usize
+        ensures { result ≡ length (queue_for whom.now self.now.map.entries) }
+    {
+        match self.map.get(whom) {
+            Some(queue) => queue.len(),
+            None => 0,
+        }
+    }
+
+    /// The unit that `n` others stand before in the queue for `whom`.
+    pub(crate) fn nth(&self, whom: &Whom, n: usize) -> Option<&Unit>
+        ensures { option_copied result ≡ unit_at (queue_for whom.now self.now.map.entries) n }
+    {
+        let arrived = self.map.get(whom)?.get(n)?;
+        Some(&arrived.unit)
+    }
+
+    /// Takes out the first unit of the queue for `whom`. The queue stays, also where it has become empty.
+    pub(crate) fn pop(&mut self, whom: &Whom) -> Option<Unit>
+        ensures { Pops whom.now self.old.map.entries result self.new.map.entries }
+    {
+        let Arrived { number: _, unit } = self.map.get_mut(whom)?.pop_front()?;
+        Some(unit)
+    }
+
+    /// Removes the queue for `whom`, and gives the number of its units.
+    pub(crate) fn remove(&mut self, whom: &Whom) -> usize
+        ensures { Removes whom.now self.old.map.entries result self.new.map.entries }
+    {
+        match self.map.remove(whom) {
+            Some(queue) => queue.len(),
+            None => 0,
+        }
+    }
+
+    /// Makes room for one more unit in the queue for `whom`, and the queue where there is none. The units stay as they
+    /// are.
+    pub(crate) fn make_room(&mut self, whom: &Whom) -> Result<(), NoMemory>
+        ensures ok { OnOk result (HasRoom (Some whom.now) self.new.map.entries) }
+        ensures units { MakesRoom self.old.map.entries self.new.map.entries }
+    {
+        if let Some(queue) = self.map.get_mut(whom) {
+            queue.reserve(1)?;
+            return Ok(());
+        }
+        let queue = VecDeque::with_capacity(self.alloc, 1)?;
+        self.map.insert(*whom, queue)?;
+        Ok(())
+    }
+
+    /// Puts a unit last into the queue for `whom`, which has room.
+    pub(crate) fn push(&mut self, whom: &Whom, arrived: Arrived)
+        requires room { HasRoom (Some whom.now) self.old.map.entries }
+        requires sound { AreSound arrived.number self.old.map.entries }
+        ensures { Pushes whom.now arrived self.old.map.entries self.new.map.entries }
+    {
+        if let Some(queue) = self.map.get_mut(whom) {
+            queue.push_back_reserved(arrived);
+        }
+    }
+}
