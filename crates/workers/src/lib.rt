@@ -1,8 +1,63 @@
-//! What several threads will share of a radio: today the type [`Line`] alone, which `bss_core` has and this crate gives on.
+//! An access point whose networks run at the same time, each under a lock of its own (*profile*; a network is that of
+//! IEEE Std 802.11-2016, 11.1 to 11.3).
 //!
-//! Its definitions stand beside it: which lines a network hears, and which of them it takes. Nothing else is promised yet.
+//! Threads share an [`Ap`] by reference. A [`Caller`] gives it what was heard on the air, what came over the wire, and
+//! ticks, and keeps what it is answered; any thread pumps frames that wait into the air queue; the [`Transmitter`] lets
+//! them leave. [`Ap::finish`] promises that each network's section is what the network alone gives for its own events,
+//! and that what left of it is all that it sent, in order, whichever thread called what, and when. Under a network's
+//! lock that much holds at every moment: what was pushed and then what waits is all that the network alone sends for
+//! its history.
 //!
-//! Who takes the lines, and when, is left to the crates above.
+//! That a call gets its lock, the order of calls of different callers, fairness, progress and time are promised by
+//! nothing here. That networks have locks of their own, and that an event changes its network at once, tests show.
+//! Which thread calls what is left to the crates above.
+//!
+//! An access point has a name, for contracts alone ([`ApName`]). So who uses one is a function that is generic in it,
+//! and the call of that function picks the name, by the parts that it hands on:
+//!
+//! ```text
+//! fn beacons<R: Wait>(rt: &R, alloc: Global, config: RadioConfig) -> Result<Finished, Fail> {
+//!     beacons_of::<Brand, R>(rt, alloc, Parts::open(alloc, config, 1)?)
+//! }
+//!
+//! fn beacons_of<N: ApName, R: Wait>(rt: &R, alloc: Global, parts: Parts) -> Result<Finished, Fail>
+//!     requires { AreNamed N.config N.queue parts }
+//! {
+//!     let (ap, mut callers, transmitter) = Ap::<N>::start(alloc, parts)?;
+//!     for caller in callers.iter_mut() {
+//!         ap.tick(rt, caller)?;
+//!     }
+//!     for place in 0..ap.networks() {
+//!         ap.pump(rt, place);
+//!     }
+//!     Ok(ap.finish(rt, callers, transmitter)?)
+//! }
+//! ```
+//!
+//! and in `proofs/beacons/Invariants.antt`, the pick:
+//!
+//! ```text
+//! ghosts-beacons_of g a = record { config = a.parts.config; queue = a.parts.queue }
+//! ```
 #![tactic(auto)]
 
+mod ap;
+mod caller;
+mod copies;
+mod finish;
+mod given;
+mod name;
+mod outcome;
+mod parts;
+mod seat;
+mod start;
+mod transmitter;
+
+pub use ap::Ap;
 pub use bss_core::Line;
+pub use caller::{Caller, Entry};
+pub use finish::{FinishFault, Finished};
+pub use name::ApName;
+pub use outcome::Outcome;
+pub use parts::{MAX_CALLERS, Parts};
+pub use transmitter::Transmitter;

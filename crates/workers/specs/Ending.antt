@@ -1,0 +1,60 @@
+-- How an access point ends (profile).
+use Rattle.std.specs.Prelude.{ℕ, ◌<◌, ◌≤◌, ◌≡◌, ◌++◌, All, List, length, map, Some, slice_get}
+use Rattle.std.specs.List.{AllByRecursion, AllZip, enumerate_from}
+use Rattle.air_queue.specs.Passes.{QueueName, NetPassView, AllThere}
+use Rattle.bss_core.specs.Radio.{network_at, setting_at, items_of}
+use Rattle.bss_core.specs.Section.{section_of}
+use Rattle.bss_core.specs.BssView.{BssView, network_of}
+use Rattle.bss_core.specs.declared.config.RadioConfig.{RadioConfig}
+use Rattle.bss_core.specs.declared.section.Section.{Section}
+use Rattle.bss_core.specs.declared.radio.step.AirItem.{AirItem}
+use Rattle.workers.specs.Seats.{IsSeated}
+
+-- the section of the network at a place, alone with its own events, which are as many at most as it may take
+pub record IsSectionAt (config : RadioConfig) (place : ℕ) (section : Section) : Type 0 where
+  pub alone : section ≡ section_of (setting_at config place) section.events
+  pub bounded : length section.events ≤ (network_at config place).max_events
+
+-- one for each network, in order of place
+abbrev pub AreSections : RadioConfig → List Section → Type 0
+AreSections config sections =
+    (place : ℕ) (section : Section) → slice_get sections place ≡ Some section → IsSectionAt config place section
+
+-- what left of the network at each place is what its section has on the air
+abbrev pub HaveLeft : List Section → List AirItem → Type 0
+HaveLeft sections left =
+    (place : ℕ) (section : Section) → slice_get sections place ≡ Some section → items_of place left ≡ section.air
+
+-- each item is of a network that is there
+abbrev pub ArePlaced : RadioConfig → List AirItem → Type 0
+ArePlaced config items = All (λ item. item.place < length config.networks) items
+
+-- the frames of the network at a place
+abbrev pub items_at : ℕ → List (List ℕ) → List AirItem
+items_at place frames = map (λ octets. record { place = place; octets = octets }) frames
+
+-- ---- on the way
+
+-- each network with its pass, in order of place
+pub record AreSeated (config : RadioConfig) (queue : QueueName) (networks : List BssView) (passes : List NetPassView)
+    : Type 0 where
+  pub there : AllThere queue (length config.networks) passes
+  pub seated : AllZip (IsSeated config queue) networks passes
+
+-- what left of the network at a place and then what waits is all that it sent
+pub record IsSent (config : RadioConfig) (left : List AirItem) (place : ℕ) (network : BssView) : Type 0 where
+  pub setting : network.setting ≡ setting_at config place
+  pub bounded : length network.history ≤ network.setting.network.max_events
+  pub placed : place < length config.networks
+  pub sent : items_of place left ++ network.waiting ≡ (network_of network).air
+
+abbrev pub AreSent : RadioConfig → List AirItem → List BssView → Type 0
+AreSent config left networks = AllByRecursion (λ n. IsSent config left n.0 n.1) (enumerate_from 0 networks)
+
+-- the section of the network at a place, all of whose frames left
+pub record IsEnded (config : RadioConfig) (left : List AirItem) (place : ℕ) (section : Section) : Type 0 where
+  pub section_at : IsSectionAt config place section
+  pub air : items_of place left ≡ section.air
+
+abbrev pub AreEnded : RadioConfig → List AirItem → List Section → Type 0
+AreEnded config left sections = AllByRecursion (λ n. IsEnded config left n.0 n.1) (enumerate_from 0 sections)

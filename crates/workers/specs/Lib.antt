@@ -1,0 +1,6 @@
+pub mod Names
+pub mod Outcomes
+pub mod Seats
+pub mod Giving
+pub mod Copies
+pub mod Ending

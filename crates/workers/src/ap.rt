@@ -1,0 +1,235 @@
+//! An access point whose networks run at the same time (*profile*).
+
+ghost use Rattle.std.specs.Prelude.{◌≡◌, ◌≢◌, ◌+◌, ◌<◌, ◌≤◌, ◌++◌, ◌∷◌, [], length, map};
+ghost use Rattle.std.specs.Prelude.{IfOk, OnErr, MatchBool, vec_len, vec_capacity};
+ghost use Rattle.std.specs.Fn.{FnOnceTakesAt, FnOnceReturnsAt};
+ghost use Rattle.bss_core.specs.BssView.{BssView};
+ghost use Rattle.bss_core.specs.declared.event.Event.{Event};
+ghost use Rattle.bss_core.specs.declared.line.Line.TheVariants as line;
+ghost use Rattle.bss_core.specs.declared.radio.step.AirItem.{AirItem};
+ghost use Rattle.workers.specs.Copies.{copies_at, AreCopies, HaveNetworks, AreOf, AreOffered};
+ghost use Rattle.workers.specs.Giving.{AreHeard, AddsEntries, line_of, event_of, entry_of};
+ghost use Rattle.workers.specs.Seats.{IsNetworkOf};
+
+use crate::caller::{Caller, Entry};
+use crate::copies::Copies;
+use crate::given::Given;
+use crate::name::ApName;
+use crate::outcome::Outcome;
+use crate::seat::Seat;
+use crate::transmitter::Transmitter;
+use air_queue::AirQueue;
+use bss_core::{Bss, Handed, MAX_NETWORKS};
+use mac_frame::{MacAddr, NoMemory};
+use std::alloc::Global;
+use std::marker::Model;
+use std::sync::{Mutex, Wait};
+
+/// The access point N: its networks, each under a lock of its own, and the air queue in which their frames meet
+/// (*profile*). Threads share it by reference. Contracts see its configuration; what stands under a lock another
+/// thread may change at any moment, so of it they say what its type keeps.
+#[derive(Drop)]
+pub struct Ap<N: ApName> {
+    pub(crate) alloc: Global,
+    pub(crate) bssids: Vec<MacAddr>,
+    pub(crate) seats: Vec<Mutex<Seat<N>>>,
+    pub(crate) queue: AirQueue,
+}
+
+impl<N: ApName> Model for Ap<N> {
+    ghost use Rattle.std.specs.Prelude.{◌≡◌, vec_len, length, map};
+    ghost use Rattle.bss_core.specs.declared.config.RadioConfig.{RadioConfig};
+
+    ghost Value = { RadioConfig };
+
+    ghost view = { λ _. N.config };
+
+    ghost invariant = { λ a.
+        (a.bssids.items ≡ map (λ n. n.bssid) N.config.networks)
+        × (vec_len a.seats ≡ length N.config.networks)
+        × (a.queue.name ≡ N.queue) };
+}
+
+impl<N: ApName> Ap<N> {
+    /// How many networks it has. Their places are 0 and the numbers below this one. It takes no memory.
+    pub fn networks(&self) -> usize
+        ensures { result ≡ length N.config.networks }
+    {
+        self.seats.len()
+    }
+
+    /// Gives a string of octets that was heard on the air to each network that hears it, in order of place, and
+    /// answers what each made of it (*profile*). For each that took or refused it the caller has an entry more. A
+    /// refusal of one network does not keep the others from it. `NoMemory` where a growth was refused, before any
+    /// network was touched; then the caller is as it was. It may wait for other threads.
+    pub fn air<R: Wait>(
+        &self,
+        rt: &R,
+        caller: &mut Caller,
+        frame: &[u8],
+    ) -> Result<[Outcome; MAX_NETWORKS], NoMemory>
+        ensures heard { IfOk result (AreHeard N.config (line.Air frame.now)) }
+        ensures entries { IfOk result (AddsEntries (Event.Air frame.now) caller.old caller.new) }
+        ensures err { OnErr result (caller.new ≡ caller.old) }
+    {
+        self.give(rt, caller, Given::Air(frame))
+    }
+
+    /// Gives a frame that came over the wire to the network at a place, and answers as [`Ap::air`] does (*profile*).
+    /// Where there is no network at that place, nobody hears it.
+    pub fn wire<R: Wait>(
+        &self,
+        rt: &R,
+        caller: &mut Caller,
+        place: usize,
+        octets: &[u8],
+    ) -> Result<[Outcome; MAX_NETWORKS], NoMemory>
+        ensures heard { IfOk result (AreHeard N.config (line.Wire place octets.now)) }
+        ensures entries { IfOk result (AddsEntries (Event.Wire octets.now) caller.old caller.new) }
+        ensures err { OnErr result (caller.new ≡ caller.old) }
+    {
+        self.give(rt, caller, Given::Wire { place, octets })
+    }
+
+    /// Tells each network that a beacon interval began, and answers as [`Ap::air`] does (*profile*).
+    pub fn tick<R: Wait>(
+        &self,
+        rt: &R,
+        caller: &mut Caller,
+    ) -> Result<[Outcome; MAX_NETWORKS], NoMemory>
+        ensures heard { IfOk result (AreHeard N.config line.Tick) }
+        ensures entries { IfOk result (AddsEntries Event.Tick caller.old caller.new) }
+        ensures err { OnErr result (caller.new ≡ caller.old) }
+    {
+        self.give(rt, caller, Given::Tick)
+    }
+
+    /// Gives a line to each network that hears it.
+    fn give<R: Wait>(
+        &self,
+        rt: &R,
+        caller: &mut Caller,
+        given: Given<'_>,
+    ) -> Result<[Outcome; MAX_NETWORKS], NoMemory>
+        ensures heard { IfOk result (AreHeard N.config (line_of given.entry)) }
+        ensures entries { IfOk result (AddsEntries (event_of (line_of given.entry)) caller.old caller.new) }
+        ensures err { OnErr result (caller.new ≡ caller.old) }
+    {
+        let copies = self.copies(given)?;
+        caller.entries.reserve(MAX_NETWORKS)?;
+        Ok(self.offer_each(rt, &mut caller.entries, copies))
+    }
+
+    /// For each place, copies of the event if the network there hears the line.
+    fn copies(&self, given: Given<'_>) -> Result<Vec<Option<Copies>>, NoMemory>
+        ensures { IfOk result (λ copies. AreCopies N.config (line_of given.entry) copies.items) }
+    {
+        let mut copies = Vec::with_capacity(self.alloc, MAX_NETWORKS)?;
+        for place in 0..MAX_NETWORKS {
+            copies.push_reserved(self.copies_at(place, given)?);
+        }
+        Ok(copies)
+    }
+
+    /// Copies of the event if the network at this place hears the line.
+    fn copies_at(&self, place: usize, given: Given<'_>) -> Result<Option<Copies>, NoMemory>
+        ensures { IfOk result (λ copies. copies ≡ copies_at N.config (line_of given.entry) place) }
+    {
+        if place >= self.bssids.len() || !given.is_heard(place, self.bssids[place]) {
+            return Ok(None);
+        }
+        Ok(Some(Copies::of(self.alloc, given)?))
+    }
+
+    /// Offers the event to the network at each place that has copies of it, and keeps the entries, for which there is
+    /// room.
+    fn offer_each<R: Wait>(
+        &self,
+        rt: &R,
+        entries: &mut Vec<Entry>,
+        mut copies: Vec<Option<Copies>>,
+    ) -> [Outcome; MAX_NETWORKS]
+        requires count { vec_len copies ≡ MAX_NETWORKS }
+        requires places { HaveNetworks N.config copies.items }
+        requires room { vec_len entries.old + MAX_NETWORKS ≤ vec_capacity entries.old }
+        ensures heard { AreOffered copies.items result }
+        ensures entries { (event : Event) → AreOf event copies.items →
+            AddsEntries event entries.old.items entries.new.items result }
+    {
+        let mut outcomes = [Outcome::NotHeard; MAX_NETWORKS];
+        for place in 0..MAX_NETWORKS {
+            if let Some(copies) = copies[place].take() {
+                outcomes[place] = self.offer(rt, entries, place, copies);
+            }
+        }
+        outcomes
+    }
+
+    /// Offers the event to the network at a place, and keeps the entry, for which there is room.
+    fn offer<R: Wait>(
+        &self,
+        rt: &R,
+        entries: &mut Vec<Entry>,
+        place: usize,
+        copies: Copies,
+    ) -> Outcome
+        requires place { place < length N.config.networks }
+        requires room { vec_len entries.old < vec_capacity entries.old }
+        ensures heard { result ≢ Outcome.NotHeard }
+        ensures entries { entries.new.items ≡ entries.old.items ++ entry_of copies.kept place result }
+        ensures len { vec_len entries.new ≤ vec_len entries.old + 1 }
+        ensures capacity { vec_capacity entries.new ≡ vec_capacity entries.old }
+    {
+        let Copies { offered, kept } = copies;
+        let outcome = self.seats[place].lock(rt).take(offered);
+        if let Some(entry) = Entry::of(place, outcome, kept) {
+            entries.push_reserved(entry);
+        }
+        outcome
+    }
+
+    /// Hands frames of the network at a place to the air queue, the first that waits first, until none waits or the
+    /// queue is full, and answers how many went there (*profile*). It takes no memory. It may wait for other threads.
+    pub fn pump<R: Wait>(&self, rt: &R, place: usize) -> u32
+        requires { place < length N.config.networks }
+    {
+        for handed in 0..u32::MAX {
+            if self.hand(rt, place) != Handed::Moved {
+                return handed;
+            }
+        }
+        u32::MAX
+    }
+
+    /// Hands the first frame of the network at a place that waits.
+    fn hand<R: Wait>(&self, rt: &R, place: usize) -> Handed
+        requires { place < length N.config.networks }
+    {
+        self.seats[place].lock(rt).hand(rt, &self.queue)
+    }
+
+    /// Lets the first frame of the air queue leave, after room was made for it: it is the last that left then.
+    /// `false`, and no change, only where the queue was empty at one moment of the call, which tests show;
+    /// `NoMemory`, and no change, where the growth was refused (*profile*). It may wait for other threads.
+    pub fn leave<R: Wait>(&self, rt: &R, transmitter: &mut Transmitter<N>) -> Result<bool, NoMemory>
+        ensures left { IfOk result (λ left. MatchBool left
+            ((item : AirItem) × (item.place < length N.config.networks)
+            × (transmitter.new ≡ transmitter.old ++ item ∷ []))
+            (transmitter.new ≡ transmitter.old)) }
+        ensures err { OnErr result (transmitter.new ≡ transmitter.old) }
+    {
+        transmitter.pass.reserve(1)?;
+        Ok(self.queue.pop(rt, &mut transmitter.pass))
+    }
+
+    /// What `f` answers of the network at a place, which it is shown under that network's lock alone. It may be
+    /// called on every network of the configuration, and was called on one of them (*profile*). It may wait for other
+    /// threads.
+    pub fn inspect<R: Wait, T, F: FnOnce(&Bss) -> T>(&self, rt: &R, place: usize, f: F) -> T
+        requires place { place < length N.config.networks }
+        requires callable { (network : BssView) → IsNetworkOf N.config network → FnOnceTakesAt F.FnOnce f network }
+        ensures { (network : BssView) × IsNetworkOf N.config network × FnOnceReturnsAt F.FnOnce f network result }
+    {
+        self.seats[place].lock(rt).show(f)
+    }
+}

@@ -1,0 +1,189 @@
+//! The end of an access point: all that waits or is queued leaves, and every network has its section (*profile*).
+
+ghost use Rattle.std.specs.Prelude.{◌≡◌, ◌++◌, IfOk, OnOk, vec_len, length};
+ghost use Rattle.bss_core.specs.Lists.{IsPrefix};
+ghost use Rattle.bss_core.specs.Radio.{items_of};
+ghost use Rattle.bss_core.specs.Running.{section_with};
+ghost use Rattle.workers.specs.Ending.{AreSections, HaveLeft, ArePlaced, AreSeated, AreSent, AreEnded, items_at};
+ghost use Rattle.workers.specs.declared.finish.FinishFault.TheVariants as faults;
+
+use crate::ap::Ap;
+use crate::caller::Caller;
+use crate::name::ApName;
+use crate::seat::Seat;
+use crate::transmitter::Transmitter;
+use air_queue::NetPass;
+use bss_core::{AirItem, Bss, Section};
+use mac_frame::{List, NoMemory, Octets};
+use std::alloc::{AllocError, AllocFailed, Global};
+use std::fmt;
+use std::sync::{Mutex, Wait};
+
+/// What an access point ends with (*profile*).
+#[derive(Debug, Drop)]
+pub struct Finished {
+    /// The section of each network, in order of place.
+    pub sections: List<Section>,
+    /// The frames that left, the first of them first.
+    pub left: List<AirItem>,
+}
+
+/// Why an access point could not be finished. Its parts are gone then (*profile*).
+#[derive(Clone, Copy, Debug, PartialEq, Eq)]
+pub enum FinishFault {
+    /// F1: a growth was refused.
+    NoMemory,
+    /// F2: a network was not at its place.
+    BadReceipt,
+    /// F3: no receipt names an event of a history.
+    Uncovered,
+    /// F4: a network refused an event as full, and is not.
+    FullEarly,
+}
+
+impl From<NoMemory> for FinishFault {
+    ghost from_gives = { λ _ fault. fault ≡ faults.NoMemory };
+
+    fn from(_e: NoMemory) -> FinishFault {
+        FinishFault::NoMemory
+    }
+}
+
+impl From<AllocError> for FinishFault {
+    ghost from_gives = { λ _ fault. fault ≡ faults.NoMemory };
+
+    fn from(_e: AllocError) -> FinishFault {
+        FinishFault::NoMemory
+    }
+}
+
+impl<T: Drop> From<AllocFailed<T>> for FinishFault {
+    ghost from_gives = { λ _ fault. fault ≡ faults.NoMemory };
+
+    fn from(_e: AllocFailed<T>) -> FinishFault {
+        FinishFault::NoMemory
+    }
+}
+
+/// The fault as a user meets it, `F1` to `F4`.
+impl fmt::Display for FinishFault {
+    fn fmt<W: fmt::Write>(&self, f: &mut fmt::Formatter<W>) -> fmt::Result {
+        f.write_str(match self {
+            FinishFault::NoMemory => "F1",
+            FinishFault::BadReceipt => "F2",
+            FinishFault::Uncovered => "F3",
+            FinishFault::FullEarly => "F4",
+        })
+    }
+}
+
+impl<N: ApName> Ap<N> {
+    /// Ends the access point: all frames that wait or are queued leave, and each network has its section (*profile*).
+    /// `NoMemory` where a growth was refused; `BadReceipt` where a network was not at its place, which is never met. It
+    /// may wait for other threads.
+    pub fn finish<R: Wait>(
+        self,
+        rt: &R,
+        callers: Vec<Caller>,
+        transmitter: Transmitter<N>,
+    ) -> Result<Finished, FinishFault>
+        // Each section is that of the network alone, with its own events, as many at most as it may take.
+        ensures networks { IfOk result (λ end. length end.sections ≡ length N.config.networks) }
+        ensures sections { IfOk result (λ end. AreSections N.config end.sections) }
+
+        // What left of a network is all that it sent on the air, and nothing else left.
+        ensures air { IfOk result (λ end. HaveLeft end.sections end.left) }
+        ensures nothing_else { IfOk result (λ end. ArePlaced N.config end.left) }
+        ensures begins { IfOk result (λ end. IsPrefix transmitter end.left) }
+    {
+        drop(callers);
+        let Ap {
+            alloc,
+            bssids: _,
+            seats,
+            queue,
+        } = self;
+        let Transmitter { pass: radio, of: _ } = transmitter;
+        let (networks, nets) = unseat(alloc, seats)?;
+        let Ok(left) = queue.take_in(rt, radio, nets) else {
+            return Err(FinishFault::NoMemory);
+        };
+        let mut left = left.items.into_vec();
+        let sections = end_networks::<N>(alloc, networks, &mut left)?;
+        Ok(Finished {
+            sections: List::from_vec(sections),
+            left: List::from_vec(left),
+        })
+    }
+}
+
+/// The networks and their passes, in order of place.
+fn unseat<N: ApName>(
+    alloc: Global,
+    seats: Vec<Mutex<Seat<N>>>,
+) -> Result<(Vec<Bss>, Vec<NetPass>), FinishFault>
+    requires { vec_len seats ≡ length N.config.networks }
+    ensures { IfOk result (λ r. AreSeated N.config N.queue r.0.items r.1.items) }
+{
+    let mut networks = Vec::with_capacity(alloc, seats.len())?;
+    let mut nets = Vec::with_capacity(alloc, seats.len())?;
+    for seat in seats {
+        let (bss, pass) = seat.into_inner().into_parts();
+        if pass.place() != nets.len() {
+            return Err(FinishFault::BadReceipt);
+        }
+        networks.push(bss)?;
+        nets.push(pass)?;
+    }
+    Ok((networks, nets))
+}
+
+/// The section of each network, in order of place. The frames that wait leave after those that left.
+fn end_networks<N: ApName>(
+    alloc: Global,
+    networks: Vec<Bss>,
+    left: &mut Vec<AirItem>,
+) -> Result<Vec<Section>, NoMemory>
+    requires { AreSent N.config left.old.items networks.items }
+    ensures ended { IfOk result (λ sections. AreEnded N.config left.new.items sections.items) }
+    ensures count { IfOk result (λ sections. vec_len sections ≡ vec_len networks) }
+    ensures placed { OnOk result (ArePlaced N.config left.old.items → ArePlaced N.config left.new.items) }
+    ensures begins { OnOk result (IsPrefix left.old.items left.new.items) }
+{
+    let mut sections = Vec::with_capacity(alloc, networks.len())?;
+    for network in networks {
+        let place = sections.len();
+        sections.push(end_network(alloc, place, network, left)?)?;
+    }
+    Ok(sections)
+}
+
+/// The section of the network at a place, whose frames that wait leave last.
+fn end_network(
+    alloc: Global,
+    place: usize,
+    mut network: Bss,
+    left: &mut Vec<AirItem>,
+) -> Result<Section, NoMemory>
+    ensures left { OnOk result (left.new.items ≡ left.old.items ++ items_at place network.waiting) }
+    ensures section { IfOk result (λ section. section ≡ section_with (items_of place left.new.items) network) }
+{
+    while let Some(octets) = network.take_front() {
+        left.push(AirItem { place, octets })?;
+    }
+    let air = frames_of(alloc, place, left.as_slice())?;
+    network.into_section(List::from_vec(air))
+}
+
+/// Copies of the frames of the network at a place.
+fn frames_of(alloc: Global, place: usize, items: &[AirItem]) -> Result<Vec<Octets>, NoMemory>
+    ensures { IfOk result (λ frames. frames.items ≡ items_of place items.now) }
+{
+    let mut frames = Vec::new(alloc);
+    for item in items {
+        if item.place == place {
+            frames.push(item.octets.copy(alloc)?)?;
+        }
+    }
+    Ok(frames)
+}

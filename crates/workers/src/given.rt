@@ -1,0 +1,49 @@
+//! What a caller gives to the networks of an access point.
+
+ghost use Rattle.std.specs.Prelude.{◌≡◌, IfOk, option_to_list};
+ghost use Rattle.bss_core.specs.Lines.{heard_of};
+ghost use Rattle.workers.specs.Giving.{line_of, event_of, hears_line};
+
+use bss_core::{Event, hears};
+use mac_frame::{MacAddr, NoMemory, Octets};
+use std::alloc::Global;
+
+/// One thing that happened to the networks of a radio, as [`bss_core::Line`] has it, lent by whoever tells of it.
+#[derive(Clone, Copy)]
+pub(crate) enum Given<'a> {
+    /// A string of octets was heard on the air.
+    Air(&'a [u8]),
+    /// A frame came over the wire to the network at a place.
+    Wire {
+        /// The network's place in the configuration, from 0.
+        place: usize,
+        /// The octets of the frame.
+        octets: &'a [u8],
+    },
+    /// A beacon interval began.
+    Tick,
+}
+
+impl Given<'_> {
+    /// Whether the network with this place and this BSSID hears it.
+    pub(crate) fn is_heard(self, place: usize, bssid: MacAddr) -> bool
+        ensures { result ≡ hears_line place bssid (line_of self.entry) }
+    {
+        match self {
+            Given::Air(frame) => hears(bssid, frame),
+            Given::Wire { place: named, .. } => named == place,
+            Given::Tick => true,
+        }
+    }
+
+    /// The event that it is to a network that hears it.
+    pub(crate) fn event(self, alloc: Global) -> Result<Event, NoMemory>
+        ensures { IfOk result (λ event. event ≡ event_of (line_of self.entry)) }
+    {
+        match self {
+            Given::Air(frame) => Ok(Event::Air(Octets::from_slice(alloc, frame)?)),
+            Given::Wire { octets, .. } => Ok(Event::Wire(Octets::from_slice(alloc, octets)?)),
+            Given::Tick => Ok(Event::Tick),
+        }
+    }
+}

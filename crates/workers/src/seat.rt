@@ -1,0 +1,92 @@
+//! What stands under a network's lock (*profile*).
+
+ghost use Rattle.std.specs.Prelude.{◌≡◌, []};
+ghost use Rattle.std.specs.Fn.{FnOnceTakesAt, FnOnceReturnsAt};
+ghost use Rattle.air_queue.specs.Passes.{NetPassView};
+ghost use Rattle.bss_core.specs.BssView.{BssView};
+ghost use Rattle.workers.specs.Seats.{IsSeated, IsNetworkOf, AnswersEvent, HandsFrame};
+
+use crate::name::ApName;
+use crate::outcome::Outcome;
+use air_queue::{AirQueue, NetPass};
+use bss_core::{AirItem, Bss, Event, Handed};
+use std::marker::{Model, PhantomData};
+use std::sync::Wait;
+
+/// A network of the access point N with its pass to the air queue, as they stand under one lock (*profile*). What was
+/// pushed and then what waits is all that the network alone sends for its history: no frame is lost, doubled or
+/// overtaken.
+#[derive(Drop)]
+pub struct Seat<N: ApName> {
+    bss: Bss,
+    pass: NetPass,
+    of: PhantomData<N>,
+}
+
+impl<N: ApName> Model for Seat<N> {
+    ghost use Rattle.workers.specs.Seats.{SeatView, IsSeated};
+
+    ghost Value = { SeatView };
+
+    ghost view = { λ s. record { network = s.bss; pass = s.pass } };
+
+    ghost invariant = { λ s. IsSeated N.config N.queue s.bss s.pass };
+}
+
+impl<N: ApName> Seat<N> {
+    /// The seat of a network.
+    pub(crate) fn new(bss: Bss, pass: NetPass) -> Seat<N>
+        requires { IsSeated N.config N.queue bss pass }
+        ensures { result ≡ record { network = bss; pass = pass } }
+    {
+        Seat {
+            bss,
+            pass,
+            of: PhantomData,
+        }
+    }
+
+    /// Offers the network an event.
+    pub(crate) fn take(&mut self, event: Event) -> Outcome
+        ensures answer { AnswersEvent event self.old.network self.new.network result }
+        ensures pass { self.new.pass ≡ self.old.pass }
+    {
+        Outcome::from(self.bss.take(event))
+    }
+
+    /// Pushes the first frame that waits, which goes on waiting where it comes back.
+    pub(crate) fn hand<R: Wait>(&mut self, rt: &R, queue: &AirQueue) -> Handed
+        requires { queue.now.name ≡ N.queue }
+        ensures answer { HandsFrame self.old self.new result }
+        ensures history { self.new.network.history ≡ self.old.network.history }
+    {
+        let Some(octets) = self.bss.take_front() else {
+            return Handed::Nothing;
+        };
+        let place = self.pass.place();
+        match queue.push(rt, &mut self.pass, AirItem { place, octets }) {
+            Ok(()) => Handed::Moved,
+            Err(AirItem { place: _, octets }) => {
+                self.bss.give_back(octets);
+                Handed::QueueFull
+            }
+        }
+    }
+
+    /// What `f` answers of the network.
+    pub(crate) fn show<T, F: FnOnce(&Bss) -> T>(&self, f: F) -> T
+        requires { (network : BssView) → IsNetworkOf N.config network → FnOnceTakesAt F.FnOnce f network }
+        ensures { (network : BssView) × IsNetworkOf N.config network × FnOnceReturnsAt F.FnOnce f network result }
+    {
+        f(&self.bss)
+    }
+
+    /// The network and its pass.
+    pub(crate) fn into_parts(self) -> (Bss, NetPass)
+        ensures parts { (result.0 ≡ self.network) × (result.1 ≡ self.pass) }
+        ensures seated { IsSeated N.config N.queue result.0 result.1 }
+    {
+        let Seat { bss, pass, of: _ } = self;
+        (bss, pass)
+    }
+}
