@@ -41,7 +41,7 @@ loop-network-preserved g c =
       begins = (
         i.begins.0 ++ items_at place b.waiting,
         sym (append_assoc c.args.left.now.items i.begins.0 (items_at place b.waiting))
-        ∙ ap (λ (items : List AirItem). items ++ items_at place b.waiting) i.begins.1
-        ∙ sym more,
+            ∙ ap (λ (items : List AirItem). items ++ items_at place b.waiting) i.begins.1
+            ∙ sym more,
       );
     }
