@@ -48,25 +48,46 @@ pub const MAX_EVENTS: u32 = 1_000_000;
 pub const CHANNEL_LIMITS: Limits = Limits { least: 1, most: 14 };
 
 /// The beacon interval in time units of 1024 microseconds (9.4.1.3).
-pub const INTERVAL_LIMITS: Limits = Limits { least: 1, most: u16::MAX as u32 };
+pub const INTERVAL_LIMITS: Limits = Limits {
+    least: 1,
+    most: u16::MAX as u32,
+};
 
 /// The frames that the air queue holds.
-pub const QUEUE_LIMITS: Limits = Limits { least: 1, most: MAX_QUEUE as u32 };
+pub const QUEUE_LIMITS: Limits = Limits {
+    least: 1,
+    most: MAX_QUEUE as u32,
+};
 
 /// The DTIM period in beacon intervals (9.4.2.6).
-pub const DTIM_LIMITS: Limits = Limits { least: 1, most: u8::MAX as u32 };
+pub const DTIM_LIMITS: Limits = Limits {
+    least: 1,
+    most: u8::MAX as u32,
+};
 
 /// The stations that are associated at a time.
-pub const STATION_LIMITS: Limits = Limits { least: 1, most: MAX_STATIONS as u32 };
+pub const STATION_LIMITS: Limits = Limits {
+    least: 1,
+    most: MAX_STATIONS as u32,
+};
 
 /// The stations that are known at a time.
-pub const KNOWN_LIMITS: Limits = Limits { least: 1, most: 10_000 };
+pub const KNOWN_LIMITS: Limits = Limits {
+    least: 1,
+    most: 10_000,
+};
 
 /// The units that a network keeps, whoever they are for.
-pub const QUOTA_LIMITS: Limits = Limits { least: 0, most: 100_000 };
+pub const QUOTA_LIMITS: Limits = Limits {
+    least: 0,
+    most: 100_000,
+};
 
 /// The events that a network takes.
-pub const EVENT_LIMITS: Limits = Limits { least: 1, most: MAX_EVENTS };
+pub const EVENT_LIMITS: Limits = Limits {
+    least: 1,
+    most: MAX_EVENTS,
+};
 
 /// Whether a radio may have so many networks.
 pub fn count_fits(networks: usize) -> bool

@@ -58,7 +58,7 @@ invariant_of-self-2 c =
       ap (λ (k : StationTable). k.most) changed ∙ c.self.invariant.1,
       c.change-2.ensures.quota ∙ c.in_ok-reserve_in-2.ensures.quota ∙ c.self.invariant.2,
       (let longer : length c.push_reserved.new.self.items ≡ length es + 1 = ap length items ∙ length_push es c.args.event in
-      omega (arith, longer, c.change-2.ensures.puts, c.in_ok-reserve_in-2.ensures.puts, c.self.invariant.3)),
+          omega (arith, longer, c.change-2.ensures.puts, c.in_ok-reserve_in-2.ensures.puts, c.self.invariant.3)),
       λ h. absurd cc,
     )
 
