@@ -135,14 +135,15 @@ fn a_probe_request_is_addressed(rt: HostRuntime) {
 
 #[test]
 fn a_probe_request_is_read(rt: HostRuntime) {
-    let Ok(
-        Rx::Mgmt {
-            subtype,
-            from,
-            to_all,
-            body,
-        },
-    ) = decode(MacAddr::new(NETWORK), &PROBE)
+    let Ok(frame) = decode(MacAddr::new(NETWORK), &PROBE) else {
+        panic!(rt; "no frame");
+    };
+    let Rx::Mgmt {
+        subtype,
+        from,
+        to_all,
+        body,
+    } = frame
     else {
         panic!(rt; "no management frame");
     };
@@ -154,14 +155,15 @@ fn a_probe_request_is_read(rt: HostRuntime) {
 
 #[test]
 fn a_unit_is_read(rt: HostRuntime) {
-    let Ok(
-        Rx::Msdu {
-            from,
-            doze,
-            to,
-            body,
-        },
-    ) = decode(MacAddr::new(NETWORK), &UNIT)
+    let Ok(frame) = decode(MacAddr::new(NETWORK), &UNIT) else {
+        panic!(rt; "no frame");
+    };
+    let Rx::Msdu {
+        from,
+        doze,
+        to,
+        body,
+    } = frame
     else {
         panic!(rt; "no Data frame");
     };
@@ -173,7 +175,10 @@ fn a_unit_is_read(rt: HostRuntime) {
 
 #[test]
 fn a_mode_is_read(rt: HostRuntime) {
-    let Ok(Rx::Null { from, doze }) = decode(MacAddr::new(NETWORK), &NULL) else {
+    let Ok(frame) = decode(MacAddr::new(NETWORK), &NULL) else {
+        panic!(rt; "no frame");
+    };
+    let Rx::Null { from, doze } = frame else {
         panic!(rt; "no Null frame");
     };
     assert_eq!(rt; from, MacAddr::new(STATION));
@@ -182,7 +187,10 @@ fn a_mode_is_read(rt: HostRuntime) {
 
 #[test]
 fn a_poll_is_read(rt: HostRuntime) {
-    let Ok(Rx::Poll { from, aid }) = decode(MacAddr::new(NETWORK), &POLL) else {
+    let Ok(frame) = decode(MacAddr::new(NETWORK), &POLL) else {
+        panic!(rt; "no frame");
+    };
+    let Rx::Poll { from, aid } = frame else {
         panic!(rt; "no PS-Poll frame");
     };
     assert_eq!(rt; from, MacAddr::new(STATION));
