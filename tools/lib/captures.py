@@ -1,6 +1,7 @@
 """Capture files in and out, read and written by scapy: pcap and pcapng, radiotap, plain 802.11 and Ethernet."""
 import logging
 import os
+import sys
 import zlib
 from fractions import Fraction
 from typing import NamedTuple, Optional
@@ -24,6 +25,23 @@ class CaptureError(Exception):
     """A capture file that can't be read, or not by these tools."""
 
 
+class Watched:
+    """A file that remembers whether it ended before all was there that was asked for."""
+
+    def __init__(self, file):
+        self.file, self.is_cut = file, False
+
+    def read(self, size):
+        """So many octets, or what is left."""
+        octets = self.file.read(size)
+        self.is_cut = self.is_cut or 0 < len(octets) < size
+        return octets
+
+    def close(self):
+        """Closes it."""
+        self.file.close()
+
+
 class Captured(NamedTuple):
     """A frame of a capture file: when, in seconds, what kind of header it has, and whether the capture has all of it."""
 
@@ -44,18 +62,23 @@ class Heard(NamedTuple):
 
 
 def read_capture(path):
-    """Yields each frame of a capture file, in the file's order."""
+    """Yields each frame of a capture file, in the file's order. Of a file that ends within a frame, as one that is still
+    written does, it yields those before, and says so on standard error."""
     try:
         reader = RawPcapReader(path)
     except (OSError, Scapy_Exception, EOFError) as fault:
         reason = fault.strerror if isinstance(fault, OSError) else "it is no pcap or pcapng file"
         raise CaptureError(f"{path}: {reason}") from None
+    reader.f = Watched(reader.f)
     while True:
         try:
             octets, told = reader._read_packet()
         except EOFError as end:
             if str(end):
                 raise CaptureError(f"{path}: it is damaged: {end}") from None
+            if reader.f.is_cut:
+                print(f"{path}: the file ends within a frame: those before it were read", file=sys.stderr)
+            reader.close()
             return
         yield captured(path, reader, octets, told)
 

@@ -14,6 +14,7 @@ from reading import POLL, Unit, hears, request_of, unit_from_wire, wired_form
 
 GROUP = "group"
 AUTHENTICATED, ASSOCIATED, DOZING = "authenticated", "associated", "dozing"
+MOST_NAMED = 3
 RESPONSES = {ASSOCIATION_REQUEST: ASSOCIATION_RESPONSE, REASSOCIATION_REQUEST: REASSOCIATION_RESPONSE}
 
 
@@ -116,8 +117,7 @@ class Story:
         if listed is None or len(listed) < 4:
             raise Mismatch(f"the beacon of line {self.line} of the trace has no TIM")
         count, _, group, aids = tim_bits(listed)
-        names = [str(aid) for aid in sorted(aids)] + (["group"] if group else [])
-        self.mark("beacon" if count else "DTIM beacon", None, ", ".join(names))
+        self.mark("beacon" if count else "DTIM beacon", None, told_of(aids, group))
         if count == 0:
             self.release(GROUP)
 
@@ -161,14 +161,14 @@ class Story:
         """A request of a class that the station's state doesn't allow."""
         subtype = DEAUTHENTICATION if link is None else DISASSOCIATION
         frame = self.pop_management(subtype, request.station, "a refusal")
-        self.mark("refused", request.station, f"reason {number(frame.body[:2])}")
+        self.mark("turned away", request.station, str(number(frame.body[:2])))
 
     def authenticate(self, station):
         """An authentication: the status stands in the answer."""
         frame = self.pop_management(AUTHENTICATION, station, "an authentication")
         status = number(frame.body[4:6])
         if status:
-            self.mark("refused", station, f"status {status}")
+            self.mark("refused", station, str(status))
             return
         self.mark("answered", station)
         self.drop(station)
@@ -179,7 +179,7 @@ class Story:
         frame = self.pop_management(RESPONSES[request.kind], request.station, "an association response")
         status = number(frame.body[2:4])
         if status:
-            self.mark("refused", request.station, f"status {status}")
+            self.mark("refused", request.station, str(status))
             return
         self.mark("answered", request.station)
         self.drop(request.station)
@@ -270,6 +270,14 @@ class Story:
         self.spans += [Span(station, state, begins, None, aid) for station, (state, aid, begins) in self.open.items()]
         self.spans.sort(key=lambda span: span.begins)
         return self
+
+
+def told_of(aids, group):
+    """For whom a TIM says that units wait, in a few words."""
+    first = [str(aid) for aid in sorted(aids)[:MOST_NAMED]]
+    more = [f"{len(aids) - MOST_NAMED} more"] if len(aids) > MOST_NAMED else []
+    names = ["aid " + ", ".join(first + more)] if aids else []
+    return ", ".join(names + ["group"] * group)
 
 
 def told(section, lines):
