@@ -43,7 +43,8 @@ class Watched:
 
 
 class Captured(NamedTuple):
-    """A frame of a capture file: when, in seconds, what kind of header it has, and whether the capture has all of it."""
+    """A frame of a capture file: when, in seconds, what kind of header it has, and whether the capture has all of
+    it."""
 
     time: Fraction
     link: int
@@ -62,8 +63,8 @@ class Heard(NamedTuple):
 
 
 def read_capture(path):
-    """Yields each frame of a capture file, in the file's order. Of a file that ends within a frame, as one that is still
-    written does, it yields those before, and says so on standard error."""
+    """Yields each frame of a capture file, in the file's order. Of a file that ends within a frame, as one that is
+    still written does, it yields those before, and says so on standard error."""
     try:
         reader = RawPcapReader(path)
     except (OSError, Scapy_Exception, EOFError) as fault:
@@ -104,8 +105,8 @@ def read_air(path):
         elif frame.link == PLAIN_80211:
             yield Heard(frame.time, frame.octets, frame.is_whole, None, False)
         else:
-            raise CaptureError(f"{path}: {link_name(frame.link)}: it is no capture in monitor mode with radiotap or plain "
-                               "802.11 headers")
+            raise CaptureError(f"{path}: {link_name(frame.link)}: it is no capture in monitor mode with radiotap or "
+                               "plain 802.11 headers")
 
 
 def read_wire(path):

@@ -1,5 +1,6 @@
-"""The picture of a run, drawn by matplotlib: a lane for each network, a row for each station, and the lines of the trace
-from left to right. Each shape has an id that says what it is, so that the picture can be read by a program as well."""
+"""The picture of a run, drawn by matplotlib: a lane for each network, a row for each station, and the lines of the
+trace from left to right. Each shape has an id that says what it is, so that the picture can be read by a program as
+well."""
 from collections import Counter, defaultdict
 
 try:
@@ -9,8 +10,8 @@ except ImportError:
 from story import ASSOCIATED, AUTHENTICATED, DOZING, GROUP
 
 matplotlib.use("svg")
-matplotlib.rcParams.update({"svg.fonttype": "none", "svg.hashsalt": "waltigon", "font.family": "DejaVu Sans",
-                            "font.size": 9})
+matplotlib.rcParams.update({"svg.fonttype": "none", "svg.hashsalt": "waltigon", "font.family": "sans-serif",
+                            "font.sans-serif": ["DejaVu Sans", "Verdana", "sans-serif"], "font.size": 9})
 from matplotlib import pyplot  # noqa: E402
 from matplotlib.lines import Line2D  # noqa: E402
 from matplotlib.patches import Patch, Rectangle  # noqa: E402
@@ -72,8 +73,9 @@ class Lane:
 
     def begins_association(self, span):
         """Whether a station got its identifier with this span, and didn't only wake."""
-        return span.state == ASSOCIATED and not any(
-            (other.station, other.aid, other.ends) == (span.station, span.aid, span.begins) for other in self.story.spans)
+        begun = span.station, span.aid, span.begins
+        before = ((other.station, other.aid, other.ends) for other in self.story.spans)
+        return span.state == ASSOCIATED and begun not in before
 
     def title(self):
         """What stands above the lane."""
@@ -119,7 +121,8 @@ class Picture:
 
     def frame(self, lane, axes):
         """Rows, lines and the title of a lane."""
-        axes.set_title(lane.title(), loc="left", fontsize=9.5, fontweight="bold", gid=f"lane-{lane.section.bssid.hex()}")
+        axes.set_title(lane.title(), loc="left", fontsize=9.5, fontweight="bold",
+                       gid=f"lane-{lane.section.bssid.hex()}")
         axes.set_ylim(len(lane.rows) - 0.5, -0.5)
         axes.set_yticks(range(len(lane.rows)), [lane.name(row) for row in lane.rows])
         axes.set_xlim(-0.6, len(self.lines) + 0.4)
@@ -171,8 +174,9 @@ class Picture:
         """The words beside a mark: a TIM's bits, a status, or how many."""
         words = " ".join(filter(None, [text, f"{count}×" if count > 1 else ""]))
         if words:
-            axes.annotate(words, (x, y), (6, 0), textcoords="offset points", fontsize=7.5, va="center", gid=f"{gid}-text",
-                          zorder=4, bbox={"facecolor": "white", "edgecolor": "none", "pad": 0.6, "alpha": 0.85})
+            axes.annotate(words, (x, y), (6, 0), textcoords="offset points", fontsize=7.5, va="center",
+                          gid=f"{gid}-text", zorder=4,
+                          bbox={"facecolor": "white", "edgecolor": "none", "pad": 0.6, "alpha": 0.85})
 
     def legend(self):
         """What the shapes mean: those that occur."""
@@ -180,7 +184,8 @@ class Picture:
         states = {span.state for lane in self.lanes for span in lane.story.spans}
         handles = [Patch(facecolor=COLOURS[state], label=state) for state in COLOURS if state in states]
         handles += [Line2D([], [], linestyle="", marker=shape, markersize=7, markerfacecolor=face, markeredgecolor=edge,
-                           markeredgewidth=2.5 if shape == "|" else 1, label=name) for what, (name, shape, face, edge) in LOOKS.items() if what in used]
+                           markeredgewidth=2.5 if shape == "|" else 1, label=name)
+                    for what, (name, shape, face, edge) in LOOKS.items() if what in used]
         self.figure.legend(handles=handles, loc="lower center", ncol=5, frameon=False, fontsize=8.5)
 
     def save(self, path):

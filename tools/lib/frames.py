@@ -1,4 +1,5 @@
-"""Octets on the air as the fields that the tools look at (IEEE Std 802.11-2016, 9.2 to 9.4). Nothing is checked here."""
+"""Octets on the air as the fields that the tools look at (IEEE Std 802.11-2016, 9.2 to 9.4). Nothing is checked
+here."""
 from typing import NamedTuple
 
 BROADCAST = bytes([0xFF] * 6)
@@ -142,8 +143,8 @@ def first_of(found, wanted):
 
 
 def tim_bits(octets):
-    """What the octets of a TIM say: the DTIM count, the DTIM period, whether the group's bit is set, and the association
-    identifiers whose bits are set."""
+    """What the octets of a TIM say: the DTIM count, the DTIM period, whether the group's bit is set, and the
+    association identifiers whose bits are set."""
     count, period, control = octets[:3]
     first = 8 * (control & 0xFE)
     bits = octets[3:]

@@ -159,8 +159,8 @@ class Whereabouts:
 
 
 def beacon_ticks(times, interval):
-    """The beginning of each beacon interval, by the times of one network's beacons: each of them, and so many between two
-    as intervals of so many time units passed; and how many of them had no beacon."""
+    """The beginning of each beacon interval, by the times of one network's beacons: each of them, and so many between
+    two as intervals of so many time units passed; and how many of them had no beacon."""
     length = interval_length(interval)
     ticks, missed = [], 0
     for time in times:

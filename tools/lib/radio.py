@@ -3,8 +3,8 @@ import json
 import tomllib
 from typing import NamedTuple
 
-from frames import (BEACON, BEACON_FIXED_LEN, DSSS_PARAMETER_SET, EXTENDED_SUPPORTED_RATES, HT_OPERATION, PROBE_RESPONSE,
-                    SSID, SUPPORTED_RATES, TIM, address_of, address_text, elements, first_of, number)
+from frames import (BEACON, BEACON_FIXED_LEN, DSSS_PARAMETER_SET, EXTENDED_SUPPORTED_RATES, HT_OPERATION,
+                    PROBE_RESPONSE, SSID, SUPPORTED_RATES, TIM, address_of, address_text, elements, first_of, number)
 
 MOST_NETWORKS, MOST_CHANNEL, MOST_RATES, MOST_RATE, MOST_LINES = 8, 14, 16, 108, 1_000_000
 RADIO = """version = 1
@@ -84,7 +84,8 @@ def network(frame, listed):
 
 
 def fitting(rates):
-    """The rates that a configuration may have: each once, without the selectors of HT and later, which stand among them."""
+    """The rates that a configuration may have: each once, without the selectors of HT and later, which stand among
+    them."""
     kept = {}
     for rate in rates:
         if 1 <= rate & 0x7F <= MOST_RATE:
@@ -101,8 +102,8 @@ def config_text(networks, channel, lines):
                           f"{MOST_CHANNEL}: choose one by --channel")
     text = RADIO.format(channel=channel, interval=agreed(networks, "interval", "beacon intervals"))
     for seen in networks:
-        text += NETWORK.format(bssid=address_text(seen.bssid), ssid=ssid_text(seen), rates=rates_text(seen), dtim=seen.dtim,
-                               max_events=min(max(lines, 1), MOST_LINES))
+        text += NETWORK.format(bssid=address_text(seen.bssid), ssid=ssid_text(seen), rates=rates_text(seen),
+                               dtim=seen.dtim, max_events=min(max(lines, 1), MOST_LINES))
     return text
 
 
@@ -120,11 +121,11 @@ def ssid_text(seen):
     try:
         name = seen.ssid.decode("utf-8")
     except UnicodeDecodeError:
-        raise ConfigError(f"the SSID of {address_text(seen.bssid)} is no UTF-8 ({seen.ssid.hex()}), and a configuration "
-                          "has no other") from None
+        raise ConfigError(f"the SSID of {address_text(seen.bssid)} is no UTF-8 ({seen.ssid.hex()}), and a "
+                          "configuration has no other") from None
     if not 1 <= len(seen.ssid) <= 32:
-        raise ConfigError(f"no captured frame of {address_text(seen.bssid)} tells its SSID: write a configuration by hand, "
-                          "and give it by --networks-of")
+        raise ConfigError(f"no captured frame of {address_text(seen.bssid)} tells its SSID: write a configuration by "
+                          "hand, and give it by --networks-of")
     return json.dumps(name, ensure_ascii=False).replace("\x7f", "\\u007f")
 
 
@@ -137,5 +138,6 @@ def rates_text(seen):
 
 def listing(networks):
     """A line for each network that was seen."""
-    return "\n".join(f"  {address_text(seen.bssid)} channel {seen.channel} interval {seen.interval} beacons {seen.beacons} "
-                     f"ssid {seen.ssid.decode('utf-8', 'backslashreplace') or '(hidden)'}" for seen in networks)
+    return "\n".join(f"  {address_text(seen.bssid)} channel {seen.channel} interval {seen.interval} "
+                     f"beacons {seen.beacons} ssid {seen.ssid.decode('utf-8', 'backslashreplace') or '(hidden)'}"
+                     for seen in networks)

@@ -1,9 +1,10 @@
-"""What one network reads of a string of octets, or of a wired frame (docs/PROTOCOL.md, "What is read" and "The wire")."""
+"""What one network reads of a string of octets, or of a wired frame (docs/PROTOCOL.md, "What is read" and "The
+wire")."""
 from typing import NamedTuple, Optional
 
 from frames import (ASSOCIATION_REQUEST, AUTHENTICATION, BROADCAST, CONTROL, DATA, DEAUTHENTICATION, DISASSOCIATION,
-                    HEADER_LEN, MANAGEMENT, NULL, PLAIN_DATA, PROBE_REQUEST, PS_POLL, REASSOCIATION_REQUEST, SSID, Frame,
-                    elements, first_of, is_group, number)
+                    HEADER_LEN, MANAGEMENT, NULL, PLAIN_DATA, PROBE_REQUEST, PS_POLL, REASSOCIATION_REQUEST, SSID,
+                    Frame, elements, first_of, is_group, number)
 
 FIXED_LEN = {PROBE_REQUEST: 0, AUTHENTICATION: 6, ASSOCIATION_REQUEST: 4, REASSOCIATION_REQUEST: 10, DISASSOCIATION: 2,
              DEAUTHENTICATION: 2}

@@ -1,9 +1,9 @@
 """What each line of a trace brought about in one network, told from the network's section of the report.
 
-The report says what was sent and what stands at the end, not when. Here the lines are gone through in order: the answers
-are taken from the section's frames, one after the other, and what no frame says (who dozes, for whom a unit is kept) is
-followed by the rules of docs/PROTOCOL.md. At the end all frames have to be used up and the section's counts and stations
-have to be those that came of it. So a report of another trace is refused.
+The report says what was sent and what stands at the end, not when. Here the lines are gone through in order: the
+answers are taken from the section's frames, one after the other, and what no frame says (who dozes, for whom a unit is
+kept) is followed by the rules of docs/PROTOCOL.md. At the end all frames have to be used up and the section's counts
+and stations have to be those that came of it. So a report of another trace is refused.
 """
 from typing import NamedTuple
 

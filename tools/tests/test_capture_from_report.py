@@ -59,12 +59,13 @@ class CaptureFromReport(ToolTest):
                 for kind, link, wanted in (("air", 105, section.air), ("wire", 1, section.wire)):
                     path = os.path.join(self.out(folder), f"{section.bssid.hex()}.{kind}.pcap")
                     self.assertEqual(path in files, bool(wanted), path)
-                    found = [(frame.link, frame.octets, frame.is_whole) for frame in read_capture(path)] if wanted else []
+                    found = read_capture(path) if wanted else []
+                    found = [(frame.link, frame.octets, frame.is_whole) for frame in found]
                     self.assertEqual(found, [(link, octets, True) for octets in wanted], path)
 
     def test_tshark_finds_nothing_malformed(self):
-        """Of all examples' reports no frame is malformed. What a station put into a unit is its own: where that isn't whole,
-        it came so in the trace."""
+        """Of all examples' reports no frame is malformed. What a station put into a unit is its own: where that isn't
+        whole, it came so in the trace."""
         files = [(path, folder) for folder in with_report() for path in self.captures(folder)]
         merged = self.path("all.pcapng")
         subprocess.run(["mergecap", "-a", "-w", merged, *(path for path, _ in files)], check=True)
@@ -84,7 +85,8 @@ class CaptureFromReport(ToolTest):
         files = self.captures(THREE)
         devices = next(path for path in files if path.endswith(f"{DEVICES.hex()}.air.pcap"))
         names = ("wlan.fc.type_subtype", "wlan.fc.moredata", "wlan.fixed.status_code", "wlan.fixed.aid",
-                 "wlan.tim.dtim_count", "wlan.tim.bmapctl.multicast", "wlan.tim.partial_virtual_bitmap", "frame.time_epoch")
+                 "wlan.tim.dtim_count", "wlan.tim.bmapctl.multicast", "wlan.tim.partial_virtual_bitmap",
+                 "frame.time_epoch")
         self.assertEqual(fields(devices, *names), [
             ["0x000b", "0", "0x0000", "", "", "", "", "0.000000000"],
             ["0x0001", "0", "0x0000", "0x0001", "", "", "", "0.000001000"],
@@ -123,7 +125,7 @@ class CaptureFromReport(ToolTest):
         """What is no report is refused, and a network that it doesn't have."""
         report = os.path.join(THREE, "stdout")
         self.refused("capture-from-report", self.path("none"), says="No such file")
-        self.refused("capture-from-report", os.path.join(THREE, "input"), says="the section of the report that begins in line 1")
+        self.refused("capture-from-report", os.path.join(THREE, "input"), says="that begins in line 1 can't be read")
         self.refused("capture-from-report", report, "--out", self.path("out"), "--network", "02:00:00:00:00:09",
                      says="no section of it is of the network 02:00:00:00:00:09")
         for cut in (40, 1):
@@ -131,8 +133,9 @@ class CaptureFromReport(ToolTest):
                 file.write(read_text(report)[:-cut])
             self.refused("capture-from-report", self.path("cut"), "--out", self.path("out"), says="report")
         with open(self.path("short"), "w", encoding="ascii") as file:
-            file.write("network 02:00:00:00:00:01 ssid 6c6162\nevents 1 clock 0 unread 0 lost 0 kept 0\nair 5000\nend\n")
-        self.refused("capture-from-report", self.path("short"), "--out", self.path("out"), says="its header alone has 24")
+            file.write("network 02:00:00:00:00:01 ssid 6c6162\nevents 1 clock 0 unread 0 lost 0 kept 0\n"
+                       "air 5000\nend\n")
+        self.refused("capture-from-report", self.path("short"), "--out", self.path("out"), says="header alone has 24")
 
 
 class WiredForm(ToolTest):

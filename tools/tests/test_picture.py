@@ -3,8 +3,8 @@ import os
 import re
 import xml.etree.ElementTree as tree
 
-from common import (DEVICES, EXAMPLES, GUEST, OFFICE, PROGRAM, ROOT, THREE, ToolTest, input_of, needs_program, report_of,
-                    run_program, tool, with_report)
+from common import (DEVICES, EXAMPLES, GUEST, OFFICE, PROGRAM, ROOT, THREE, ToolTest, input_of, needs_program,
+                    report_of, run_program, tool, with_report)
 from story import told
 from texts import read_report, read_text
 
@@ -12,14 +12,14 @@ STORED = os.path.join(ROOT, "docs", "three_networks.svg")
 SVG = "{http://www.w3.org/2000/svg}"
 HREF = "{http://www.w3.org/1999/xlink}href"
 PHONE, LAPTOP, PRINTER, SENSOR = (f"02aa0000000{number}" for number in (1, 2, 3, 4))
-# What has to stand in the picture of the example of three networks: states with the lines from which and up to which they
-# hold, marks with the lines that brought them about.
+# What has to stand in the picture of the example of three networks: states with the lines from which and up to which
+# they hold, marks with the lines that brought them about.
 STATES = {GUEST: [(PHONE, "authenticated", 2, 3), (PHONE, "associated", 3, 37)],
           OFFICE: [(LAPTOP, "authenticated", 5, 6), (LAPTOP, "associated", 6, "end"), (PRINTER, "authenticated", 7, 8),
                    (PRINTER, "associated", 8, "end")],
           DEVICES: [(SENSOR, "authenticated", 10, 11), (SENSOR, "associated", 11, 15), (SENSOR, "dozing", 15, "end")]}
-MARKS = {GUEST: [("answered", PHONE, 2, 3), ("left", PHONE, 37), ("wired", "wire", 24), ("DTIM-beacon", "beacons", 13, 34),
-                 ("beacon", "beacons", 26, 35)],
+MARKS = {GUEST: [("answered", PHONE, 2, 3), ("left", PHONE, 37), ("wired", "wire", 24),
+                 ("DTIM-beacon", "beacons", 13, 34), ("beacon", "beacons", 26, 35)],
          OFFICE: [("answered", LAPTOP, 5, 6), ("answered", PRINTER, 7, 8), ("sent", PRINTER, 17), ("sent", "group", 30),
                   ("wired", "wire", 18, 30), ("DTIM-beacon", "beacons", 13, 26, 34, 35)],
          DEVICES: [("answered", SENSOR, 10, 11), ("kept", SENSOR, 20, 21), ("kept", "group", 22),
@@ -64,7 +64,8 @@ def place_of(group):
     used = next(group.iter(f"{SVG}use"), None)
     if used is not None:
         return float(used.get("x")), float(used.get("y"))
-    return float(re.findall(r"-?[\d.]+", next(group.iter(f"{SVG}text")).get("transform") or "0")[0]), 0.0
+    text = next(group.iter(f"{SVG}text"))
+    return float(text.get("x")), float(text.get("y"))
 
 
 class Picture(ToolTest):
@@ -93,8 +94,9 @@ class Picture(ToolTest):
         numbers = sorted(int(line) for line in shapes.ticks)
         self.assertEqual(numbers, [line.number for line in input_of(THREE)[1]])
         places = {name.rsplit("-", 1)[1]: x for name, (x, _) in shapes.marks.items()}
-        xs = [places[str(number)] for number in numbers if str(number) in places]
-        self.assertEqual(xs, sorted(xs))
+        self.assertGreater(len(places), 20)
+        for number, x in places.items():
+            self.assertAlmostEqual(shapes.ticks[number][0], x, 3)
         for name, (left, right, height) in shapes.bars.items():
             _, bssid, station, _, begins, ends = name.split("-")
             if begins in places:
@@ -145,7 +147,7 @@ class Picture(ToolTest):
                 self.assertNotEqual(shapes.words, Shapes(STORED).words)
                 self.assertIn("aid 2", shapes.words.values())
             else:
-                self.refused("picture", self.path("input"), self.path("stdout"), "--out", self.path("x"), says="network 02:")
+                self.refused("picture", self.path("input"), self.path("stdout"), says="network 02:")
 
     def test_what_is_no_run_is_refused(self):
         """A file that isn't there, what is no report, and a trace without a line."""
@@ -173,7 +175,8 @@ class Stories(ToolTest):
 
     @needs_program
     def test_each_line_brings_what_the_program_says(self):
-        """What each line brings about is by how much the report of the lines up to it is longer than that of those before."""
+        """What each line brings about is by how much the report of the lines up to it is longer than that of those
+        before."""
         for name in ("three_networks_over_some_intervals", "leaving_drops_kept_units", "one_event_loses_two",
                      "waking_makes_room_for_the_group", "station_roams_between_two_networks"):
             folder = os.path.join(EXAMPLES, name)

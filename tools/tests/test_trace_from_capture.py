@@ -39,7 +39,8 @@ def essence(lines):
 
 def beacon(bssid, elements, interval=100):
     """A captured beacon: its header, fixed fields and elements."""
-    return bytes.fromhex("80000000ffffffffffff") + bssid * 2 + bytes(2 + 8) + interval.to_bytes(2, "little") + b"\1\0" + elements
+    header = bytes.fromhex("80000000ffffffffffff") + bssid * 2 + bytes(2)
+    return header + bytes(8) + interval.to_bytes(2, "little") + b"\1\0" + elements
 
 
 class Sample(ToolTest):
@@ -59,8 +60,8 @@ class Sample(ToolTest):
 
     def test_sample_is_what_the_script_makes(self):
         """The stored captures are those that tools/capture-from-run makes of the example, frame by frame."""
-        status, _, stderr = tool("capture-from-run", os.path.join(THREE, "input"), os.path.join(THREE, "stdout"), "--clutter",
-                                 "--out", self.path("made"))
+        status, _, stderr = tool("capture-from-run", os.path.join(THREE, "input"), os.path.join(THREE, "stdout"),
+                                 "--clutter", "--out", self.path("made"))
         self.assertEqual((status, stderr), (0, ""))
         stored = sorted(glob.glob(os.path.join(THREE, "*.pcapng")))
         self.assertEqual([os.path.basename(path) for path in stored], sorted(os.listdir(self.path("made"))))
@@ -91,7 +92,8 @@ class Sample(ToolTest):
         self.assertEqual(status, 0)
         with open(self.path("my.trace"), "w", encoding="ascii") as file:
             file.write(trace)
-        self.assertEqual(run_program("run", self.path("my.toml"), self.path("my.trace")), read_text(os.path.join(THREE, "stdout")))
+        report = run_program("run", self.path("my.toml"), self.path("my.trace"))
+        self.assertEqual(report, read_text(os.path.join(THREE, "stdout")))
 
     def test_each_header_gives_the_same_trace(self):
         """Radiotap or plain 802.11, with or without check sequences, pcap or pcapng: the same lines."""
@@ -120,7 +122,8 @@ class Sample(ToolTest):
         self.assertEqual(essence(self.trace(self.path("both"), *WIRES)[0]), essence(input_of(THREE)[1]))
 
     def test_changed_octet_is_seen(self):
-        """Where one octet of a frame is changed, its line differs and no other; with its old check sequence it is left out."""
+        """Where one octet of a frame is changed, its line differs and no other; with its old check sequence it is left
+        out."""
         frames = list(self.sample_frames())
         place = next(place for place, (_, octets) in enumerate(frames) if octets.endswith(bytes.fromhex("080002")))
         time, octets = frames[place]
@@ -181,11 +184,14 @@ class Examples(ToolTest):
     def there_and_back(self, folder, text):
         """The trace of the captures of an example."""
         out = self.path(os.path.basename(folder))
-        status, _, stderr = tool("capture-from-run", os.path.join(folder, "input"), os.path.join(folder, "stdout"), "--out", out)
+        status, _, stderr = tool("capture-from-run", os.path.join(folder, "input"), os.path.join(folder, "stdout"),
+                                 "--out", out)
         self.assertEqual((status, stderr), (0, ""), folder)
         bssids = [network["bssid"] for network in tomllib.loads(text.split("\n---\n")[0])["network"]]
-        wires = [word for place, bssid in enumerate(bssids, 1) for word in ("--wire", f"{bssid}={out}/wire.{place}.pcapng")
-                 if os.path.exists(f"{out}/wire.{place}.pcapng")]
+        wires = []
+        for place, bssid in enumerate(bssids, 1):
+            if os.path.exists(f"{out}/wire.{place}.pcapng"):
+                wires += ["--wire", f"{bssid}={out}/wire.{place}.pcapng"]
         status, stdout, stderr = tool("trace-from-capture", f"{out}/air.pcapng", *wires)
         self.assertEqual(status, 0, stderr)
         return read_trace(stdout)
@@ -202,10 +208,11 @@ class Beacons(ToolTest):
         return tomllib.loads(read_text(self.path("my.toml")))
 
     def test_hidden_name_and_other_elements(self):
-        """The SSID of a network that hides it is that of its probe response, the channel may be told by HT Operation, and
-        selectors among the rates are left out."""
-        hidden = beacon(GUEST, bytes.fromhex("000500000000000104 8284 8b ff 050400030000 3d160b".replace(" ", "")) + bytes(21))
-        answer = bytes.fromhex("50000000ffffffffffff") + GUEST * 2 + bytes(10) + bytes.fromhex("64000100 0005677565 7374")
+        """The SSID of a network that hides it is that of its probe response, the channel may be told by HT Operation,
+        and selectors among the rates are left out."""
+        hidden = beacon(GUEST, bytes.fromhex("00050000000000 010482848bff 050400030000 3d160b") + bytes(21))
+        answer = bytes.fromhex("50000000ffffffffffff") + GUEST * 2 + bytes(10)
+        answer += bytes.fromhex("64000100 00056775657374")
         config = self.config([hidden, answer])
         self.assertEqual((config["channel"], config["interval"]), (11, 100))
         network = config["network"][0]
@@ -220,13 +227,16 @@ class Beacons(ToolTest):
 
     def test_refusals(self):
         """What can't be is refused, with a message."""
-        one = beacon(GUEST, bytes.fromhex("00016101018203 0106".replace(" ", "")))
+        one = beacon(GUEST, bytes.fromhex("000161010182030106"))
         other = beacon(OFFICE, bytes.fromhex("000162010182030101"))
         many = [beacon(bytes([2, 0, 0, 0, 2, place]), bytes.fromhex("000161010182030106")) for place in range(9)]
-        cases = {"different channels": ([one, other], ["--config", self.path("my.toml")]),
-                 "9 networks beacon": (many, []), "no beacon was captured": ([one[:4] + GUEST + OFFICE + one[16:20]], []),
-                 "tells its SSID": ([beacon(GUEST, bytes.fromhex("0000010182030106"))], ["--config", self.path("my.toml")]),
-                 "choose one by --channel": ([beacon(GUEST, bytes.fromhex("000161010182"))], ["--config", self.path("my.toml")]),
+        nameless, silent = (beacon(GUEST, bytes.fromhex(octets)) for octets in ("0000010182030106", "000161010182"))
+        config = ["--config", self.path("my.toml")]
+        cases = {"different channels": ([one, other], config),
+                 "9 networks beacon": (many, []),
+                 "no beacon was captured": ([b"\x40" + one[1:]], []),
+                 "tells its SSID": ([nameless], config),
+                 "choose one by --channel": ([silent], config),
                  "no network of the access point": ([one], ["--wire", f"02:00:00:00:00:09={SAMPLE}"]),
                  "no capture of an Ethernet port": ([one], ["--wire", f"{GUEST.hex(':')}={SAMPLE}"])}
         for says, (frames, words) in cases.items():
@@ -234,8 +244,8 @@ class Beacons(ToolTest):
             self.refused("trace-from-capture", self.path("air"), *words, says=says)
 
     def test_files_that_are_no_captures(self):
-        """A file that isn't there, that is no capture, that is damaged, or of a wire is refused. Of one that was cut the
-        frames before are read."""
+        """A file that isn't there, that is no capture, that is damaged, or of a wire is refused. Of one that was cut
+        the frames before are read."""
         self.refused("trace-from-capture", self.path("none"), says="No such file")
         self.refused("trace-from-capture", os.path.join(THREE, "input"), says="no pcap or pcapng")
         self.refused("trace-from-capture", os.path.join(THREE, "wire.3.pcapng"), says="no capture in monitor mode")
@@ -270,4 +280,5 @@ class Ticks(ToolTest):
 
     def test_wire_of_the_sample(self):
         """The sample's wired captures are of Ethernet, with the frames of both ways."""
-        self.assertEqual([len(list(read_wire(path))) for path in sorted(glob.glob(os.path.join(THREE, "wire.*")))], [1, 2, 3])
+        wires = sorted(glob.glob(os.path.join(THREE, "wire.*")))
+        self.assertEqual([len(list(read_wire(path))) for path in wires], [1, 2, 3])
