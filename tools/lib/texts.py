@@ -54,6 +54,11 @@ class Section(NamedTuple):
         return text if text.isprintable() else address_text(self.bssid)
 
 
+def frames_text(number):
+    """So many frames, in words."""
+    return "1 frame" if number == 1 else f"{number} frames"
+
+
 def read_text(path):
     """The text of a file, or of standard input for `-`."""
     if path == "-":

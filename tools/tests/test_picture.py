@@ -10,7 +10,6 @@ from texts import read_report, read_text
 
 STORED = os.path.join(ROOT, "docs", "three_networks.svg")
 SVG = "{http://www.w3.org/2000/svg}"
-HREF = "{http://www.w3.org/1999/xlink}href"
 PHONE, LAPTOP, PRINTER, SENSOR = (f"02aa0000000{number}" for number in (1, 2, 3, 4))
 # What has to stand in the picture of the example of three networks: states with the lines from which and up to which
 # they hold, marks with the lines that brought them about.

@@ -21,7 +21,7 @@ TOLD = """air.pcapng: 59 frames, 16 of them lines of the trace
   25 left out: sent by the access point itself
   1 left out: with a wrong frame check sequence, or damaged
   1 left out: with several units in one (A-MSDU)
-wire.1.pcapng, of 02:00:00:00:01:01: 1 frames, 0 of them lines of the trace
+wire.1.pcapng, of 02:00:00:00:01:01: 1 frame, 0 of them lines of the trace
   1 left out: passed on by the access point, from a station on the air
 wire.2.pcapng, of 02:00:00:00:01:02: 2 frames, 0 of them lines of the trace
   2 left out: passed on by the access point, from a station on the air
