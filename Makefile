@@ -1,7 +1,7 @@
 # The targets of this repository. All need the Rattle toolchain's command `rt` on the path, GNU make, bash, coreutils,
 # diffutils, grep and sed; `wrong` and `bench` need python3 too.
 
-.PHONY: run try try-check test wrong bench apctl
+.PHONY: run try try-check test wrong bench apctl test-tools picture captures
 
 # What `run` and `try` give to the program, a configuration and a trace: a file, named from the folder in which make
 # runs.
@@ -40,3 +40,21 @@ bench: apctl
 # The built program, build/apctl, of proved crates.
 apctl:
 	@.ci/build
+
+# Tests the tools for captures and pictures, tools/, beside the gate. Takes Debian's packages of tools/install, and
+# installs those that are missing. The last line is 'N passed, M failed'.
+test-tools:
+	@tools/install
+	@tools/test
+
+# Draws the example of three networks: the picture of README.md.
+picture:
+	@tools/install
+	@tools/picture $(THREE)/input $(THREE)/stdout --out docs/three_networks.svg
+
+# Makes the captures beside the example of three networks.
+captures:
+	@tools/install
+	@tools/capture-from-run $(THREE)/input $(THREE)/stdout --clutter --out $(THREE)
+
+THREE = examples/three_networks_over_some_intervals

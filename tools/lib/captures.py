@@ -1,0 +1,172 @@
+"""Capture files in and out, read and written by scapy: pcap and pcapng, radiotap, plain 802.11 and Ethernet."""
+import logging
+import os
+import sys
+import zlib
+from fractions import Fraction
+from typing import NamedTuple, Optional
+
+logging.getLogger("scapy").setLevel(logging.CRITICAL)
+try:
+    from scapy.error import Scapy_Exception
+    from scapy.layers.dot11 import RadioTap
+    from scapy.utils import RawPcapNgWriter, RawPcapReader, RawPcapWriter
+except ImportError:
+    raise SystemExit("python3-scapy is missing: tools/install installs what the tools need") from None
+
+ETHERNET, PLAIN_80211, RADIOTAP = 1, 105, 127
+LINK_NAMES = {119: "Prism headers", 163: "AVS headers", 192: "PPI headers", 113: "Linux cooked headers"}
+FCS_LEN = 4
+HAS_FCS, BAD_FCS = 0x10, 0x40
+BAD_PLCP = 0x02
+
+
+class CaptureError(Exception):
+    """A capture file that can't be read, or not by these tools."""
+
+
+class Watched:
+    """A file that remembers whether it ended before all was there that was asked for."""
+
+    def __init__(self, file):
+        self.file, self.is_cut = file, False
+
+    def read(self, size):
+        """So many octets, or what is left."""
+        octets = self.file.read(size)
+        self.is_cut = self.is_cut or 0 < len(octets) < size
+        return octets
+
+    def close(self):
+        """Closes it."""
+        self.file.close()
+
+
+class Captured(NamedTuple):
+    """A frame of a capture file: when, in seconds, what kind of header it has, and whether the capture has all of
+    it."""
+
+    time: Fraction
+    link: int
+    octets: bytes
+    is_whole: bool
+
+
+class Heard(NamedTuple):
+    """A frame without radiotap: whether a check sequence is at its end (None: not said), and whether it is damaged."""
+
+    time: Fraction
+    octets: bytes
+    is_whole: bool
+    has_fcs: Optional[bool]
+    is_damaged: bool
+
+
+def read_capture(path):
+    """Yields each frame of a capture file, in the file's order. Of a file that ends within a frame, as one that is
+    still written does, it yields those before, and says so on standard error."""
+    try:
+        reader = RawPcapReader(path)
+    except (OSError, Scapy_Exception, EOFError) as fault:
+        reason = fault.strerror if isinstance(fault, OSError) else "it is no pcap or pcapng file"
+        raise CaptureError(f"{path}: {reason}") from None
+    reader.f = Watched(reader.f)
+    while True:
+        try:
+            octets, told = reader._read_packet()
+        except EOFError as end:
+            if str(end):
+                raise CaptureError(f"{path}: it is damaged: {end}") from None
+            if reader.f.is_cut:
+                print(f"{path}: the file ends within a frame: those before it were read", file=sys.stderr)
+            reader.close()
+            return
+        yield captured(path, reader, octets, told)
+
+
+def captured(path, reader, octets, told):
+    """One frame, of what scapy tells of it."""
+    if hasattr(told, "tshigh"):
+        if told.tshigh is None:
+            raise CaptureError(f"{path}: its frames have no times")
+        time = Fraction((told.tshigh << 32) + told.tslow, told.tsresol)
+        link = told.linktype
+    else:
+        time = told.sec + Fraction(told.usec, 1_000_000_000 if reader.nano else 1_000_000)
+        link = reader.linktype & 0x3FFFFFF
+    return Captured(time, link, octets, len(octets) >= told.wirelen)
+
+
+def read_air(path):
+    """Yields each frame of a monitor-mode capture, without radiotap."""
+    for frame in read_capture(path):
+        if frame.link == RADIOTAP:
+            yield without_radiotap(path, frame)
+        elif frame.link == PLAIN_80211:
+            yield Heard(frame.time, frame.octets, frame.is_whole, None, False)
+        else:
+            raise CaptureError(f"{path}: {link_name(frame.link)}: it is no capture in monitor mode with radiotap or "
+                               "plain 802.11 headers")
+
+
+def read_wire(path):
+    """Yields each frame of a capture of an Ethernet port."""
+    for frame in read_capture(path):
+        if frame.link != ETHERNET:
+            raise CaptureError(f"{path}: {link_name(frame.link)}: it is no capture of an Ethernet port")
+        yield frame
+
+
+def link_name(link):
+    """What a link type is called."""
+    names = {ETHERNET: "Ethernet", PLAIN_80211: "plain 802.11", RADIOTAP: "radiotap", **LINK_NAMES}
+    return f"its frames have {names[link]}" if link in names else f"its frames have link type {link}"
+
+
+def without_radiotap(path, frame):
+    """The frame behind a radiotap header, and what that says of the check sequence."""
+    octets = frame.octets
+    length = int.from_bytes(octets[2:4], "little")
+    if len(octets) < 8 or octets[0] != 0 or not 8 <= length <= len(octets):
+        if not frame.is_whole:
+            return Heard(frame.time, b"", False, None, False)
+        raise CaptureError(f"{path}: a frame has no radiotap header, though the file says so")
+    header = RadioTap(octets[:length])
+    flags = None if header.Flags is None else int(header.Flags)
+    damaged = bool((flags or 0) & BAD_FCS) or bool(int(header.RXFlags or 0) & BAD_PLCP)
+    has_fcs = None if flags is None else bool(flags & HAS_FCS)
+    return Heard(frame.time, octets[length:], frame.is_whole, has_fcs, damaged)
+
+
+def fcs_of(octets):
+    """The frame check sequence of a frame (9.2.4.8): CRC-32, low octet first."""
+    return zlib.crc32(octets).to_bytes(FCS_LEN, "little")
+
+
+def ends_with_fcs(octets):
+    """Whether the last four octets are the check sequence of those before."""
+    return len(octets) > FCS_LEN and fcs_of(octets[:-FCS_LEN]) == octets[-FCS_LEN:]
+
+
+def write_pcap(path, link, frames):
+    """Writes pairs of microseconds since 1970 and octets as a pcap file."""
+    writer = RawPcapWriter(path, linktype=link)
+    writer.write_header(None)
+    for microseconds, octets in frames:
+        writer.write_packet(octets, sec=microseconds // 1_000_000, usec=microseconds % 1_000_000)
+    writer.close()
+
+
+def write_pcapng(path, link, frames):
+    """Writes triples of microseconds since 1970, octets, and how many there were on the air, as a pcapng file."""
+    writer = RawPcapNgWriter(path)
+    writer.sync, writer.linktype = False, link
+    writer.write_header(None)
+    for microseconds, octets, length in frames:
+        writer.write_packet(octets, sec=Fraction(microseconds, 1_000_000), wirelen=length)
+    writer.close()
+
+
+def name_of(path):
+    """A file's name without its folders."""
+    return os.path.basename(path)

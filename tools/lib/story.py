@@ -1,0 +1,299 @@
+"""What each line of a trace brought about in one network, told from the network's section of the report.
+
+The report says what was sent and what stands at the end, not when. Here the lines are gone through in order: the
+answers are taken from the section's frames, one after the other, and what no frame says (who dozes, for whom a unit is
+kept) is followed by the rules of docs/PROTOCOL.md. At the end all frames have to be used up and the section's counts
+and stations have to be those that came of it. So a report of another trace is refused.
+"""
+from typing import NamedTuple
+
+from frames import (ASSOCIATION_REQUEST, ASSOCIATION_RESPONSE, AUTHENTICATION, BEACON, BEACON_FIXED_LEN, DATA,
+                    DEAUTHENTICATION, DISASSOCIATION, PROBE_REQUEST, PROBE_RESPONSE, REASSOCIATION_REQUEST,
+                    REASSOCIATION_RESPONSE, TIM, Frame, elements, first_of, is_group, number, tim_bits)
+from reading import POLL, Unit, hears, request_of, unit_from_wire, wired_form
+
+GROUP = "group"
+AUTHENTICATED, ASSOCIATED, DOZING = "authenticated", "associated", "dozing"
+MOST_NAMED = 3
+RESPONSES = {ASSOCIATION_REQUEST: ASSOCIATION_RESPONSE, REASSOCIATION_REQUEST: REASSOCIATION_RESPONSE}
+
+
+class Mismatch(Exception):
+    """A report that isn't that of this trace."""
+
+
+class Mark(NamedTuple):
+    """Something that a line brought about: `whom` is a station's address, `GROUP`, or None for the network itself."""
+
+    line: int
+    what: str
+    whom: object
+    text: str = ""
+
+
+class Span(NamedTuple):
+    """The state of a station from one line up to another, or to the end where that is None."""
+
+    station: bytes
+    state: str
+    begins: int
+    ends: object
+    aid: object
+
+
+class Link:
+    """How far a station has come."""
+
+    def __init__(self):
+        self.aid, self.listen, self.doze = None, 0, False
+
+    def state(self):
+        """The word for it."""
+        if self.aid is None:
+            return AUTHENTICATED
+        return DOZING if self.doze else ASSOCIATED
+
+
+class Story:
+    """One network over the lines of a trace."""
+
+    def __init__(self, section, quota):
+        self.section, self.quota = section, quota
+        self.links, self.kept = {}, []
+        self.clock = self.events = self.unread = self.lost = self.most_kept = 0
+        self.sent = self.wired = 0
+        self.line = None
+        self.marks, self.spans, self.open = [], [], {}
+        self.frames, self.wires = [], []
+
+    def take(self, line):
+        """What one line brings about, where the network takes it and its history isn't full."""
+        if self.events == self.section.events:
+            return
+        bssid = self.section.bssid
+        if line.kind == "A" and not hears(bssid, line.octets) or line.kind == "W" and line.bssid != bssid:
+            return
+        self.events, self.line = self.events + 1, line.number
+        if line.kind == "T":
+            self.begin_interval()
+        elif line.kind == "W":
+            unit = unit_from_wire(line.octets)
+            self.deliver(unit, False) if unit else self.count_unread(None)
+        else:
+            request = request_of(bssid, line.octets)
+            self.answer(request) if request else self.count_unread(line.octets[10:16])
+        self.note_states()
+
+    def mark(self, what, whom=None, text=""):
+        """Remembers what this line brought about."""
+        self.marks.append(Mark(self.line, what, whom, text))
+
+    def count_unread(self, station):
+        """A frame that isn't read."""
+        self.unread += 1
+        self.mark("unread", station)
+
+    def pop(self, is_it, what):
+        """The next frame of the section, which has to be this one."""
+        if self.sent < len(self.section.air) and is_it(Frame(self.section.air[self.sent])):
+            self.frames.append((self.line, self.section.air[self.sent]))
+            self.sent += 1
+            return Frame(self.section.air[self.sent - 1])
+        raise Mismatch(f"line {self.line} of the trace brings {what}, and the next frame of the section isn't that")
+
+    def pop_management(self, subtype, station, what):
+        """The next frame, a management frame to this station."""
+        return self.pop(lambda frame: frame.is_management(subtype) and frame.receiver == station, what)
+
+    def pop_unit(self, unit):
+        """The next frame, with this unit."""
+        self.pop(lambda frame: frame.type == DATA and Unit(frame.receiver, frame.third, frame.body) == unit, "a unit")
+
+    def begin_interval(self):
+        """A beacon, and the group's units after one with a DTIM."""
+        self.clock += 1
+        beacon = self.pop(lambda frame: frame.is_management(BEACON), "a beacon")
+        listed = first_of(elements(beacon.body[BEACON_FIXED_LEN:]) or [], TIM)
+        if listed is None or len(listed) < 4:
+            raise Mismatch(f"the beacon of line {self.line} of the trace has no TIM")
+        count, _, group, aids = tim_bits(listed)
+        self.mark("beacon" if count else "DTIM beacon", None, told_of(aids, group))
+        if count == 0:
+            self.release(GROUP)
+
+    def release(self, whom, most=None):
+        """Units that were kept for somebody are sent, in order of arrival."""
+        for unit in [unit for owner, unit in self.kept if owner == whom][:most]:
+            self.pop_unit(unit)
+            self.kept.remove((whom, unit))
+            self.mark("delivered", whom)
+
+    def drop(self, station):
+        """No unit is kept for a station any more."""
+        for _ in [unit for owner, unit in self.kept if owner == station]:
+            self.mark("dropped", station)
+        self.kept = [(owner, unit) for owner, unit in self.kept if owner != station]
+
+    def answer(self, request):
+        """What a request of a station brings about."""
+        station, link = request.station, self.links.get(request.station)
+        if request.kind == PROBE_REQUEST:
+            if request.names in (b"", self.section.ssid):
+                self.pop_management(PROBE_RESPONSE, station, "a probe response")
+                self.mark("answered", station)
+        elif request.kind == AUTHENTICATION:
+            self.authenticate(station)
+        elif request.kind == DEAUTHENTICATION:
+            self.leave(station, link is not None)
+        elif link is None or link.aid is None and request.kind not in (*RESPONSES, DISASSOCIATION):
+            self.refuse_class(request, link)
+        elif request.kind in RESPONSES:
+            self.associate(request, link)
+        elif request.kind == DISASSOCIATION:
+            self.disassociate(station, link)
+        elif request.kind == POLL:
+            if link.doze and link.aid == request.aid:
+                self.release(station, 1)
+        else:
+            self.set_mode(request, link)
+
+    def refuse_class(self, request, link):
+        """A request of a class that the station's state doesn't allow."""
+        subtype = DEAUTHENTICATION if link is None else DISASSOCIATION
+        frame = self.pop_management(subtype, request.station, "a refusal")
+        self.mark("turned away", request.station, str(number(frame.body[:2])))
+
+    def authenticate(self, station):
+        """An authentication: the status stands in the answer."""
+        frame = self.pop_management(AUTHENTICATION, station, "an authentication")
+        status = number(frame.body[4:6])
+        if status:
+            self.mark("refused", station, str(status))
+            return
+        self.mark("answered", station)
+        self.drop(station)
+        self.links.setdefault(station, Link()).__init__()
+
+    def associate(self, request, link):
+        """An association or a reassociation: the status and the identifier stand in the answer."""
+        frame = self.pop_management(RESPONSES[request.kind], request.station, "an association response")
+        status = number(frame.body[2:4])
+        if status:
+            self.mark("refused", request.station, str(status))
+            return
+        self.mark("answered", request.station)
+        self.drop(request.station)
+        link.aid, link.listen, link.doze = number(frame.body[4:6]) & 0x3FFF, request.listen, False
+
+    def leave(self, station, is_known):
+        """A deauthentication."""
+        self.drop(station)
+        if is_known:
+            del self.links[station]
+            self.mark("left", station)
+
+    def disassociate(self, station, link):
+        """A disassociation."""
+        self.drop(station)
+        if link.aid is not None:
+            link.__init__()
+            self.mark("left", station)
+
+    def set_mode(self, request, link):
+        """A data frame of an associated station: its mode, then its unit."""
+        woke, link.doze = link.doze and not request.doze, request.doze
+        if woke:
+            self.release(request.station)
+        if request.unit:
+            self.deliver(request.unit, True)
+
+    def deliver(self, unit, from_air):
+        """A unit on its way: at once, kept or lost, and on the wire."""
+        link = self.links.get(unit.destination)
+        if link and link.aid is not None:
+            self.keep_or_send(unit, unit.destination, link.doze)
+            return
+        if is_group(unit.destination):
+            waits = any(other.doze for other in self.links.values()) or any(whom == GROUP for whom, _ in self.kept)
+            self.keep_or_send(unit, GROUP, waits)
+        if from_air:
+            self.put_on_wire(unit)
+
+    def keep_or_send(self, unit, whom, waits):
+        """A unit for somebody on the air."""
+        if not waits:
+            self.pop_unit(unit)
+            self.mark("sent", whom)
+        elif self.quota is not None and len(self.kept) >= self.quota:
+            self.lost += 1
+            self.mark("lost", whom)
+        else:
+            self.kept.append((whom, unit))
+            self.most_kept = max(self.most_kept, len(self.kept))
+            self.mark("kept", whom)
+
+    def put_on_wire(self, unit):
+        """A unit for the wire."""
+        octets = wired_form(unit)
+        if octets is None:
+            self.lost += 1
+            self.mark("lost", None)
+            return
+        if self.section.wire[self.wired:self.wired + 1] != [octets]:
+            raise Mismatch(f"line {self.line} of the trace puts a unit on the wire, and the section's next isn't that")
+        self.wired += 1
+        self.wires.append((self.line, octets))
+        self.mark("wired")
+
+    def note_states(self):
+        """Ends the spans of states that have changed, and begins new ones."""
+        now = {station: (link.state(), link.aid) for station, link in self.links.items()}
+        for station, (state, aid, begins) in list(self.open.items()):
+            if now.get(station) != (state, aid):
+                self.spans.append(Span(station, state, begins, self.line, aid))
+                del self.open[station]
+        for station, (state, aid) in now.items():
+            self.open.setdefault(station, (state, aid, self.line))
+
+    def end(self):
+        """Compares what came of it with the section."""
+        section = self.section
+        rows = [(station, link.aid, link.listen, link.doze, sum(whom == station for whom, _ in self.kept))
+                for station, link in self.links.items()]
+        found = [self.events, self.clock, self.unread, self.lost, len(self.kept), rows, self.sent, self.wired]
+        wanted = [section.events, section.clock, section.unread, section.lost, section.kept,
+                  [tuple(row) for row in section.stations], len(section.air), len(section.wire)]
+        names = ["events", "clock", "unread", "lost", "kept", "stations", "frames on the air", "frames on the wire"]
+        for name, mine, theirs in zip(names, found, wanted):
+            if mine != theirs:
+                raise Mismatch(f"the report's {name} aren't those that the trace brings: {theirs}, not {mine}")
+        self.spans += [Span(station, state, begins, None, aid) for station, (state, aid, begins) in self.open.items()]
+        self.spans.sort(key=lambda span: span.begins)
+        return self
+
+
+def told_of(aids, group):
+    """For whom a TIM says that units wait, in a few words."""
+    first = [str(aid) for aid in sorted(aids)[:MOST_NAMED]]
+    more = [f"{len(aids) - MOST_NAMED} more"] if len(aids) > MOST_NAMED else []
+    names = ["aid " + ", ".join(first + more)] if aids else []
+    return ", ".join(names + ["group"] * group)
+
+
+def told(section, lines):
+    """The story of a network. How many units it keeps at most stands in the configuration alone; where units were lost,
+    it is found by trying less and less than would have been kept without end."""
+    quota = None
+    while True:
+        story = Story(section, quota)
+        try:
+            for line in lines:
+                story.take(line)
+            return story.end()
+        except Mismatch as fault:
+            if section.lost == 0 or quota == 0:
+                raise Mismatch(f"network {section.bssid.hex(':')}: {fault}") from None
+            quota = story.most_kept if quota is None else quota
+            quota -= 1
+            if quota < 0:
+                raise Mismatch(f"network {section.bssid.hex(':')}: {fault}") from None

@@ -1,0 +1,137 @@
+"""The program's texts, as docs/PROTOCOL.md says them: a trace, and a report with a section for each network."""
+import re
+import sys
+from typing import NamedTuple, Optional
+
+from frames import address_of, address_text
+
+SEPARATOR = "---"
+STATION = re.compile(r"station (\S+) (authenticated|associated aid (\d+) listen (\d+) (active|doze) kept (\d+))")
+COUNTS = re.compile(r"events (\d+) clock (\d+) unread (\d+) lost (\d+) kept (\d+)")
+
+
+class TextError(Exception):
+    """A text that isn't what it is said to be."""
+
+
+class Line(NamedTuple):
+    """A line of a trace that isn't skipped: its number, from 1, and `A`, `W` or `T`."""
+
+    number: int
+    kind: str
+    bssid: Optional[bytes]
+    octets: bytes
+
+
+class Station(NamedTuple):
+    """A row of a table: `aid` is None where the station is authenticated only."""
+
+    address: bytes
+    aid: Optional[int]
+    listen: int
+    doze: bool
+    kept: int
+
+
+class Section(NamedTuple):
+    """What the report says of one network."""
+
+    bssid: bytes
+    ssid: bytes
+    events: int
+    clock: int
+    unread: int
+    lost: int
+    kept: int
+    stations: list
+    air: list
+    wire: list
+
+    @property
+    def name(self):
+        """The SSID, so that a person can read it, or the BSSID."""
+        text = self.ssid.decode("utf-8", "replace")
+        return text if text.isprintable() else address_text(self.bssid)
+
+
+def frames_text(number):
+    """So many frames, in words."""
+    return "1 frame" if number == 1 else f"{number} frames"
+
+
+def read_text(path):
+    """The text of a file, or of standard input for `-`."""
+    if path == "-":
+        return sys.stdin.read()
+    with open(path, encoding="utf-8", errors="replace", newline="") as file:
+        return file.read()
+
+
+def read_trace(text):
+    """The lines of a trace, or of the trace of a text that has a configuration and a line `---` before it."""
+    lines = text.split("\n")
+    if SEPARATOR in lines:
+        lines = lines[lines.index(SEPARATOR) + 1:]
+    found = []
+    for number, line in enumerate(lines, 1):
+        line = line.removesuffix("\r").rstrip(" ")
+        if line and not line.startswith("#"):
+            found.append(trace_line(number, line))
+    return found
+
+
+def trace_line(number, line):
+    """One line of a trace."""
+    words = line.split(" ")
+    try:
+        if line == "T":
+            return Line(number, "T", None, b"")
+        if words[0] == "A":
+            return Line(number, "A", None, bytes.fromhex("".join(words[1:])))
+        if words[0] == "W":
+            words = [word for word in words if word]
+            return Line(number, "W", address_of(words[1]), bytes.fromhex("".join(words[2:])))
+    except (ValueError, IndexError):
+        pass
+    raise TextError(f"line {number} of the trace is none: {line[:60]}")
+
+
+def read_report(text):
+    """The sections of a report."""
+    lines = text.split("\n")
+    if lines.pop() != "" or not lines:
+        raise TextError("this is no report, whose last line is 'end'")
+    sections, at = [], 0
+    while at < len(lines):
+        try:
+            section, at = read_section(lines, at)
+        except (ValueError, IndexError, AttributeError):
+            raise TextError(f"the section of the report that begins in line {at + 1} can't be read") from None
+        sections.append(section)
+    return sections
+
+
+def read_section(lines, at):
+    """The section that begins at this place, and the place after it."""
+    network, bssid, ssid, name = lines[at].split(" ")
+    if (network, ssid) != ("network", "ssid"):
+        raise ValueError
+    counts = [int(word) for word in COUNTS.fullmatch(lines[at + 1]).groups()]
+    section = Section(address_of(bssid), bytes.fromhex(name), *counts, [], [], [])
+    at += 2
+    while lines[at] != "end":
+        word, rest = lines[at].split(" ", 1)
+        if word == "station":
+            section.stations.append(read_station(lines[at]))
+        else:
+            {"air": section.air, "wire": section.wire}.get(word).append(bytes.fromhex(rest))
+        at += 1
+    return section, at + 1
+
+
+def read_station(line):
+    """A row of a table."""
+    address, standing, aid, listen, mode, kept = STATION.fullmatch(line).groups()
+    if standing == "authenticated":
+        return Station(address_of(address), None, 0, False, 0)
+    return Station(address_of(address), int(aid), int(listen), mode == "doze", int(kept))

@@ -1,0 +1,72 @@
+"""What the tests share: the repository's examples, and the tools, run as a user runs them."""
+import os
+import subprocess
+import tempfile
+import unittest
+
+from texts import SEPARATOR, read_report, read_text, read_trace
+
+TOOLS = os.path.dirname(os.path.dirname(os.path.realpath(__file__)))
+ROOT = os.path.dirname(TOOLS)
+EXAMPLES = os.path.join(ROOT, "examples")
+PROGRAM = os.path.join(ROOT, "build", "apctl")
+THREE = os.path.join(EXAMPLES, "three_networks_over_some_intervals")
+GUEST, OFFICE, DEVICES = (bytes([2, 0, 0, 0, 1, number]) for number in (1, 2, 3))
+
+
+def tool(name, *words, program_input=None):
+    """Runs a tool: its status, standard output and standard error."""
+    done = subprocess.run([os.path.join(TOOLS, name), *words], input=program_input, capture_output=True, text=True,
+                          check=False)
+    return done.returncode, done.stdout, done.stderr
+
+
+def run_program(*words, program_input=None):
+    """What the built program answers."""
+    return subprocess.run([PROGRAM, *words], input=program_input, capture_output=True, text=True, check=True).stdout
+
+
+def with_report():
+    """The examples that end with a report, as folders."""
+    for name in sorted(os.listdir(EXAMPLES)):
+        folder = os.path.join(EXAMPLES, name)
+        has = {file for file in ("input", "stdout", "status", "words") if os.path.exists(os.path.join(folder, file))}
+        if has == {"input", "stdout"}:
+            yield folder
+
+
+def input_of(folder):
+    """The input of an example: its text, and the lines of its trace (none where it is a configuration alone)."""
+    text = read_text(os.path.join(folder, "input"))
+    return text, read_trace(text) if SEPARATOR in text.split("\n") else []
+
+
+def report_of(folder):
+    """The sections of an example's report."""
+    return read_report(read_text(os.path.join(folder, "stdout")))
+
+
+class ToolTest(unittest.TestCase):
+    """A test with a folder of its own, which is gone afterwards."""
+
+    longMessage = True
+    maxDiff = None
+
+    def setUp(self):
+        folder = tempfile.TemporaryDirectory()
+        self.addCleanup(folder.cleanup)
+        self.folder = folder.name
+
+    def path(self, name):
+        """A file of the test's folder."""
+        return os.path.join(self.folder, name)
+
+    def refused(self, name, *words, says):
+        """A tool has to end with status 1 and one message that says this."""
+        status, stdout, stderr = tool(name, *words)
+        self.assertEqual((status, stdout), (1, ""), stderr)
+        self.assertIn(says, stderr)
+        self.assertNotIn("Traceback", stderr)
+
+
+needs_program = unittest.skipUnless(os.path.exists(PROGRAM), "build/apctl isn't there (make apctl builds it)")
