@@ -26,6 +26,14 @@ fn frame(alloc: Global, field: [u8; 2], len: usize) -> Result<Octets, NoMemory> 
     Ok(octets)
 }
 
+/// Why a frame is not read, if it isn't.
+fn fault_of(frame: &[u8]) -> Option<Unread> {
+    match Ether::decode(frame) {
+        Ok(_) => None,
+        Err(fault) => Some(fault),
+    }
+}
+
 /// The frame's body on the air; nothing where the frame isn't read.
 fn air(alloc: Global, frame: &[u8]) -> Result<Octets, NoMemory> {
     let mut body = Octets::new(alloc);
@@ -81,10 +89,10 @@ fn a_sized_frame_comes_back_without_its_padding(rt: HostRuntime) -> Result<(), F
 #[test]
 fn a_length_is_no_type(rt: HostRuntime) -> Result<(), Fail> {
     let octets = frame(rt.alloc(), [0x05, 0xdc], 1502)?;
-    let kind = Ether::decode(octets.as_slice())
-        .ok()
-        .map(|ether| ether.kind);
-    assert_eq!(rt; kind, Some(Kind::Sized));
+    let Ok(ether) = Ether::decode(octets.as_slice()) else {
+        panic!(rt; "no frame");
+    };
+    assert_eq!(rt; ether.kind, Kind::Sized);
     Ok(())
 }
 
@@ -92,9 +100,9 @@ fn a_length_is_no_type(rt: HostRuntime) -> Result<(), Fail> {
 fn frames_at_the_edges_are_read_or_refused(rt: HostRuntime) -> Result<(), Fail> {
     for (field, len, fault) in EDGES {
         let octets = frame(rt.alloc(), field, len)?;
-        assert_eq!(rt; Ether::decode(octets.as_slice()).err(), fault, "{len}");
+        assert_eq!(rt; fault_of(octets.as_slice()), fault, "{len}");
     }
-    assert_eq!(rt; Ether::decode(&[0; 13]).err(), Some(Unread::Short));
+    assert_eq!(rt; fault_of(&[0; 13]), Some(Unread::Short));
     Ok(())
 }
 
