@@ -1,6 +1,7 @@
 -- How a pool keeps its numbers, the association identifiers of IEEE Std 802.11-2016, 9.4.1.8: a bit for each, 64 to a
 -- word.
-use Rattle.std.specs.Prelude.{ℕ, ◌≡◌, ◌*◌, ◌/◌, ◌%◌, ◌-◌, ◌^◌, ◌<◌, Bool, true, false, not, ◌==◌, List, length, slice_index, filter}
+use Rattle.std.specs.Prelude.{ℕ, ◌≡◌, ◌*◌, ◌/◌, ◌%◌, ◌-◌, ◌^◌, ◌<◌, Bool, true, false, not, ◌==◌, List, length}
+use Rattle.std.specs.Prelude.{slice_index, filter}
 use Rattle.std.specs.Int.{bit_at}
 use Rattle.std.specs.List.{range_with_len}
 use Rattle.std.specs.Ordering.{nat_cmp}

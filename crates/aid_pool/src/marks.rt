@@ -15,8 +15,8 @@ const WORDS: usize = MAX_AID as usize / 64 + 1;
 /// A set of association identifiers, 1 to [`MAX_AID`]. None of its methods takes memory.
 #[derive(Drop)]
 pub struct Marks {
-    // bit n mod 64 of word n / 64 is the mark of number n; that of 0, which is no identifier, is always set, so that 0 is
-    // never found free
+    // bit n mod 64 of word n / 64 is the mark of number n; that of 0, which is no identifier, is always set, so that 0
+    // is never found free
     words: [u64; WORDS],
 }
 

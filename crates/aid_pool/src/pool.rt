@@ -8,8 +8,8 @@ use crate::marks::Marks;
 use mac_frame::MAX_AID;
 use std::marker::Model;
 
-/// The association identifiers of a network, numbers from 1 to [`MAX_AID`] (9.4.1.8): each is out or free. Contracts see
-/// how many are out at most, and the set of those that are out. None of its methods takes memory.
+/// The association identifiers of a network, numbers from 1 to [`MAX_AID`] (9.4.1.8): each is out or free. Contracts
+/// see how many are out at most, and the set of those that are out. None of its methods takes memory.
 #[derive(Drop)]
 pub struct AidPool {
     most: u16,
@@ -68,8 +68,8 @@ impl AidPool {
         self.count
     }
 
-    /// The number that [`AidPool::take`] gives next: the least that is free (*profile*). `None` exactly where as many are
-    /// out as the pool hands out at most.
+    /// The number that [`AidPool::take`] gives next: the least that is free (*profile*). `None` exactly where as many
+    /// are out as the pool hands out at most.
     pub fn least(&self) -> Option<u16>
         ensures none { IsNone result ↔ (set.len self.now.out ≡ self.now.most) }
         ensures least { IfSome result (IsLeastFree (set.contains self.now.out)) }
@@ -81,8 +81,8 @@ impl AidPool {
         self.out.least_absent()
     }
 
-    /// Takes the least number that is free (*profile*), which is out from then on. `None` exactly where as many are out as
-    /// the pool hands out at most: then nothing changes.
+    /// Takes the least number that is free (*profile*), which is out from then on. `None` exactly where as many are out
+    /// as the pool hands out at most: then nothing changes.
     pub fn take(&mut self) -> Option<u16>
         ensures none { IsNone result ↔ (set.len self.old.out ≡ self.old.most) }
         ensures least { IfSome result (IsLeastFree (set.contains self.old.out)) }
@@ -106,8 +106,8 @@ impl AidPool {
     }
 }
 
-/// There is one least free number at most, which [`AidPool::least`] tells. Fewer than [`MAX_AID`] numbers leave one free,
-/// of which the least is at most one more than there are of them (9.4.1.8; that the least is given is *profile*).
+/// There is one least free number at most, which [`AidPool::least`] tells. Fewer than [`MAX_AID`] numbers leave one
+/// free, of which the least is at most one more than there are of them (9.4.1.8; that the least is given is *profile*).
 pub fn least_is_free()
     ensures only { (is_out : ℕ → Bool) (n : ℕ) → IsLeastFree is_out n → n ≡ least_free is_out }
     ensures some { (numbers : List ℕ) → length numbers < MAX_AID

@@ -1,5 +1,5 @@
 -- A network alone, event by event.
-use Rattle.std.proofs.Common.{◌≡◌, ℕ, ◌+◌, ◌*◌, ◌<◌, ◌≤◌, ◌||◌, ◌&&◌, is_some, option_to_list, Some, inl, inr, Bool, true, false, not, List, [], ◌∷◌, ◌++◌, length, Option, None, Result, Ok, Err, refl, sym, ap, subst, ◌∙◌, arith, drop}
+use Rattle.std.proofs.Common.{◌≡◌, ℕ, ◌+◌, ◌*◌, ◌<◌, ◌≤◌, ◌||◌, ◌&&◌, is_some, Some, inl, inr, Bool, true, false, not, List, [], ◌∷◌, ◌++◌, length, Option, None, Result, Ok, Err, refl, sym, ap, subst, ◌∙◌, arith}
 use Rattle.std.proofs.lemmas.List.{length-append}
 use Rattle.mac_frame.specs.declared.frame.Unread.{Unread as Fault}
 use Rattle.std.specs.Prelude.{◌⊎◌, nat_lt, ◌==◌, if◌then◌else◌}
@@ -35,13 +35,9 @@ use Rattle.bss_core.proofs.Checked.{stations_fit}
 use Rattle.bss_core.proofs.Statuses.{room-authenticated, room-associated, known-where_taken, known-where_associated}
 use Rattle.bss_core.specs.Network.{Setting, Network, empty_network, send, count_unread, change_state, change_where_served, lose, keep_or_lose, deliver, answer_wired, drop_units, send_unit, send_each, put_on_wire, forward, set_power_mode, serve_poll, answer_poll, beacon_frame, release, tick, may_be_known, authentication_status, answer_authentication, association_status, answer_association, serve, notify_or_serve, announced_at, asks_for, answer, answer_probe, step, after, alone}
 use Rattle.bss_core.specs.Configuration.{network_fault}
-use Rattle.std.proofs.Math.Seq.{drop-append_seam}
-use Rattle.bss_core.specs.BssView.{IsAfterHistory, sent_by, wired_by}
-use Rattle.bss_core.specs.Replies.{after_reply}
 use Rattle.bss_core.specs.Sound.{IsSoundNetwork}
 use Rattle.bss_core.proofs.StationsSound.{length-set_link, length-forgotten, length-moded, mode-sound, authenticate-sound, associate-sound, disassociate-sound, forget-sound}
 use Rattle.beacon.specs.ProbeResponse.{probe_response}
-use Rattle.bss_core.specs.declared.reply.Reply.{Reply}
 use Rattle.bss_core.specs.declared.event.Event.{Event}
 use Rattle.bss_core.specs.declared.event.Event.TheVariants.{Air, Wire, Tick}
 
@@ -60,7 +56,7 @@ alone-push s es e = after-push s empty_network es e
 
 -- ---- what holds of every network that can be reached: of the empty one, after each named change
 
-empty-sound : (s : Setting) → IsSoundNetwork s 0 0 empty_network
+pub empty-sound : (s : Setting) → IsSoundNetwork s 0 0 empty_network
 empty-sound s = record {
   stations = record { addresses = tt; aids = tt; associated = omega arith };
   known = omega arith;
@@ -86,7 +82,7 @@ counts-sound s events units more most n other same sequence unread clock lost h 
 }
 
 -- more events and units are no less
-more-sound : (s : Setting) (events units more most : ℕ) (n : Network) → events ≤ more → units ≤ most → IsSoundNetwork s events units n → IsSoundNetwork s more most n
+pub more-sound : (s : Setting) (events units more most : ℕ) (n : Network) → events ≤ more → units ≤ most → IsSoundNetwork s events units n → IsSoundNetwork s more most n
 more-sound s events units more most n e u h = counts-sound s events units more most n n (refl, refl) h.sequence (omega (arith, e, h.unread)) (omega (arith, e, h.clock)) (omega (arith, u, h.lost)) h
 
 send-sound : (s : Setting) (events units : ℕ) (n : Network) (frame : ℕ → List ℕ) → IsSoundNetwork s events units n → IsSoundNetwork s events units (send frame n)
@@ -102,7 +98,7 @@ lose-sound : (s : Setting) (events units : ℕ) (n : Network) → IsSoundNetwork
 lose-sound s events units n h = counts-sound s events units events (units + 1) n (lose n) (refl, refl) h.sequence h.unread h.clock (omega (arith, h.lost)) h
 
 -- which frames were sent, on the air or on the wire, is nothing to it
-frames-sound : (s : Setting) (events units : ℕ) (n : Network) (air wire : List (List ℕ)) → IsSoundNetwork s events units n → IsSoundNetwork s events units (record n { air = air; wire = wire })
+pub frames-sound : (s : Setting) (events units : ℕ) (n : Network) (air wire : List (List ℕ)) → IsSoundNetwork s events units n → IsSoundNetwork s events units (record n { air = air; wire = wire })
 frames-sound s events units n air wire h = counts-sound s events units events units n (record n { air = air; wire = wire }) (refl, refl) h.sequence h.unread h.clock h.lost h
 
 -- some units leave
@@ -342,7 +338,7 @@ wired-sound : (s : Setting) (read : Result Ethernet Fault) (events units : ℕ) 
 wired-sound s (Ok w) events units n h = more-sound s events (units + 1) (events + 1) (units + 2) _ (omega arith) (omega arith) (deliver-sound s (unit_of w) events units n h)
 wired-sound s (Err fault) events units n h = more-sound s (events + 1) units (events + 1) (units + 2) _ (omega arith) (omega arith) (count_unread-sound s events units n h)
 
-step-sound : (s : Setting) (events units : ℕ) (n : Network) (e : Event) → s.network.max_stations ≤ 2007 → IsSoundNetwork s events units n → IsSoundNetwork s (events + 1) (units + 2) (step s n e)
+pub step-sound : (s : Setting) (events units : ℕ) (n : Network) (e : Event) → s.network.max_stations ≤ 2007 → IsSoundNetwork s events units n → IsSoundNetwork s (events + 1) (units + 2) (step s n e)
 step-sound s events units n (Air x) limit h = answer-sound s (request_of s.network.bssid x) events units n limit h
 step-sound s events units n (Wire y) limit h = wired-sound s (ethernet_of y) events units n h
 step-sound s events units n Tick limit h = more-sound s (events + 1) units (events + 1) (units + 2) _ (omega arith) (omega arith) (tick-sound s events units n h)
@@ -357,53 +353,3 @@ pub alone-sound : (s : Setting) (es : List Event) → network_fault s.network �
 unfolding alone
 alone-sound s es h =
     more-sound s _ _ _ _ (after s empty_network es) (omega arith) (omega arith) (after-sound s 0 0 empty_network es (stations_fit s.network h).1 (empty-sound s))
-
--- ---- what a network keeps of itself
-
-pub history-none : (s : Setting) → network_fault s.network ≡ None → IsAfterHistory s [] empty_network
-unfolding alone
-history-none s h = record { bounded = omega arith; sound = h; same = refl }
-
-pub history-sound : (s : Setting) (es : List Event) (kept : Network) → IsAfterHistory s es kept → IsSoundNetwork s (length es) (2 * length es) kept
-history-sound s es kept k = subst (IsSoundNetwork s (length es) (2 * length es)) k.same (frames-sound s (length es) (2 * length es) (alone s es) [] (alone s es).wire (alone-sound s es k.sound))
-
--- ---- one more event, by the reply to it
-
-reply_is : (s : Setting) (es : List Event) (e : Event) (r : Reply) → step s (alone s es) e ≡ after_reply r (alone s es) → alone s (es ++ e ∷ []) ≡ after_reply r (alone s es)
-reply_is s es e r h = alone-push s es e ∙ h
-
-pub history-push : (s : Setting) (es : List Event) (e : Event) (r : Reply) (kept : Network) → IsAfterHistory s es kept → length es < s.network.max_events → step s (alone s es) e ≡ after_reply r (alone s es) → IsAfterHistory s (es ++ e ∷ []) (record (after_reply r kept) { air = [] })
-history-push s es e r kept k room h = record {
-  bounded = omega (arith, length-append es (e ∷ []));
-  sound = k.sound;
-  same =
-      ap (λ (n : Network). record n { air = [] }) (reply_is s es e r h)
-      ∙ ap (λ (n : Network). record (after_reply r n) { air = [] }) k.same;
-}
-
--- so it stays within its bounds, and can be counted
-pub reply-sound : (s : Setting) (es : List Event) (e : Event) (r : Reply) (kept : Network) → IsAfterHistory s es kept → length es < s.network.max_events → step s (alone s es) e ≡ after_reply r (alone s es) → IsSoundNetwork s (length es + 1) (2 * (length es + 1)) (record (after_reply r kept) { air = [] })
-reply-sound s es e r kept k room h = subst (λ (m : ℕ). IsSoundNetwork s m (2 * m) (record (after_reply r kept) { air = [] })) (length-append es (e ∷ [])) (history-sound s (es ++ e ∷ []) _ (history-push s es e r kept k room h))
-
--- the frames that the event adds are those of the reply
-pub sent_by-reply : (s : Setting) (es : List Event) (e : Event) (r : Reply) → step s (alone s es) e ≡ after_reply r (alone s es) → sent_by s es e ≡ r.frames
-sent_by-reply s es e r h =
-    ap (λ (n : Network). drop (length (alone s es).air) n.air) (reply_is s es e r h)
-    ∙ drop-append_seam (alone s es).air r.frames
-
--- the frames that an event adds stand after those that were sent
-pub air-push : (s : Setting) (es : List Event) (e : Event) (r : Reply) → step s (alone s es) e ≡ after_reply r (alone s es) → (alone s (es ++ e ∷ [])).air ≡ (alone s es).air ++ sent_by s es e
-air-push s es e r h =
-    ap (λ (n : Network). n.air) (reply_is s es e r h)
-    ∙ ap (λ (fs : List (List ℕ)). (alone s es).air ++ fs) (sym (sent_by-reply s es e r h))
-
--- the wired frames that the event adds are those of the reply, and stand after those that were put there
-pub wired_by-reply : (s : Setting) (es : List Event) (e : Event) (r : Reply) → step s (alone s es) e ≡ after_reply r (alone s es) → wired_by s es e ≡ option_to_list r.wired
-wired_by-reply s es e r h =
-    ap (λ (n : Network). drop (length (alone s es).wire) n.wire) (reply_is s es e r h)
-    ∙ drop-append_seam (alone s es).wire (option_to_list r.wired)
-
-pub wire-push : (s : Setting) (es : List Event) (e : Event) (r : Reply) → step s (alone s es) e ≡ after_reply r (alone s es) → (alone s (es ++ e ∷ [])).wire ≡ (alone s es).wire ++ wired_by s es e
-wire-push s es e r h =
-    ap (λ (n : Network). n.wire) (reply_is s es e r h)
-    ∙ ap (λ (fs : List (List ℕ)). (alone s es).wire ++ fs) (sym (wired_by-reply s es e r h))

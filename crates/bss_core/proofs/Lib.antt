@@ -14,6 +14,8 @@ pub mod RequestRows
 pub mod ConfigurationRows
 pub mod RadioRows
 pub mod SentFrames
+pub mod Histories
+pub mod Clocks
 pub mod RadioSteps
 pub mod RadioFrames
 pub mod RadioViews

@@ -35,14 +35,14 @@ is_among-at (m ∷ p) q i n = rw (is_among-at p q i n) (swapped (nat_eq m n) (na
     swapped true false c = refl
     swapped false b c = refl
 
-neither : (a b : Bool) → (a || b) ≡ false → (a ≡ false) × (b ≡ false)
+pub neither : (a b : Bool) → (a || b) ≡ false → (a ≡ false) × (b ≡ false)
 neither true b h = absurd (both_ways true h refl)
 neither false b h = (refl, h)
 
 both_false : (a b : Bool) → a ≡ false → b ≡ false → (a || b) ≡ false
 both_false a b h k = rw h k
 
-eqb-flip : (a b : ℕ) → nat_eq a b ≡ nat_eq b a
+pub eqb-flip : (a b : ℕ) → nat_eq a b ≡ nat_eq b a
 eqb-flip a b = elim (cases_eq a b) [ inl same ↦ rw same refl | inr other ↦ ne_eqb a b other ∙ sym (ne_eqb b a (λ e. other (sym e))) ]
 
 -- one number less
@@ -165,7 +165,7 @@ numbers-kept addr t h = by (link_of addr t) refl
 pub contains_inserted : (s : Numbers) (k n : ℕ) → set.contains (set.insert s k) n ≡ (nat_eq n k || set.contains s n)
 contains_inserted s k n = contains-insert nat_cmp_total s k n ∙ ap (λ b. b || set.contains s n) (unsigned_tied n k)
 
-contains_removed : (s : Numbers) (k n : ℕ) → set.contains (set.remove s k) n ≡ (not (nat_eq n k) && set.contains s n)
+pub contains_removed : (s : Numbers) (k n : ℕ) → set.contains (set.remove s k) n ≡ (not (nat_eq n k) && set.contains s n)
 contains_removed s k n = contains-remove nat_cmp_total s k n ∙ ap (λ b. not b && set.contains s n) (unsigned_tied n k)
 
 removed_bit : (a b c d : Bool) → (a ≡ true → c ≡ false) → b ≡ (d || c) → a ≡ d → (not a && b) ≡ c

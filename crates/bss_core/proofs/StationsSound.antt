@@ -27,7 +27,7 @@ other_way a b h = by (bytes_eq b a) refl
         let same : a ≡ b = sym ((bytes_eq-Decides b a).0 e) in
         absurd (both_ways (bytes_eq a b) h ((bytes_eq-Decides a b).1 same))
 
-not-here : (b : Bool) (link : Link) (rest : Option Link) → cond b (Some link) rest ≡ None → (b ≡ false) × (rest ≡ None)
+pub not-here : (b : Bool) (link : Link) (rest : Option Link) → cond b (Some link) rest ≡ None → (b ≡ false) × (rest ≡ None)
 not-here true link rest h = absurd (cc)
 not-here false link rest h = (refl, h)
 

@@ -2,6 +2,7 @@
 use Rattle.std.specs.Prelude.{ℕ, ◌≤◌, ◌≡◌, ◌++◌, Bool, List, [], ◌∷◌, length, drop, None}
 use Rattle.bss_core.specs.Configuration.{network_fault}
 use Rattle.bss_core.specs.Network.{Setting, Network, alone}
+use Rattle.bss_core.specs.NetworkView.{NetworkState, unsent}
 use Rattle.bss_core.specs.declared.event.Event.{Event}
 
 -- its setting, the events that it took, the frames that wait to leave, and whether there is a slot for one to be
@@ -24,9 +25,10 @@ sent_by s es e = drop (length (alone s es).air) (alone s (es ++ e ∷ [])).air
 abbrev pub wired_by : Setting → List Event → Event → List (List ℕ)
 wired_by s es e = drop (length (alone s es).wire) (alone s (es ++ e ∷ [])).wire
 
--- what a network keeps of itself: a bounded history, and what its history makes of it but for the frames that it
--- sent on the air
-pub record IsAfterHistory (s : Setting) (history : List Event) (kept : Network) : Type 0 where
-  pub bounded : length history ≤ s.network.max_events
-  pub sound : network_fault s.network ≡ None
-  pub same : record (alone s history) { air = [] } ≡ kept
+-- a bounded history, the network that it makes but for the frames that were sent, and those that were put on the wire
+pub record IsAfterHistory (history : List Event) (n : NetworkState) (wire : List (List ℕ)) : Type 0 where
+  pub bounded : length history ≤ n.setting.network.max_events
+  pub sound : network_fault n.setting.network ≡ None
+  pub events : n.events ≡ length history
+  pub network : n.network ≡ unsent (alone n.setting history)
+  pub wired : wire ≡ (alone n.setting history).wire

@@ -6,9 +6,11 @@ pub mod Units
 pub mod Arrivals
 pub mod Network
 pub mod Sound
+pub mod Roster
 pub mod Section
-pub mod BssView
 pub mod Replies
+pub mod NetworkView
+pub mod BssView
 pub mod Radio
 pub mod RadioView
 pub mod Running

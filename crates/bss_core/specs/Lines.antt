@@ -1,4 +1,5 @@
--- Which lines a network hears, and which of them it takes (profile). A network is named by its place in the configuration.
+-- Which lines a network hears, and which of them it takes (profile). A network is named by its place in the
+-- configuration.
 use Rattle.std.specs.Prelude.{ℕ, ◌==◌, nat_lt, List, [], ◌∷◌, length, take, flat_map, if◌then◌else◌}
 use Rattle.mac_frame.specs.Hearing.{is_heard}
 use Rattle.bss_core.specs.declared.config.NetConfig.{NetConfig}

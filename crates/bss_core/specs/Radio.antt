@@ -1,6 +1,7 @@
--- A radio and its networks (profile): what a list of steps makes of them, in whatever order the steps come. What a network
--- does is said by `alone`, of its own setting and its own events, and by nothing else.
-use Rattle.std.specs.Prelude.{ℕ, ◌+◌, ◌==◌, nat_lt, Bool, List, [], ◌∷◌, ◌++◌, length, take, drop, map, filter, slice_get, slice_set, Option, Some, None, if◌then◌else◌}
+-- A radio and its networks (profile): what a list of steps makes of them, in whatever order the steps come. What a
+-- network does is said by `alone`, of its own setting and its own events, and by nothing else.
+use Rattle.std.specs.Prelude.{ℕ, ◌+◌, ◌==◌, nat_lt, Bool, List, [], ◌∷◌, ◌++◌, length, take, drop, map, filter}
+use Rattle.std.specs.Prelude.{slice_get, slice_set, Option, Some, None, if◌then◌else◌}
 use Rattle.std.specs.List.{slice_index_or, filter_map, range_with_len}
 use Rattle.bss_core.specs.Network.{Setting, alone}
 use Rattle.bss_core.specs.Section.{section_of}

@@ -75,7 +75,8 @@ pub record IsSoundRadio (r : RadioView) : Type 0 where
   pub last :
       (place : ℕ)
       → place < length r.config.networks
-      → IsSuffix (items_of place r.queue ++ (view_at r place).waiting) (alone (setting_at r.config place) (view_at r place).history).air
+      → IsSuffix (items_of place r.queue ++ (view_at r place).waiting)
+      (alone (setting_at r.config place) (view_at r place).history).air
 
 -- ---- what its calls make of it
 

@@ -2,9 +2,8 @@
 
 ghost use Rattle.std.specs.Prelude.{◌≡◌, ◌<◌, IfOk};
 ghost use Rattle.association.specs.Request.{request_of};
-ghost use Rattle.bss_core.specs.Network.{step, answer};
+ghost use Rattle.bss_core.specs.Network.{answer};
 ghost use Rattle.bss_core.specs.Replies.{no_reply, after_reply, IsFitting};
-ghost use Rattle.bss_core.specs.BssView.{network_of};
 
 mod authentication;
 mod data;
@@ -16,33 +15,19 @@ mod probing;
 mod tick;
 mod wired;
 
-use crate::bss::Bss;
-use crate::event::Event;
+use crate::network::Network;
 use crate::reply::Reply;
 use association::{Request, class, read, sender};
 use mac_frame::NoMemory;
 use station_state::fault;
 
-impl Bss {
-    /// What it does about an event. It changes nothing.
-    pub(crate) fn reply(&self, event: &Event) -> Result<Reply, NoMemory>
-        ensures fitting { IfOk result (λ reply. IsFitting self.now.setting reply (network_of self.now)) }
-        ensures step { IfOk result (λ reply.
-            step self.now.setting (network_of self.now) event.now ≡ after_reply reply (network_of self.now)) }
-    {
-        match event {
-            Event::Air(frame) => self.answer(frame.as_slice()),
-            Event::Wire(frame) => self.answer_wired(frame.as_slice()),
-            Event::Tick => self.tick(),
-        }
-    }
-
+impl Network {
     /// What it does about a string of octets that was heard on the air.
-    fn answer(&self, frame: &[u8]) -> Result<Reply, NoMemory>
-        ensures fitting { IfOk result (λ reply. IsFitting self.now.setting reply (network_of self.now)) }
+    pub(crate) fn answer(&self, frame: &[u8]) -> Result<Reply, NoMemory>
+        ensures fitting { IfOk result (λ reply. IsFitting self.now.setting reply self.now.network) }
         ensures answer { IfOk result (λ reply.
-            answer self.now.setting (request_of self.now.setting.network.bssid frame.now) (network_of self.now)
-            ≡ after_reply reply (network_of self.now)) }
+            answer self.now.setting (request_of self.now.setting.network.bssid frame.now) self.now.network
+            ≡ after_reply reply self.now.network) }
     {
         let Ok(request) = read(self.setting().network.bssid, frame) else {
             let mut reply = self.no_reply();
@@ -81,7 +66,7 @@ impl Bss {
 
     /// A reply that does nothing yet, for an answer to begin with.
     pub(crate) fn no_reply(&self) -> Reply
-        ensures nothing { result ≡ no_reply (network_of self.now).sequence }
+        ensures nothing { result ≡ no_reply self.now.network.sequence }
         ensures sequence { result.sequence < 4096 }
     {
         Reply::new(self.alloc(), self.sequence())

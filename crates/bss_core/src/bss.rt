@@ -5,8 +5,6 @@ ghost use Rattle.std.specs.Prelude.{IsTrue, IfOk, OnOk, OnErr, IfNone, vec_len, 
 ghost use Rattle.std.specs.Prelude.{option_to_list, if◌then◌else◌};
 ghost use Rattle.bss_core.specs.Configuration.{setting_fault, network_fault};
 ghost use Rattle.bss_core.specs.Network.{table_of, counts_of};
-ghost use Rattle.powersave.specs.Keep.{units_for};
-ghost use Rattle.powersave.specs.declared.unit.Whom.TheVariants as whoms;
 ghost use Rattle.bss_core.specs.BssView.{BssView, network_of, sent_by, wired_by};
 ghost use Rattle.bss_core.specs.RadioView.{opened};
 ghost use Rattle.bss_core.specs.Running.{section_with};
@@ -14,12 +12,10 @@ ghost use Rattle.bss_core.specs.declared.bss.Refusal.TheVariants as refusals;
 
 use crate::config::NetConfig;
 use crate::event::Event;
-use crate::limits::MAX_EVENTS;
+use crate::network::Network;
 use crate::section::{Counts, Section, StationRow};
 use crate::setting::Setting;
-use crate::stations::Stations;
-use mac_frame::{List, MacAddr, NoMemory, Octets};
-use powersave::{Keep, Whom};
+use mac_frame::{List, NoMemory, Octets};
 use std::alloc::{AllocError, Global};
 use std::collections::VecDeque;
 use std::marker::Model;
@@ -59,48 +55,29 @@ impl From<AllocError> for Refusal {
 /// the waiting frames to `alone`; a caller who gives back only what it took out has that tie.
 #[derive(Drop)]
 pub struct Bss {
-    alloc: Global,
-    setting: Setting,
     history: Vec<Event>,
-    stations: Stations,
-    kept: Keep,
+    network: Network,
     waiting: VecDeque<Octets>,
     wired: Vec<Octets>,
-    clock: u32,
-    sequence: u16,
-    lost: u32,
-    unread: u32,
     has_slot: bool,
 }
 
 impl Model for Bss {
-    ghost use Rattle.std.specs.Prelude.{◌≡◌, ◌<◌, ◌≤◌, IsTrue, length, []};
+    ghost use Rattle.std.specs.Prelude.{◌<◌, IsTrue};
     ghost use Rattle.std.specs.VecDeque.{deque_len, deque_capacity};
     ghost use Rattle.bss_core.specs.BssView.{BssView, IsAfterHistory};
 
     ghost Value = { BssView };
 
     ghost view = { λ b. record {
-      setting = b.setting;
+      setting = b.network.setting;
       history = b.history.items;
       waiting = b.waiting.items;
       has_slot = b.has_slot;
     } };
 
     ghost invariant = { λ b.
-        IsAfterHistory b.setting b.history.items (record {
-          stations = b.stations.table;
-          kept = b.kept.entries;
-          clock = b.clock;
-          sequence = b.sequence;
-          lost = b.lost;
-          unread = b.unread;
-          air = [];
-          wire = b.wired.items;
-        })
-        × (b.stations.most ≡ b.setting.network.max_stations)
-        × (b.kept.quota ≡ b.setting.network.quota)
-        × (b.kept.puts ≤ length b.history.items)
+        IsAfterHistory b.history.items b.network b.wired.items
         × (IsTrue b.has_slot → deque_len b.waiting < deque_capacity b.waiting) };
 }
 
@@ -117,22 +94,16 @@ impl Bss {
         requires network { network_fault config ≡ None }
         ensures { IfOk result (λ bss. bss ≡ opened channel interval config) }
     {
+        let setting = Setting {
+            channel,
+            interval,
+            network: config,
+        };
         Ok(Bss {
-            alloc,
-            stations: Stations::new(alloc, config.max_stations),
-            kept: Keep::new(alloc, config.quota),
-            setting: Setting {
-                channel,
-                interval,
-                network: config,
-            },
             history: Vec::new(alloc),
+            network: Network::new(alloc, setting),
             waiting: VecDeque::new(alloc),
             wired: Vec::new(alloc),
-            clock: 0,
-            sequence: 0,
-            lost: 0,
-            unread: 0,
             has_slot: false,
         })
     }
@@ -141,7 +112,7 @@ impl Bss {
     pub fn config(&self) -> &NetConfig
         ensures { result.now ≡ self.now.setting.network }
     {
-        &self.setting.network
+        &self.network.setting().network
     }
 
     /// The events that it took, the first of them first; at most `max_events`.
@@ -156,7 +127,7 @@ impl Bss {
     pub fn table_len(&self) -> usize
         ensures { result ≡ length (table_of (network_of self.now)) }
     {
-        self.stations.len()
+        self.network.table_len()
     }
 
     /// The station at a place of its table, from 0 and below [`Bss::table_len`], in order of first authentication
@@ -165,15 +136,7 @@ impl Bss {
         requires { place < length (table_of (network_of self.now)) }
         ensures { slice_get (table_of (network_of self.now)) place ≡ Some result }
     {
-        let (addr, link) = self.stations.row(place);
-        StationRow::new(addr, link, self.kept_for(addr))
-    }
-
-    /// How many units are kept for a station.
-    fn kept_for(&self, addr: MacAddr) -> u32
-        ensures { result ≡ length (units_for (whoms.One addr) (network_of self.now).kept) }
-    {
-        self.kept.count_for(Whom::One(addr)) as u32
+        self.network.row(place)
     }
 
     /// Its counts.
@@ -182,10 +145,10 @@ impl Bss {
     {
         Counts {
             events: self.history.len() as u32,
-            clock: self.clock,
-            unread: self.unread,
-            lost: self.lost,
-            kept: self.kept.len() as u32,
+            clock: self.network.clock(),
+            unread: self.network.unread() as u32,
+            lost: self.network.lost() as u32,
+            kept: self.network.kept_len(),
         }
     }
 
@@ -254,79 +217,28 @@ impl Bss {
             ↔ (length self.old.history ≡ self.old.setting.network.max_events) }
         ensures err { OnErr result (self.new ≡ self.old) }
     {
-        if self.history.len() >= self.setting.network.max_events as usize {
+        if self.history.len() >= self.config().max_events as usize {
             return Err(Refusal::HistoryFull);
         }
-        let reply = self.reply(&event)?;
+        let reply = self.network.reply(&event)?;
         self.history.reserve(1)?;
         reply.frames.reserve_in(&mut self.waiting)?;
         self.wired.reserve(1)?;
-        reply.keeping.reserve_in(&mut self.kept)?;
-        self.stations.change(reply.change)?;
+        let sent = self.network.carry_out(reply)?;
         // All that may be refused is done.
         let number = self.history.len() as u32;
         self.history.push_reserved(event);
-        reply.keeping.change(&mut self.kept);
-        reply.frames.append_to(&mut self.waiting);
-        put_last(&mut self.wired, reply.wired);
-        self.sequence = reply.sequence;
-        self.lost += reply.lost;
-        self.unread += reply.unread;
-        self.clock += reply.clock;
+        sent.air.append_to(&mut self.waiting);
+        put_last(&mut self.wired, sent.wire);
         self.has_slot = false;
         Ok(number)
-    }
-
-    /// Its configuration, with its radio's settings.
-    pub(crate) fn setting(&self) -> &Setting
-        ensures setting { result.now ≡ self.now.setting }
-        ensures sound { network_fault result.now.network ≡ None }
-    {
-        &self.setting
-    }
-
-    /// Its stations.
-    pub(crate) fn stations(&self) -> &Stations
-        ensures most { result.now.most ≡ self.now.setting.network.max_stations }
-        ensures table { result.now.table ≡ (network_of self.now).stations }
-    {
-        &self.stations
-    }
-
-    /// The units that it keeps.
-    pub(crate) fn kept(&self) -> &Keep
-        ensures entries { result.now.entries ≡ (network_of self.now).kept }
-        ensures quota { result.now.quota ≡ self.now.setting.network.quota }
-    {
-        &self.kept
-    }
-
-    /// The sequence number of its next frame.
-    pub(crate) fn sequence(&self) -> u16
-        ensures sequence { result ≡ (network_of self.now).sequence }
-        ensures bounded { result < 4096 }
-    {
-        self.sequence
-    }
-
-    /// How many beacon intervals have begun.
-    pub(crate) fn clock(&self) -> u32
-        ensures clock { result ≡ (network_of self.now).clock }
-        ensures bounded { result ≤ MAX_EVENTS }
-    {
-        self.clock
-    }
-
-    /// Where its memory comes from.
-    pub(crate) fn alloc(&self) -> Global {
-        self.alloc
     }
 
     /// A row for each station, in their order. `NoMemory` where the room for them was refused.
     fn rows(&self) -> Result<Vec<StationRow>, NoMemory>
         ensures { IfOk result (λ rows. rows.items ≡ table_of (network_of self.now)) }
     {
-        let mut rows = Vec::with_capacity(self.alloc, self.table_len())?;
+        let mut rows = Vec::with_capacity(self.network.alloc(), self.table_len())?;
         for place in 0..self.table_len() {
             rows.push_reserved(self.row(place));
         }
@@ -341,7 +253,7 @@ impl Bss {
         let counts = self.counts();
         let table = List::from_vec(self.rows()?);
         Ok(Section {
-            config: self.setting.network,
+            config: self.network.into_setting().network,
             events: List::from_vec(self.history),
             table,
             counts,

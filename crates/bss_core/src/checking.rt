@@ -2,7 +2,8 @@
 
 ghost use Rattle.std.specs.Prelude.{◌≡◌, nat_le, []};
 ghost use Rattle.std.specs.List.{list_all};
-ghost use Rattle.bss_core.specs.Configuration.{is_rate, are_different, rates_fit, numbers_fit, network_fault, is_taken, fault_among, networks_fault, fault_of};
+ghost use Rattle.bss_core.specs.Configuration.{is_rate, are_different, rates_fit, numbers_fit, network_fault, is_taken};
+ghost use Rattle.bss_core.specs.Configuration.{fault_among, networks_fault, fault_of};
 
 use crate::config::{ConfigFault, NetConfig, RadioConfig};
 use crate::limits::{

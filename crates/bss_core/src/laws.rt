@@ -3,7 +3,8 @@
 ghost use Rattle.std.specs.Prelude.{◌≡◌, ◌*◌, ◌++◌, ℕ, List, [], ◌∷◌, slice_get, length, None};
 ghost use Rattle.std.specs.List.{AllByRecursion};
 ghost use Rattle.bss_core.specs.Configuration.{fault_of, setting_fault, network_fault};
-ghost use Rattle.bss_core.specs.Network.{Setting, alone, empty_network, step};
+ghost use Rattle.bss_core.specs.Network.{Setting, Network, alone, empty_network, step};
+ghost use Rattle.bss_core.specs.NetworkView.{sent_before};
 ghost use Rattle.bss_core.specs.Sound.{IsSoundNetwork};
 ghost use Rattle.bss_core.specs.declared.config.RadioConfig.{RadioConfig};
 ghost use Rattle.bss_core.specs.declared.event.Event.{Event};
@@ -36,6 +37,13 @@ pub fn checked_networks()
 pub fn sent_frames()
     ensures { (s : Setting) (es : List Event) (e : Event)
         → (alone s (es ++ e ∷ [])).air ≡ (alone s es).air ++ sent_by s es e }
+{}
+
+/// A step adds its frames to those that the network sent before, whatever these are: what it sends, and all else that
+/// becomes of the network, is the same for one that sent nothing.
+pub fn steps_append()
+    ensures { (s : Setting) (n : Network) (e : Event) (air wire : List (List ℕ))
+        → step s (sent_before air wire n) e ≡ sent_before air wire (step s n e) }
 {}
 
 /// No network of a radio can touch another. Whatever two radios are and whatever happens to them: where a network of

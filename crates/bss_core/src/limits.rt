@@ -1,4 +1,5 @@
-//! The least and the greatest values of a configuration (*profile*): the same for whoever checks one and for whoever reads its text.
+//! The least and the greatest values of a configuration (*profile*): the same for whoever checks one and for whoever
+//! reads its text.
 
 ghost use Rattle.std.specs.Prelude.{◌≡◌, length};
 ghost use Rattle.bss_core.specs.Configuration.{is_between, count_fits, ssid_fits};

@@ -1,10 +1,12 @@
 //! A radio with several networks: each takes its own events, and their frames leave through one queue.
 
-ghost use Rattle.std.specs.Prelude.{◌≡◌, ◌≢◌, ◌↔◌, ◌++◌, ◌<◌, [], None, Some, Err, IfOk, OnOk, OnErr, IsNone, length, map, option_to_list};
+ghost use Rattle.std.specs.Prelude.{◌≡◌, ◌≢◌, ◌↔◌, ◌++◌, ◌<◌, [], None, Some, Err, IfOk, OnOk, OnErr, IsNone, length};
+ghost use Rattle.std.specs.Prelude.{map, option_to_list};
 ghost use Rattle.std.specs.List.{AllByRecursion};
 ghost use Rattle.bss_core.specs.Configuration.{setting_fault, network_fault, fault_of};
 ghost use Rattle.bss_core.specs.Radio.{network_at, setting_at};
-ghost use Rattle.bss_core.specs.RadioView.{IsSoundRadio, view_at, opened, shown, settings_of, fresh_radio, took, after_hand};
+ghost use Rattle.bss_core.specs.RadioView.{IsSoundRadio, view_at, opened, shown, settings_of, fresh_radio, took};
+ghost use Rattle.bss_core.specs.RadioView.{after_hand};
 ghost use Rattle.bss_core.specs.declared.config.ConfigFault.{ConfigFault};
 ghost use Rattle.bss_core.specs.declared.radio.OpenFault.TheVariants as faults;
 
@@ -75,7 +77,8 @@ impl Model for Radio {
 
     ghost invariant = { λ r.
         IsSoundRadio (radio_of r.channel r.interval r.capacity r.networks.items r.queue.items)
-        × (map (λ s. s.setting) r.networks.items ≡ settings_of (config_of r.channel r.interval r.capacity r.networks.items))
+        × (map (λ s. s.setting) r.networks.items
+        ≡ settings_of (config_of r.channel r.interval r.capacity r.networks.items))
         × (r.capacity ≤ deque_capacity r.queue) };
 }
 
@@ -83,7 +86,8 @@ impl Radio {
     /// The networks of a configuration, none of which took an event, and an empty queue. `Config` with the first fault
     /// exactly where the configuration has one, which is tested first; `NoMemory` where a growth was refused.
     pub fn new(alloc: Global, config: RadioConfig) -> Result<Radio, OpenFault>
-        ensures fault { (fault : ConfigFault) → (result ≡ Err (OpenFault.Config fault)) ↔ (fault_of config ≡ Some fault) }
+        ensures fault { (fault : ConfigFault)
+            → (result ≡ Err (OpenFault.Config fault)) ↔ (fault_of config ≡ Some fault) }
         ensures callers { result ≢ Err OpenFault.Callers }
         ensures opened { IfOk result (λ radio. radio ≡ fresh_radio config) }
     {
@@ -93,8 +97,8 @@ impl Radio {
         }
     }
 
-    /// The networks of a configuration in which `check` finds no fault, none of which took an event, and an empty queue.
-    /// `NoMemory` where a growth was refused.
+    /// The networks of a configuration in which `check` finds no fault, none of which took an event, and an empty
+    /// queue. `NoMemory` where a growth was refused.
     pub fn of_checked(alloc: Global, config: RadioConfig) -> Result<Radio, NoMemory>
         requires sound { fault_of config ≡ None }
         ensures opened { IfOk result (λ radio. radio ≡ fresh_radio config) }
@@ -136,29 +140,32 @@ impl Radio {
         &self.networks[place]
     }
 
-    /// Lets the network at a place, below [`Radio::networks`], take an event, as [`Bss::take`] does: it answers the event's number in that
-    /// network's history, from 0, and frames that it sends wait after the others. `HistoryFull` exactly where that
-    /// history is full, which is tested first; `NoMemory` where a growth was refused. After either nothing has changed.
-    /// The other networks and the queue stay as they were.
+    /// Lets the network at a place, below [`Radio::networks`], take an event, as [`Bss::take`] does: it answers the
+    /// event's number in that network's history, from 0, and frames that it sends wait after the others. `HistoryFull`
+    /// exactly where that history is full, which is tested first; `NoMemory` where a growth was refused. After either
+    /// nothing has changed. The other networks and the queue stay as they were.
     pub fn take(&mut self, place: usize, event: Event) -> Result<u32, Refusal>
         requires { place < length self.old.config.networks }
         ensures number { IfOk result (λ number. number ≡ length (view_at self.old place).history) }
-        ensures room { OnOk result (length (view_at self.old place).history < (network_at self.old.config place).max_events) }
+        ensures room { OnOk result
+            (length (view_at self.old place).history < (network_at self.old.config place).max_events) }
         ensures after { OnOk result (self.new ≡ took place event self.old) }
         ensures config { self.new.config ≡ self.old.config }
-        ensures full { (result ≡ Err Refusal.HistoryFull) ↔ (length (view_at self.old place).history ≡ (network_at self.old.config place).max_events) }
+        ensures full { (result ≡ Err Refusal.HistoryFull)
+            ↔ (length (view_at self.old place).history ≡ (network_at self.old.config place).max_events) }
         ensures err { OnErr result (self.new ≡ self.old) }
     {
         self.networks[place].take(event)
     }
 
-    /// Moves the first waiting frame of the network at a place, below [`Radio::networks`], to the end of the queue. `Nothing` exactly where none
-    /// of its frames waits; else `QueueFull` exactly where the queue is full. After either nothing has changed. Takes
-    /// no memory.
+    /// Moves the first waiting frame of the network at a place, below [`Radio::networks`], to the end of the queue.
+    /// `Nothing` exactly where none of its frames waits; else `QueueFull` exactly where the queue is full. After either
+    /// nothing has changed. Takes no memory.
     pub fn hand(&mut self, place: usize) -> Handed
         requires { place < length self.old.config.networks }
         ensures nothing { (result ≡ Handed.Nothing) ↔ ((view_at self.old place).waiting ≡ []) }
-        ensures full { (result ≡ Handed.QueueFull) ↔ (((view_at self.old place).waiting ≢ []) × (length self.old.queue ≡ self.old.config.queue)) }
+        ensures full { (result ≡ Handed.QueueFull)
+            ↔ (((view_at self.old place).waiting ≢ []) × (length self.old.queue ≡ self.old.config.queue)) }
         ensures after { self.new ≡ after_hand place result self.old }
         ensures config { self.new.config ≡ self.old.config }
     {

@@ -1,9 +1,10 @@
 //! The stations that a network knows (IEEE Std 802.11-2016, 11.3.1).
 
-ghost use Rattle.std.specs.Prelude.{◌≡◌, ◌<◌, ◌≤◌, ℕ, List, [], IsTrue, OnOk, OnErr, IfSome, Some, None, option_map};
+ghost use Rattle.std.specs.Prelude.{◌≡◌, ◌<◌, ◌≤◌, [], IsTrue, OnOk, OnErr, IfSome, Some, None, option_map};
 ghost use Rattle.std.specs.Prelude.{length, slice_get, is_some, if◌then◌else◌};
-ghost use Rattle.bss_core.specs.declared.stations.Link.{Link as Linked};
-ghost use Rattle.bss_core.specs.Stations.{with_table, link_of, standing_of, aid_with, dozes_with, some_station_dozes};
+ghost use Rattle.tim.specs.Tim.{IsAid};
+ghost use Rattle.bss_core.specs.Stations.{with_table, link_of, standing_of, aid_of, aid_with, dozes_with};
+ghost use Rattle.bss_core.specs.Stations.{some_station_dozes};
 ghost use Rattle.bss_core.specs.Stations.{may_associate, next_aid, is_associated, set_link, authenticate, associate};
 ghost use Rattle.bss_core.specs.Stations.{disassociate, forget, set_mode, with_mode, changed, IsAllowed, IsModeAlone};
 
@@ -108,25 +109,21 @@ impl Stations {
         (*addr, *link)
     }
 
-    /// The association identifier of the station at a place, from 0, if it is associated.
-    pub fn aid_at(&self, place: usize) -> Option<u16>
-        requires { place < length self.now.table }
-        ensures aid { (station : List ℕ × Linked) → slice_get self.now.table place ≡ Some station
-            → result ≡ aid_with (Some station.1) }
-        ensures least { IfSome result (λ aid. 1 ≤ aid) }
-        ensures greatest { IfSome result (λ aid. aid ≤ MAX_AID) }
-    {
-        // The prover opens what the table keeps, which bounds each identifier, where a field is read.
-        let _ = &self.pool;
-        let (_, link) = self.row(place);
-        aid_with(Some(link))
-    }
-
     /// How far a station has come, or `None` where it is not known.
     pub fn link_of(&self, addr: MacAddr) -> Option<Link>
         ensures { result ≡ link_of addr self.now.table }
     {
         self.links.get(&addr).copied()
+    }
+
+    /// The association identifier of a station, if it is associated.
+    pub fn aid_of(&self, addr: MacAddr) -> Option<u16>
+        ensures aid { result ≡ aid_of addr self.now.table }
+        ensures within { IfSome result IsAid }
+    {
+        // The prover opens what the table keeps, which bounds each identifier, where a field is read.
+        let _ = &self.pool;
+        aid_with(self.link_of(addr))
     }
 
     /// The state of a station (11.3.1).

@@ -1,16 +1,32 @@
-//! What the prover can't say: that calls succeed where there is memory, and octets from outside. A test is a table of what
-//! happens and what is answered, which a loop goes over.
+//! What the prover can't say: that calls succeed where there is memory, and octets from outside. A test is a table of
+//! what happens and what is answered, which a loop goes over. It hands what came out to [`expect`]: a function that
+//! asserts much itself, while a network is at hand, takes long to prove.
 
 use bss_core::{AirItem, Event};
 use fixtures::octets;
 use hex::FromHexError;
 use mac_frame::Octets;
 use std::alloc::Global;
+use std::fmt::Debug;
+use std::process::Abort;
+use std::test::Fail;
 
 mod events;
 mod network;
 mod radio;
 mod runs;
+mod unrecorded;
+
+/// Fails the test where this isn't what came out.
+fn expect<R: Abort, T: PartialEq + Debug + Drop>(
+    rt: &R,
+    found: Result<T, Fail>,
+    expected: T,
+) -> Result<(), Fail> {
+    let found = found?;
+    assert_eq!(rt; found, expected);
+    Ok(())
+}
 
 /// What happens to a network, its octets as a text.
 #[derive(Clone, Copy)]

@@ -1,6 +1,7 @@
 //! The units that are kept (IEEE Std 802.11-2016, 11.2.3): one list in order of arrival, made of a queue for each whom.
 
-ghost use Rattle.std.specs.Prelude.{◌≡◌, ◌≢◌, ◌<◌, ◌≤◌, ◌+◌, ◌^◌, ◌++◌, ◌↔◌, List, [], ◌∷◌, length, drop, slice_get, IsTrue, Some, None, OnOk, OnErr, IsOk};
+ghost use Rattle.std.specs.Prelude.{◌≡◌, ◌≢◌, ◌<◌, ◌≤◌, ◌+◌, ◌^◌, ◌++◌, ◌↔◌, List, [], ◌∷◌, length, drop, slice_get};
+ghost use Rattle.std.specs.Prelude.{IsTrue, Some, None, OnOk, OnErr, IsOk};
 ghost use Rattle.std.specs.Option.{option_copied};
 ghost use Rattle.powersave.specs.declared.unit.Whom.{Whom};
 ghost use Rattle.powersave.specs.declared.unit.Unit.{Unit as Msdu};
@@ -202,8 +203,10 @@ fn room_beside(reserved: Option<Whom>, whom: &Whom) -> Option<Whom>
 /// those for the same one, the oldest of these leaves first, and dropping leaves none of them. The units for any other
 /// stay as they were, and so does a reservation for another.
 pub fn parts_stay()
-    ensures put { (whom : Whom) (unit : Msdu) (es : List Entry) → units_for whom (es ++ (whom, unit) ∷ []) ≡ units_for whom es ++ unit ∷ [] }
-    ensures oldest { (whom : Whom) (es : List Entry) → units_for whom (without_oldest whom es) ≡ drop 1 (units_for whom es) }
+    ensures put { (whom : Whom) (unit : Msdu) (es : List Entry) → units_for whom (es ++ (whom, unit) ∷ [])
+        ≡ units_for whom es ++ unit ∷ [] }
+    ensures oldest { (whom : Whom) (es : List Entry) → units_for whom (without_oldest whom es)
+        ≡ drop 1 (units_for whom es) }
     ensures dropped { (whom : Whom) (es : List Entry) → units_for whom (without_all whom es) ≡ [] }
     ensures others_put { (whom other : Whom) (unit : Msdu) (es : List Entry) → whom ≢ other
         → units_for other (es ++ (whom, unit) ∷ []) ≡ units_for other es }

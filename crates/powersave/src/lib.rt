@@ -10,8 +10,6 @@
 
 mod keep;
 mod queues;
-#[cfg(test)]
-mod tests;
 mod unit;
 
 pub use keep::{Keep, parts_stay};

@@ -1,7 +1,8 @@
 -- The TIM element (IEEE Std 802.11-2016, 9.4.2.6): how a string of octets shows a set of association identifiers.
 --
 -- A set of numbers is handed in as a test. Only what it answers at an association identifier counts.
-use Rattle.std.specs.Prelude.{ℕ, zero, suc, ◌+◌, ◌-◌, ◌*◌, ◌/◌, ◌%◌, ◌<◌, ◌≤◌, ◌≡◌, ◌↔◌, Bool, false, IsTrue, nat_le, ◌&&◌, List, [], ◌∷◌, length, map, slice_index}
+use Rattle.std.specs.Prelude.{ℕ, zero, suc, ◌+◌, ◌-◌, ◌*◌, ◌/◌, ◌%◌, ◌<◌, ◌≤◌, ◌≡◌, ◌↔◌, Bool, false, IsTrue, nat_le}
+use Rattle.std.specs.Prelude.{◌&&◌, List, [], ◌∷◌, length, map, slice_index}
 use Rattle.std.specs.Int.{bit_at, from_bool}
 use Rattle.std.specs.List.{range_with_len}
 

@@ -11,8 +11,8 @@ use std::marker::Model;
 /// How many octets the virtual bitmap has (9.4.2.6): that of the greatest identifier stands at the last place, 250.
 pub(crate) const BITMAP_LEN: usize = MAX_AID as usize / 8 + 1;
 
-/// A set of association identifiers (9.4.1.8). Contracts see it as a finite set of numbers from 1 to [`MAX_AID`]. None of
-/// its methods takes memory.
+/// A set of association identifiers (9.4.1.8). Contracts see it as a finite set of numbers from 1 to [`MAX_AID`]. None
+/// of its methods takes memory.
 #[derive(Debug, Drop)]
 pub struct Bitmap {
     // the virtual bitmap: bit n mod 8 of octet n / 8 tells whether the set has n; that of 0, no identifier, stays 0
@@ -84,8 +84,8 @@ impl Bitmap {
         }
     }
 
-    /// What is sent of the virtual bitmap (9.4.2.6; which octets is *profile*): the Bitmap Offset, and the octets from the
-    /// first pair that isn't 0 and 0 up to the last octet that isn't 0, or one 0 where there is none.
+    /// What is sent of the virtual bitmap (9.4.2.6; which octets is *profile*): the Bitmap Offset, and the octets from
+    /// the first pair that isn't 0 and 0 up to the last octet that isn't 0, or one 0 where there is none.
     pub(crate) fn partial(&self) -> (u8, &[u8])
         ensures octets { (result.0, result.1.now) ≡ partial_of (virtual_bitmap (set.contains self.now)) }
         ensures within { 2 * result.0 + length result.1.now ≤ BITMAP_LEN }

@@ -1,6 +1,7 @@
 //! The TIM element (IEEE Std 802.11-2016, 9.4.2.6), read and written.
 
-ghost use Rattle.std.specs.Prelude.{◌≡◌, ◌+◌, ◌++◌, ◌<◌, ◌≤◌, ◌^◌, ◌∷◌, ℕ, Bool, List, IsTrue, IsSome, IsSomeAnd, IfSome, length, OnOk, OnErr};
+ghost use Rattle.std.specs.Prelude.{◌≡◌, ◌+◌, ◌++◌, ◌<◌, ◌≤◌, ◌^◌, ◌∷◌, ℕ, Bool, List, IsTrue, IsSome, IsSomeAnd};
+ghost use Rattle.std.specs.Prelude.{IfSome, length, OnOk, OnErr};
 ghost use Rattle.std.specs.FinSet as set;
 ghost use Rattle.tim.specs.Tim.{ShowsTim, IsAid, SameNumbers, tim_octets};
 ghost use Rattle.tim.specs.Spelling.{is_placed, is_trimmed, is_spelled};
@@ -28,8 +29,8 @@ pub struct Tim {
     pub bits: Bitmap,
 }
 
-/// What a whole element shows (9.4.2.6): `None` where it is no TIM, where its fields don't go together, and where it is a
-/// TIM in another spelling (*profile*). It takes no memory.
+/// What a whole element shows (9.4.2.6): `None` where it is no TIM, where its fields don't go together, and where it is
+/// a TIM in another spelling (*profile*). It takes no memory.
 pub fn read_tim(element: &[u8]) -> Option<Tim>
     ensures found { IfSome result (λ tim. ShowsTim element.now tim.count tim.period tim.group (set.contains tim.bits)) }
     ensures only { (count period : ℕ) (group : Bool) (members : ℕ → Bool)
@@ -119,8 +120,9 @@ fn is_trimmed(first: usize, octets: &[u8]) -> bool
 }
 
 /// Appends the TIM that shows the stations `bits` as those that have units (9.4.2.6). DTIM Count and DTIM Period are
-/// numbers of beacons, the count below the period. `group`, the Traffic Indicator, tells that the group has units, and is
-/// true at count 0 alone. Which octets of the virtual bitmap are sent is *profile*. After `NoMemory` `out` is as it was.
+/// numbers of beacons, the count below the period. `group`, the Traffic Indicator, tells that the group has units, and
+/// is true at count 0 alone. Which octets of the virtual bitmap are sent is *profile*. After `NoMemory` `out` is as it
+/// was.
 pub fn write_tim(
     out: &mut Octets,
     count: u8,

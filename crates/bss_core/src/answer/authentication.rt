@@ -3,15 +3,14 @@
 ghost use Rattle.std.specs.Prelude.{◌≡◌, IfOk};
 ghost use Rattle.bss_core.specs.Network.{may_be_known, answer_authentication};
 ghost use Rattle.bss_core.specs.Replies.{after_reply, IsFitting};
-ghost use Rattle.bss_core.specs.BssView.{network_of};
 
-use crate::bss::Bss;
+use crate::network::Network;
 use crate::reply::Reply;
 use crate::stations::Change;
 use association::{SUCCESS, auth_status, write_auth};
 use mac_frame::{MacAddr, NoMemory, Octets};
 
-impl Bss {
+impl Network {
     /// The reply to a request to authenticate: its answer, and where it is served the station is authenticated.
     pub(crate) fn answer_authentication(
         &self,
@@ -19,10 +18,10 @@ impl Bss {
         algorithm: u16,
         step: u16,
     ) -> Result<Reply, NoMemory>
-        ensures fitting { IfOk result (λ reply. IsFitting self.now.setting reply (network_of self.now)) }
+        ensures fitting { IfOk result (λ reply. IsFitting self.now.setting reply self.now.network) }
         ensures answer { IfOk result (λ reply.
-            answer_authentication self.now.setting from algorithm step (network_of self.now)
-            ≡ after_reply reply (network_of self.now)) }
+            answer_authentication self.now.setting from algorithm step self.now.network
+            ≡ after_reply reply self.now.network) }
     {
         let status = auth_status(algorithm, step, self.may_be_known(from));
         let mut reply = self.no_reply();
@@ -38,7 +37,7 @@ impl Bss {
 
     /// Whether a station is known, or there is room for it (*profile*).
     fn may_be_known(&self, addr: MacAddr) -> bool
-        ensures { result ≡ may_be_known self.now.setting addr (network_of self.now) }
+        ensures { result ≡ may_be_known self.now.setting addr self.now.network }
     {
         let max_known = usize::from(self.setting().network.max_known);
         let stations = self.stations();

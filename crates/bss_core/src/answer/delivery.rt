@@ -7,31 +7,36 @@ ghost use Rattle.powersave.specs.declared.unit.Unit.{Unit as DataUnit};
 ghost use Rattle.bss_core.specs.Arrivals.{unit_shown};
 ghost use Rattle.bss_core.specs.Network.{deliver, keep_or_lose, send_each};
 ghost use Rattle.bss_core.specs.Replies.{after_reply, sending, is_leaving, IsModeReply, IsWithin};
-ghost use Rattle.bss_core.specs.BssView.{network_of};
-ghost use Rattle.bss_core.specs.Stations.{IsModeAlone, changed};
+ghost use Rattle.bss_core.specs.Stations.{IsModeAlone, changed, link_of};
 ghost use Rattle.bss_core.specs.Units.{delivery_of, delivery_with, group_is_kept, group_waits, unit_frame};
 
-use crate::bss::Bss;
+use crate::network::Network;
 use crate::reply::{Arrival, Delivery, Reply};
 use crate::stations::{Change, Link};
 use mac_frame::{MacAddr, NoMemory};
 use powersave::Whom;
 
-impl Bss {
+impl Network {
     /// Goes on with a reply, which sets the mode of one station at most: delivers a unit on the air as the network does
-    /// once the reply is carried out. After `NoMemory` the reply is of no use.
-    pub(crate) fn deliver(&self, reply: &mut Reply, unit: &Arrival<'_>) -> Result<(), NoMemory>
-        requires { IsModeReply reply.old (network_of self.now) }
+    /// once the reply is carried out, to a station that has this link then. After `NoMemory` the reply is of no use.
+    pub(crate) fn deliver(
+        &self,
+        reply: &mut Reply,
+        unit: &Arrival<'_>,
+        link: Option<Link>,
+    ) -> Result<(), NoMemory>
+        requires mode { IsModeReply reply.old self.now.network }
+        requires link { link ≡ link_of unit.now.to (changed reply.old.change self.now.network.stations) }
         ensures ok { OnOk result (
-            deliver self.now.setting (unit_shown unit.now) (after_reply reply.old (network_of self.now))
-            ≡ after_reply reply.new (network_of self.now)) }
+            deliver self.now.setting (unit_shown unit.now) (after_reply reply.old self.now.network)
+            ≡ after_reply reply.new self.now.network) }
         ensures within { OnOk result (IsWithin self.now.setting.network.quota
-            reply.new.keeping.leaving (network_of self.now).kept reply.new.keeping.arriving) }
+            reply.new.keeping.leaving self.now.network.kept reply.new.keeping.arriving) }
         ensures change { reply.new.change ≡ reply.old.change }
         ensures wired { reply.new.wired ≡ reply.old.wired }
         ensures lost { reply.new.lost ≤ 1 }
     {
-        match self.delivery_of(reply.change, unit.to) {
+        match self.delivery_of(reply.change, unit.to, link) {
             Delivery::Now => {
                 let bssid = self.setting().network.bssid;
                 reply.send_unit(self.alloc(), bssid, false, unit)
@@ -41,13 +46,15 @@ impl Bss {
         }
     }
 
-    /// How a unit to this address is delivered on the air once the mode of a station is set.
-    fn delivery_of(&self, change: Change, to: MacAddr) -> Delivery
-        requires { IsModeAlone change }
-        ensures { result ≡ delivery_of to (changed change (network_of self.now).stations) (network_of self.now).kept }
+    /// How a unit to this address is delivered on the air once the mode of a station is set, and the station there has
+    /// this link.
+    fn delivery_of(&self, change: Change, to: MacAddr, link: Option<Link>) -> Delivery
+        requires alone { IsModeAlone change }
+        requires link { link ≡ link_of to (changed change self.now.network.stations) }
+        ensures { result ≡ delivery_of to (changed change self.now.network.stations) self.now.network.kept }
     {
         if !to.is_group() {
-            delivery_with(self.stations().link_after(change, to), to)
+            delivery_with(link, to)
         } else if self.group_waits(change) {
             Delivery::Kept(Whom::Group)
         } else {
@@ -58,14 +65,14 @@ impl Bss {
     /// Whether a unit for the group waits once the mode of a station is set: a station dozes, or others are kept.
     fn group_waits(&self, change: Change) -> bool
         requires { IsModeAlone change }
-        ensures { result ≡ group_waits (changed change (network_of self.now).stations) (network_of self.now).kept }
+        ensures { result ≡ group_waits (changed change self.now.network.stations) self.now.network.kept }
     {
         self.stations().some_dozes_after(change) || self.group_is_kept()
     }
 
     /// Whether units for the group are kept (11.2.3.3).
     pub(crate) fn group_is_kept(&self) -> bool
-        ensures { result ≡ group_is_kept (network_of self.now).kept }
+        ensures { result ≡ group_is_kept self.now.network.kept }
     {
         self.kept().count_for(Whom::Group) > 0
     }
@@ -81,10 +88,10 @@ impl Bss {
         requires none_arrives { reply.old.keeping.arriving ≡ None }
         requires lost { reply.old.lost ≡ 0 }
         ensures ok { OnOk result (
-            keep_or_lose self.now.setting whom (unit_shown unit.now) (after_reply reply.old (network_of self.now))
-            ≡ after_reply reply.new (network_of self.now)) }
+            keep_or_lose self.now.setting whom (unit_shown unit.now) (after_reply reply.old self.now.network)
+            ≡ after_reply reply.new self.now.network) }
         ensures within { OnOk result (IsWithin self.now.setting.network.quota
-            reply.new.keeping.leaving (network_of self.now).kept reply.new.keeping.arriving) }
+            reply.new.keeping.leaving self.now.network.kept reply.new.keeping.arriving) }
         ensures change { reply.new.change ≡ reply.old.change }
         ensures wired { reply.new.wired ≡ reply.old.wired }
         ensures lost { reply.new.lost ≤ 1 }
@@ -108,9 +115,9 @@ impl Bss {
     ) -> Result<(), NoMemory>
         requires { reply.old.sequence < 4096 }
         ensures ok { OnOk result (
-            send_each self.now.setting shows_more (units_for whom.now (network_of self.now).kept)
-            (after_reply reply.old (network_of self.now))
-            ≡ after_reply reply.new (network_of self.now)) }
+            send_each self.now.setting shows_more (units_for whom.now self.now.network.kept)
+            (after_reply reply.old self.now.network)
+            ≡ after_reply reply.new self.now.network) }
         ensures same { reply.new ≡ record reply.old { frames = reply.new.frames; sequence = reply.new.sequence } }
         ensures sequence { reply.new.sequence < 4096 }
     {
@@ -131,9 +138,9 @@ impl Bss {
         more: bool,
     ) -> Result<(), NoMemory>
         requires sequence { reply.old.sequence < 4096 }
-        requires kept { place < length (units_for whom.now (network_of self.now).kept) }
+        requires kept { place < length (units_for whom.now self.now.network.kept) }
         ensures ok { OnOk result ((unit : DataUnit) →
-            slice_get (units_for whom.now (network_of self.now).kept) place ≡ Some unit →
+            slice_get (units_for whom.now self.now.network.kept) place ≡ Some unit →
             reply.new ≡ sending reply.old (unit_frame self.now.setting.network.bssid more unit)) }
         ensures same { reply.new ≡ record reply.old { frames = reply.new.frames; sequence = reply.new.sequence } }
         ensures err { OnErr result (reply.new ≡ reply.old) }

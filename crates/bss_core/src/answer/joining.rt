@@ -4,17 +4,16 @@
 ghost use Rattle.std.specs.Prelude.{◌≡◌, IfOk, is_some, true};
 ghost use Rattle.bss_core.specs.Network.{answer_association};
 ghost use Rattle.bss_core.specs.Replies.{after_reply, IsFitting};
-ghost use Rattle.bss_core.specs.BssView.{network_of};
 ghost use Rattle.bss_core.specs.Stations.{link_of};
 
-use crate::bss::Bss;
+use crate::network::Network;
 use crate::reply::Reply;
 use crate::stations::Change;
 use association::{SUCCESS, assoc_status, write_assoc};
 use elements::Elements;
 use mac_frame::{MacAddr, NoMemory, Octets};
 
-impl Bss {
+impl Network {
     /// The reply to the request of a known station to associate, or `again` to reassociate: its answer, and where it
     /// is served the station is associated.
     pub(crate) fn answer_association(
@@ -24,11 +23,11 @@ impl Bss {
         listen: u16,
         elements: &Elements<'_>,
     ) -> Result<Reply, NoMemory>
-        requires { is_some (link_of from (network_of self.now).stations) ≡ true }
-        ensures fitting { IfOk result (λ reply. IsFitting self.now.setting reply (network_of self.now)) }
+        requires { is_some (link_of from self.now.network.stations) ≡ true }
+        ensures fitting { IfOk result (λ reply. IsFitting self.now.setting reply self.now.network) }
         ensures answer { IfOk result (λ reply.
-            answer_association self.now.setting from again listen elements.now (network_of self.now)
-            ≡ after_reply reply (network_of self.now)) }
+            answer_association self.now.setting from again listen elements.now self.now.network
+            ≡ after_reply reply self.now.network) }
     {
         let network = &self.setting().network;
         let rates = network.rates.as_slice();

@@ -3,22 +3,21 @@
 ghost use Rattle.std.specs.Prelude.{◌≡◌, IfOk};
 ghost use Rattle.bss_core.specs.Network.{answer_poll};
 ghost use Rattle.bss_core.specs.Replies.{after_reply, IsFitting};
-ghost use Rattle.bss_core.specs.BssView.{network_of};
 ghost use Rattle.bss_core.specs.Units.{may_poll};
 
-use crate::bss::Bss;
+use crate::network::Network;
 use crate::reply::{Leaving, Reply};
 use crate::stations::Link;
 use mac_frame::{MacAddr, NoMemory};
 use powersave::Whom;
 
-impl Bss {
+impl Network {
     /// The reply to a poll: the unit that was kept first for the station, which tells whether others follow, where the
     /// station dozes and names its own identifier.
     pub(crate) fn answer_poll(&self, from: MacAddr, aid: u16) -> Result<Reply, NoMemory>
-        ensures fitting { IfOk result (λ reply. IsFitting self.now.setting reply (network_of self.now)) }
+        ensures fitting { IfOk result (λ reply. IsFitting self.now.setting reply self.now.network) }
         ensures answer { IfOk result (λ reply.
-            answer_poll self.now.setting from aid (network_of self.now) ≡ after_reply reply (network_of self.now)) }
+            answer_poll self.now.setting from aid self.now.network ≡ after_reply reply self.now.network) }
     {
         let mut reply = self.no_reply();
         if !may_poll(aid, self.stations().link_of(from)) {

@@ -3,20 +3,19 @@
 ghost use Rattle.std.specs.Prelude.{◌≡◌, IfOk, option_map};
 ghost use Rattle.bss_core.specs.Network.{asks_for, answer_probe};
 ghost use Rattle.bss_core.specs.Replies.{after_reply, IsFitting};
-ghost use Rattle.bss_core.specs.BssView.{network_of};
 
-use crate::bss::Bss;
+use crate::network::Network;
 use crate::reply::Reply;
 use beacon::write_probe_response;
 use mac_frame::{MacAddr, NoMemory, Octets};
 
-impl Bss {
+impl Network {
     /// The reply to a probe: a probe response, where the probe asks for this network.
     pub(crate) fn answer_probe(&self, from: MacAddr, ssid: Option<&[u8]>) -> Result<Reply, NoMemory>
-        ensures fitting { IfOk result (λ reply. IsFitting self.now.setting reply (network_of self.now)) }
+        ensures fitting { IfOk result (λ reply. IsFitting self.now.setting reply self.now.network) }
         ensures answer { IfOk result (λ reply.
-            answer_probe self.now.setting from (option_map (λ s. s.now) ssid.entry) (network_of self.now)
-            ≡ after_reply reply (network_of self.now)) }
+            answer_probe self.now.setting from (option_map (λ s. s.now) ssid.entry) self.now.network
+            ≡ after_reply reply self.now.network) }
     {
         let setting = self.setting();
         let mut reply = self.no_reply();

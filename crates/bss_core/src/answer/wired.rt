@@ -4,32 +4,32 @@ ghost use Rattle.std.specs.Prelude.{◌≡◌, IfOk};
 ghost use Rattle.bridge.specs.Ethernet.{ethernet_of};
 ghost use Rattle.bss_core.specs.Network.{answer_wired};
 ghost use Rattle.bss_core.specs.Replies.{after_reply, IsFitting};
-ghost use Rattle.bss_core.specs.BssView.{network_of};
 
-use crate::bss::Bss;
+use crate::network::Network;
 use crate::reply::{Arrival, Body, Reply};
 use bridge::Ether;
 use mac_frame::NoMemory;
 
-impl Bss {
+impl Network {
     /// The reply to a frame of the wire: it is delivered on the air to the group or to an associated station.
     pub(crate) fn answer_wired(&self, frame: &[u8]) -> Result<Reply, NoMemory>
-        ensures fitting { IfOk result (λ reply. IsFitting self.now.setting reply (network_of self.now)) }
+        ensures fitting { IfOk result (λ reply. IsFitting self.now.setting reply self.now.network) }
         ensures answer { IfOk result (λ reply.
-            answer_wired self.now.setting (ethernet_of frame.now) (network_of self.now)
-            ≡ after_reply reply (network_of self.now)) }
+            answer_wired self.now.setting (ethernet_of frame.now) self.now.network
+            ≡ after_reply reply self.now.network) }
     {
         let mut reply = self.no_reply();
         let Ok(ether) = Ether::decode(frame) else {
             reply.unread = 1;
             return Ok(reply);
         };
+        let link = self.stations().link_after(reply.change, ether.to);
         let unit = Arrival {
             to: ether.to,
             source: ether.source,
             body: Body::Wired(ether),
         };
-        self.deliver(&mut reply, &unit)?;
+        self.deliver(&mut reply, &unit, link)?;
         Ok(reply)
     }
 }

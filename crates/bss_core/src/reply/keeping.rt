@@ -1,7 +1,7 @@
 //! What becomes of the units that a network keeps.
 
-ghost use Rattle.std.specs.Prelude.{◌≡◌, ◌<◌, ◌≤◌, ◌+◌, ◌^◌, length, None, Some, OnOk};
-ghost use Rattle.bss_core.specs.Replies.{without, room_after, kept_after, IsWithin, IsRoomFor};
+ghost use Rattle.std.specs.Prelude.{◌≡◌, length, None, OnOk};
+ghost use Rattle.bss_core.specs.Replies.{without, IsRoomFor};
 
 use mac_frame::NoMemory;
 use powersave::{Keep, Unit, Whom};
@@ -61,37 +61,5 @@ impl Keeping {
             keep.reserve(*whom)?;
         }
         Ok(())
-    }
-
-    /// Changes the units that are kept. Takes no memory, since room was made.
-    pub fn change(self, keep: &mut Keep)
-        requires room { IsRoomFor self.arriving keep.old }
-        requires within { IsWithin keep.old.quota self.leaving keep.old.entries self.arriving }
-        requires countable { keep.old.puts < 2 ^ 62 }
-        ensures entries { keep.new.entries ≡ kept_after self keep.old.entries }
-        ensures quota { keep.new.quota ≡ keep.old.quota }
-        ensures puts { keep.new.puts ≤ keep.old.puts + 1 }
-    {
-        let Keeping { leaving, arriving } = self;
-        leave(leaving, keep);
-        if let Some((whom, unit)) = arriving {
-            keep.put(whom, unit).unwrap();
-        }
-    }
-}
-
-/// Takes out the units that leave.
-fn leave(leaving: Leaving, keep: &mut Keep)
-    ensures { keep.new ≡ record keep.old {
-      entries = without leaving keep.old.entries;
-      reserved = room_after leaving keep.old.reserved;
-    } }
-{
-    match leaving {
-        Leaving::Nothing => {}
-        Leaving::All(whom) => keep.drop_for(whom),
-        Leaving::Oldest(whom) => {
-            keep.oldest(whom);
-        }
     }
 }

@@ -1,7 +1,7 @@
 //! What a network does with each kind of event.
 
 use super::network::opened;
-use super::{Happening, are_frames, event, is_frame};
+use super::{Happening, are_frames, event, expect, is_frame};
 use bss_core::{Bss, StationRow};
 use fixtures::{STATIONS, WIRED_TO_HOST, WIRED_TO_STATION, lab};
 use mac_frame::MacAddr;
@@ -12,17 +12,21 @@ use std::test::Fail;
 /// What happens, and the frame that the network sends then: no octets where it sends none.
 type Exchange = (Happening, &'static str);
 
-/// The station joins the network.
-const JOINS: [Exchange; 2] = [
-    (
-        Happening::Air(lab::AUTHENTICATION_REQUEST),
-        lab::AUTHENTICATION_RESPONSE,
-    ),
-    (
-        Happening::Air(lab::ASSOCIATION_REQUEST),
-        lab::ASSOCIATION_RESPONSE,
-    ),
-];
+/// The station authenticates itself with the network, and then associates itself.
+const AUTHENTICATES: Exchange = (
+    Happening::Air(lab::AUTHENTICATION_REQUEST),
+    lab::AUTHENTICATION_RESPONSE,
+);
+
+const ASSOCIATES: Exchange = (
+    Happening::Air(lab::ASSOCIATION_REQUEST),
+    lab::ASSOCIATION_RESPONSE,
+);
+
+/// Then it dozes, and a unit for it comes from the wire.
+const DOZES: Exchange = (Happening::Air(lab::DOZE), "");
+
+const IS_KEPT: Exchange = (Happening::Wire(WIRED_TO_STATION), "");
 
 /// Whether a network sends the frame of an exchange, and no other frame.
 fn answers(alloc: Global, bss: &mut Bss, (happening, text): Exchange) -> Result<bool, Fail> {
@@ -47,13 +51,15 @@ fn first_other(
     Ok(None)
 }
 
-/// The network, which the station joined.
-fn joined(alloc: Global) -> Result<Bss, Fail> {
-    let mut bss = opened(alloc, 100)?;
-    match first_other(alloc, &mut bss, &JOINS)? {
-        None => Ok(bss),
-        Some(_) => Err(Fail::new("not the answer")),
-    }
+/// What is seen of a network after exchanges: the place of the first in which it sent another frame, the first row of
+/// its table, how many units it keeps, and whether its frames on the wire are those that were to be there.
+type Seen = (Option<usize>, Option<StationRow>, u32, bool);
+
+/// What is seen of a network after these, and these frames on the wire.
+fn see(alloc: Global, bss: &mut Bss, exchanges: &[Exchange], wired: &[&str]) -> Result<Seen, Fail> {
+    let other = first_other(alloc, bss, exchanges)?;
+    let is_wired = are_frames(alloc, bss.wired(), wired)?;
+    Ok((other, first_row(bss), bss.counts().kept, is_wired))
 }
 
 /// The first row of the table, if there.
@@ -65,55 +71,88 @@ fn first_row(bss: &Bss) -> Option<StationRow> {
     }
 }
 
-#[test]
-fn a_station_joins(rt: HostRuntime) -> Result<(), Fail> {
+/// The same of a network that took no event before.
+fn seen(alloc: Global, exchanges: &[Exchange], wired: &[&str]) -> Result<Seen, Fail> {
+    let mut bss = opened(alloc, 100)?;
+    see(alloc, &mut bss, exchanges, wired)
+}
+
+/// What is to be seen where it sent each frame, and the station joined it.
+fn joined(doze: bool, kept: u32) -> Seen {
     let row = StationRow {
         addr: MacAddr::new(STATIONS[0]),
         standing: Standing::Associated,
         aid: 1,
         listen: 10,
-        doze: false,
-        kept: 0,
+        doze,
+        kept,
     };
-    assert_eq!(rt; first_row(&joined(rt.alloc())?), Some(row));
-    Ok(())
+    (None, Some(row), kept, true)
+}
+
+/// The station joins.
+fn join(alloc: Global) -> Result<Seen, Fail> {
+    seen(alloc, &[AUTHENTICATES, ASSOCIATES], &[])
+}
+
+#[test]
+fn a_station_joins(rt: HostRuntime) -> Result<(), Fail> {
+    expect(&rt, join(rt.alloc()), joined(false, 0))
+}
+
+/// A beacon interval begins.
+fn tick(alloc: Global) -> Result<Seen, Fail> {
+    seen(alloc, &[(Happening::Tick, lab::BEACON)], &[])
 }
 
 #[test]
 fn a_tick_sends_a_beacon(rt: HostRuntime) -> Result<(), Fail> {
-    let mut bss = opened(rt.alloc(), 100)?;
-    let beacon = (Happening::Tick, lab::BEACON);
-    assert!(rt; answers(rt.alloc(), &mut bss, beacon)?);
-    Ok(())
+    expect(&rt, tick(rt.alloc()), (None, None, 0, true))
+}
+
+/// The station, which does not doze, is sent a unit from the wire.
+const DELIVERY: Exchange = (Happening::Wire(WIRED_TO_STATION), lab::UNIT_TO_STATION);
+
+fn deliver(alloc: Global) -> Result<Seen, Fail> {
+    seen(alloc, &[AUTHENTICATES, ASSOCIATES, DELIVERY], &[])
 }
 
 #[test]
 fn a_wired_frame_is_delivered(rt: HostRuntime) -> Result<(), Fail> {
-    let mut bss = joined(rt.alloc())?;
-    let delivery = (Happening::Wire(WIRED_TO_STATION), lab::UNIT_TO_STATION);
-    assert!(rt; answers(rt.alloc(), &mut bss, delivery)?);
-    Ok(())
+    expect(&rt, deliver(rt.alloc()), joined(false, 0))
+}
+
+/// It dozes, and the unit is kept.
+fn keep(alloc: Global) -> Result<Seen, Fail> {
+    seen(alloc, &[AUTHENTICATES, ASSOCIATES, DOZES, IS_KEPT], &[])
+}
+
+/// It polls the unit then.
+const POLL: Exchange = (Happening::Air(lab::PS_POLL), lab::UNIT_TO_STATION);
+
+fn poll(alloc: Global) -> Result<Seen, Fail> {
+    let exchanges = [AUTHENTICATES, ASSOCIATES, DOZES, IS_KEPT, POLL];
+    seen(alloc, &exchanges, &[])
 }
 
 #[test]
 fn a_kept_unit_is_polled(rt: HostRuntime) -> Result<(), Fail> {
-    let mut bss = joined(rt.alloc())?;
-    let kept = [
-        (Happening::Air(lab::DOZE), ""),
-        (Happening::Wire(WIRED_TO_STATION), ""),
-    ];
-    assert_eq!(rt; first_other(rt.alloc(), &mut bss, &kept)?, None);
-    assert_eq!(rt; bss.counts().kept, 1);
-    let poll = (Happening::Air(lab::PS_POLL), lab::UNIT_TO_STATION);
-    assert!(rt; answers(rt.alloc(), &mut bss, poll)?);
-    Ok(())
+    expect(&rt, keep(rt.alloc()), joined(true, 1))?;
+    expect(&rt, poll(rt.alloc()), joined(true, 0))
+}
+
+/// It sends a unit for the host.
+const SENDING: Exchange = (Happening::Air(lab::UNIT_TO_HOST), "");
+
+fn send(alloc: Global) -> Result<Seen, Fail> {
+    seen(
+        alloc,
+        &[AUTHENTICATES, ASSOCIATES, SENDING],
+        &[WIRED_TO_HOST],
+    )
 }
 
 #[test]
 fn a_unit_reaches_the_wire(rt: HostRuntime) -> Result<(), Fail> {
-    let mut bss = joined(rt.alloc())?;
-    let unit = (Happening::Air(lab::UNIT_TO_HOST), "");
-    assert!(rt; answers(rt.alloc(), &mut bss, unit)?);
-    assert!(rt; are_frames(rt.alloc(), bss.wired(), &[WIRED_TO_HOST])?);
-    Ok(())
+    expect(&rt, send(rt.alloc()), joined(false, 0))
 }

@@ -1,9 +1,10 @@
 //! A radio of two networks, with a queue of one frame.
 
-use super::{Happening, are_items, event, is_item};
-use bss_core::{Bss, ConfigFault, Handed, OpenFault, Radio, Refusal, run};
+use super::{Happening, are_items, event, expect, is_item};
+use bss_core::{AirItem, Bss, ConfigFault, Handed, OpenFault, Radio, Refusal, run};
 use fixtures::{PROBE_REQUEST, guest, lab, lab_and_guest};
-use std::alloc::{AllocError, Global};
+use mac_frame::List;
+use std::alloc::Global;
 use std::test::Fail;
 
 /// The probe request is heard.
@@ -81,15 +82,25 @@ fn first_other(alloc: Global, radio: &mut Radio, turns: &[Turn]) -> Result<Optio
     Ok(None)
 }
 
+/// The same of a new radio.
+fn first_other_of_new(alloc: Global, turns: &[Turn]) -> Result<Option<usize>, Fail> {
+    let mut radio = opened(alloc)?;
+    first_other(alloc, &mut radio, turns)
+}
+
 /// Each network takes the probe request.
 const BOTH_ASKED: [Turn; 2] = [Turn::Take(0, PROBE, Ok(0)), Turn::Take(1, PROBE, Ok(0))];
 
+/// How many networks a new radio has.
+fn networks(alloc: Global) -> Result<usize, Fail> {
+    let radio = opened(alloc)?;
+    Ok(radio.networks())
+}
+
 #[test]
 fn two_networks_take_the_probe(rt: HostRuntime) -> Result<(), Fail> {
-    let mut radio = opened(rt.alloc())?;
-    assert_eq!(rt; radio.networks(), 2);
-    assert_eq!(rt; first_other(rt.alloc(), &mut radio, &BOTH_ASKED)?, None);
-    Ok(())
+    expect(&rt, networks(rt.alloc()), 2)?;
+    expect(&rt, first_other_of_new(rt.alloc(), &BOTH_ASKED), None)
 }
 
 /// The frame of each of two networks goes through the queue in turn, after both had their event.
@@ -111,20 +122,39 @@ fn serves_both(
     first_other(alloc, radio, &turns)
 }
 
+/// Where a radio answers otherwise in these turns, and then in those that serve both networks.
+fn takes_and_serves(
+    alloc: Global,
+    radio: &mut Radio,
+    turns: &[Turn],
+    first: &'static str,
+    second: &'static str,
+) -> Result<[Option<usize>; 2], Fail> {
+    let taken = first_other(alloc, radio, turns)?;
+    let served = serves_both(alloc, radio, first, second)?;
+    Ok([taken, served])
+}
+
+/// Where a new radio does.
+fn serves_after(
+    alloc: Global,
+    turns: &[Turn],
+    first: &'static str,
+    second: &'static str,
+) -> Result<[Option<usize>; 2], Fail> {
+    let mut radio = opened(alloc)?;
+    takes_and_serves(alloc, &mut radio, turns, first, second)
+}
+
 #[test]
 fn a_queue_of_one_frame_serves_two_networks(rt: HostRuntime) -> Result<(), Fail> {
-    let mut radio = opened(rt.alloc())?;
-    assert_eq!(rt; first_other(rt.alloc(), &mut radio, &BOTH_ASKED)?, None);
-    assert_eq!(rt;
-        serves_both(
-            rt.alloc(),
-            &mut radio,
-            lab::PROBE_RESPONSE,
-            guest::PROBE_RESPONSE
-        )?,
-        None
+    let served = serves_after(
+        rt.alloc(),
+        &BOTH_ASKED,
+        lab::PROBE_RESPONSE,
+        guest::PROBE_RESPONSE,
     );
-    Ok(())
+    expect(&rt, served, [None, None])
 }
 
 /// A beacon interval begins in each network.
@@ -135,13 +165,8 @@ const BOTH_TICKED: [Turn; 2] = [
 
 #[test]
 fn a_queue_of_one_frame_sends_two_beacons(rt: HostRuntime) -> Result<(), Fail> {
-    let mut radio = opened(rt.alloc())?;
-    assert_eq!(rt; first_other(rt.alloc(), &mut radio, &BOTH_TICKED)?, None);
-    assert_eq!(rt;
-        serves_both(rt.alloc(), &mut radio, lab::BEACON, guest::BEACON)?,
-        None
-    );
-    Ok(())
+    let served = serves_after(rt.alloc(), &BOTH_TICKED, lab::BEACON, guest::BEACON);
+    expect(&rt, served, [None, None])
 }
 
 /// The first network takes the probe request and a string of no octets, and then no more; the second goes on.
@@ -162,13 +187,31 @@ fn counts_at(radio: &Radio, place: usize) -> Option<(u32, u32)> {
     }
 }
 
+/// Fails where a radio answers otherwise in one of these turns.
+fn make(alloc: Global, radio: &mut Radio, turns: &[Turn]) -> Result<(), Fail> {
+    match first_other(alloc, radio, turns)? {
+        None => Ok(()),
+        Some(_) => Err(Fail::new("not the answer")),
+    }
+}
+
+/// A new radio after these turns.
+fn after(alloc: Global, turns: &[Turn]) -> Result<Radio, Fail> {
+    let mut radio = opened(alloc)?;
+    make(alloc, &mut radio, turns)?;
+    Ok(radio)
+}
+
+/// What both networks counted.
+fn counts_after(alloc: Global, turns: &[Turn]) -> Result<[Option<(u32, u32)>; 2], Fail> {
+    let radio = after(alloc, turns)?;
+    Ok([counts_at(&radio, 0), counts_at(&radio, 1)])
+}
+
 #[test]
 fn a_full_history_leaves_the_other_network(rt: HostRuntime) -> Result<(), Fail> {
-    let mut radio = opened(rt.alloc())?;
-    assert_eq!(rt; first_other(rt.alloc(), &mut radio, &FIRST_FULL)?, None);
-    assert_eq!(rt; counts_at(&radio, 0), Some((2, 1)));
-    assert_eq!(rt; counts_at(&radio, 1), Some((1, 0)));
-    Ok(())
+    let counts = [Some((2, 1)), Some((1, 0))];
+    expect(&rt, counts_after(rt.alloc(), &FIRST_FULL), counts)
 }
 
 /// The second network takes the probe request twice, and hands one answer.
@@ -178,25 +221,46 @@ const SECOND_HANDS: [Turn; 3] = [
     Turn::Hand(1, Handed::Moved),
 ];
 
-/// Of each network how many events it took, and how many of its frames wait.
-fn network_lengths(alloc: Global, networks: &[Bss]) -> Result<Vec<(usize, usize)>, AllocError> {
-    let mut lengths = Vec::new(alloc);
-    for network in networks {
-        lengths.push((network.history().len(), network.waiting_len()))?;
-    }
-    Ok(lengths)
+/// The parts of the radio then.
+fn parts(alloc: Global) -> Result<(List<Bss>, List<AirItem>), Fail> {
+    let radio = after(alloc, &SECOND_HANDS)?;
+    Ok(radio.into_parts())
+}
+
+/// How many events the network at a place took, and how many of its frames wait, if there is one.
+fn lengths_at(networks: &[Bss], place: usize) -> Option<(usize, usize)> {
+    let network = networks.get(place)?;
+    Some((network.history().len(), network.waiting_len()))
+}
+
+/// Those of the networks of the parts, at the first three places.
+type Lengths = [Option<(usize, usize)>; 3];
+
+fn lengths(networks: &[Bss]) -> Lengths {
+    [
+        lengths_at(networks, 0),
+        lengths_at(networks, 1),
+        lengths_at(networks, 2),
+    ]
+}
+
+/// Whether the second network's first answer is all that is queued.
+fn answer_is_queued(alloc: Global, queued: &[AirItem]) -> Result<bool, Fail> {
+    let answer = [(1, guest::PROBE_RESPONSE)];
+    Ok(are_items(alloc, queued, &answer)?)
+}
+
+/// What the parts have.
+fn come_apart(alloc: Global) -> Result<(Lengths, bool), Fail> {
+    let (networks, queued) = parts(alloc)?;
+    let is_queued = answer_is_queued(alloc, queued.as_slice())?;
+    Ok((lengths(networks.as_slice()), is_queued))
 }
 
 #[test]
 fn a_radio_comes_apart(rt: HostRuntime) -> Result<(), Fail> {
-    let mut radio = opened(rt.alloc())?;
-    assert_eq!(rt; first_other(rt.alloc(), &mut radio, &SECOND_HANDS)?, None);
-    let (networks, queued) = radio.into_parts();
-    let answer = [(1, guest::PROBE_RESPONSE)];
-    assert!(rt; are_items(rt.alloc(), queued.as_slice(), &answer)?);
-    let lengths = network_lengths(rt.alloc(), networks.as_slice())?;
-    assert_eq!(rt; lengths.as_slice(), [(0, 0), (2, 1)].as_slice());
-    Ok(())
+    let lengths = [Some((0, 0)), Some((2, 1)), None];
+    expect(&rt, come_apart(rt.alloc()), (lengths, true))
 }
 
 /// Why a radio with a queue of no frames isn't opened.
@@ -212,7 +276,6 @@ fn run_fault(alloc: Global) -> Result<Option<OpenFault>, Fail> {
 #[test]
 fn the_first_fault_of_the_configuration_is_answered(rt: HostRuntime) -> Result<(), Fail> {
     let fault = Some(OpenFault::Config(ConfigFault::of_radio(6)));
-    assert_eq!(rt; radio_fault(rt.alloc())?, fault);
-    assert_eq!(rt; run_fault(rt.alloc())?, fault);
-    Ok(())
+    expect(&rt, radio_fault(rt.alloc()), fault)?;
+    expect(&rt, run_fault(rt.alloc()), fault)
 }

@@ -1,0 +1,78 @@
+-- What is kept of a network beside its history, one event at a time.
+use Rattle.std.proofs.Common.{◌≡◌, ℕ, ◌+◌, ◌*◌, ◌<◌, ◌^◌, option_to_list, List, [], ◌∷◌, ◌++◌, length, None, drop, refl, sym, ap, subst, ◌∙◌, arith}
+use Rattle.std.proofs.lemmas.List.{length_push}
+use Rattle.std.proofs.Math.Seq.{drop-append_seam}
+use Rattle.bss_core.specs.BssView.{IsAfterHistory, sent_by, wired_by}
+use Rattle.bss_core.specs.Configuration.{network_fault}
+use Rattle.bss_core.specs.Network.{Setting, Network, step, alone}
+use Rattle.bss_core.specs.NetworkView.{NetworkState, MayFollow, unsent, new_network, carried_out, sent_before}
+use Rattle.bss_core.specs.Replies.{after_reply, IsFitting}
+use Rattle.bss_core.specs.Sound.{IsSoundNetwork}
+use Rattle.bss_core.specs.declared.event.Event.{Event}
+use Rattle.bss_core.specs.declared.reply.Reply.{Reply}
+use Rattle.bss_core.proofs.AloneLaws.{alone-none, alone-push, alone-sound, frames-sound, more-sound, step-sound}
+use Rattle.bss_core.proofs.Checked.{stations_fit}
+use Rattle.bss_core.proofs.SentFrames.{step-unsent}
+
+pub history-none : (s : Setting) → network_fault s.network ≡ None → IsAfterHistory [] (new_network s) []
+history-none s h = record {
+  bounded = omega arith;
+  sound = h;
+  events = refl;
+  network = ap unsent (sym (alone-none s));
+  wired = ap (λ (n : Network). n.wire) (sym (alone-none s));
+}
+
+pub history-sound : (es : List Event) (n : NetworkState) (wired : List (List ℕ)) → IsAfterHistory es n wired → IsSoundNetwork n.setting (length es) (2 * length es) n.network
+history-sound es n wired h =
+    subst (IsSoundNetwork n.setting (length es) (2 * length es)) (sym h.network)
+    (frames-sound n.setting (length es) (2 * length es) (alone n.setting es) [] [] (alone-sound n.setting es h.sound))
+
+-- ---- one more event, by the reply to it
+
+-- the reply of a network that sent nothing is that of the network with all that it sent
+pub reply-alone : (es : List Event) (n : NetworkState) (wired : List (List ℕ)) (e : Event) (r : Reply) → IsAfterHistory es n wired → step n.setting n.network e ≡ after_reply r n.network → alone n.setting (es ++ e ∷ []) ≡ after_reply r (alone n.setting es)
+reply-alone es n wired e r h is =
+    let s : Setting = n.setting in
+    let all : Network = alone s es in
+    alone-push s es e ∙ step-unsent s all e
+    ∙ ap (sent_before all.air all.wire) (subst (λ (m : Network). step s m e ≡ after_reply r m) h.network is)
+
+pub history-push : (es : List Event) (n : NetworkState) (wired : List (List ℕ)) (e : Event) (r : Reply) → IsAfterHistory es n wired → length es < n.setting.network.max_events → step n.setting n.network e ≡ after_reply r n.network
+    → IsAfterHistory (es ++ e ∷ []) (carried_out r n) (wired ++ option_to_list r.wired)
+history-push es n wired e r h room is =
+    let s : Setting = n.setting in
+    let all = reply-alone es n wired e r h is in
+    record {
+      bounded = omega (arith, room, length_push es e);
+      sound = h.sound;
+      events = omega (arith, h.events, length_push es e);
+      network = ap (λ (m : Network). unsent (after_reply r m)) h.network ∙ ap unsent (sym all);
+      wired = ap (λ (fs : List (List ℕ)). fs ++ option_to_list r.wired) h.wired ∙ ap (λ (m : Network). m.wire) (sym all);
+    }
+
+-- the frames that the event adds are those of the reply
+pub sent_by-reply : (es : List Event) (n : NetworkState) (wired : List (List ℕ)) (e : Event) (r : Reply) → IsAfterHistory es n wired → step n.setting n.network e ≡ after_reply r n.network → sent_by n.setting es e ≡ r.frames
+sent_by-reply es n wired e r h is =
+    ap (λ (m : Network). drop (length (alone n.setting es).air) m.air) (reply-alone es n wired e r h is)
+    ∙ drop-append_seam (alone n.setting es).air r.frames
+
+pub wire-push : (es : List Event) (n : NetworkState) (wired : List (List ℕ)) (e : Event) (r : Reply) → IsAfterHistory es n wired → step n.setting n.network e ≡ after_reply r n.network → (alone n.setting (es ++ e ∷ [])).wire ≡ (alone n.setting es).wire ++ wired_by n.setting es e
+wire-push es n wired e r h is =
+    let old = (alone n.setting es).wire in
+    let now : (alone n.setting (es ++ e ∷ [])).wire ≡ old ++ option_to_list r.wired = ap (λ (m : Network). m.wire) (reply-alone es n wired e r h is) in
+    let sent : wired_by n.setting es e ≡ option_to_list r.wired = ap (drop (length old)) now ∙ drop-append_seam old (option_to_list r.wired) in
+    now ∙ ap (λ (fs : List (List ℕ)). old ++ fs) (sym sent)
+
+-- ---- a reply that can be carried out
+
+pub may-follow : (n : NetworkState) (e : Event) (r : Reply) → network_fault n.setting.network ≡ None → IsSoundNetwork n.setting n.events (2 * n.events) n.network → IsFitting n.setting r n.network
+    → step n.setting n.network e ≡ after_reply r n.network → n.network.clock + r.clock < 2 ^ 32 → MayFollow n r
+may-follow n e r accepted sound fits is clock =
+    let s : Setting = n.setting in
+    let after : IsSoundNetwork s (n.events + 1) (2 * n.events + 2) (after_reply r n.network) = subst (IsSoundNetwork s (n.events + 1) (2 * n.events + 2)) is (step-sound s n.events (2 * n.events) n.network e (stations_fit s.network accepted).1 sound) in
+    record {
+      fitting = fits;
+      sound = more-sound s _ _ _ _ (unsent (after_reply r n.network)) (omega arith) (omega arith) (frames-sound s _ _ (after_reply r n.network) [] [] after);
+      clock = clock;
+    }

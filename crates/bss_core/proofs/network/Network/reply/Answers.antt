@@ -1,0 +1,46 @@
+use Rattle.std.proofs.Common.{◌≡◌, ◌∙◌, ◌+◌, Result, Ok, Err, sym, ap, subst, arith}
+use Rattle.std.specs.Prelude.{IfOk}
+use Rattle.bridge.specs.Ethernet.{ethernet_of}
+use Rattle.association.specs.Request.{request_of}
+use Rattle.bss_core.specs.Network.{Network}
+use Rattle.bss_core.specs.NetworkView.{NetworkState, IsNetwork}
+use Rattle.bss_core.specs.declared.event.Event.TheVariants.{Air, Wire, Tick}
+use Rattle.bss_core.proofs.Clocks.{answered, wired, ticked}
+use Rattle.bss_core.proofs.Histories.{may-follow}
+use Rattle.bss_core.proofs.network.Network.reply.Goals as goal
+
+-- what follows of a reply from two clauses
+of_both : {A E : Type 0} {P Q R : A → Type 0} (result : Result A E) → ((a : A) → P a → Q a → R a) → IfOk result P → IfOk result Q → IfOk result R
+of_both (Ok a) follows p q = follows a p q
+of_both (Err fault) follows p q = tt
+
+pub returns-in-Air-clause-follows : goal.returns-in-Air-clause-follows
+returns-in-Air-clause-follows c =
+    let n : NetworkState = c.args.self.now in
+    let kept : IsNetwork c.self.inside.roster n = subst (IsNetwork c.self.inside.roster) c.self.view_is c.self.invariant in
+    let asked = request_of n.setting.network.bssid c.as_slice.result.now in
+    of_both c.answer.result
+    (λ r fits is.
+    let same : n.network.clock ≡ n.network.clock + r.clock = sym (answered n.setting asked n.network) ∙ ap (λ (m : Network). m.clock) is in
+    may-follow n (Air c.as_slice.result.now) r kept.accepted kept.sound fits is (omega (arith, same, kept.clock)))
+    c.answer.ensures.fitting c.answer.ensures.answer
+
+pub returns-in-Wire-clause-follows : goal.returns-in-Wire-clause-follows
+returns-in-Wire-clause-follows c =
+    let n : NetworkState = c.args.self.now in
+    let kept : IsNetwork c.self.inside.roster n = subst (IsNetwork c.self.inside.roster) c.self.view_is c.self.invariant in
+    of_both c.answer_wired.result
+    (λ r fits is.
+    let same : n.network.clock ≡ n.network.clock + r.clock = sym (wired n.setting (ethernet_of c.as_slice-in-Wire.result.now) n.network) ∙ ap (λ (m : Network). m.clock) is in
+    may-follow n (Wire c.as_slice-in-Wire.result.now) r kept.accepted kept.sound fits is (omega (arith, same, kept.clock)))
+    c.answer_wired.ensures.fitting c.answer_wired.ensures.answer
+
+pub returns-in-Tick-clause-follows : goal.returns-in-Tick-clause-follows
+returns-in-Tick-clause-follows c =
+    let n : NetworkState = c.args.self.now in
+    let kept : IsNetwork c.self.inside.roster n = subst (IsNetwork c.self.inside.roster) c.self.view_is c.self.invariant in
+    of_both c.tick.result
+    (λ r fits is.
+    let more : n.network.clock + 1 ≡ n.network.clock + r.clock = sym (ticked n.setting n.network) ∙ ap (λ (m : Network). m.clock) is in
+    may-follow n Tick r kept.accepted kept.sound fits is (omega (arith, more, c.requires.ticks c.in-Tick.is)))
+    c.tick.ensures.fitting c.tick.ensures.answer

@@ -1,0 +1,27 @@
+use Rattle.std.proofs.Common.{◌≡◌, ◌∙◌, false, sym, ap, subst}
+use Rattle.powersave.specs.declared.unit.Whom.TheVariants.{One}
+use Rattle.bss_core.specs.Replies.{IsAwake, no_reply}
+use Rattle.bss_core.specs.Stations.{Table, changed}
+use Rattle.bss_core.specs.declared.reply.keeping.Leaving.{Leaving}
+use Rattle.bss_core.specs.declared.reply.keeping.Leaving.TheVariants.{All}
+use Rattle.bss_core.specs.declared.reply.Reply.{Reply}
+use Rattle.bss_core.specs.declared.stations.Change.{Change}
+use Rattle.bss_core.specs.declared.stations.Change.TheVariants.{SetMode}
+use Rattle.bss_core.proofs.UnitsKept.{active-moded}
+use Rattle.bss_core.proofs.network.Network.wake.Goals as goal
+
+pub returns-clause-mode : goal.returns-clause-mode
+returns-clause-mode c =
+    let t : Table = c.args.self.now.network.stations in
+    let leaving : c.send_kept.new.reply.keeping.leaving ≡ All (One c.args.from) = ap (λ (r : Reply). r.keeping.leaving) c.send_kept.ensures.same ∙ ap (λ (r : Reply). r.keeping.leaving) c.change_state.ensures in
+    let change : c.send_kept.new.reply.change ≡ SetMode c.args.from false = ap (λ (r : Reply). r.change) c.send_kept.ensures.same ∙ ap (λ (r : Reply). r.change) c.change_state.ensures in
+    let none : c.no_reply-reply.result ≡ no_reply c.args.self.now.network.sequence = c.no_reply-reply.ensures.nothing in
+    record {
+      change = rw change tt;
+      awake = subst (λ (l : Leaving). IsAwake l (changed c.send_kept.new.reply.change t)) (sym leaving)
+          (subst (λ (k : Change). IsAwake (All (One c.args.from)) (changed k t)) (sym change) (active-moded c.args.from t));
+      none_arrives = ap (λ (r : Reply). r.keeping.arriving) c.send_kept.ensures.same ∙ ap (λ (r : Reply). r.keeping.arriving) c.change_state.ensures ∙ ap (λ (r : Reply). r.keeping.arriving) none;
+      sequence = c.send_kept.ensures.sequence;
+      lost = ap (λ (r : Reply). r.lost) c.send_kept.ensures.same ∙ ap (λ (r : Reply). r.lost) c.change_state.ensures ∙ ap (λ (r : Reply). r.lost) none;
+      wired = ap (λ (r : Reply). r.wired) c.send_kept.ensures.same ∙ ap (λ (r : Reply). r.wired) c.change_state.ensures ∙ ap (λ (r : Reply). r.wired) none;
+    }

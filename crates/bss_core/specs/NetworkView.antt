@@ -1,0 +1,64 @@
+-- What contracts see of a network that runs without its history (profile).
+use Rattle.std.specs.Prelude.{ℕ, ◌≡◌, ◌+◌, ◌*◌, ◌<◌, ◌≤◌, ◌^◌, List, [], ◌++◌, None}
+use Rattle.bss_core.specs.Configuration.{network_fault}
+use Rattle.bss_core.specs.Network.{Setting, Network, empty_network, step}
+use Rattle.bss_core.specs.Replies.{after_reply, IsFitting}
+use Rattle.bss_core.specs.Roster.{RosterState}
+use Rattle.bss_core.specs.Sound.{IsSoundNetwork}
+use Rattle.bss_core.specs.declared.event.Event.{Event}
+use Rattle.bss_core.specs.declared.reply.Reply.{Reply}
+
+-- its setting, how many events it took, and what these made of it but for the frames that it sent
+pub record NetworkState : Type 0 where
+  pub setting : Setting
+  pub events : ℕ
+  pub network : Network
+
+-- a network without the frames that it sent
+abbrev pub unsent : Network → Network
+unsent n = record n { air = []; wire = [] }
+
+-- a network that sent these frames before its own
+abbrev pub sent_before : (air wire : List (List ℕ)) → Network → Network
+sent_before air wire n = record n { air = air ++ n.air; wire = wire ++ n.wire }
+
+-- one that took no event
+abbrev pub new_network : Setting → NetworkState
+new_network s = record { setting = s; events = 0; network = empty_network }
+
+-- one that took an event more
+abbrev pub took_event : Event → NetworkState → NetworkState
+took_event e n = record n { events = n.events + 1; network = unsent (step n.setting n.network e) }
+
+-- one that did what a reply says
+abbrev pub carried_out : Reply → NetworkState → NetworkState
+carried_out r n = record n { events = n.events + 1; network = unsent (after_reply r n.network) }
+
+-- the reply can be carried out, and leaves a network within its bounds
+pub record MayFollow (n : NetworkState) (r : Reply) : Type 0 where
+  pub fitting : IsFitting n.setting r n.network
+  pub sound : IsSoundNetwork n.setting (n.events + 1) (2 * (n.events + 1)) (unsent (after_reply r n.network))
+  pub clock : n.network.clock + r.clock < 2 ^ 32
+
+-- ---- what is kept of it
+
+-- of a network without the frames that it sent, its stations with their units, and its counts
+abbrev pub network_with : RosterState → (clock sequence lost unread : ℕ) → Network
+network_with r clock sequence lost unread = record {
+  stations = r.stations.table;
+  kept = r.kept.entries;
+  clock = clock;
+  sequence = sequence;
+  lost = lost;
+  unread = unread;
+  air = [];
+  wire = [];
+}
+
+pub record IsNetwork (roster : RosterState) (n : NetworkState) : Type 0 where
+  pub accepted : network_fault n.setting.network ≡ None
+  pub sound : IsSoundNetwork n.setting n.events (2 * n.events) n.network
+  pub most : roster.stations.most ≡ n.setting.network.max_stations
+  pub quota : roster.kept.quota ≡ n.setting.network.quota
+  pub puts : roster.kept.puts ≤ n.events
+  pub clock : n.network.clock < 2 ^ 32

@@ -1,0 +1,54 @@
+-- The stations of a network with the units that are kept for them (IEEE Std 802.11-2016, 11.2.3), and the association
+-- identifiers of those that units are kept for.
+use Rattle.std.specs.Prelude.{ℕ, ◌≤◌, ◌≡◌, ◌≢◌, ◌==◌, Bool, false, List, [], Option, Some, None}
+use Rattle.std.specs.FinSet as set
+use Rattle.std.specs.Ordering.{nat_cmp}
+use Rattle.powersave.specs.Keep.{Entry, Kept, units_for}
+use Rattle.powersave.specs.declared.unit.Whom.{Whom}
+use Rattle.tim.specs.Tim.{SameNumbers}
+use Rattle.bss_core.specs.Sound.{AreSound}
+use Rattle.bss_core.specs.Stations.{Table, StationTable}
+use Rattle.bss_core.specs.Units.{is_waited_for}
+use Rattle.bss_core.specs.declared.stations.Change.{Change}
+use Rattle.bss_core.specs.declared.stations.Change.TheVariants as changes
+
+-- what contracts see: the stations, and the units that are kept
+pub record RosterState : Type 0 where
+  pub stations : StationTable
+  pub kept : Kept
+
+-- no station is known, and no unit is kept
+abbrev pub empty_roster : ℕ → ℕ → RosterState
+empty_roster most quota = record {
+  stations = record { most = most; table = [] };
+  kept = record { quota = quota; entries = []; reserved = None; puts = 0 };
+}
+
+-- the numbers are the identifiers of the stations that units are kept for
+abbrev pub AreWaitedFor : set.FinSet nat_cmp → Table → List Entry → Type 0
+AreWaitedFor numbers table kept = SameNumbers (set.contains numbers) (is_waited_for table kept)
+
+-- what is kept of the identifiers beside the stations and the units
+pub record IsRoster (numbers : set.FinSet nat_cmp) (r : RosterState) : Type 0 where
+  -- association identifiers (IEEE Std 802.11-2016, 9.4.1.8)
+  pub limit : r.stations.most ≤ 2007
+  pub sound : AreSound r.stations.most r.stations.table
+  pub traffic : AreWaitedFor numbers r.stations.table r.kept.entries
+
+-- a number is this one, if there is one
+abbrev pub is_number : Option ℕ → ℕ → Bool
+is_number None n = false
+is_number (Some aid) n = n == aid
+
+-- the station whose identifier a change may change
+abbrev pub renumbered : Change → Option (List ℕ)
+renumbered changes.Nothing = None
+renumbered (changes.Authenticate addr) = Some addr
+renumbered (changes.Associate addr listen) = Some addr
+renumbered (changes.Disassociate addr) = Some addr
+renumbered (changes.Forget addr) = Some addr
+renumbered (changes.SetMode addr doze) = None
+
+-- the units for any other stayed
+abbrev pub StayBeside : Whom → List Entry → List Entry → Type 0
+StayBeside whom before after = (other : Whom) → whom ≢ other → units_for other after ≡ units_for other before
