@@ -1,5 +1,5 @@
 -- The end of an access point, network by network.
-use Rattle.std.proofs.Common.{◌≡◌, ℕ, zero, suc, ◌+◌, ◌<◌, ◌≤◌, List, [], ◌∷◌, ◌++◌, length, map, drop, get_or, Some, refl, sym, ap, ◌∙◌, subst, arith}
+use Rattle.std.proofs.Common.{◌≡◌, ℕ, zero, suc, ◌+◌, ◌<◌, ◌≤◌, List, [], ◌∷◌, ◌++◌, length, map, drop, get_or, Some, refl, sym, ap, ◌∙◌, subst, arith, append_assoc}
 use Rattle.std.specs.Prelude.{slice_get}
 use Rattle.std.specs.List.{AllByRecursion, AllZip, enumerate_from, range_with_len}
 use Rattle.std.proofs.lemmas.List.{length-map, length_push, map-append}
@@ -11,11 +11,10 @@ use Rattle.bss_core.specs.Running.{section_with}
 use Rattle.bss_core.specs.Section.{section_of}
 use Rattle.bss_core.specs.BssView.{BssView, network_of}
 use Rattle.bss_core.specs.declared.config.RadioConfig.{RadioConfig}
-use Rattle.bss_core.specs.declared.event.Event.{Event}
 use Rattle.bss_core.specs.declared.section.Section.{Section}
 use Rattle.bss_core.specs.declared.setting.Setting.{Setting}
 use Rattle.bss_core.specs.declared.radio.step.AirItem.{AirItem}
-use Rattle.workers.specs.Ending.{IsSectionAt, AreSeated, IsSent, AreSent, IsEnded, AreEnded, items_at}
+use Rattle.workers.specs.Ending.{AreSeated, IsSent, AreSent, IsEnded, AreEnded, items_at}
 use Rattle.workers.specs.Seats.{IsSeated}
 use Rattle.workers.proofs.Frames.{items_of-here, items_of-other}
 
@@ -148,6 +147,15 @@ sent-step config left left' sections sections' section place b rest at more push
     let past : length sections < length sections + 1 = omega arith in
     subst (λ (x : List AirItem × ℕ). AllByRecursion (λ (n : ℕ × BssView). IsSent config x.0 n.0 n.1) (enumerate_from x.1 rest)) (λ i. (sym now i, sym count i))
     (sent-later config left b.waiting (length sections) (length sections + 1) rest past coming.1)
+
+-- what sections keep of their networks
+pub ended-map : {A : Type 0} (f : Section → A) (g : BssView → A) (sections sections' : List Section) (section : Section) (b : BssView) (rest coming : List BssView) {all : List A} → f section ≡ g b → sections' ≡ sections ++ section ∷ [] → coming ≡ b ∷ rest → map f sections ++ map g coming ≡ all → map f sections' ++ map g rest ≡ all
+ended-map f g sections sections' section b rest coming same pushed next kept =
+    ap (λ (ss : List Section). map f ss ++ map g rest) pushed
+    ∙ ap (λ ks. ks ++ map g rest) (map-append f sections (section ∷ []))
+    ∙ append_assoc (map f sections) (f section ∷ []) (map g rest)
+    ∙ ap (λ a. map f sections ++ a ∷ map g rest) same
+    ∙ ap (λ (bs : List BssView). map f sections ++ map g bs) (sym next) ∙ kept
 
 -- ---- all networks ended
 

@@ -4,3 +4,7 @@ pub mod Starting
 pub mod Offering
 pub mod Frames
 pub mod Endings
+pub mod Dealing
+pub mod Attributing
+pub mod Fullness
+pub mod Answering

@@ -1,8 +1,8 @@
 -- The sizes of a configuration without a fault.
-use Rattle.std.proofs.Common.{◌≡◌, ℕ, ◌≤◌, List, [], length, Bool, true, false, not, ◌&&◌, Option, Some, None, refl, ap, ◌∙◌}
+use Rattle.std.proofs.Common.{◌≡◌, ℕ, ◌≤◌, length, Bool, true, false, not, ◌&&◌, Option, Some, None, refl}
 use Rattle.std.specs.Prelude.{if◌then◌else◌}
 use Rattle.std.proofs.lemmas.Bool.{leb-true}
-use Rattle.bss_core.specs.Configuration.{is_between, channel_fits, interval_fits, queue_fits, count_fits, networks_fault, of_radio, fault_of}
+use Rattle.bss_core.specs.Configuration.{is_between, channel_fits, interval_fits, queue_fits, count_fits, fault_of}
 use Rattle.bss_core.specs.declared.config.ConfigFault.{ConfigFault}
 use Rattle.bss_core.specs.declared.config.RadioConfig.{RadioConfig}
 

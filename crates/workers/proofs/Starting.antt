@@ -1,12 +1,11 @@
 -- The seats of an access point that starts.
-use Rattle.std.proofs.Common.{◌≡◌, ℕ, zero, suc, ◌+◌, ◌<◌, ◌≤◌, List, [], ◌∷◌, ◌++◌, length, map, drop, get_or, None, refl, sym, ap, ◌∙◌, subst, arith}
+use Rattle.std.proofs.Common.{◌≡◌, ℕ, suc, ◌+◌, ◌<◌, List, [], ◌∷◌, length, map, get_or, None, refl, ap, ◌∙◌, arith}
 use Rattle.std.specs.List.{AllByRecursion, range_with_len, zip}
 use Rattle.air_queue.specs.Passes.{QueueName, NetPassView, fresh_pass, fresh_passes}
 use Rattle.bss_core.specs.Configuration.{network_fault}
 use Rattle.bss_core.specs.Network.{alone}
-use Rattle.bss_core.specs.Radio.{no_network, network_at, setting_in, setting_at}
+use Rattle.bss_core.specs.Radio.{no_network, network_at, setting_in}
 use Rattle.bss_core.specs.RadioView.{opened}
-use Rattle.bss_core.specs.BssView.{BssView, network_of}
 use Rattle.bss_core.specs.declared.config.NetConfig.{NetConfig}
 use Rattle.bss_core.specs.declared.config.RadioConfig.{RadioConfig}
 use Rattle.workers.specs.Seats.{IsSeated}

@@ -4,3 +4,6 @@ pub mod Seats
 pub mod Giving
 pub mod Copies
 pub mod Ending
+pub mod Receipts
+pub mod Attributions
+pub mod Playing

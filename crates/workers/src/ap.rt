@@ -68,6 +68,7 @@ impl<N: ApName> Ap<N> {
         caller: &mut Caller,
         frame: &[u8],
     ) -> Result<[Outcome; MAX_NETWORKS], NoMemory>
+        ensures count { IfOk result (λ outcomes. length outcomes ≡ MAX_NETWORKS) }
         ensures heard { IfOk result (AreHeard N.config (line.Air frame.now)) }
         ensures entries { IfOk result (AddsEntries (Event.Air frame.now) caller.old caller.new) }
         ensures err { OnErr result (caller.new ≡ caller.old) }
@@ -84,6 +85,7 @@ impl<N: ApName> Ap<N> {
         place: usize,
         octets: &[u8],
     ) -> Result<[Outcome; MAX_NETWORKS], NoMemory>
+        ensures count { IfOk result (λ outcomes. length outcomes ≡ MAX_NETWORKS) }
         ensures heard { IfOk result (AreHeard N.config (line.Wire place octets.now)) }
         ensures entries { IfOk result (AddsEntries (Event.Wire octets.now) caller.old caller.new) }
         ensures err { OnErr result (caller.new ≡ caller.old) }
@@ -97,6 +99,7 @@ impl<N: ApName> Ap<N> {
         rt: &R,
         caller: &mut Caller,
     ) -> Result<[Outcome; MAX_NETWORKS], NoMemory>
+        ensures count { IfOk result (λ outcomes. length outcomes ≡ MAX_NETWORKS) }
         ensures heard { IfOk result (AreHeard N.config line.Tick) }
         ensures entries { IfOk result (AddsEntries Event.Tick caller.old caller.new) }
         ensures err { OnErr result (caller.new ≡ caller.old) }
@@ -111,6 +114,7 @@ impl<N: ApName> Ap<N> {
         caller: &mut Caller,
         given: Given<'_>,
     ) -> Result<[Outcome; MAX_NETWORKS], NoMemory>
+        ensures count { IfOk result (λ outcomes. length outcomes ≡ MAX_NETWORKS) }
         ensures heard { IfOk result (AreHeard N.config (line_of given.entry)) }
         ensures entries { IfOk result (AddsEntries (event_of (line_of given.entry)) caller.old caller.new) }
         ensures err { OnErr result (caller.new ≡ caller.old) }
@@ -152,6 +156,7 @@ impl<N: ApName> Ap<N> {
         requires count { vec_len copies ≡ MAX_NETWORKS }
         requires places { HaveNetworks N.config copies.items }
         requires room { vec_len entries.old + MAX_NETWORKS ≤ vec_capacity entries.old }
+        ensures count { length result ≡ MAX_NETWORKS }
         ensures heard { AreOffered copies.items result }
         ensures entries { (event : Event) → AreOf event copies.items →
             AddsEntries event entries.old.items entries.new.items result }

@@ -4,12 +4,15 @@ ghost use Rattle.std.specs.Prelude.{◌≡◌, ◌++◌, IfOk, OnOk, vec_len, le
 ghost use Rattle.bss_core.specs.Lists.{IsPrefix};
 ghost use Rattle.bss_core.specs.Radio.{items_of};
 ghost use Rattle.bss_core.specs.Running.{section_with};
+ghost use Rattle.workers.specs.Attributions.{histories, limits};
 ghost use Rattle.workers.specs.Ending.{AreSections, HaveLeft, ArePlaced, AreSeated, AreSent, AreEnded, items_at};
+ghost use Rattle.workers.specs.Receipts.{AreReceipts, AreGivers, AreFullLast, histories_of, limits_of};
 ghost use Rattle.workers.specs.declared.finish.FinishFault.TheVariants as faults;
 
 use crate::ap::Ap;
 use crate::caller::Caller;
 use crate::name::ApName;
+use crate::receipts::givers_of;
 use crate::seat::Seat;
 use crate::transmitter::Transmitter;
 use air_queue::NetPass;
@@ -26,6 +29,9 @@ pub struct Finished {
     pub sections: List<Section>,
     /// The frames that left, the first of them first.
     pub left: List<AirItem>,
+    /// For each network, in order of place, the number of the caller who gave each event of its history. Callers are
+    /// numbered from 0, as they were handed in.
+    pub givers: List<List<usize>>,
 }
 
 /// Why an access point could not be finished. Its parts are gone then (*profile*).
@@ -33,11 +39,12 @@ pub struct Finished {
 pub enum FinishFault {
     /// F1: a growth was refused.
     NoMemory,
-    /// F2: a network was not at its place.
+    /// F2: a receipt's place, number or event is not there, another receipt repeats it, or the numbers of a caller's
+    /// receipts from one network don't rise; or a network was not at its place, which is never met.
     BadReceipt,
-    /// F3: no receipt names an event of a history.
+    /// F3: no receipt tells of an event of a history.
     Uncovered,
-    /// F4: a network refused an event as full, and is not.
+    /// F4: a caller was told that a network is full which is not, or which it has a later receipt from.
     FullEarly,
 }
 
@@ -78,9 +85,13 @@ impl fmt::Display for FinishFault {
 }
 
 impl<N: ApName> Ap<N> {
-    /// Ends the access point: all frames that wait or are queued leave, and each network has its section (*profile*).
-    /// `NoMemory` where a growth was refused; `BadReceipt` where a network was not at its place, which is never met. It
-    /// may wait for other threads.
+    /// Ends the access point (*profile*): what the callers were told is tested against the histories, all frames that
+    /// wait or are queued leave, and each network has its section. `NoMemory` where a growth was refused, which may be
+    /// at any point; else the first of these that there is: `BadReceipt`, for a receipt whose place or number is not
+    /// there, whose event is another, or which another receipt repeats, and where the numbers of a caller's receipts
+    /// from one network don't rise; `Uncovered`, for an event of a history that no receipt tells of; `FullEarly`, for
+    /// a network that a caller was told is full and which is not, or which the same caller has a later receipt from.
+    /// The access point, the callers and the transmitter are gone then. It may wait for other threads.
     pub fn finish<R: Wait>(
         self,
         rt: &R,
@@ -95,8 +106,14 @@ impl<N: ApName> Ap<N> {
         ensures air { IfOk result (λ end. HaveLeft end.sections end.left) }
         ensures nothing_else { IfOk result (λ end. ArePlaced N.config end.left) }
         ensures begins { IfOk result (λ end. IsPrefix transmitter end.left) }
+
+        // Each event of a history has one giver, and a caller's receipts are what is dealt to it of each history. A
+        // network that a caller was told is full is full, and that caller has no receipt from it afterwards.
+        ensures receipts { IfOk result (λ end. AreReceipts callers.items (histories_of end.sections) end.givers) }
+        ensures givers { IfOk result (λ end. AreGivers (vec_len callers) (histories_of end.sections) end.givers) }
+        ensures full { IfOk result (λ end.
+            AreFullLast (limits_of end.sections) (histories_of end.sections) callers.items) }
     {
-        drop(callers);
         let Ap {
             alloc,
             bssids: _,
@@ -105,6 +122,7 @@ impl<N: ApName> Ap<N> {
         } = self;
         let Transmitter { pass: radio, of: _ } = transmitter;
         let (networks, nets) = unseat(alloc, seats)?;
+        let givers = givers_of(alloc, networks.as_slice(), callers.as_slice())?;
         let Ok(left) = queue.take_in(rt, radio, nets) else {
             return Err(FinishFault::NoMemory);
         };
@@ -113,6 +131,7 @@ impl<N: ApName> Ap<N> {
         Ok(Finished {
             sections: List::from_vec(sections),
             left: List::from_vec(left),
+            givers,
         })
     }
 }
@@ -147,6 +166,8 @@ fn end_networks<N: ApName>(
     requires { AreSent N.config left.old.items networks.items }
     ensures ended { IfOk result (λ sections. AreEnded N.config left.new.items sections.items) }
     ensures count { IfOk result (λ sections. vec_len sections ≡ vec_len networks) }
+    ensures histories { IfOk result (λ sections. histories_of sections.items ≡ histories networks.items) }
+    ensures limits { IfOk result (λ sections. limits_of sections.items ≡ limits networks.items) }
     ensures placed { OnOk result (ArePlaced N.config left.old.items → ArePlaced N.config left.new.items) }
     ensures begins { OnOk result (IsPrefix left.old.items left.new.items) }
 {

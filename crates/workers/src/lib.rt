@@ -4,13 +4,18 @@
 //! Threads share an [`Ap`] by reference. A [`Caller`] gives it what was heard on the air, what came over the wire, and
 //! ticks, and keeps what it is answered; any thread pumps frames that wait into the air queue; the [`Transmitter`] lets
 //! them leave. [`Ap::finish`] promises that each network's section is what the network alone gives for its own events,
-//! and that what left of it is all that it sent, in order, whichever thread called what, and when. Under a network's
-//! lock that much holds at every moment: what was pushed and then what waits is all that the network alone sends for
-//! its history.
+//! and that what left of it is all that it sent, in order, whichever thread called what, and when. It tests what the
+//! callers were told: each event of a history was given by one of them, and each receipt is the event of its number.
+//! Under a network's lock that much holds at every moment: what was pushed and then what waits is all that the network
+//! alone sends for its history.
 //!
 //! That a call gets its lock, the order of calls of different callers, fairness, progress and time are promised by
 //! nothing here. That networks have locks of their own, and that an event changes its network at once, tests show.
-//! Which thread calls what is left to the crates above.
+//!
+//! [`play`] runs a thread for each of several sources of lines, lets frames leave meanwhile, and finishes. It promises
+//! that of each network's events those of a source are the first that the network hears of the source's lines, in
+//! their order, and all of them where the network is not full. Which thread calls what else is left to the crates
+//! above.
 //!
 //! An access point has a name, for contracts alone ([`ApName`]). So who uses one is a function that is generic in it,
 //! and the call of that function picks the name, by the parts that it hands on:
@@ -42,13 +47,17 @@
 #![tactic(auto)]
 
 mod ap;
+mod attribution;
 mod caller;
 mod copies;
 mod finish;
+mod gate;
 mod given;
 mod name;
 mod outcome;
 mod parts;
+mod playing;
+mod receipts;
 mod seat;
 mod start;
 mod transmitter;
@@ -57,7 +66,9 @@ pub use ap::Ap;
 pub use bss_core::Line;
 pub use caller::{Caller, Entry};
 pub use finish::{FinishFault, Finished};
+pub use gate::Gate;
 pub use name::ApName;
 pub use outcome::Outcome;
 pub use parts::{MAX_CALLERS, Parts};
+pub use playing::{PlayFault, play};
 pub use transmitter::Transmitter;

@@ -1,15 +1,23 @@
-//! What the prover can't say of an access point, on octets from outside.
+//! What the prover can't say of an access point, on octets from outside. A test hands what came out to [`expect`], and
+//! one function opens an access point, another uses it: one that does all takes long to prove.
+
+ghost use Rattle.std.specs.Prelude.{◌<◌, OnOk, length};
 
 use bss_core::{AirItem, NetConfig, RadioConfig, Section};
 use mac_frame::{List, MacAddr, NoMemory, Octets};
 use std::alloc::Global;
+use std::fmt::Debug;
+use std::process::Abort;
 use std::test::Fail;
-use workers::Outcome;
+use workers::{Ap, ApName, Outcome};
 
 mod answers;
 mod ending;
 mod opening;
 mod overlap;
+mod receipts;
+mod receipts_shared;
+mod running;
 mod three_threads;
 mod units;
 
@@ -30,6 +38,27 @@ const ASSOCIATION: &str = "00000000 020000000001 02aa00000001 020000000001 0000 
 
 /// No network heard it.
 const NOBODY: [Outcome; 8] = [Outcome::NotHeard; 8];
+
+/// Fails the test where this isn't what came out.
+fn expect<R: Abort, T: PartialEq + Debug + Drop>(
+    rt: &R,
+    found: Result<T, Fail>,
+    expected: T,
+) -> Result<(), Fail> {
+    let found = found?;
+    assert_eq!(rt; found, expected);
+    Ok(())
+}
+
+/// Fails where an access point has no network, so that the first of them can be named.
+fn has_first<N: ApName>(ap: &Ap<N>) -> Result<(), Fail>
+    ensures { OnOk result (0 < length N.config.networks) }
+{
+    if ap.networks() == 0 {
+        return Err(Fail::from("no network"));
+    }
+    Ok(())
+}
 
 /// The octets that a text of digits and spaces spells.
 fn octets(alloc: Global, digits: &str) -> Result<Octets, Fail> {

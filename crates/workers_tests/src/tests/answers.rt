@@ -1,15 +1,13 @@
 //! What an access point answers, and that an event changes its network at once.
 
-ghost use Rattle.workers.specs.Names.{AreNamed};
-
-use super::{AUTHENTICATION, NOBODY, first, octets, one_network};
-use bss_core::{Bss, RadioConfig};
+use super::running::{Job, run};
+use super::{AUTHENTICATION, NOBODY, expect, first, has_first, octets};
+use bss_core::Bss;
 use std::alloc::Global;
-use std::marker::Brand;
 use std::process::Abort;
 use std::sync::Wait;
 use std::test::Fail;
-use workers::{Ap, ApName, Caller, Entry, Outcome, Parts, Transmitter};
+use workers::{Ap, ApName, Caller, Entry, Outcome, Transmitter};
 
 /// How many events a network took, how many intervals began, how many of its events are unread, and how many stations
 /// it knows.
@@ -23,6 +21,55 @@ fn shown(bss: &Bss) -> [usize; 4] {
     ]
 }
 
+/// What the first network shows.
+fn shown_first<N: ApName, R: Wait>(rt: &R, ap: &Ap<N>) -> Result<[usize; 4], Fail> {
+    has_first(ap)?;
+    Ok(ap.inspect(rt, 0, shown))
+}
+
+/// What an access point answers to a tick.
+fn tick<N: ApName, R: Wait>(rt: &R, ap: &Ap<N>, caller: &mut Caller) -> Result<[Outcome; 8], Fail> {
+    Ok(ap.tick(rt, caller)?)
+}
+
+/// What it answers to the station's request on the air.
+fn hear<N: ApName, R: Wait>(
+    rt: &R,
+    alloc: Global,
+    ap: &Ap<N>,
+    caller: &mut Caller,
+) -> Result<[Outcome; 8], Fail> {
+    let frame = octets(alloc, AUTHENTICATION)?;
+    Ok(ap.air(rt, caller, frame.as_slice())?)
+}
+
+/// What it answers to a frame that is too short to be heard.
+fn miss<N: ApName, R: Wait>(rt: &R, ap: &Ap<N>, caller: &mut Caller) -> Result<[Outcome; 8], Fail> {
+    Ok(ap.air(rt, caller, &[0xff; 9])?)
+}
+
+/// What it answers to a frame for the network at a place that is too short to be read.
+fn wire<N: ApName, R: Wait>(
+    rt: &R,
+    ap: &Ap<N>,
+    caller: &mut Caller,
+    place: usize,
+) -> Result<[Outcome; 8], Fail> {
+    Ok(ap.wire(rt, caller, place, &[0; 13])?)
+}
+
+/// How many frames of the first network went to the queue, whether one left, and how many have left.
+fn pump_and_leave<N: ApName, R: Wait>(
+    rt: &R,
+    ap: &Ap<N>,
+    transmitter: &mut Transmitter<N>,
+) -> Result<(u32, bool, usize), Fail> {
+    has_first(ap)?;
+    let pumped = ap.pump(rt, 0);
+    let left = ap.leave(rt, transmitter)?;
+    Ok((pumped, left, transmitter.left().len()))
+}
+
 /// One tick is taken, pumped and left.
 fn tick_pump_and_leave<N: ApName, R: Wait + Abort>(
     rt: &R,
@@ -30,71 +77,65 @@ fn tick_pump_and_leave<N: ApName, R: Wait + Abort>(
     caller: &mut Caller,
     transmitter: &mut Transmitter<N>,
 ) -> Result<(), Fail> {
-    if ap.networks() == 0 {
-        return Err(Fail::from("no network"));
-    }
-    assert_eq!(rt; ap.tick(rt, caller)?, first(Outcome::Took(0)));
-    assert_eq!(rt; ap.inspect(rt, 0, shown), [1, 1, 0, 0]);
-    assert_eq!(rt; ap.pump(rt, 0), 1);
-    assert!(rt; ap.leave(rt, transmitter)?);
-    assert_eq!(rt; transmitter.left().len(), 1);
-    assert_eq!(rt; ap.pump(rt, 0), 0);
-    assert!(rt; !ap.leave(rt, transmitter)?);
-    Ok(())
+    expect(rt, tick(rt, ap, caller), first(Outcome::Took(0)))?;
+    expect(rt, shown_first(rt, ap), [1, 1, 0, 0])?;
+    expect(rt, pump_and_leave(rt, ap, transmitter), (1, true, 1))?;
+    expect(rt, pump_and_leave(rt, ap, transmitter), (0, false, 1))
 }
 
 /// An event on the air and one on the wire change the network at once.
-fn hear<N: ApName, R: Wait + Abort>(
+fn hear_both<N: ApName, R: Wait + Abort>(
     rt: &R,
     alloc: Global,
     ap: &Ap<N>,
     caller: &mut Caller,
 ) -> Result<(), Fail> {
-    if ap.networks() == 0 {
-        return Err(Fail::from("no network"));
-    }
-    let frame = octets(alloc, AUTHENTICATION)?;
-    assert_eq!(rt;
-        ap.air(rt, caller, frame.as_slice())?,
-        first(Outcome::Took(1))
-    );
-    assert_eq!(rt; ap.inspect(rt, 0, shown), [2, 1, 0, 1]);
-    assert_eq!(rt; ap.wire(rt, caller, 0, &[0; 13])?, first(Outcome::Took(2)));
-    assert_eq!(rt; ap.inspect(rt, 0, shown), [3, 1, 1, 1]);
-    Ok(())
+    expect(rt, hear(rt, alloc, ap, caller), first(Outcome::Took(1)))?;
+    expect(rt, shown_first(rt, ap), [2, 1, 0, 1])?;
+    expect(rt, wire(rt, ap, caller, 0), first(Outcome::Took(2)))?;
+    expect(rt, shown_first(rt, ap), [3, 1, 1, 1])
 }
 
 /// What nobody hears leaves no entry.
-fn miss<N: ApName, R: Wait + Abort>(rt: &R, ap: &Ap<N>, caller: &mut Caller) -> Result<(), Fail> {
-    assert_eq!(rt; ap.wire(rt, caller, 1, &[0; 13])?, NOBODY);
-    assert_eq!(rt; ap.wire(rt, caller, usize::MAX, &[0; 13])?, NOBODY);
-    assert_eq!(rt; ap.air(rt, caller, &[0xff; 9])?, NOBODY);
-    Ok(())
+fn miss_all<N: ApName, R: Wait + Abort>(
+    rt: &R,
+    ap: &Ap<N>,
+    caller: &mut Caller,
+) -> Result<(), Fail> {
+    expect(rt, wire(rt, ap, caller, 1), NOBODY)?;
+    expect(rt, wire(rt, ap, caller, usize::MAX), NOBODY)?;
+    expect(rt, miss(rt, ap, caller), NOBODY)?;
+    expect(rt, Ok(caller.entries().len()), 3)
 }
 
-fn pump_then_leave_of<N: ApName, R: Wait + Abort>(
+/// All this, by one caller.
+pub(super) fn use_it<N: ApName, R: Wait + Abort>(
     rt: &R,
     alloc: Global,
-    parts: Parts,
-) -> Result<(), Fail>
-    requires { AreNamed N.config N.queue parts }
-{
-    let (ap, mut callers, mut transmitter) = Ap::<N>::start(alloc, parts)?;
-    let mut caller = callers.pop().ok_or("no caller")?;
-    tick_pump_and_leave(rt, &ap, &mut caller, &mut transmitter)?;
-    hear(rt, alloc, &ap, &mut caller)?;
-    miss(rt, &ap, &mut caller)?;
-    assert_eq!(rt; caller.entries().len(), 3);
-    let end = ap.finish(rt, callers, transmitter)?;
-    assert_eq!(rt; end.left.as_slice().len(), 2);
-    Ok(())
+    ap: &Ap<N>,
+    caller: &mut Caller,
+    transmitter: &mut Transmitter<N>,
+) -> Result<(), Fail> {
+    tick_pump_and_leave(rt, ap, caller, transmitter)?;
+    hear_both(rt, alloc, ap, caller)?;
+    miss_all(rt, ap, caller)
+}
+
+/// How many frames left of an access point whose network takes so many events.
+fn left_count<R: Wait + Abort>(
+    rt: &R,
+    alloc: Global,
+    job: Job,
+    max_events: u32,
+) -> Result<usize, Fail> {
+    let end = run(rt, alloc, job, max_events)?;
+    Ok(end.left.as_slice().len())
 }
 
 #[test]
 fn pump_then_leave(rt: HostRuntime) -> Result<(), Fail> {
-    let config = one_network(rt.alloc(), 100)?;
-    let parts = Parts::open(rt.alloc(), config, 1)?;
-    pump_then_leave_of::<Brand, _>(&rt, rt.alloc(), parts)
+    let left = left_count(&rt, rt.alloc(), Job::PumpThenLeave, 100);
+    expect(&rt, left, 2)
 }
 
 /// The numbers of a caller's receipts, and none for each refusal.
@@ -109,39 +150,20 @@ fn numbers(alloc: Global, caller: &Caller) -> Result<Vec<Option<u32>>, Fail> {
     Ok(numbers)
 }
 
-/// What the first caller of an access point of this name is answered for two ticks.
-fn two_ticks_of<N: ApName, R: Wait + Abort>(
+/// The network takes one tick, and refuses the next.
+pub(super) fn tick_twice<N: ApName, R: Wait + Abort>(
     rt: &R,
     alloc: Global,
-    parts: Parts,
-) -> Result<[[Outcome; 8]; 2], Fail>
-    requires { AreNamed N.config N.queue parts }
-{
-    let (ap, mut callers, transmitter) = Ap::<N>::start(alloc, parts)?;
-    let mut caller = callers.pop().ok_or("no caller")?;
-    let outcomes = [ap.tick(rt, &mut caller)?, ap.tick(rt, &mut caller)?];
-    assert_eq!(rt;
-        numbers(alloc, &caller)?.as_slice(),
-        [Some(0), None].as_slice()
-    );
-    let end = ap.finish(rt, callers, transmitter)?;
-    assert_eq!(rt; end.left.as_slice().len(), 1);
-    Ok(outcomes)
-}
-
-/// The same of an access point of this configuration.
-fn two_ticks<R: Wait + Abort>(
-    rt: &R,
-    alloc: Global,
-    config: RadioConfig,
-) -> Result<[[Outcome; 8]; 2], Fail> {
-    two_ticks_of::<Brand, R>(rt, alloc, Parts::open(alloc, config, 1)?)
+    ap: &Ap<N>,
+    caller: &mut Caller,
+) -> Result<(), Fail> {
+    expect(rt, tick(rt, ap, caller), first(Outcome::Took(0)))?;
+    expect(rt, tick(rt, ap, caller), first(Outcome::Full))?;
+    let entries = Vec::from_slice(alloc, &[Some(0), None])?;
+    expect(rt, numbers(alloc, caller), entries)
 }
 
 #[test]
 fn a_full_network_refuses(rt: HostRuntime) -> Result<(), Fail> {
-    let config = one_network(rt.alloc(), 1)?;
-    let outcomes = two_ticks(&rt, rt.alloc(), config)?;
-    assert_eq!(rt; outcomes, [first(Outcome::Took(0)), first(Outcome::Full)]);
-    Ok(())
+    expect(&rt, left_count(&rt, rt.alloc(), Job::TwoTicks, 1), 1)
 }

@@ -2,56 +2,37 @@
 
 ghost use Rattle.workers.specs.Names.{AreNamed};
 
-use super::{one_network, section_at};
+use super::running::{Job, run};
+use super::{expect, has_first, one_network, section_at};
 use bss_core::AirItem;
 use mac_frame::Octets;
 use std::alloc::Global;
 use std::marker::Brand;
+use std::process::Abort;
 use std::sync::Wait;
 use std::test::Fail;
-use workers::{Ap, ApName, Caller, Finished, Parts, Transmitter};
+use workers::{Ap, ApName, Caller, Parts, Transmitter};
+
+/// A beacon goes to the queue.
+fn tick_and_pump<N: ApName, R: Wait>(rt: &R, ap: &Ap<N>, caller: &mut Caller) -> Result<(), Fail> {
+    has_first(ap)?;
+    ap.tick(rt, caller)?;
+    ap.pump(rt, 0);
+    Ok(())
+}
 
 /// Of three beacons the first leaves, the second is queued, and the third waits.
-fn three_beacons<N: ApName, R: Wait>(
+pub(super) fn three_beacons<N: ApName, R: Wait>(
     rt: &R,
     ap: &Ap<N>,
     caller: &mut Caller,
     transmitter: &mut Transmitter<N>,
 ) -> Result<(), Fail> {
-    if ap.networks() == 0 {
-        return Err(Fail::from("no network"));
-    }
-    ap.tick(rt, caller)?;
-    ap.pump(rt, 0);
+    tick_and_pump(rt, ap, caller)?;
     ap.leave(rt, transmitter)?;
-    ap.tick(rt, caller)?;
-    ap.pump(rt, 0);
+    tick_and_pump(rt, ap, caller)?;
     ap.tick(rt, caller)?;
     Ok(())
-}
-
-/// The access point ends then, or is dropped.
-fn end_of<N: ApName, R: Wait>(
-    rt: &R,
-    alloc: Global,
-    parts: Parts,
-    drops: bool,
-) -> Result<Option<Finished>, Fail>
-    requires { AreNamed N.config N.queue parts }
-{
-    let (ap, mut callers, mut transmitter) = Ap::<N>::start(alloc, parts)?;
-    let mut caller = callers.pop().ok_or("no caller")?;
-    three_beacons(rt, &ap, &mut caller, &mut transmitter)?;
-    if drops {
-        return Ok(None);
-    }
-    Ok(Some(ap.finish(rt, callers, transmitter)?))
-}
-
-/// The same of an access point of one network.
-fn end<R: Wait>(rt: &R, alloc: Global, drops: bool) -> Result<Option<Finished>, Fail> {
-    let parts = Parts::open(alloc, one_network(alloc, 100)?, 1)?;
-    end_of::<Brand, R>(rt, alloc, parts, drops)
 }
 
 /// The octet in which a frame has the low bits of its sequence number.
@@ -68,20 +49,54 @@ fn sequences(alloc: Global, items: &[AirItem]) -> Result<Vec<Option<u8>>, Fail> 
     Ok(all)
 }
 
+/// Those of the frames that left.
+fn left_sequences<R: Wait + Abort>(rt: &R, alloc: Global) -> Result<Vec<Option<u8>>, Fail> {
+    let end = run(rt, alloc, Job::ThreeBeacons, 100)?;
+    sequences(alloc, end.left.as_slice())
+}
+
+/// How many frames the section of the network has.
+fn sent_count<R: Wait + Abort>(rt: &R, alloc: Global) -> Result<usize, Fail> {
+    let end = run(rt, alloc, Job::ThreeBeacons, 100)?;
+    let section = section_at(&end.sections, 0)?;
+    Ok(section.air.as_slice().len())
+}
+
 #[test]
 fn all_frames_leave_in_order(rt: HostRuntime) -> Result<(), Fail> {
-    let end = end(&rt, rt.alloc(), false)?.ok_or("it was dropped")?;
-    let left = sequences(rt.alloc(), end.left.as_slice())?;
-    assert_eq!(rt;
-        left.as_slice(),
-        [Some(0), Some(0x10), Some(0x20)].as_slice()
-    );
-    assert_eq!(rt; section_at(&end.sections, 0)?.air.as_slice().len(), 3);
+    let expected = Vec::from_slice(rt.alloc(), &[Some(0), Some(0x10), Some(0x20)])?;
+    expect(&rt, left_sequences(&rt, rt.alloc()), expected)?;
+    expect(&rt, sent_count(&rt, rt.alloc()), 3)
+}
+
+/// Each caller makes three beacons.
+fn three_beacons_each<N: ApName, R: Wait>(
+    rt: &R,
+    ap: &Ap<N>,
+    callers: &mut [Caller],
+    transmitter: &mut Transmitter<N>,
+) -> Result<(), Fail> {
+    for caller in callers.iter_mut() {
+        three_beacons(rt, ap, caller, transmitter)?;
+    }
     Ok(())
+}
+
+/// An access point is dropped with a frame that is queued, and one that waits.
+fn dropped_of<N: ApName, R: Wait>(rt: &R, alloc: Global, parts: Parts) -> Result<(), Fail>
+    requires { AreNamed N.config N.queue parts }
+{
+    let (ap, mut callers, mut transmitter) = Ap::<N>::start(alloc, parts)?;
+    three_beacons_each(rt, &ap, callers.as_mut_slice(), &mut transmitter)
+}
+
+/// The same of a new access point of one network.
+fn dropped<R: Wait>(rt: &R, alloc: Global) -> Result<(), Fail> {
+    let parts = Parts::open(alloc, one_network(alloc, 100)?, 1)?;
+    dropped_of::<Brand, R>(rt, alloc, parts)
 }
 
 #[test]
 fn an_access_point_is_dropped(rt: HostRuntime) -> Result<(), Fail> {
-    assert!(rt; end(&rt, rt.alloc(), true)?.is_none());
-    Ok(())
+    expect(&rt, dropped(&rt, rt.alloc()), ())
 }

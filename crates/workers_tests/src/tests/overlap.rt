@@ -3,12 +3,11 @@
 ghost use Rattle.std.specs.Prelude.{◌<◌, length};
 ghost use Rattle.workers.specs.Names.{AreNamed};
 
-use super::{BSSIDS, NOBODY, two_networks};
+use super::{BSSIDS, NOBODY, expect, has_first, two_networks};
 use bss_core::Bss;
 use mac_frame::{MacAddr, NoMemory};
 use std::alloc::Global;
 use std::marker::Brand;
-use std::process::Abort;
 use std::sync::Wait;
 use std::sync::atomic::{AtomicU64, Ordering};
 use std::test::Fail;
@@ -78,30 +77,51 @@ fn both<N: ApName + Send + Sync, R: Threads + Wait + Sync>(
     )
 }
 
-fn other_network_answers_of<N: ApName + Send + Sync, R: Threads + Wait + Abort + Sync>(
+/// Whether each thread saw the other's sign in time, the one that looks and the one that gives a frame, and what that
+/// frame was answered.
+type Overlap = (bool, bool, [Outcome; 8]);
+
+/// What came of it, where there is a network.
+fn overlap<N: ApName + Send + Sync, R: Threads + Wait + Sync>(
+    rt: &R,
+    ap: &Ap<N>,
+    caller: &mut Caller,
+) -> Result<Overlap, Fail> {
+    has_first(ap)?;
+    let (answered, (looking, outcomes)) = both(rt, ap, caller);
+    Ok((answered, looking, outcomes?))
+}
+
+fn other_network_answers_of<N: ApName + Send + Sync, R: Threads + Wait + Sync>(
     rt: &R,
     alloc: Global,
     parts: Parts,
-) -> Result<(), Fail>
+) -> Result<Overlap, Fail>
     requires { AreNamed N.config N.queue parts }
 {
     let (ap, mut callers, _transmitter) = Ap::<N>::start(alloc, parts)?;
     let mut caller = callers.pop().ok_or("no caller")?;
-    if ap.networks() == 0 {
-        return Err(Fail::from("no network"));
-    }
-    let (answered, (looking, outcomes)) = both(rt, &ap, &mut caller);
-    assert!(rt; looking);
-    assert!(rt; answered);
-    let mut expected = NOBODY;
-    expected[1] = Outcome::Took(0);
-    assert_eq!(rt; outcomes?, expected);
-    Ok(())
+    overlap(rt, &ap, &mut caller)
+}
+
+/// The same of a new access point of two networks.
+fn overlap_of_two<R: Threads + Wait + Sync>(rt: &R, alloc: Global) -> Result<Overlap, Fail> {
+    let parts = Parts::open(alloc, two_networks(alloc)?, 1)?;
+    other_network_answers_of::<Brand, R>(rt, alloc, parts)
+}
+
+/// The second network took its first event.
+fn second_took() -> [Outcome; 8] {
+    let mut outcomes = NOBODY;
+    outcomes[1] = Outcome::Took(0);
+    outcomes
 }
 
 #[test]
 fn other_network_answers(rt: HostRuntime) -> Result<(), Fail> {
-    let config = two_networks(rt.alloc())?;
-    let parts = Parts::open(rt.alloc(), config, 1)?;
-    other_network_answers_of::<Brand, _>(&rt, rt.alloc(), parts)
+    expect(
+        &rt,
+        overlap_of_two(&rt, rt.alloc()),
+        (true, true, second_took()),
+    )
 }

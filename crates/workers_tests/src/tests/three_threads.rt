@@ -1,12 +1,14 @@
 //! Two threads feed a network each, while a third lets frames leave.
 
-ghost use Rattle.std.specs.Prelude.{◌<◌, length};
+ghost use Rattle.std.specs.Prelude.{◌<◌, OnOk, length};
 ghost use Rattle.workers.specs.Names.{AreNamed};
 
-use super::{count_of, octets, section_at, two_networks};
+use super::{count_of, expect, octets, section_at, two_networks};
 use bss_core::{Event, RunResult, Section, Step, run};
+use mac_frame::NoMemory;
 use std::alloc::Global;
 use std::marker::Brand;
+use std::process::Abort;
 use std::sync::Wait;
 use std::sync::atomic::{AtomicU64, Ordering};
 use std::test::Fail;
@@ -116,6 +118,81 @@ fn run_three<N: ApName + Send + Sync, R: Threads + Wait + Sync>(
     fed && others
 }
 
+/// Fails where an access point has not two networks.
+fn has_two<N: ApName>(ap: &Ap<N>) -> Result<(), Fail>
+    ensures { OnOk result (1 < length N.config.networks) }
+{
+    if ap.networks() < 2 {
+        return Err(Fail::from("one network"));
+    }
+    Ok(())
+}
+
+/// Runs the three threads with the request of each network.
+fn run_requests<N: ApName + Send + Sync, R: Threads + Wait + Sync>(
+    rt: &R,
+    alloc: Global,
+    ap: &Ap<N>,
+    first: &mut Caller,
+    second: &mut Caller,
+    transmitter: &mut Transmitter<N>,
+) -> Result<bool, Fail> {
+    has_two(ap)?;
+    let one = octets(alloc, REQUESTS[0])?;
+    let two = octets(alloc, REQUESTS[1])?;
+    let (one, two) = (one.as_slice(), two.as_slice());
+    Ok(run_three(rt, ap, first, second, transmitter, one, two))
+}
+
+/// Fails where a thread does not come to its end.
+fn feed_all<N: ApName + Send + Sync, R: Threads + Wait + Sync>(
+    rt: &R,
+    alloc: Global,
+    ap: &Ap<N>,
+    first: &mut Caller,
+    second: &mut Caller,
+    transmitter: &mut Transmitter<N>,
+) -> Result<(), Fail> {
+    if !run_requests(rt, alloc, ap, first, second, transmitter)? {
+        return Err(Fail::from("a thread did not come to its end"));
+    }
+    Ok(())
+}
+
+/// Two callers, in this order.
+fn in_order(alloc: Global, first: Caller, second: Caller) -> Result<Vec<Caller>, NoMemory> {
+    let mut callers = Vec::new(alloc);
+    callers.push(first)?;
+    callers.push(second)?;
+    Ok(callers)
+}
+
+/// The two callers, once the threads came to their end.
+fn fed_callers<N: ApName + Send + Sync, R: Threads + Wait + Sync>(
+    rt: &R,
+    alloc: Global,
+    ap: &Ap<N>,
+    mut callers: Vec<Caller>,
+    transmitter: &mut Transmitter<N>,
+) -> Result<Vec<Caller>, Fail> {
+    let mut second = callers.pop().ok_or("no caller")?;
+    let mut first = callers.pop().ok_or("one caller")?;
+    feed_all(rt, alloc, ap, &mut first, &mut second, transmitter)?;
+    Ok(in_order(alloc, first, second)?)
+}
+
+/// What the access point ends with then.
+fn fed_end<N: ApName + Send + Sync, R: Threads + Wait + Sync>(
+    rt: &R,
+    alloc: Global,
+    ap: Ap<N>,
+    callers: Vec<Caller>,
+    mut transmitter: Transmitter<N>,
+) -> Result<Finished, Fail> {
+    let callers = fed_callers(rt, alloc, &ap, callers, &mut transmitter)?;
+    Ok(ap.finish(rt, callers, transmitter)?)
+}
+
 fn fed_of<N: ApName + Send + Sync, R: Threads + Wait + Sync>(
     rt: &R,
     alloc: Global,
@@ -123,27 +200,8 @@ fn fed_of<N: ApName + Send + Sync, R: Threads + Wait + Sync>(
 ) -> Result<Finished, Fail>
     requires { AreNamed N.config N.queue parts }
 {
-    let (ap, mut callers, mut transmitter) = Ap::<N>::start(alloc, parts)?;
-    let mut second = callers.pop().ok_or("no caller")?;
-    let mut first = callers.pop().ok_or("one caller")?;
-    if ap.networks() < 2 {
-        return Err(Fail::from("one network"));
-    }
-    let one = octets(alloc, REQUESTS[0])?;
-    let two = octets(alloc, REQUESTS[1])?;
-    let fed = run_three(
-        rt,
-        &ap,
-        &mut first,
-        &mut second,
-        &mut transmitter,
-        one.as_slice(),
-        two.as_slice(),
-    );
-    if !fed {
-        return Err(Fail::from("a thread did not come to its end"));
-    }
-    Ok(ap.finish(rt, callers, transmitter)?)
+    let (ap, callers, transmitter) = Ap::<N>::start(alloc, parts)?;
+    fed_end(rt, alloc, ap, callers, transmitter)
 }
 
 /// The same of a new access point of two networks.
@@ -174,18 +232,38 @@ fn are_same(one: &Section, other: &Section) -> bool {
             .all(|(a, b)| a.as_slice() == b.as_slice())
 }
 
+/// Whether the network at a place sent what it sends alone, how many events it took, and how many of its frames left.
+fn shown(expected: &RunResult, end: &Finished, place: usize) -> Result<(bool, usize, usize), Fail> {
+    let section = section_at(&end.sections, place)?;
+    let is_same = are_same(section, section_at(&expected.sections, place)?);
+    let events = section.events.as_slice().len();
+    Ok((is_same, events, count_of(&end.left, place)))
+}
+
+/// Each took all its requests and sent what it sends alone, and nothing else left.
+fn expect_both<R: Abort>(rt: &R, expected: &RunResult, end: &Finished) -> Result<(), Fail> {
+    let all = FRAMES as usize;
+    for place in 0..2 {
+        expect(rt, shown(expected, end, place), (true, all, all))?;
+    }
+    expect(rt, Ok(end.left.as_slice().len()), 2 * all)
+}
+
+/// So it is with a new access point.
+fn expect_fed<R: Threads + Wait + Abort + Sync>(
+    rt: &R,
+    alloc: Global,
+    expected: &RunResult,
+) -> Result<(), Fail> {
+    let end = fed(rt, alloc)?;
+    expect_both(rt, expected, &end)
+}
+
 #[test]
 fn two_networks_are_fed_at_once(rt: HostRuntime) -> Result<(), Fail> {
     let expected = alone(rt.alloc())?;
     for _ in 0..TIMES {
-        let end = fed(&rt, rt.alloc())?;
-        for place in 0..2 {
-            let section = section_at(&end.sections, place)?;
-            assert!(rt; are_same(section, section_at(&expected.sections, place)?));
-            assert_eq!(rt; section.events.as_slice().len(), FRAMES as usize);
-            assert_eq!(rt; count_of(&end.left, place), FRAMES as usize);
-        }
-        assert_eq!(rt; end.left.as_slice().len(), 2 * FRAMES as usize);
+        expect_fed(&rt, rt.alloc(), &expected)?;
     }
     Ok(())
 }

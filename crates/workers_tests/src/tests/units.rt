@@ -1,15 +1,13 @@
 //! Units for a station that dozes, through an access point.
 
-ghost use Rattle.workers.specs.Names.{AreNamed};
-
-use super::{ASSOCIATION, AUTHENTICATION, are_frames, first, octets, one_network, section_at};
+use super::running::{Job, run};
+use super::{ASSOCIATION, AUTHENTICATION, are_frames, expect, first, octets, section_at};
 use mac_frame::Octets;
 use std::alloc::Global;
-use std::marker::Brand;
 use std::process::Abort;
 use std::sync::Wait;
 use std::test::Fail;
-use workers::{Ap, ApName, Caller, Finished, Outcome, Parts};
+use workers::{Ap, ApName, Caller, Finished, Outcome};
 
 /// The station dozes.
 const DOZE: &str = "48110000 020000000001 02aa00000001 020000000001 0000";
@@ -70,20 +68,18 @@ fn give<N: ApName, R: Wait>(
     Ok(outcomes)
 }
 
-fn polled_of<N: ApName, R: Wait + Abort>(
+/// All of it happens, and the network takes each.
+pub(super) fn give_all<N: ApName, R: Wait + Abort>(
     rt: &R,
     alloc: Global,
-    parts: Parts,
-) -> Result<Finished, Fail>
-    requires { AreNamed N.config N.queue parts }
-{
-    let (ap, mut callers, transmitter) = Ap::<N>::start(alloc, parts)?;
-    let mut caller = callers.pop().ok_or("no caller")?;
+    ap: &Ap<N>,
+    caller: &mut Caller,
+) -> Result<(), Fail> {
     for (number, happens) in (0..9u32).zip(MOVES) {
-        let outcomes = give(rt, alloc, &ap, &mut caller, happens)?;
-        assert_eq!(rt; outcomes, first(Outcome::Took(number)));
+        let outcomes = give(rt, alloc, ap, caller, happens);
+        expect(rt, outcomes, first(Outcome::Took(number)))?;
     }
-    Ok(ap.finish(rt, callers, transmitter)?)
+    Ok(())
 }
 
 /// The frames of the items, in their order.
@@ -95,14 +91,28 @@ fn frames(alloc: Global, end: &Finished) -> Result<Vec<Octets>, Fail> {
     Ok(frames)
 }
 
+/// Whether these are the frames of the section and those that left, and how many events the network took, and how many
+/// units it keeps.
+fn shown(alloc: Global, end: &Finished) -> Result<([bool; 2], [u32; 2]), Fail> {
+    let section = section_at(&end.sections, 0)?;
+    let is_sent = are_frames(alloc, section.air.as_slice(), &SENT)?;
+    let counts = [section.counts.events, section.counts.kept];
+    Ok(([is_sent, have_left(alloc, end)?], counts))
+}
+
+/// Whether these left.
+fn have_left(alloc: Global, end: &Finished) -> Result<bool, Fail> {
+    let frames = frames(alloc, end)?;
+    are_frames(alloc, frames.as_slice(), &SENT)
+}
+
+/// What all this comes to.
+fn polls<R: Wait + Abort>(rt: &R, alloc: Global) -> Result<([bool; 2], [u32; 2]), Fail> {
+    let end = run(rt, alloc, Job::Units, 100)?;
+    shown(alloc, &end)
+}
+
 #[test]
 fn a_station_polls_its_units(rt: HostRuntime) -> Result<(), Fail> {
-    let config = one_network(rt.alloc(), 100)?;
-    let parts = Parts::open(rt.alloc(), config, 1)?;
-    let end = polled_of::<Brand, _>(&rt, rt.alloc(), parts)?;
-    let section = section_at(&end.sections, 0)?;
-    assert!(rt; are_frames(rt.alloc(), section.air.as_slice(), &SENT)?);
-    assert!(rt; are_frames(rt.alloc(), frames(rt.alloc(), &end)?.as_slice(), &SENT)?);
-    assert_eq!(rt; (section.counts.events, section.counts.kept), (9, 0));
-    Ok(())
+    expect(&rt, polls(&rt, rt.alloc()), ([true, true], [9, 0]))
 }

@@ -1,4 +1,4 @@
-use Rattle.std.proofs.Common.{◌≡◌, ◌+◌, ◌<◌, ◌++◌, ◌∷◌, ℕ, List, length, sym, ap, subst, ◌∙◌, arith, append_assoc, vec_len, []}
+use Rattle.std.proofs.Common.{◌≡◌, ◌<◌, ◌++◌, ◌∷◌, ℕ, List, length, sym, ap, subst, ◌∙◌, arith, append_assoc, []}
 use Rattle.std.proofs.lemmas.List.{length_push}
 use Rattle.std.specs.Prelude.{All}
 use Rattle.std.specs.List.{AllByRecursion, enumerate_from}
@@ -7,7 +7,7 @@ use Rattle.bss_core.specs.BssView.{BssView}
 use Rattle.bss_core.specs.declared.section.Section.{Section}
 use Rattle.bss_core.specs.declared.radio.step.AirItem.{AirItem}
 use Rattle.workers.specs.Ending.{IsSent, items_at}
-use Rattle.workers.proofs.Endings.{ended-step, sent-step}
+use Rattle.workers.proofs.Endings.{ended-step, ended-map, sent-step}
 use Rattle.workers.proofs.Frames.{placed-more}
 use Rattle.workers.proofs.finish.end_networks.Goals as goal
 
@@ -37,6 +37,8 @@ loop-network-preserved g c =
           let next = ap length c.in-Some.ensures.steps.0 in
           omega (arith, count, long, one, next)
           );
+      histories = ended-map (λ (s : Section). s.events) (λ (n : BssView). n.history) sections c.push.new.self.items section b rest (into_iter_items c.loop-network.network-iterator) (ap (λ (s : Section). s.events) c.in_ok-end_network.ensures.section) pushed c.in-Some.ensures.steps.0 i.histories;
+      limits = ended-map (λ (s : Section). s.config.max_events) (λ (n : BssView). n.setting.network.max_events) sections c.push.new.self.items section b rest (into_iter_items c.loop-network.network-iterator) (ap (λ (s : Section). s.config.max_events) c.in_ok-end_network.ensures.section) pushed c.in-Some.ensures.steps.0 i.limits;
       placed = λ before. subst (λ (items : List AirItem). All (λ (item : AirItem). item.place < length config.networks) items) (sym more) (placed-more (length config.networks) place left b.waiting within (i.placed before));
       begins = (
         i.begins.0 ++ items_at place b.waiting,

@@ -1,4 +1,4 @@
-use Rattle.std.proofs.Common.{◌≡◌, ◌+◌, ◌++◌, ◌∷◌, [], ℕ, List, length, sym, ap, subst, ◌∙◌, arith, vec_len}
+use Rattle.std.proofs.Common.{◌≡◌, ◌+◌, ◌++◌, ◌∷◌, [], List, length, sym, ap, subst, ◌∙◌, arith, vec_len}
 use Rattle.std.specs.List.{AllZip, range_with_len}
 use Rattle.air_queue.specs.Passes.{NetPassView}
 use Rattle.bss_core.specs.BssView.{BssView}

@@ -1,4 +1,4 @@
-use Rattle.std.proofs.Common.{◌≡◌, ◌+◌, List, [], None, length, inl, inr, sym, ap, subst, ◌∙◌, arith, rules}
+use Rattle.std.proofs.Common.{◌≡◌, List, length, inl, inr, sym, ap, subst, ◌∙◌, arith, rules}
 use Rattle.std.specs.List.{AllByRecursion, zip}
 use Rattle.std.specs.Vec.Iter.{into_iter_items}
 use Rattle.air_queue.specs.Passes.{NetPassView, fresh_passes}

@@ -1,9 +1,13 @@
-use Rattle.std.proofs.Common.{◌≡◌, List, Some, length, sym, ap, subst, ◌∙◌, arith}
+use Rattle.std.proofs.Common.{◌≡◌, ℕ, List, length, sym, ap, subst, ◌∙◌, arith}
 use Rattle.std.specs.Prelude.{slice_get}
 use Rattle.bss_core.specs.Radio.{items_of}
+use Rattle.bss_core.specs.declared.event.Event.{Event}
 use Rattle.bss_core.specs.declared.section.Section.{Section}
 use Rattle.bss_core.specs.declared.radio.step.AirItem.{AirItem}
+use Rattle.workers.specs.Attributions.{histories, limits}
 use Rattle.workers.specs.Ending.{AreSent}
+use Rattle.workers.specs.Receipts.{histories_of, limits_of, AreFullLast}
+use Rattle.workers.specs.declared.caller.Entry.{Entry}
 use Rattle.workers.proofs.Endings.{seats-count, all-sent, ended-at}
 use Rattle.workers.proofs.ap.Ap.finish.Goals as goal
 
@@ -33,3 +37,11 @@ returns-clause-air g c place section at =
     let there = ap (λ (ss : List Section). slice_get ss place) (sym c.from_vec.ensures) ∙ at in
     ap (items_of place) c.from_vec-2.ensures
     ∙ (ended-at g.N.ApName.config c.end_networks.new.left.items c.in_ok-sections.sections.items place section c.in_ok-sections.ensures.ended there).air
+
+pub returns-clause-full : goal.returns-clause-full
+returns-clause-full g c =
+    let sections : List Section = c.from_vec.result in
+    let took : histories c.as_slice.result.now ≡ histories_of sections = ap histories c.as_slice.ensures.value ∙ sym (ap histories_of c.from_vec.ensures ∙ c.in_ok-sections.ensures.histories) in
+    let most : limits c.as_slice.result.now ≡ limits_of sections = ap limits c.as_slice.ensures.value ∙ sym (ap limits_of c.from_vec.ensures ∙ c.in_ok-sections.ensures.limits) in
+    let callers = c.as_slice-2.ensures.value in
+    subst (λ (x : List ℕ × List (List Event) × List (List Entry)). AreFullLast x.0 x.1 x.2) (λ k. (most k, took k, callers k)) c.in_ok-givers.ensures.full

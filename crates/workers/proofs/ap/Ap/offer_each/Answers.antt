@@ -1,4 +1,4 @@
-use Rattle.std.proofs.Common.{◌≡◌, ◌+◌, ◌<◌, ◌≤◌, ◌++◌, ℕ, List, length, get_or, set, take, Option, None, refl, sym, ap, ◌∙◌, arith, vec_len, vec_capacity}
+use Rattle.std.proofs.Common.{◌≡◌, ◌<◌, ◌≤◌, ◌++◌, ℕ, List, length, get_or, set, Option, None, refl, sym, ap, ◌∙◌, arith, vec_len, vec_capacity}
 use Rattle.std.proofs.lemmas.List.{take_all, length-set}
 use Rattle.workers.specs.Giving.{entries_of}
 use Rattle.workers.specs.declared.copies.Copies.{Copies}
@@ -55,6 +55,9 @@ loop-place-preserved g c =
             room = omega (arith, room, len, capacity);
           }
     ]
+
+pub returns-clause-count : goal.returns-clause-count
+returns-clause-count g c = c.loop-place.invariant.long
 
 pub returns-clause-heard : goal.returns-clause-heard
 returns-clause-heard g c place within =

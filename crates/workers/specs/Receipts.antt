@@ -1,0 +1,71 @@
+-- Which caller gave which event of the networks' histories (profile).
+use Rattle.std.specs.Prelude.{ℕ, ◌≡◌, ◌<◌, ◌==◌, All, List, [], ◌∷◌, length, map, drop, Option, Some, None, slice_get}
+use Rattle.std.specs.Prelude.{slice_index_or, if◌then◌else◌}
+use Rattle.std.specs.List.{enumerate_from, filter_map}
+use Rattle.bss_core.specs.declared.bss.Refusal.TheVariants as refusals
+use Rattle.bss_core.specs.declared.event.Event.{Event}
+use Rattle.bss_core.specs.declared.section.Section.{Section}
+use Rattle.workers.specs.declared.caller.Entry.{Entry}
+use Rattle.workers.specs.declared.caller.Entry.TheVariants.{Receipt, Refused}
+
+-- ---- what callers were told
+
+-- an entry, where it is a receipt of the network at a place: the event's number, and the event
+abbrev pub receipt_for : ℕ → Entry → Option (ℕ × Event)
+receipt_for place (Receipt named number e) = if named == place then Some (number, e) else None
+receipt_for place (Refused named refusal) = None
+
+-- the receipts among a caller's entries for the network at a place, in order
+abbrev pub receipts_of : ℕ → List Entry → List (ℕ × Event)
+receipts_of place entries = filter_map (receipt_for place) entries
+
+-- ---- what networks took
+
+-- the events of each network, in order of place
+abbrev pub histories_of : List Section → List (List Event)
+histories_of sections = map (λ s. s.events) sections
+
+-- how many each may take
+abbrev pub limits_of : List Section → List ℕ
+limits_of sections = map (λ s. s.config.max_events) sections
+
+-- each event of a history with its number, from 0
+abbrev pub numbered : List Event → List (ℕ × Event)
+numbered history = enumerate_from 0 history
+
+-- what is dealt to caller i: those of the items, in order, at whose places the list of callers has i
+abbrev pub dealt : {A : Type 0} → List ℕ → List A → ℕ → List A
+dealt [] items i = []
+dealt (giver ∷ givers) [] i = []
+dealt (giver ∷ givers) (item ∷ items) i =
+    if giver == i then item ∷ dealt givers items i else dealt givers items i
+
+-- ---- how they agree
+
+-- A caller's receipts for a network are, in order, the numbered events of its history that are dealt to this caller:
+-- none where there is no such network or no such caller.
+abbrev pub AreReceipts : List (List Entry) → List (List Event) → List (List ℕ) → Type 0
+AreReceipts callers histories givers =
+    (place i : ℕ)
+    → receipts_of place (slice_index_or callers i [])
+    ≡ dealt (slice_index_or givers place []) (numbered (slice_index_or histories place [])) i
+
+-- each event of each network has a giver, who is one of so many callers
+pub record AreGivers (callers : ℕ) (histories : List (List Event)) (givers : List (List ℕ)) : Type 0 where
+  pub networks : length givers ≡ length histories
+  pub events : (place : ℕ) → length (slice_index_or givers place []) ≡ length (slice_index_or histories place [])
+  pub known : (place : ℕ) → All (λ giver. giver < callers) (slice_index_or givers place [])
+
+-- there is a network at a place, which has taken as many events as it may
+abbrev pub IsFullAt : List ℕ → List (List Event) → ℕ → Type 0
+IsFullAt limits histories place =
+    (place < length histories) × (length (slice_index_or histories place []) ≡ slice_index_or limits place 0)
+
+-- Where a caller was told that a network is full, it has no later receipt for it, and the network is full.
+abbrev pub IsFullLast : List ℕ → List (List Event) → List Entry → Type 0
+IsFullLast limits histories entries =
+    (k place : ℕ) → slice_get entries k ≡ Some (Refused place refusals.HistoryFull)
+    → (receipts_of place (drop k entries) ≡ []) × IsFullAt limits histories place
+
+abbrev pub AreFullLast : List ℕ → List (List Event) → List (List Entry) → Type 0
+AreFullLast limits histories callers = (i : ℕ) → IsFullLast limits histories (slice_index_or callers i [])
