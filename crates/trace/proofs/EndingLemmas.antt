@@ -2,8 +2,11 @@
 use Rattle.std.proofs.Common.{◌≡◌, ℕ, List, [], Option, Result, Ok, Err, refl, sym, subst}
 use Rattle.std.proofs.KnownBytes.{Appends-nil, Keeps-refl}
 use Rattle.std.specs.Io.KnownBytes.{Appends}
-use Rattle.trace.specs.Endings.{AppendsPrefix, EndsSo, Ends, Well, WriteFailed, OutOfMemory}
+use Rattle.trace.specs.Endings.{AppendsPrefix, EndsSo, Ends, Well, WriteFailed, OutOfMemory, IsFaultOf}
+use Rattle.trace.specs.Faults.{read_ending}
 use Rattle.trace.specs.Sinks.{report_ending}
+use Rattle.trace.specs.declared.read_fault.ReadFault.{ReadFault}
+use Rattle.trace.specs.declared.read_fault.ReadFault.TheVariants as reads
 use Rattle.trace.specs.declared.report.ReportFault.{ReportFault}
 use Rattle.trace.specs.declared.report.ReportFault.TheVariants.{Write, NoMemory}
 
@@ -36,3 +39,9 @@ pub Ends-prefix : (fault : ReportFault) {old new : Option (List ℕ)} {text : Li
     → AppendsPrefix old new text → Ends {A = Unit} report_ending (Err fault) (Ok text) old new
 Ends-prefix Write part = part
 Ends-prefix NoMemory part = part
+
+-- a fault of one is that of the other
+pub same_fault : {A B F : Type 0} (one : Result A F) (other : Result B F) (e : ReadFault F)
+    → IsFaultOf one (read_ending e) → ((met : F) → one ≡ Err met → other ≡ Err met) → IsFaultOf other (read_ending e)
+same_fault one other (reads.At met) h on = on met h
+same_fault one other reads.NoMemory h on = tt

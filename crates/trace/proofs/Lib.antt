@@ -6,6 +6,9 @@ pub mod ConfigurationSound
 pub mod TextLemmas
 pub mod TraceRows
 pub mod TraceSteps
+pub mod PieceLines
+pub mod PieceLaws
+pub mod PieceSteps
 pub mod EndingLemmas
 pub mod SinkSteps
 pub mod BufferSteps

@@ -266,22 +266,22 @@ spaces_at_the_very_end config = refl
 
 -- ---- the number of lines
 
-pub most_lines_are_read : (config : RadioConfig) → lines_from config 1000000 (codes "A" ∷ []) ≡ Ok (Air [] ∷ [])
+pub most_lines_are_read : (bssids : List (List ℕ)) → lines_from bssids 1000000 (codes "A" ∷ []) ≡ Ok (Air [] ∷ [])
 unfolding hex_on_literals
-most_lines_are_read config = refl
+most_lines_are_read bssids = refl
 
-pub one_line_too_many : (config : RadioConfig)
-    → lines_from config 1000000 (codes "A" ∷ codes "X" ∷ []) ≡ Err (fault 5 1000001)
+pub one_line_too_many : (bssids : List (List ℕ))
+    → lines_from bssids 1000000 (codes "A" ∷ codes "X" ∷ []) ≡ Err (fault 5 1000001)
 unfolding hex_on_literals
-one_line_too_many config = refl
+one_line_too_many bssids = refl
 
-pub skipped_line_too_many : (config : RadioConfig)
-    → lines_from config 1000000 (codes "#" ∷ codes "#" ∷ []) ≡ Err (fault 5 1000001)
-skipped_line_too_many config = refl
+pub skipped_line_too_many : (bssids : List (List ℕ))
+    → lines_from bssids 1000000 (codes "#" ∷ codes "#" ∷ []) ≡ Err (fault 5 1000001)
+skipped_line_too_many bssids = refl
 
-pub fault_before_the_limit : (config : RadioConfig)
-    → lines_from config 1000000 (codes "X" ∷ codes "X" ∷ []) ≡ Err (fault 1 1000000)
-fault_before_the_limit config = refl
+pub fault_before_the_limit : (bssids : List (List ℕ))
+    → lines_from bssids 1000000 (codes "X" ∷ codes "X" ∷ []) ≡ Err (fault 1 1000000)
+fault_before_the_limit bssids = refl
 
 pub spaces_alone_after_the_word : (config : RadioConfig) → lines_of config (codes "A   " ++ lf) ≡ Ok (Air [] ∷ [])
 unfolding hex_on_literals

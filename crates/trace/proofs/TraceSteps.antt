@@ -8,24 +8,24 @@ use Rattle.std.proofs.lemmas.Bool.{or_parts, eq-eqb, ne_eqb}
 use Rattle.std.proofs.lemmas.List.Quantifiers.{position-Some}
 use Rattle.trace.specs.Texts.{is_line_feed, cut}
 use Rattle.std.specs.Option.{option_to_list}
-use Rattle.bss_core.specs.declared.config.RadioConfig.{RadioConfig}
 use Rattle.trace.specs.Faults.{◌>>=◌}
 use Rattle.trace.specs.TraceText.{is_space, digits_of, without_spaces_at_start, line_of, lines_from}
 use Rattle.bss_core.specs.declared.line.Line.{Line}
 use Rattle.trace.specs.declared.fault.TraceFault.{TraceFault}
+use Rattle.trace.specs.Pieces.{said_after}
 use Rattle.trace.proofs.TextLemmas.{around_line_feed, prefix_lacks, lacks_from_none, cut-ended, cut-last}
 
 -- ---- the lines of a text
 
 -- lists that are not none
-abbrev HasFirst : List (List ℕ) → Type 0
+abbrev pub HasFirst : List (List ℕ) → Type 0
 HasFirst parts = (first : List ℕ) × (others : List (List ℕ)) × (parts ≡ first ∷ others)
 
 onto_first-has_first : (x : ℕ) (parts : List (List ℕ)) → HasFirst (onto_first x parts)
 onto_first-has_first x [] = (x ∷ [], [], refl)
 onto_first-has_first x (part ∷ parts) = (x ∷ part, parts, refl)
 
-slice_split-has_first : (p : ℕ → Bool) (xs : List ℕ) → HasFirst (slice_split p xs)
+pub slice_split-has_first : (p : ℕ → Bool) (xs : List ℕ) → HasFirst (slice_split p xs)
 slice_split-has_first p [] = ([], [], refl)
 slice_split-has_first p (x ∷ xs) =
     elim (p x) as (λ b. HasFirst (cond b ([] ∷ slice_split p xs) (onto_first x (slice_split p xs)))) [
@@ -33,29 +33,9 @@ slice_split-has_first p (x ∷ xs) =
       | false ↦ onto_first-has_first x (slice_split p xs)
     ]
 
--- a part with others after it is a line
-lines_of_parts-cons : (x : List ℕ) (parts : List (List ℕ)) → HasFirst parts
-    → lines_of_parts (x ∷ parts) ≡ strip_carriage_return x ∷ lines_of_parts parts
-lines_of_parts-cons x parts h = rw h.2 refl
-
--- the first line, where it ends
-pub lines_more : (text : List ℕ) (n : ℕ) → position is_line_feed text ≡ Some n
-    → lines text ≡ strip_carriage_return (take n text) ∷ lines (drop (n + 1) text)
-lines_more text n e =
-    let at = position-Some is_line_feed text n 0 e in
-    let line : List ℕ = take n text in
-    let rest : List ℕ = drop (n + 1) text in
-    ap (λ xs. lines_of_parts (cut xs)) (around_line_feed text n at.0 at.1)
-    ∙ ap lines_of_parts (cut-ended line rest (prefix_lacks text n at.2))
-    ∙ lines_of_parts-cons line (cut rest) (slice_split-has_first is_line_feed rest)
-
 -- a last part with something in it is a line
-last_part : (text : List ℕ) → 0 < length text → lines_of_parts (text ∷ []) ≡ text ∷ []
+pub last_part : (text : List ℕ) → 0 < length text → lines_of_parts (text ∷ []) ≡ text ∷ []
 last_part text h = rw (ne_eqb (length text) 0 (omega arith)) refl
-
--- the first line, where it doesn't
-pub lines_last : (text : List ℕ) → position is_line_feed text ≡ None → 0 < length text → lines text ≡ text ∷ []
-lines_last text e some = ap lines_of_parts (cut-last text (lacks_from_none text e)) ∙ last_part text some
 
 -- ---- spaces at the start
 
@@ -80,30 +60,3 @@ digits_of_none [] h = refl
 digits_of_none (x ∷ xs) h =
     let parts = or_parts (is_space x) (list_any is_space xs) h in
     rw parts.0 (ap (λ (rest : List ℕ). x ∷ rest) (digits_of_none xs parts.1))
-
--- ---- what lines say after others
-
--- what earlier lines said, and then what later ones say
-abbrev pub said_after : List Line → Result (List Line) TraceFault → Result (List Line) TraceFault
-said_after before (Ok later) = Ok (before ++ later)
-said_after before (Err fault) = Err fault
-
--- a line that says something stands before what the later lines say
-pub said-more : (config : RadioConfig) (number : ℕ) (line : List ℕ) (rest : List (List ℕ)) (before : List Line)
-    (said : Line)
-    → line_of config number line ≡ Ok (Some said)
-    → said_after before (lines_from config number (line ∷ rest)) ≡ said_after (before ++ said ∷ [])
-    (lines_from config (number + 1) rest)
-said-more config number line rest before said e =
-    ap
-    (λ (spoken : Result (Option Line) TraceFault). said_after before (spoken >>= λ o. later >>= λ ls. Ok (option_to_list o ++ ls)))
-    e
-    ∙ onto later
-  where
-    later : Result (List Line) TraceFault
-    later = lines_from config (number + 1) rest
-
-    onto : (r : Result (List Line) TraceFault)
-        → said_after before (r >>= λ ls. Ok (said ∷ ls)) ≡ said_after (before ++ said ∷ []) r
-    onto (Ok ls) = ap (λ (all : List Line). Ok all) (sym (append_assoc before (said ∷ []) ls))
-    onto (Err fault) = refl

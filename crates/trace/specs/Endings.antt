@@ -1,5 +1,6 @@
 -- How a call ends that reads, writes or takes memory, and what hangs on it: what it says of a text that was read, what
--- its sink took, and how often its sink failed. Each type of errors has one function that says how a call ended with it.
+-- its sink took, and how often its sink failed. Each type of errors has one function that says how a call ended with
+-- it.
 use Rattle.std.specs.Prelude.{ℕ, ◌≡◌, List, ◌++◌, Option, Result, Ok, Err, MatchResult, IsOkAnd}
 use Rattle.std.specs.Io.KnownBytes.{Appends, Keeps}
 

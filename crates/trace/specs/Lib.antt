@@ -4,6 +4,7 @@ pub mod Faults
 pub mod Endings
 pub mod ConfigurationText
 pub mod TraceText
+pub mod Pieces
 pub mod Sinks
 pub mod Report
 pub mod Buffers

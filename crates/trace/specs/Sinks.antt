@@ -1,16 +1,16 @@
--- What is known of writers and of their failures.
-use Rattle.std.specs.Prelude.{ℕ, ◌^◌, ◌<◌}
+-- What is known of writers and readers, and of their failures.
+use Rattle.std.specs.Prelude.{ℕ, ◌^◌, ◌<◌, Result, Ok, Err}
 use Rattle.trace.specs.Endings.{Ending, WriteFailed, OutOfMemory}
 use Rattle.trace.specs.declared.report.ReportFault.{ReportFault}
 use Rattle.trace.specs.declared.report.ReportFault.TheVariants.{Write, NoMemory}
 
--- a writer, and how often writing to it failed
-pub record CountedWriter (T : Type 0) : Type 0 where
+-- a writer or reader, and how often it failed
+pub record CountedStream (T : Type 0) : Type 0 where
   pub inner : T
   pub failures : ℕ
 
--- What each call on a sink asks for: fewer than 2 ^ 63 failures so far. Their number is a u64, and a call stops at its
--- first failure, so that there is room to count that one.
+-- What each call on a sink or a source asks for: fewer than 2 ^ 63 failures so far. Their number is a u64, and a call
+-- stops at its first failure, so that there is room to count that one.
 abbrev pub MayFail : ℕ → Type 0
 MayFail failures = failures < 2 ^ 63
 
@@ -23,3 +23,9 @@ write_ending failed = WriteFailed
 abbrev pub report_ending : ReportFault → Ending ⊥
 report_ending Write = WriteFailed
 report_ending NoMemory = OutOfMemory
+
+-- ---- how often a source failed in a call that answers this
+
+abbrev pub failed_reads : {A E : Type 0} → Result A E → ℕ
+failed_reads (Ok x) = 0
+failed_reads (Err e) = 1

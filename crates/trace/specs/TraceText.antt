@@ -1,6 +1,6 @@
 -- What a trace text says: its lines, or the first fault with the number of its line.
 use Rattle.std.specs.Prelude.{ℕ, ◌+◌, ◌-◌, Bool, true, not, nat_lt, ◌==◌, List, [], ◌∷◌, ◌++◌, length, take, drop}
-use Rattle.std.specs.Prelude.{filter, position, codes, Option, Some, None, Result, Ok, Err, if◌then◌else◌}
+use Rattle.std.specs.Prelude.{filter, map, position, codes, Option, Some, None, Result, Ok, Err, if◌then◌else◌}
 use Rattle.std.specs.List.{prefix_len, suffix_len, before_first, after_first}
 use Rattle.std.specs.Option.{ok_or, option_to_list}
 use Rattle.std.specs.Str.{bytes_eq}
@@ -9,7 +9,6 @@ use Rattle.hex.specs.Hex.{decode_of}
 use Rattle.hex.specs.declared.error.FromHexError.{FromHexError}
 use Rattle.hex.specs.declared.error.FromHexError.TheVariants.{OutOfMemory}
 use Rattle.mac_frame.specs.Address.{address_of}
-use Rattle.bss_core.specs.declared.config.NetConfig.{NetConfig}
 use Rattle.bss_core.specs.declared.config.RadioConfig.{RadioConfig}
 use Rattle.bss_core.specs.declared.line.Line.{Line}
 use Rattle.bss_core.specs.declared.line.Line.TheVariants.{Air, Wire, Tick}
@@ -81,19 +80,19 @@ within_limit (Err e) = Err NotHexadecimal
 abbrev pub octets_of : List ℕ → Result (List ℕ) LineFault
 octets_of text = within_limit (decode_of (digits_of text))
 
--- the network has the address
-abbrev pub has_address : List ℕ → NetConfig → Bool
-has_address bssid network = bytes_eq network.bssid bssid
+-- the addresses of a configuration's networks, in order of place: all that reading asks of it
+abbrev pub bssids_of : RadioConfig → List (List ℕ)
+bssids_of config = map (λ network. network.bssid) config.networks
 
 -- the place of the network that has the address; no two have the same in a configuration without a fault
-abbrev pub place_with : List ℕ → List NetConfig → Option ℕ
-place_with bssid networks = position (has_address bssid) networks
+abbrev pub place_with : List ℕ → List (List ℕ) → Option ℕ
+place_with address bssids = position (λ bssid. bytes_eq bssid address) bssids
 
 -- the place of the network whose address a word spells
-abbrev pub place_named : RadioConfig → List ℕ → Result ℕ LineFault
-place_named config word = do
-  bssid ← ok_or (address_of word) NoAddress
-  ok_or (place_with bssid config.networks) UnknownNetwork
+abbrev pub place_named : List (List ℕ) → List ℕ → Result ℕ LineFault
+place_named bssids word = do
+  address ← ok_or (address_of word) NoAddress
+  ok_or (place_with address bssids) UnknownNetwork
 
 -- ---- what a line says after its first word
 
@@ -104,9 +103,9 @@ air_line text = do
   Ok (Air octets)
 
 -- `W`: the address of a network, and a frame that came over the wire to it
-abbrev pub wired_line : RadioConfig → List ℕ → Result Line LineFault
-wired_line config text = do
-  place ← place_named config (first_word text)
+abbrev pub wired_line : List (List ℕ) → List ℕ → Result Line LineFault
+wired_line bssids text = do
+  place ← place_named bssids (first_word text)
   octets ← octets_of (after_first_word text)
   Ok (Wire place octets)
 
@@ -118,18 +117,22 @@ tick_line (character ∷ characters) = Err UnknownKind
 -- ---- what a line says
 
 -- the line of a first word and the text after it
-abbrev pub line_with : RadioConfig → List ℕ → List ℕ → Result Line LineFault
-line_with config word text =
+abbrev pub line_with : List (List ℕ) → List ℕ → List ℕ → Result Line LineFault
+line_with bssids word text =
     if bytes_eq word (codes "A") then air_line text
-    else if bytes_eq word (codes "W") then wired_line config (without_spaces_at_start text)
+    else if bytes_eq word (codes "W") then wired_line bssids (without_spaces_at_start text)
     else if bytes_eq word (codes "T") then tick_line text
     else Err UnknownKind
 
 -- what a line less the spaces at its end says, nothing where it is skipped; or its first fault
-abbrev pub content_of : RadioConfig → List ℕ → Result (Option Line) LineFault
-content_of config line =
+abbrev pub content_of : List (List ℕ) → List ℕ → Result (Option Line) LineFault
+content_of bssids line =
     if is_skipped line then Ok None
-    else (line_with config (first_word line) (after_first_word line) >>= λ said. Ok (Some said))
+    else (line_with bssids (first_word line) (after_first_word line) >>= λ said. Ok (Some said))
+
+-- what a line without its LF and a CR before that says, whatever its number
+abbrev pub said_by : List (List ℕ) → List ℕ → Result (Option Line) LineFault
+said_by bssids line = content_of bssids (without_spaces_at_end line)
 
 -- ---- what a text says
 
@@ -139,22 +142,22 @@ at_line number (Ok said) = Ok said
 at_line number (Err fault) = Err (fault_in number fault)
 
 -- what the line with a number says, or its first fault
-abbrev pub line_of : RadioConfig → ℕ → List ℕ → Result (Option Line) TraceFault
-line_of config number line =
-    at_line number (if nat_lt max_lines number then Err TooMany else content_of config (without_spaces_at_end line))
+abbrev pub line_of : List (List ℕ) → ℕ → List ℕ → Result (Option Line) TraceFault
+line_of bssids number line =
+    at_line number (if nat_lt max_lines number then Err TooMany else said_by bssids line)
 
 -- what lines say, the first of which has this number; or the first fault
-abbrev pub lines_from : RadioConfig → ℕ → List (List ℕ) → Result (List Line) TraceFault
-lines_from config number [] = Ok []
-lines_from config number (line ∷ rest) = do
-  said ← line_of config number line
-  later ← lines_from config (number + 1) rest
+abbrev pub lines_from : List (List ℕ) → ℕ → List (List ℕ) → Result (List Line) TraceFault
+lines_from bssids number [] = Ok []
+lines_from bssids number (line ∷ rest) = do
+  said ← line_of bssids number line
+  later ← lines_from bssids (number + 1) rest
   Ok (option_to_list said ++ later)
 
 -- What a trace text says to the networks of a configuration. Its lines are the parts that end with LF, less a CR
 -- directly before it, and what follows the last LF, if anything does.
 abbrev pub lines_of : RadioConfig → List ℕ → Result (List Line) TraceFault
-lines_of config text = lines_from config 1 (lines text)
+lines_of config text = lines_from (bssids_of config) 1 (lines text)
 
 -- ---- why a text is not read
 

@@ -6,13 +6,13 @@ ghost use Rattle.trace.specs.Faults.{read_ending};
 ghost use Rattle.mac_frame.specs.Address.{address_of};
 ghost use Rattle.trace.specs.TraceText.{is_skipped, without_spaces_at_end, without_spaces_at_start, first_word};
 ghost use Rattle.trace.specs.TraceText.{after_first_word, digits_of, octets_of, within_limit, place_with, place_named};
-ghost use Rattle.trace.specs.TraceText.{wired_line, line_with, content_of};
+ghost use Rattle.trace.specs.TraceText.{wired_line, line_with, content_of, said_by};
 ghost use Rattle.hex.specs.Hex.{decode_of};
 
 use crate::fault::LineFault;
 use crate::read_fault::ReadFault;
 use crate::text::place_of;
-use bss_core::{Line, NetConfig, RadioConfig};
+use bss_core::Line;
 use mac_frame::{MacAddr, Octets};
 use std::alloc::{AllocError, Global};
 use std::str;
@@ -20,8 +20,29 @@ use std::str;
 /// The most octets of a string.
 const MAX_OCTETS: usize = 4096;
 
+/// What a line says to the networks that have these addresses, in order of place: nothing where it is skipped. It is
+/// taken without its LF, and without a CR directly before that.
+///
+/// The spaces at its end are dropped; a line that is then empty, or that begins with `#`, is skipped. Only spaces part
+/// words. The word `A` stands before a string that was heard on the air; `W` before the address of a network and a
+/// frame that came over the wire to it; `T` alone is the beginning of a beacon interval. Strings and frames are
+/// hexadecimal digits of either case, or none, with spaces among them.
+///
+/// A line with a fault gives the first, in this order: a first word that is none of these, also an empty one, or
+/// something after `T` (`L1`); a second word of `W` that is missing or no address (`L3`), or an address that no network
+/// has (`L4`); an odd number of digits, or another character (`L2`); more than 4096 octets (`L5`).
+pub fn read_line(
+    alloc: Global,
+    bssids: &[MacAddr],
+    line: &[u8],
+) -> Result<Option<Line>, ReadFault<LineFault>>
+    ensures { Gives (λ said. said) read_ending result (said_by bssids.now line.now) }
+{
+    read_content(alloc, bssids, without_spaces_at_end(line))
+}
+
 /// A line less the spaces at its end.
-pub fn without_spaces_at_end(line: &[u8]) -> &[u8]
+fn without_spaces_at_end(line: &[u8]) -> &[u8]
     ensures { result.now ≡ without_spaces_at_end line.now }
 {
     let mut end = line.len();
@@ -32,57 +53,53 @@ pub fn without_spaces_at_end(line: &[u8]) -> &[u8]
 }
 
 /// What a line less the spaces at its end says: nothing where it is skipped.
-pub fn read_content(
+fn read_content(
     alloc: Global,
-    config: &RadioConfig,
+    bssids: &[MacAddr],
     line: &[u8],
 ) -> Result<Option<Line>, ReadFault<LineFault>>
-    ensures { Gives (λ said. said) read_ending result (content_of config.now line.now) }
+    ensures { Gives (λ said. said) read_ending result (content_of bssids.now line.now) }
 {
     if is_skipped(line) {
         return Ok(None);
     }
     let (word, text) = split_word(line);
-    Ok(Some(line_with(alloc, config, word, text)?))
+    Ok(Some(line_with(alloc, bssids, word, text)?))
 }
 
 /// The line of a first word and the text after it.
 fn line_with(
     alloc: Global,
-    config: &RadioConfig,
+    bssids: &[MacAddr],
     word: &[u8],
     text: &[u8],
 ) -> Result<Line, ReadFault<LineFault>>
-    ensures { Gives (λ line. line) read_ending result (line_with config.now word.now text.now) }
+    ensures { Gives (λ line. line) read_ending result (line_with bssids.now word.now text.now) }
 {
     match word {
         b"A" => Ok(Line::Air(read_octets(alloc, text)?)),
-        b"W" => wired_line(alloc, config, without_spaces_at_start(text)),
+        b"W" => wired_line(alloc, bssids, without_spaces_at_start(text)),
         b"T" if text.is_empty() => Ok(Line::Tick),
         _ => Err(ReadFault::At(LineFault::UnknownKind)),
     }
 }
 
 /// The line of an address and a frame that came over the wire to its network.
-fn wired_line(
-    alloc: Global,
-    config: &RadioConfig,
-    text: &[u8],
-) -> Result<Line, ReadFault<LineFault>>
-    ensures { Gives (λ line. line) read_ending result (wired_line config.now text.now) }
+fn wired_line(alloc: Global, bssids: &[MacAddr], text: &[u8]) -> Result<Line, ReadFault<LineFault>>
+    ensures { Gives (λ line. line) read_ending result (wired_line bssids.now text.now) }
 {
     let (address, frame) = split_word(text);
-    let place = place_named(config, address)?;
+    let place = place_named(bssids, address)?;
     let octets = read_octets(alloc, frame)?;
     Ok(Line::Wire { place, octets })
 }
 
 /// The place of the network whose address a word spells.
-fn place_named(config: &RadioConfig, word: &[u8]) -> Result<usize, ReadFault<LineFault>>
-    ensures { Gives (λ place. place) read_ending result (place_named config.now word.now) }
+fn place_named(bssids: &[MacAddr], word: &[u8]) -> Result<usize, ReadFault<LineFault>>
+    ensures { Gives (λ place. place) read_ending result (place_named bssids.now word.now) }
 {
-    let bssid = address_of(word).ok_or(ReadFault::At(LineFault::NoAddress))?;
-    place_with(bssid, config.networks.as_slice()).ok_or(ReadFault::At(LineFault::UnknownNetwork))
+    let address = address_of(word).ok_or(ReadFault::At(LineFault::NoAddress))?;
+    place_with(address, bssids).ok_or(ReadFault::At(LineFault::UnknownNetwork))
 }
 
 /// The address that a word spells.
@@ -97,10 +114,10 @@ fn address_of(word: &[u8]) -> Option<MacAddr>
 }
 
 /// The place of the first network that has an address.
-fn place_with(bssid: MacAddr, networks: &[NetConfig]) -> Option<usize>
-    ensures { result ≡ place_with bssid networks.now }
+fn place_with(address: MacAddr, bssids: &[MacAddr]) -> Option<usize>
+    ensures { result ≡ place_with address bssids.now }
 {
-    networks.iter().position(|network| network.bssid == bssid)
+    bssids.iter().position(|bssid| *bssid == address)
 }
 
 /// A text less the spaces at its start.

@@ -5,9 +5,6 @@ ghost use Rattle.std.specs.Io.KnownBytes.{Appends, Keeps};
 ghost use Rattle.trace.specs.Endings.{Ends, failures_of};
 ghost use Rattle.trace.specs.Sinks.{MayFail, write_ending};
 
-use std::io::Write;
-use std::marker::Model;
-
 /// A write that a sink refused. It took no octet.
 #[derive(Clone, Copy, Debug, PartialEq, Eq)]
 pub struct Failed;
@@ -34,60 +31,6 @@ pub trait Sink {
     /// The number of its failures. It takes no memory.
     fn failures(&self) -> u64
         ensures { result ≡ failed self.now };
-}
-
-/// A writer as a sink, with the number of its failures: an error is one, and so is a write that takes no octet.
-///
-/// It holds no octets itself, so what it has taken is what the writer has.
-#[derive(Debug, Drop)]
-pub struct Counted<T> {
-    inner: T,
-    failures: u64,
-}
-
-impl<T> Model for Counted<T> {
-    ghost use Rattle.trace.specs.Sinks.{CountedWriter};
-
-    ghost Value = { CountedWriter T };
-
-    ghost view = { λ c. record { inner = c.inner; failures = c.failures } };
-}
-
-impl<T> Counted<T> {
-    /// The writer as a sink that has not failed.
-    pub fn new(inner: T) -> Counted<T>
-        ensures inner { result.inner ≡ inner }
-        ensures failures { result.failures ≡ 0 }
-    {
-        Counted { inner, failures: 0 }
-    }
-
-    /// The writer.
-    pub fn into_inner(self) -> T
-        ensures { result ≡ self.inner }
-    {
-        self.inner
-    }
-}
-
-impl<T: Write> Sink for Counted<T> {
-    ghost taken = { λ c. T.contents c.inner };
-
-    ghost failed = { λ c. c.failures };
-
-    fn write_some(&mut self, piece: &[u8]) -> Result<usize, Failed> {
-        match self.inner.write(piece) {
-            Ok(count) if count > 0 => Ok(count),
-            Ok(_) | Err(_) => {
-                self.failures += 1;
-                Err(Failed)
-            }
-        }
-    }
-
-    fn failures(&self) -> u64 {
-        self.failures
-    }
 }
 
 /// Has the sink take the whole text. It stops at the first failure, which is its answer; the sink has then taken a

@@ -7,6 +7,8 @@
 #[cfg(test)]
 mod configurations;
 #[cfg(test)]
+mod pieces;
+#[cfg(test)]
 mod reports;
 #[cfg(test)]
 mod traces;

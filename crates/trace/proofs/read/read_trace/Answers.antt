@@ -1,23 +1,51 @@
-use Rattle.std.proofs.Common.{◌≡◌, ◌+◌, List, Ok, Some, ap, sym, ◌∙◌, arith}
+use Rattle.std.proofs.Common.{◌≡◌, ◌∙◌, ℕ, List, Ok, ap, sym}
+use Rattle.std.proofs.lemmas.Result.{err_from_is_err_and}
+use Rattle.bss_core.specs.declared.config.RadioConfig.{RadioConfig}
 use Rattle.bss_core.specs.declared.line.Line.{Line}
-use Rattle.trace.specs.TraceText.{line_of, lines_from}
-use Rattle.trace.proofs.TraceSteps.{said_after, said-more}
-use Rattle.std.specs.Str.Lines.{lines}
+use Rattle.trace.specs.TraceText.{bssids_of}
+use Rattle.trace.specs.Pieces.{ReaderView, new_reader, answer_to, answer_to_end, after_piece}
+use Rattle.trace.proofs.EndingLemmas.{same_fault}
+use Rattle.trace.proofs.PieceSteps.{whole-fault, whole-end_fault, whole-said}
 use Rattle.trace.proofs.read.read_trace.Goals as goal
 
-pub loop-rest-preserved-in_ok-push : goal.loop-rest-preserved-in_ok-push
-loop-rest-preserved-in_ok-push c =
-    let config = c.args.config.now in
-    let number = c.loop-rest.number + 1 in
-    let before = c.loop-rest.lines.items in
-    let line = c.next_line.result.0.now in
-    let rest = lines c.next_line.result.1.now in
-    let said : line_of config number line ≡ Ok (Some c.in-Some.line) = c.in_ok-line.ensures.exact
-    ∙ ap Ok c.in-Some.is in (
-      omega (arith, c.in_ok-line.ensures.within),
-      c.loop-rest.invariant.1
-          ∙ ap (λ ls. said_after before (lines_from config number ls)) c.next_line.ensures.cut
-          ∙ said-more config number line rest before c.in-Some.line said
-          ∙ ap (λ (ls : List Line). said_after ls (lines_from config (number + 1) rest))
-          (sym c.in_ok-push.ensures.items),
-    )
+pub returns-in_err-lines : goal.returns-in_err-lines
+returns-in_err-lines c =
+    let p = err_from_is_err_and c.from_residual-in_err-lines.result c.from_residual-in_err-lines.ensures.1 in
+    let config : RadioConfig = c.args.config.now in
+    let text : List ℕ = c.args.text.now in
+    record {
+      exact = rw (p.1, p.2)
+          (same_fault _ _ c.in_err-lines.field-0.0 c.in_err-lines.ensures.exact
+          (λ met h.
+          whole-fault config text met (ap (λ (r : ReaderView). answer_to r text) (sym c.in_ok-reader.ensures) ∙ h)));
+    }
+
+pub returns-in_err-end : goal.returns-in_err-end
+returns-in_err-end c =
+    let p = err_from_is_err_and c.from_residual-in_err-end.result c.from_residual-in_err-end.ensures.1 in
+    let config : RadioConfig = c.args.config.now in
+    let text : List ℕ = c.args.text.now in
+    let after =
+    ap (λ (r : ReaderView). after_piece r text) (sym c.in_ok-reader.ensures) ∙ sym c.in_ok-lines.ensures.after in
+    record {
+      exact = rw (p.1, p.2)
+          (same_fault _ _ c.in_err-end.field-0.0 c.in_err-end.ensures.exact
+          (λ met h.
+          whole-end_fault config text c.in_ok-lines.lines.items met
+          (ap (λ (r : ReaderView). answer_to r text) (sym c.in_ok-reader.ensures) ∙ c.in_ok-lines.ensures.exact)
+          (ap answer_to_end after ∙ h)));
+    }
+
+pub returns : goal.returns
+returns c =
+    let config : RadioConfig = c.args.config.now in
+    let text : List ℕ = c.args.text.now in
+    let after =
+    ap (λ (r : ReaderView). after_piece r text) (sym c.in_ok-reader.ensures) ∙ sym c.in_ok-lines.ensures.after in
+    record {
+      exact =
+          whole-said config text c.in_ok-lines.lines.items c.in_ok-end.field-0
+          (ap (λ (r : ReaderView). answer_to r text) (sym c.in_ok-reader.ensures) ∙ c.in_ok-lines.ensures.exact)
+          (ap answer_to_end after ∙ c.in_ok-end.ensures.exact)
+          ∙ ap (λ (all : List Line). Ok all) (sym c.in_ok-add.ensures);
+    }

@@ -1,0 +1,302 @@
+-- What is answered to the pieces of a text is what the text says.
+use Rattle.std.proofs.Common.{◌≡◌, ℕ, ◌+◌, ◌<◌, Bool, true, false, List, [], ◌∷◌, ◌++◌, length, map}
+use Rattle.std.proofs.Common.{Option, Some, None, Result, Ok, Err, refl, ap, sym, ◌∙◌, append_assoc, append-nil, arith}
+use Rattle.std.proofs.Common.{subst, cond, length-append}
+use Rattle.std.specs.Prelude.{nat_lt, ◌&&◌, if◌then◌else◌}
+use Rattle.std.specs.List.{concat, slice_split, onto_first}
+use Rattle.std.specs.Option.{option_to_list}
+use Rattle.std.specs.Str.Lines.{lines, lines_of_parts, strip_carriage_return}
+use Rattle.bss_core.specs.declared.config.RadioConfig.{RadioConfig}
+use Rattle.bss_core.specs.declared.line.Line.{Line}
+use Rattle.trace.specs.Faults.{◌>>=◌}
+use Rattle.trace.specs.Texts.{is_line_feed, cut}
+use Rattle.trace.specs.TraceText.{max_lines, fault_in, bssids_of, line_of, lines_from, lines_of}
+use Rattle.trace.specs.Pieces.{ReaderView, HasRead, new_reader, reader_after, with_fault, whole_lines, unfinished_line}
+use Rattle.trace.specs.Pieces.{before_line, said_in, said_last, said_after, answer_to, answer_to_end, answer_to_all}
+use Rattle.trace.specs.Pieces.{after_answer, after_piece, past}
+use Rattle.trace.specs.declared.fault.TraceFault.{TraceFault}
+use Rattle.trace.specs.declared.fault.LineFault.TheVariants.{TooMany}
+use Rattle.trace.proofs.PieceLines.{whole_lines-append, unfinished_line-append, lines-append, cut-unfinished}
+use Rattle.trace.proofs.TraceSteps.{HasFirst, slice_split-has_first, last_part}
+
+-- ---- what lines say, and then others
+
+said_after-none : (answer : Result (List Line) TraceFault) → said_after [] answer ≡ answer
+said_after-none (Ok said) = refl
+said_after-none (Err met) = refl
+
+-- what one line says, and others, and then others
+grouped : (one : Result (Option Line) TraceFault) (some others : Result (List Line) TraceFault)
+    → (one >>= λ o. ((some >>= λ ls. said_after ls others) >>= λ ls. Ok (option_to_list o ++ ls)))
+    ≡ ((one >>= λ o. (some >>= λ ls. Ok (option_to_list o ++ ls))) >>= λ ls. said_after ls others)
+grouped (Err met) some others = refl
+grouped (Ok o) (Err met) others = refl
+grouped (Ok o) (Ok ls) (Err met) = refl
+grouped (Ok o) (Ok ls) (Ok more) = ap (λ (all : List Line). Ok all) (sym (append_assoc (option_to_list o) ls more))
+
+pub lines_from-append : (bssids : List (List ℕ)) (number : ℕ) (some others : List (List ℕ))
+    → lines_from bssids number (some ++ others)
+    ≡ (lines_from bssids number some >>= λ ls. said_after ls (lines_from bssids (number + length some) others))
+lines_from-append bssids number [] others =
+    let same : number + 0 ≡ number = omega arith in
+    sym (ap (λ n. said_after [] (lines_from bssids n others)) same ∙ said_after-none (lines_from bssids number others))
+lines_from-append bssids number (line ∷ some) others =
+    let count : number + 1 + length some ≡ number + length (line ∷ some) = omega arith in
+    ap
+    (λ (later : Result (List Line) TraceFault).
+    line_of bssids number line >>= λ o. (later >>= λ ls. Ok (option_to_list o ++ ls)))
+    (lines_from-append bssids (number + 1) some others
+    ∙ ap
+    (λ n. lines_from bssids (number + 1) some >>= λ ls. said_after ls (lines_from bssids n others))
+    count)
+    ∙ grouped (line_of bssids number line) (lines_from bssids (number + 1) some)
+    (lines_from bssids (number + length (line ∷ some)) others)
+
+-- ---- the text so far, and what comes later
+
+-- what lines say after those of a text that were given
+pub read_on : (config : RadioConfig) (text later : List ℕ) (said : List Line) (r : ReaderView)
+    → HasRead config text said r
+    → lines_of config (text ++ later)
+    ≡ said_after said
+    (lines_from (bssids_of config) (length (whole_lines text) + 1) (lines (unfinished_line text ++ later)))
+read_on config text later said r h =
+    let bssids : List (List ℕ) = bssids_of config in
+    let others : List (List ℕ) = lines (unfinished_line text ++ later) in
+    let count : 1 + length (whole_lines text) ≡ length (whole_lines text) + 1 = omega arith in
+    ap (lines_from bssids 1) (lines-append text later)
+    ∙ lines_from-append bssids 1 (whole_lines text) others
+    ∙ ap
+    (λ (some : Result (List Line) TraceFault).
+    some >>= λ ls. said_after ls (lines_from bssids (1 + length (whole_lines text)) others))
+    h.answered
+    ∙ ap (λ n. said_after said (lines_from bssids n others)) count
+
+-- ---- a line too many
+
+lines_of_parts-has_first : (x : ℕ) (first : List ℕ) (others : List (List ℕ))
+    → HasFirst (lines_of_parts (onto_first x (first ∷ others)))
+lines_of_parts-has_first x first [] = (x ∷ first, [], last_part (x ∷ first) (omega arith))
+lines_of_parts-has_first x first (other ∷ others) =
+    (strip_carriage_return (x ∷ first), lines_of_parts (other ∷ others), refl)
+
+-- a text that is not empty has a line
+lines-has_first : (x : ℕ) (xs : List ℕ) → HasFirst (lines (x ∷ xs))
+lines-has_first x xs =
+    let parts : HasFirst (cut xs) = slice_split-has_first is_line_feed xs in
+    rw parts.2
+    (elim (is_line_feed x) as
+    (λ b. HasFirst (lines_of_parts (cond b ([] ∷ parts.0 ∷ parts.1) (onto_first x (parts.0 ∷ parts.1))))) [
+      | true ↦ (strip_carriage_return [], lines_of_parts (parts.0 ∷ parts.1), refl)
+      | false ↦ lines_of_parts-has_first x parts.0 parts.1
+    ])
+
+-- a text that is not empty
+abbrev HasOctet : List ℕ → Type 0
+HasOctet octets = (first : ℕ) × (others : List ℕ) × (octets ≡ first ∷ others)
+
+too_many : (bssids : List (List ℕ)) (number : ℕ) (some : List (List ℕ)) → nat_lt max_lines number ≡ true
+    → HasFirst some → lines_from bssids number some ≡ Err (fault_in number TooMany)
+too_many bssids number some over h = rw (h.2, over) refl
+
+-- what is answered where the line of a number is one too many, or not
+abbrev pub limited : Bool → ℕ → List Line → Result (List Line) TraceFault
+limited over number said = if over then Err (fault_in number TooMany) else Ok said
+
+limited-ok : (over : Bool) (number : ℕ) (said more : List Line) → limited over number said ≡ Ok more → said ≡ more
+limited-ok true number said more e = cc
+limited-ok false number said more e = cc
+
+limited-err : (over : Bool) (number : ℕ) (said : List Line) (met : TraceFault) → limited over number said ≡ Err met
+    → (over ≡ true) × (fault_in number TooMany ≡ met)
+limited-err true number said met e = (refl, cc)
+limited-err false number said met e = cc
+
+-- a test of both parts
+both : (a b : Bool) → (a && b) ≡ true → (a ≡ true) × (b ≡ true)
+both true true e = (refl, refl)
+both true false e = cc
+both false b e = cc
+
+some_octet : (octets : List ℕ) → nat_lt 0 (length octets) ≡ true → HasOctet octets
+some_octet [] e = cc
+some_octet (x ∷ xs) e = (x, xs, refl)
+
+-- an octet too many is the fault of the line that begins with it
+begun_fault : (bssids : List (List ℕ)) (number : ℕ) (octets later : List ℕ) (said : List Line) (met : TraceFault)
+    → before_line number octets said ≡ Err met
+    → lines_from bssids number (lines (octets ++ later)) ≡ Err met
+begun_fault bssids number octets later said met e =
+    let over = limited-err (nat_lt max_lines number && nat_lt 0 (length octets)) number said met e in
+    let parts = both (nat_lt max_lines number) (nat_lt 0 (length octets)) over.0 in
+    let some : HasOctet octets = some_octet octets parts.1 in
+    ap (λ (t : List ℕ). lines_from bssids number (lines (t ++ later))) some.2
+    ∙ too_many bssids number (lines (some.0 ∷ some.1 ++ later)) parts.0 (lines-has_first some.0 (some.1 ++ later))
+    ∙ ap (λ (f : TraceFault). Err f) over.1
+
+-- ---- piece by piece
+
+pub read-nothing : (config : RadioConfig) → HasRead config [] [] (new_reader (bssids_of config))
+read-nothing config = record { state = refl; answered = refl }
+
+-- what was answered goes on
+answered_more : (some : Result (List Line) TraceFault) (number : ℕ) (octets : List ℕ) (more : List Line)
+    → (some >>= λ said. before_line number octets said) ≡ Ok more
+    → some ≡ Ok more
+answered_more (Err met) number octets more e = cc
+answered_more (Ok ls) number octets more e =
+    ap
+    (λ (all : List Line). Ok all)
+    (limited-ok (nat_lt max_lines number && nat_lt 0 (length octets)) number ls more e)
+
+pub read-more : (config : RadioConfig) (text piece : List ℕ) (said more : List Line) (r : ReaderView)
+    → HasRead config text said r → answer_to r piece ≡ Ok more
+    → HasRead config (text ++ piece) (said ++ more) (after_piece r piece)
+read-more config text piece said more r h e =
+    let bssids : List (List ℕ) = bssids_of config in
+    let on : List ℕ = unfinished_line text ++ piece in
+    let here : answer_to (reader_after bssids text) piece ≡ Ok more =
+    subst (λ (s : ReaderView). answer_to s piece ≡ Ok more) h.state e in
+    let whole : length (whole_lines (text ++ piece)) ≡ length (whole_lines text) + length (whole_lines on) =
+    ap length (whole_lines-append text piece) ∙ length-append (whole_lines text) (whole_lines on) in
+    record {
+      state =
+          ap (λ (s : ReaderView). after_piece s piece) h.state
+          ∙ ap
+          (λ (a : Result (List Line) TraceFault).
+          after_answer a (reader_after bssids text) (past (reader_after bssids text) on))
+          here
+          ∙ sym
+          (ap
+          (λ (n : ℕ). record { bssids = bssids; ended_lines = n; unfinished = unfinished_line (text ++ piece); fault = None })
+          whole
+          ∙ ap
+          (λ (u : List ℕ).
+          record { bssids = bssids; ended_lines = length (whole_lines text) + length (whole_lines on); unfinished = u; fault = None })
+          (unfinished_line-append text piece));
+      answered =
+          ap (lines_from bssids 1) (whole_lines-append text piece)
+          ∙ lines_from-append bssids 1 (whole_lines text) (whole_lines on)
+          ∙ ap
+          (λ (some : Result (List Line) TraceFault).
+          some >>= λ ls. said_after ls (lines_from bssids (1 + length (whole_lines text)) (whole_lines on)))
+          h.answered
+          ∙ ap
+          (said_after said)
+          (ap (λ n. lines_from bssids n (whole_lines on)) (let count : 1 + length (whole_lines text) ≡ length (whole_lines text) + 1 = omega arith in count)
+          ∙ answered_more (lines_from bssids (length (whole_lines text) + 1) (whole_lines on)) (length (whole_lines text) + length (whole_lines on) + 1) (unfinished_line on) more here);
+    }
+
+-- whole lines with a fault, or an octet too many after them
+faulty : (bssids : List (List ℕ)) (number : ℕ) (some : List (List ℕ)) (octets later : List ℕ)
+    (answer : Result (List Line) TraceFault) (met : TraceFault)
+    → (answer >>= λ said. before_line (number + length some) octets said) ≡ Err met
+    → (answer >>= λ ls. said_after ls (lines_from bssids (number + length some) (lines (octets ++ later)))) ≡ Err met
+faulty bssids number some octets later (Err other) met e = cc
+faulty bssids number some octets later (Ok ls) met e =
+    ap (said_after ls) (begun_fault bssids (number + length some) octets later ls met e)
+
+pub read-fault : (config : RadioConfig) (text piece later : List ℕ) (said : List Line) (r : ReaderView)
+    (met : TraceFault) → HasRead config text said r → answer_to r piece ≡ Err met
+    → lines_of config (text ++ piece ++ later) ≡ Err met
+read-fault config text piece later said r met h e =
+    let bssids : List (List ℕ) = bssids_of config in
+    let on : List ℕ = unfinished_line text ++ piece in
+    let number : ℕ = length (whole_lines text) + 1 in
+    let here : answer_to (reader_after bssids text) piece ≡ Err met =
+    subst (λ (s : ReaderView). answer_to s piece ≡ Err met) h.state e in
+    let count : length (whole_lines text) + length (whole_lines on) + 1 ≡ number + length (whole_lines on) = omega arith in
+    let there : (lines_from bssids number (whole_lines on) >>= λ ls. before_line (number + length (whole_lines on)) (unfinished_line on) ls) ≡ Err met =
+    ap
+    (λ n. lines_from bssids number (whole_lines on) >>= λ ls. before_line n (unfinished_line on) ls)
+    (sym count)
+    ∙ here in
+    ap (lines_of config) (append_assoc text piece later)
+    ∙ read_on config text (piece ++ later) said r h
+    ∙ ap
+    (said_after said)
+    (ap
+    (λ (t : List ℕ). lines_from bssids number (lines t))
+    (sym (append_assoc (unfinished_line text) piece later))
+    ∙ ap (lines_from bssids number) (lines-append on later)
+    ∙ lines_from-append bssids number (whole_lines on) (lines (unfinished_line on ++ later))
+    ∙ faulty bssids number (whole_lines on) (unfinished_line on) later
+    (lines_from bssids number (whole_lines on)) met there)
+
+-- ---- the end
+
+last_alone : (answer : Result (Option Line) TraceFault)
+    → (answer >>= λ o. Ok (option_to_list o ++ [])) ≡ (answer >>= λ said. Ok (option_to_list said))
+last_alone (Ok o) = ap (λ (all : List Line). Ok all) (append-nil (option_to_list o))
+last_alone (Err met) = refl
+
+-- what the last line says
+last_line : (bssids : List (List ℕ)) (number : ℕ) (octets : List ℕ) → cut octets ≡ octets ∷ []
+    → lines_from bssids number (lines octets) ≡ (said_last bssids number octets >>= λ said. Ok (option_to_list said))
+last_line bssids number [] one = refl
+last_line bssids number (x ∷ xs) one =
+    ap (lines_from bssids number) (ap lines_of_parts one ∙ last_part (x ∷ xs) (omega arith))
+    ∙ last_alone (line_of bssids number (x ∷ xs))
+
+pub read-end : (config : RadioConfig) (text : List ℕ) (said : List Line) (r : ReaderView) → HasRead config text said r
+    → lines_of config text ≡ said_after said (answer_to_all r [])
+read-end config text said r h =
+    let bssids : List (List ℕ) = bssids_of config in
+    let number : ℕ = length (whole_lines text) + 1 in
+    ap (lines_of config) (sym (append-nil text))
+    ∙ read_on config text [] said r h
+    ∙ ap
+    (said_after said)
+    (ap (λ (t : List ℕ). lines_from bssids number (lines t)) (append-nil (unfinished_line text))
+    ∙ last_line bssids number (unfinished_line text) (cut-unfinished text)
+    ∙ sym (ap (λ (s : ReaderView). answer_to_all s []) h.state))
+
+-- ---- all pieces
+
+-- the answer to a piece, and then to others
+then_others : (said more : List Line) (later : Result (List Line) TraceFault)
+    → said_after said (later >>= λ ls. Ok (more ++ ls)) ≡ said_after (said ++ more) later
+then_others said more (Ok ls) = ap (λ (all : List Line). Ok all) (sym (append_assoc said more ls))
+then_others said more (Err met) = refl
+
+-- what is answered to all pieces from here on is what the text and they say
+abbrev SaysAll : RadioConfig → List ℕ → List (List ℕ) → List Line → ReaderView → Type 0
+SaysAll config text pieces said r = said_after said (answer_to_all r pieces) ≡ lines_of config (text ++ concat pieces)
+
+one_more : (config : RadioConfig) (text piece : List ℕ) (pieces : List (List ℕ)) (said : List Line) (r : ReaderView)
+    → HasRead config text said r
+    → ((more : List Line) → HasRead config (text ++ piece) (said ++ more) (after_piece r piece)
+    → SaysAll config (text ++ piece) pieces (said ++ more) (after_piece r piece))
+    → SaysAll config text (piece ∷ pieces) said r
+one_more config text piece pieces said r h later = split (answer_to r piece) refl
+  where
+    split : (answer : Result (List Line) TraceFault) → answer_to r piece ≡ answer
+        → SaysAll config text (piece ∷ pieces) said r
+    split (Err met) is =
+        ap
+        (λ (a : Result (List Line) TraceFault).
+        said_after said (a >>= λ ls. answer_to_all (after_piece r piece) pieces >>= λ next. Ok (ls ++ next)))
+        is
+        ∙ sym (read-fault config text piece (concat pieces) said r met h is)
+        ∙ ap (lines_of config) (append_assoc text piece (concat pieces))
+    split (Ok more) is =
+        ap
+        (λ (a : Result (List Line) TraceFault).
+        said_after said (a >>= λ ls. answer_to_all (after_piece r piece) pieces >>= λ next. Ok (ls ++ next)))
+        is
+        ∙ then_others said more (answer_to_all (after_piece r piece) pieces)
+        ∙ later more (read-more config text piece said more r h is)
+        ∙ ap (lines_of config) (append_assoc text piece (concat pieces))
+
+pub read-all : (config : RadioConfig) (text : List ℕ) (pieces : List (List ℕ)) (said : List Line) (r : ReaderView)
+    → HasRead config text said r → SaysAll config text pieces said r
+read-all config text [] said r h = sym (read-end config text said r h) ∙ ap (lines_of config) (sym (append-nil text))
+read-all config text (piece ∷ pieces) said r h =
+    one_more config text piece pieces said r h
+    (λ (more : List Line) h'. read-all config (text ++ piece) pieces (said ++ more) (after_piece r piece) h')
+
+pub all-read : (config : RadioConfig) (pieces : List (List ℕ))
+    → answer_to_all (new_reader (bssids_of config)) pieces ≡ lines_of config (concat pieces)
+all-read config pieces =
+    sym (said_after-none (answer_to_all (new_reader (bssids_of config)) pieces))
+    ∙ read-all config [] pieces [] (new_reader (bssids_of config)) (read-nothing config)

@@ -1,0 +1,31 @@
+use Rattle.std.proofs.Common.{◌≡◌, ℕ, List, Some, None, ◌++◌, sym}
+use Rattle.std.proofs.lemmas.List.{take_rest}
+use Rattle.std.specs.List.{position}
+use Rattle.trace.specs.Texts.{is_line_feed}
+use Rattle.trace.proofs.TextLemmas.{lacks_from_none}
+use Rattle.trace.proofs.PieceLines.{lacks_both}
+use Rattle.trace.proofs.PieceSteps.{held_says, held_past, lines_say, lines_past}
+use Rattle.trace.proofs.line_reader.LineReader.read_piece.Goals as goal
+
+pub returns-in-Some-clause-exact : goal.returns-in-Some-clause-exact
+returns-in-Some-clause-exact c =
+    rw (lines_say c.args.self.now c.args.self.now.unfinished c.args.piece.now c.in-Some.end c.requires (sym c.in-Some.ensures))
+    (rw take_rest at c.read_lines.ensures.exact)
+
+pub returns-in-Some-clause-ok : goal.returns-in-Some-clause-ok
+returns-in-Some-clause-ok c =
+    rw (lines_past c.args.self.now c.args.self.now.unfinished c.args.piece.now c.in-Some.end c.requires (sym c.in-Some.ensures))
+    (rw take_rest at c.read_lines.ensures.ok)
+
+pub hold-requires : goal.hold-requires
+hold-requires c = lacks_from_none c.args.piece.now (sym c.in-None.ensures)
+
+pub returns-in-None-clause-exact : goal.returns-in-None-clause-exact
+returns-in-None-clause-exact c =
+    rw (held_says c.args.self.now (c.args.self.now.unfinished ++ c.args.piece.now) (lacks_both c.args.self.now.unfinished c.args.piece.now c.requires (sym c.in-None.ensures)))
+    c.hold.ensures.exact
+
+pub returns-in-None-clause-ok : goal.returns-in-None-clause-ok
+returns-in-None-clause-ok c =
+    rw (← held_past c.args.self.now (c.args.self.now.unfinished ++ c.args.piece.now) (lacks_both c.args.self.now.unfinished c.args.piece.now c.requires (sym c.in-None.ensures)))
+    c.hold.ensures.ok
