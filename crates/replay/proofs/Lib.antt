@@ -7,7 +7,9 @@ pub mod DrainSteps
 pub mod TakeSteps
 pub mod LineSteps
 pub mod SectionSteps
+pub mod StreamSteps
 pub mod ReplayLemmas
 pub mod AnswerLemmas
+pub mod StreamEnds
 pub mod ReplayRows
 pub mod AnswerRows

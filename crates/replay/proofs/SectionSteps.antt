@@ -9,8 +9,8 @@ use Rattle.std.specs.declared.alloc.Global.{Global}
 use Rattle.std.proofs.lemmas.List.{length-map, length-replicate, get_or-replicate, get_or-map, get_or_past}
 use Rattle.std.proofs.lemmas.Bool.{cases_lt}
 use Rattle.bss_core.specs.Configuration.{fault_of}
-use Rattle.bss_core.specs.Network.{alone, table_of, counts_of}
-use Rattle.bss_core.specs.BssView.{BssView, network_of}
+use Rattle.bss_core.specs.Network.{alone}
+use Rattle.bss_core.specs.BssView.{BssView}
 use Rattle.bss_core.specs.Radio.{network_at, no_network, setting_in, setting_at}
 use Rattle.bss_core.specs.RadioView.{NetworkView, RadioView, unused, view_at, fresh_radio, shown, settings_of, opened}
 use Rattle.bss_core.specs.Running.{section_with}

@@ -3,4 +3,5 @@ pub mod Frames
 pub mod Joined
 pub mod Replay
 pub mod Answer
+pub mod Stream
 pub mod Checking

@@ -1,5 +1,5 @@
 -- What a trace makes of the networks of a configuration: each network takes what it hears, alone.
-use Rattle.std.specs.Prelude.{ℕ, ◌<◌, ◌≤◌, ◌≡◌, ◌≢◌, ◌++◌, nat_lt, Bool, true, false, List, [], ◌∷◌, length, map}
+use Rattle.std.specs.Prelude.{ℕ, ◌<◌, ◌≤◌, ◌≡◌, ◌≢◌, ◌++◌, nat_lt, Bool, true, false, List, [], ◌∷◌, length}
 use Rattle.std.specs.Prelude.{slice_set, None, if◌then◌else◌}
 use Rattle.bss_core.specs.Configuration.{fault_of}
 use Rattle.mac_frame.specs.Hearing.{is_heard}

@@ -2,7 +2,9 @@
 
 ghost use Rattle.std.specs.Prelude.{◌≡◌};
 ghost use Rattle.replay.specs.declared.fault.TextFault.TheVariants as faults;
+ghost use Rattle.replay.specs.declared.fault.StreamFault.TheVariants as stream_faults;
 ghost use Rattle.replay.specs.Answer.{of_config, of_trace, of_report};
+ghost use Rattle.replay.specs.Stream.{of_config as stream_config, of_trace as stream_trace, of_report as stream_report};
 
 use bss_core::ConfigFault;
 use mac_frame::NoMemory;
@@ -18,6 +20,21 @@ pub enum TextFault {
     Trace(TraceFault),
     /// A growth was refused.
     NoMemory,
+    /// A write failed.
+    Write,
+}
+
+/// Why a configuration's text and a trace that is read as it comes were not answered.
+#[derive(Clone, Copy, Debug, PartialEq, Eq)]
+pub enum StreamFault {
+    /// The first fault of the configuration. Nothing was read.
+    Config(ConfigFault),
+    /// The first fault of what was read of the trace, where the configuration has none.
+    Trace(TraceFault),
+    /// A growth was refused.
+    NoMemory,
+    /// A read failed, or 4,294,967,295 were made.
+    Read,
     /// A write failed.
     Write,
 }
@@ -76,5 +93,46 @@ impl From<NoMemory> for TextFault {
 
     fn from(_e: NoMemory) -> TextFault {
         TextFault::NoMemory
+    }
+}
+
+impl From<ConfigTextFault> for StreamFault {
+    ghost from_gives = { λ fault given. given ≡ stream_config fault };
+
+    fn from(fault: ConfigTextFault) -> StreamFault {
+        match fault {
+            ConfigTextFault::At(fault) => StreamFault::Config(fault),
+            ConfigTextFault::NoMemory => StreamFault::NoMemory,
+        }
+    }
+}
+
+impl From<TraceTextFault> for StreamFault {
+    ghost from_gives = { λ fault given. given ≡ stream_trace fault };
+
+    fn from(fault: TraceTextFault) -> StreamFault {
+        match fault {
+            TraceTextFault::At(fault) => StreamFault::Trace(fault),
+            TraceTextFault::NoMemory => StreamFault::NoMemory,
+        }
+    }
+}
+
+impl From<ReportFault> for StreamFault {
+    ghost from_gives = { λ fault given. given ≡ stream_report fault };
+
+    fn from(fault: ReportFault) -> StreamFault {
+        match fault {
+            ReportFault::Write => StreamFault::Write,
+            ReportFault::NoMemory => StreamFault::NoMemory,
+        }
+    }
+}
+
+impl From<NoMemory> for StreamFault {
+    ghost from_gives = { λ _ given. given ≡ stream_faults.NoMemory };
+
+    fn from(_e: NoMemory) -> StreamFault {
+        StreamFault::NoMemory
     }
 }

@@ -9,6 +9,7 @@ ghost use Rattle.replay.specs.Answer.{answer_of, text_ending};
 
 use crate::fault::TextFault;
 use crate::line_by_line::Replay;
+use crate::taking::take_all;
 use bss_core::{Line, RadioConfig, Section};
 use mac_frame::NoMemory;
 use std::alloc::Global;
@@ -47,8 +48,6 @@ fn replay_lines(
     ensures { IfOk result (λ sections. sections.items ≡ sections_of_lines config lines.items) }
 {
     let mut replay = Replay::new(alloc, config)?;
-    for line in lines {
-        replay.take(line)?;
-    }
+    take_all(&mut replay, lines)?;
     replay.into_sections()
 }

@@ -9,4 +9,6 @@ mod line_by_line;
 #[cfg(test)]
 mod samples;
 #[cfg(test)]
+mod streams;
+#[cfg(test)]
 mod texts;

@@ -1,0 +1,39 @@
+use Rattle.std.proofs.Common.{◌++◌, List, Ok, refl}
+use Rattle.std.proofs.lemmas.Result.{err_from_is_err_and}
+use Rattle.std.specs.Option.{option_to_list}
+use Rattle.bss_core.specs.declared.line.Line.{Line}
+use Rattle.trace.specs.TraceText.{lines_of}
+use Rattle.trace.proofs.EndingLemmas.{same_fault}
+use Rattle.replay.proofs.SectionSteps.{replay-sections}
+use Rattle.replay.proofs.StreamSteps.{fault_at_end, said_at_end}
+use Rattle.replay.proofs.stream.end_stream.Goals as goal
+
+pub returns-in_err-said : goal.returns-in_err-said
+returns-in_err-said c config text h =
+    let p = err_from_is_err_and c.from_residual.result c.from_residual.ensures.1 in
+    rw (p.1, p.2)
+    (same_fault _ (lines_of config text) c.in_err-said.field-0.0 c.in_err-said.ensures.exact
+    (λ met e.
+    fault_at_end config text h.0 c.args.lines met
+    (c.piece_by_piece.ensures.end config text h.0 c.args.lines h.1) e))
+
+pub returns-in_err-take_last : goal.returns-in_err-take_last
+returns-in_err-take_last c config text h =
+    let p = err_from_is_err_and c.from_residual-in_err-take_last.result c.from_residual-in_err-take_last.ensures.1 in
+    rw (p.1, p.2) tt
+
+pub returns-in_err-into_sections : goal.returns-in_err-into_sections
+returns-in_err-into_sections c config text h =
+    let p =
+    err_from_is_err_and c.from_residual-in_err-into_sections.result c.from_residual-in_err-into_sections.ensures.1 in
+    rw (p.1, p.2) tt
+
+pub returns : goal.returns
+returns c config text h =
+    let all : List Line = h.0 ++ option_to_list c.in_ok-said.said in (
+      all,
+      said_at_end config text h.0 c.args.lines c.in_ok-said.said
+          (c.piece_by_piece.ensures.end config text h.0 c.args.lines h.1) c.in_ok-said.ensures.exact,
+      replay-sections {E = Unit {0}} config c.take_last.new.replay all all (Ok c.in_ok-into_sections.field-0)
+          (c.in_ok-take_last.ensures config h.0 h.2) refl c.in_ok-into_sections.ensures,
+    )

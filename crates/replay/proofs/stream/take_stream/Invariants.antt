@@ -1,0 +1,14 @@
+use Rattle.std.proofs.Common.{◌≡◌, []}
+use Rattle.bss_core.specs.declared.config.RadioConfig.{RadioConfig}
+use Rattle.replay.specs.Stream.{HasReplayed}
+use Rattle.replay.proofs.StreamSteps.{SoFar}
+use Rattle.replay.proofs.stream.take_stream.Given as goal
+
+abbrev pub invariant-loop : goal.invariant-loop
+invariant-loop g l = record {
+  so_far :
+      (c : RadioConfig)
+      → HasReplayed c [] l.initial.lines l.initial.replay
+      → SoFar c (g.R.Source.left l.initial.source) (g.R.Source.left l.source) l.counter l.lines l.replay;
+  none_failed : g.R.Source.failed l.source ≡ g.R.Source.failed l.initial.source;
+}
