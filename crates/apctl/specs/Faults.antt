@@ -3,6 +3,8 @@ use Rattle.std.specs.Prelude.{ℕ, ◌≡◌, List, codes, string_bytes}
 use Rattle.trace.specs.Endings.{Ending, Refused, WriteFailed, OutOfMemory}
 use Rattle.replay.specs.declared.fault.TextFault.{TextFault}
 use Rattle.replay.specs.declared.fault.TextFault.TheVariants as replay
+use Rattle.replay.specs.declared.fault.StreamFault.{StreamFault}
+use Rattle.replay.specs.declared.fault.StreamFault.TheVariants as streams
 use Rattle.apctl.specs.declared.fault.Fault.{Fault}
 use Rattle.apctl.specs.declared.fault.Fault.TheVariants.{Config, Trace, Words, Memory, File, Output}
 
@@ -30,6 +32,14 @@ abbrev pub IsOfFile : List ℕ → Fault → Type 0
 IsOfFile wanted (File name) = string_bytes name ≡ wanted
 IsOfFile wanted Memory = Unit {0}
 IsOfFile wanted _ = ⊥
+
+-- the fault of a run whose trace was read from a file of this name
+abbrev pub IsOfStream : StreamFault → List ℕ → Fault → Type 0
+IsOfStream (streams.Config found) wanted fault = fault ≡ Config found
+IsOfStream (streams.Trace found) wanted fault = fault ≡ Trace found
+IsOfStream streams.NoMemory wanted fault = fault ≡ Memory
+IsOfStream streams.Read wanted fault = IsOfFile wanted fault
+IsOfStream streams.Write wanted fault = fault ≡ Output
 
 -- how a run of the program ends
 abbrev pub run_ending : Fault → Ending Fault

@@ -3,11 +3,11 @@
 ghost use Rattle.std.specs.Prelude.{◌≡◌, ◌≢◌, ◌+◌, IfOk, Ok, Err};
 ghost use Rattle.trace.specs.Endings.{Ends, failures_of};
 ghost use Rattle.trace.specs.Sinks.{MayFail, report_ending};
-ghost use Rattle.apctl.specs.Faults.{of_texts, status_of, memory_line, IsOfFile};
+ghost use Rattle.apctl.specs.Faults.{of_texts, status_of, memory_line, IsOfFile, IsOfStream};
 ghost use Rattle.apctl.specs.declared.fault.Fault.TheVariants as faults;
 
 use bss_core::ConfigFault;
-use replay::TextFault;
+use replay::{StreamFault, TextFault};
 use std::alloc::{AllocError, Global};
 use thiserror::Error;
 use trace::{ReportFault, Sink, TraceFault, write_all};
@@ -56,6 +56,19 @@ impl Fault {
         match String::from_str(alloc, name) {
             Ok(name) => Fault::File(name),
             Err(_) => Fault::Memory,
+        }
+    }
+
+    /// The fault of a run whose trace was read from a file of this name: where reading it failed, that of the file.
+    pub fn of_stream(alloc: Global, fault: StreamFault, name: &str) -> Fault
+        ensures { IsOfStream fault name.now result }
+    {
+        match fault {
+            StreamFault::Config(fault) => Fault::Config(fault),
+            StreamFault::Trace(fault) => Fault::Trace(fault),
+            StreamFault::NoMemory => Fault::Memory,
+            StreamFault::Read => Fault::of_file(alloc, name),
+            StreamFault::Write => Fault::Output,
         }
     }
 }

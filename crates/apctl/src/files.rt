@@ -8,8 +8,15 @@ use std::io::ErrorKind;
 /// All that a file of this name holds, the word as it stands. `File` with its name where it can't be opened or read;
 /// `Memory` where a growth was refused.
 pub fn read_file(rt: &HostRuntime, name: &str) -> Result<Vec<u8>, Fault> {
+    let mut file = open_file(rt, name)?;
+    read_all(rt.alloc(), &mut file, name)
+}
+
+/// The file of this name, the word as it stands. `File` with its name where it can't be opened; `Memory` where a growth
+/// was refused.
+pub fn open_file(rt: &HostRuntime, name: &str) -> Result<File, Fault> {
     match File::open(rt, name) {
-        Ok(mut file) => read_all(rt.alloc(), &mut file, name),
+        Ok(file) => Ok(file),
         Err(error) if error.kind() == ErrorKind::OutOfMemory => Err(Fault::Memory),
         Err(_) => Err(Fault::of_file(rt.alloc(), name)),
     }

@@ -14,9 +14,9 @@ mod input;
 mod words;
 
 use fault::{Fault, show_fault};
-use files::read_file;
+use files::{open_file, read_file};
 use input::run_input;
-use replay::{check_text, run_text};
+use replay::{check_text, run_stream};
 use std::env;
 use std::io::ErrorKind;
 use std::process::ExitCode;
@@ -47,7 +47,8 @@ fn tell(rt: &HostRuntime, fault: &Fault) -> u8 {
     shown.unwrap_or(UNWRITTEN)
 }
 
-/// Does what the words ask for. Files are read whole, in the order of the words, before anything is done with them.
+/// Does what the words ask for. Files are opened in the order of the words, and a configuration is read whole, before
+/// anything is done with them. The trace of `run` is read as it comes.
 fn run(rt: &HostRuntime) -> Result<(), Fault> {
     let alloc = rt.alloc();
     let words = given_words(rt)?;
@@ -60,8 +61,10 @@ fn run(rt: &HostRuntime) -> Result<(), Fault> {
         }
         Task::Run { config, trace } => {
             let config = read_file(rt, config)?;
-            let trace = read_file(rt, trace)?;
-            Ok(run_text(alloc, config.as_slice(), trace.as_slice(), &mut out)?)
+            let mut source = Counted::new(open_file(rt, trace)?);
+            run_stream(alloc, config.as_slice(), &mut source, &mut out).map_err(
+                |fault| Fault::of_stream(alloc, fault, trace),
+            )
         }
     }
 }

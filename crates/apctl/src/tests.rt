@@ -2,6 +2,7 @@ use crate::fault::{Fault, show_fault};
 use crate::input::run_input;
 use crate::words::{Task, task_of};
 use bss_core::ConfigFault;
+use replay::StreamFault;
 use std::alloc::{AllocError, Global};
 use std::io::{self, ErrorKind, Read};
 use std::test::Fail;
@@ -41,6 +42,18 @@ fn each_fault_has_its_line_and_status(rt: HostRuntime) -> Result<(), Fail> {
         assert_eq!(rt; written.as_slice(), line.as_bytes());
     }
     Ok(())
+}
+
+#[test]
+fn faults_of_a_stream_are_those_of_the_program(rt: HostRuntime) {
+    let alloc = rt.alloc();
+    let of = |fault: StreamFault| Fault::of_stream(alloc, fault, "trace");
+    let read = of(StreamFault::Read);
+    assert!(rt; matches!(&read, Fault::File(name) if name.as_str() == "trace"));
+    let found = TraceFault { code: 2, line: 7 };
+    assert!(rt; matches!(of(StreamFault::Trace(found)), Fault::Trace(fault) if fault == found));
+    assert!(rt; matches!(of(StreamFault::NoMemory), Fault::Memory));
+    assert!(rt; matches!(of(StreamFault::Write), Fault::Output));
 }
 
 #[test]
