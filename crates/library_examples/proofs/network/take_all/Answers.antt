@@ -1,0 +1,39 @@
+use Rattle.std.proofs.Common.{◌≡◌, ◌++◌, [], ℕ, List, length, refl, sym, ap, ◌∙◌, arith, append-nil}
+use Rattle.std.proofs.lemmas.Grind.{common_steps}
+use Rattle.std.specs.Vec.Iter.{into_iter_items}
+use Rattle.bss_core.specs.BssView.{BssView, network_of}
+use Rattle.bss_core.specs.Network.{Network}
+use Rattle.bss_core.specs.Running.{section_with}
+use Rattle.bss_core.specs.declared.event.Event.{Event}
+use Rattle.bss_core.specs.declared.setting.Setting.{Setting}
+use Rattle.library_examples.specs.Settings.{setting}
+use Rattle.library_examples.proofs.Sections.{section_by, no_items}
+use Rattle.library_examples.proofs.network.take_all.Goals as goal
+
+pub loop-event-init : goal.loop-event-init
+loop-event-init c =
+    let given : Setting = setting c.args.channel c.args.interval c.args.config in
+    let history = ap (λ (b : BssView). b.history) c.in_ok-network.ensures in
+    let air = ap (λ (b : BssView). (network_of b).air) c.in_ok-network.ensures in
+    record {
+      history =
+          ap (λ (es : List Event). es ++ into_iter_items c.into_iter-event-iterator.result) history
+          ∙ c.into_iter-event-iterator.ensures.into_iter_gives.0;
+      setting = refl;
+      waiting = ap (λ (b : BssView). b.waiting) c.in_ok-network.ensures;
+      sent = c.new-sent.ensures.items ∙ sym (air ∙ ap (λ (n : Network). n.air) (c.one_step.ensures.first given));
+    }
+
+pub returns : goal.returns
+returns c =
+    let b : BssView = c.loop-event.network in
+    let given : Setting = setting c.args.channel c.args.interval c.args.config in
+    let left : List Event = into_iter_items c.loop-event.event-iterator in
+    let ended : left ≡ [] = no_items left (omega (arith, c.loop-event.event-iterator.rest.ok, c.in-None.ensures.steps.0)) in
+    let history : b.history ≡ c.args.events.items =
+    sym (append-nil b.history) ∙ ap (λ (es : List Event). b.history ++ es) (sym ended) ∙ c.loop-event.invariant.history in
+    let same : b.setting ≡ given =
+    c.loop-event.invariant.setting ∙ ap (λ (n : BssView). n.setting) c.in_ok-network.ensures in
+    c.in_ok-into_section.ensures
+    ∙ ap (λ (air : List (List ℕ)). section_with air b) c.from_vec.ensures
+    ∙ section_by b given c.args.events.items c.loop-event.sent.items same history c.loop-event.invariant.sent

@@ -1,0 +1,178 @@
+//! An access point: a thread for each of two sources, and one that lets frames leave.
+
+ghost use Rattle.std.specs.Prelude.{IfOk};
+ghost use Rattle.workers.specs.Ending.{AreSections, HaveLeft};
+ghost use Rattle.workers.specs.Names.{AreNamed};
+
+use bss_core::{Line, OpenFault, RadioConfig};
+use mac_frame::NoMemory;
+use std::alloc::Global;
+use std::marker::Brand;
+use std::sync::Wait;
+use std::sync::atomic::{AtomicU64, Ordering};
+use std::thread;
+use std::thread::Threads;
+use workers::{Ap, ApName, Caller, FinishFault, Finished, Parts, Transmitter};
+
+/// Why an access point came to no end.
+#[derive(Clone, Copy, Debug, PartialEq, Eq)]
+pub enum RunFault {
+    /// It was not opened.
+    Open(OpenFault),
+    /// A growth was refused while it ran.
+    NoMemory,
+    /// It was not finished.
+    Finish(FinishFault),
+}
+
+impl From<OpenFault> for RunFault {
+    fn from(fault: OpenFault) -> RunFault {
+        RunFault::Open(fault)
+    }
+}
+
+impl From<NoMemory> for RunFault {
+    fn from(_e: NoMemory) -> RunFault {
+        RunFault::NoMemory
+    }
+}
+
+impl From<FinishFault> for RunFault {
+    fn from(fault: FinishFault) -> RunFault {
+        RunFault::Finish(fault)
+    }
+}
+
+/// Opens an access point, lets two sources give it their lines, each on a thread of its own, and ends it. Its frames
+/// leave meanwhile.
+pub fn run_two<R: Threads + Wait + Sync>(
+    rt: &R,
+    alloc: Global,
+    config: RadioConfig,
+    first: &[Line],
+    second: &[Line],
+) -> Result<Finished, RunFault>
+    ensures sections { IfOk result (λ end. AreSections config end.sections) }
+    ensures left { IfOk result (λ end. HaveLeft end.sections end.left) }
+{
+    let parts = Parts::open(alloc, config, 2)?;
+    run_parts::<Brand, R>(rt, alloc, parts, first, second)
+}
+
+/// The same, by the name of the access point that these are the parts of.
+fn run_parts<N: ApName + Send + Sync, R: Threads + Wait + Sync>(
+    rt: &R,
+    alloc: Global,
+    parts: Parts,
+    first: &[Line],
+    second: &[Line],
+) -> Result<Finished, RunFault>
+    requires { AreNamed N.config N.queue parts }
+    ensures sections { IfOk result (λ end. AreSections N.config end.sections) }
+    ensures left { IfOk result (λ end. HaveLeft end.sections end.left) }
+{
+    let (ap, mut callers, mut transmitter) = Ap::<N>::start(alloc, parts)?;
+    let mut two = callers.pop().ok_or(OpenFault::Callers)?;
+    let mut one = callers.pop().ok_or(OpenFault::Callers)?;
+    run_threads(rt, &ap, &mut one, first, &mut two, second, &mut transmitter)?;
+    Ok(ap.finish(rt, in_order(alloc, one, two)?, transmitter)?)
+}
+
+/// Two callers, in this order. `finish` takes all of them.
+fn in_order(alloc: Global, one: Caller, two: Caller) -> Result<Vec<Caller>, NoMemory> {
+    let mut callers = Vec::new(alloc);
+    callers.push(one)?;
+    callers.push(two)?;
+    Ok(callers)
+}
+
+/// One thread lets frames leave until the sources have ended.
+fn run_threads<N: ApName + Send + Sync, R: Threads + Wait + Sync>(
+    rt: &R,
+    ap: &Ap<N>,
+    one: &mut Caller,
+    first: &[Line],
+    two: &mut Caller,
+    second: &[Line],
+    transmitter: &mut Transmitter<N>,
+) -> Result<(), NoMemory> {
+    let ended = AtomicU64::new(0);
+    let flag = &ended;
+    let (fed, left) = thread::join(
+        rt,
+        move || feed_both(rt, ap, one, first, two, second, flag),
+        move || transmit(rt, ap, transmitter, flag),
+    );
+    fed?;
+    left
+}
+
+/// One thread gives the first source's lines, and one the second's.
+fn feed_both<N: ApName + Send + Sync, R: Threads + Wait + Sync>(
+    rt: &R,
+    ap: &Ap<N>,
+    one: &mut Caller,
+    first: &[Line],
+    two: &mut Caller,
+    second: &[Line],
+    ended: &AtomicU64,
+) -> Result<(), NoMemory> {
+    let (fed, also) = thread::join(
+        rt,
+        move || feed(rt, ap, one, first),
+        move || feed(rt, ap, two, second),
+    );
+    ended.store(1, Ordering::SeqCst);
+    fed?;
+    also
+}
+
+/// Gives the lines of a source in their order, and after each hands the frames that wait to the air queue.
+fn feed<N: ApName, R: Wait>(
+    rt: &R,
+    ap: &Ap<N>,
+    caller: &mut Caller,
+    lines: &[Line],
+) -> Result<(), NoMemory> {
+    for line in lines {
+        give(rt, ap, caller, line)?;
+        for place in 0..ap.networks() {
+            ap.pump(rt, place);
+        }
+    }
+    Ok(())
+}
+
+/// Gives one line. What each network made of it is kept by the caller too, and isn't looked at here.
+fn give<N: ApName, R: Wait>(
+    rt: &R,
+    ap: &Ap<N>,
+    caller: &mut Caller,
+    line: &Line,
+) -> Result<(), NoMemory> {
+    match line {
+        Line::Air(frame) => ap.air(rt, caller, frame.as_slice())?,
+        Line::Wire { place, octets } => ap.wire(rt, caller, *place, octets.as_slice())?,
+        Line::Tick => ap.tick(rt, caller)?,
+    };
+    Ok(())
+}
+
+/// Lets frames leave until the sources have ended and the queue is empty. A program gives each to its radio here.
+fn transmit<N: ApName, R: Wait>(
+    rt: &R,
+    ap: &Ap<N>,
+    transmitter: &mut Transmitter<N>,
+    ended: &AtomicU64,
+) -> Result<(), NoMemory> {
+    for _ in rt.forever() {
+        let is_last = ended.load(Ordering::SeqCst) == 1;
+        if !ap.leave(rt, transmitter)? {
+            if is_last {
+                return Ok(());
+            }
+            thread::yield_now();
+        }
+    }
+    unreachable!()
+}

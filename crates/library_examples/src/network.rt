@@ -1,0 +1,46 @@
+//! A network alone.
+
+ghost use Rattle.std.specs.Prelude.{◌≡◌, ◌++◌, [], None, IfOk, OnOk};
+ghost use Rattle.bss_core.specs.Configuration.{setting_fault, network_fault};
+ghost use Rattle.bss_core.specs.Section.{section_of};
+ghost use Rattle.library_examples.specs.Settings.{setting};
+
+use bss_core::{Bss, Event, NetConfig, Refusal, Section, one_step};
+use mac_frame::{List, NoMemory, Octets};
+use std::alloc::Global;
+
+/// What a network alone makes of events, on a channel and with a beacon interval in time units: what it keeps of them,
+/// and all that it sends. `HistoryFull` where there are more than it may take, `NoMemory` where a growth was refused.
+pub fn take_all(
+    alloc: Global,
+    channel: u8,
+    interval: u16,
+    config: NetConfig,
+    events: Vec<Event>,
+) -> Result<Section, Refusal>
+    requires setting { setting_fault channel interval ≡ None }
+    requires network { network_fault config ≡ None }
+    ensures { IfOk result (λ section. section ≡ section_of (setting channel interval config) events.items) }
+{
+    one_step();
+    let mut network = Bss::new(alloc, channel, interval, config)?;
+    let mut sent = Vec::new(alloc);
+    for event in events {
+        network.take(event)?;
+        send_waiting(&mut network, &mut sent)?;
+    }
+    Ok(network.into_section(List::from_vec(sent))?)
+}
+
+/// Takes out the frames that wait, the first of them first. A program gives each to its radio here.
+fn send_waiting(network: &mut Bss, sent: &mut Vec<Octets>) -> Result<(), NoMemory>
+    ensures sent { OnOk result (sent.new.items ≡ sent.old.items ++ network.old.waiting) }
+    ensures none { OnOk result (network.new.waiting ≡ []) }
+    ensures setting { network.new.setting ≡ network.old.setting }
+    ensures history { network.new.history ≡ network.old.history }
+{
+    while let Some(frame) = network.take_front() {
+        sent.push(frame)?;
+    }
+    Ok(())
+}

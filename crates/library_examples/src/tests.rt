@@ -1,0 +1,169 @@
+//! Each program on frames from outside: calls succeed where there is memory, and the octets are those of the standard.
+
+use crate::access_point::run_two;
+use crate::network::take_all;
+use crate::radio::{sections, serve};
+use bss_core::{AirItem, Event, Line, Radio, Section, Step};
+use fixtures::{PROBE_REQUEST, guest, lab, lab_and_guest, octets};
+use hex::FromHexError;
+use mac_frame::{List, Octets};
+use std::alloc::Global;
+use std::process::Abort;
+use std::sync::Wait;
+use std::test::Fail;
+use std::thread::Threads;
+use workers::Finished;
+
+/// Fails the test where this is not so.
+fn expect<R: Abort>(rt: &R, found: Result<bool, Fail>) -> Result<(), Fail> {
+    let found = found?;
+    assert!(rt; found);
+    Ok(())
+}
+
+/// What is heard where a text spells it.
+fn heard(alloc: Global, text: &str) -> Result<Event, FromHexError> {
+    Ok(Event::Air(octets(alloc, text)?))
+}
+
+/// Whether frames are those that texts spell, in their order.
+fn are_frames(alloc: Global, frames: &[Octets], texts: &[&str]) -> Result<bool, FromHexError> {
+    for (frame, text) in frames.iter().zip(texts) {
+        if frame.as_slice() != octets(alloc, *text)?.as_slice() {
+            return Ok(false);
+        }
+    }
+    Ok(frames.len() == texts.len())
+}
+
+/// Whether the section at a place has these frames on the air.
+fn sent_at(
+    alloc: Global,
+    sections: &List<Section>,
+    place: usize,
+    texts: &[&str],
+) -> Result<bool, FromHexError> {
+    match sections.as_slice().get(place) {
+        Some(section) => are_frames(alloc, section.air.as_slice(), texts),
+        None => Ok(false),
+    }
+}
+
+/// The station joins the network `lab`.
+fn joining(alloc: Global) -> Result<Vec<Event>, Fail> {
+    let mut events = Vec::new(alloc);
+    events.push(heard(alloc, lab::AUTHENTICATION_REQUEST)?)?;
+    events.push(heard(alloc, lab::ASSOCIATION_REQUEST)?)?;
+    Ok(events)
+}
+
+/// What the network makes of it.
+fn joined(alloc: Global) -> Result<Section, Fail> {
+    let config = lab::config(alloc, 100)?;
+    Ok(take_all(alloc, 6, 100, config, joining(alloc)?)?)
+}
+
+/// Whether it answers both requests.
+fn answers_both(alloc: Global) -> Result<bool, Fail> {
+    let section = joined(alloc)?;
+    let answers = [lab::AUTHENTICATION_RESPONSE, lab::ASSOCIATION_RESPONSE];
+    Ok(are_frames(alloc, section.air.as_slice(), &answers)?)
+}
+
+#[test]
+fn a_network_answers_alone(rt: HostRuntime) -> Result<(), Fail> {
+    expect(&rt, answers_both(rt.alloc()))
+}
+
+/// What leaves of the second network of a radio that takes the probe request.
+fn serve_second(alloc: Global, radio: &mut Radio) -> Result<Vec<AirItem>, Fail> {
+    if radio.networks() < 2 {
+        return Err(Fail::new("no second network"));
+    }
+    Ok(serve(alloc, radio, 1, heard(alloc, PROBE_REQUEST)?)?)
+}
+
+/// Whether that is its answer alone.
+fn is_answer(alloc: Global, left: &[AirItem]) -> Result<bool, FromHexError> {
+    match left {
+        [item] => Ok(
+            item.place == 1
+                && item.octets.as_slice() == octets(alloc, guest::PROBE_RESPONSE)?.as_slice(),
+        ),
+        _ => Ok(false),
+    }
+}
+
+/// Whether it is of a radio of two networks.
+fn serves(alloc: Global) -> Result<bool, Fail> {
+    let mut radio = Radio::new(alloc, lab_and_guest(alloc, 2, 1)?)?;
+    let left = serve_second(alloc, &mut radio)?;
+    Ok(is_answer(alloc, left.as_slice())?)
+}
+
+#[test]
+fn a_radio_serves_one_network(rt: HostRuntime) -> Result<(), Fail> {
+    expect(&rt, serves(rt.alloc()))
+}
+
+/// Both networks take the probe request, and the second's answer leaves.
+fn asking(alloc: Global) -> Result<Vec<Step>, Fail> {
+    let mut steps = Vec::new(alloc);
+    for place in 0..2 {
+        let event = heard(alloc, PROBE_REQUEST)?;
+        steps.push(Step::Take { place, event })?;
+    }
+    steps.push(Step::Hand { place: 1 })?;
+    steps.push(Step::Leave)?;
+    Ok(steps)
+}
+
+/// The sections of a radio of two networks then.
+fn asked(alloc: Global) -> Result<List<Section>, Fail> {
+    let steps = asking(alloc)?;
+    Ok(sections(alloc, lab_and_guest(alloc, 2, 1)?, steps.as_slice())?)
+}
+
+/// Whether each has its answer.
+fn answer_each(alloc: Global) -> Result<bool, Fail> {
+    let sections = asked(alloc)?;
+    Ok(
+        sent_at(alloc, &sections, 0, &[lab::PROBE_RESPONSE])?
+            && sent_at(alloc, &sections, 1, &[guest::PROBE_RESPONSE])?,
+    )
+}
+
+#[test]
+fn a_radio_has_a_section_for_each_network(rt: HostRuntime) -> Result<(), Fail> {
+    expect(&rt, answer_each(rt.alloc()))
+}
+
+/// A source of one line, which is heard on the air.
+fn source(alloc: Global, text: &str) -> Result<Vec<Line>, Fail> {
+    let mut lines = Vec::new(alloc);
+    lines.push(Line::Air(octets(alloc, text)?))?;
+    Ok(lines)
+}
+
+/// The end of an access point of two networks, with each of which the station authenticates itself by another source.
+fn run_sources<R: Threads + Wait + Sync>(rt: &R, alloc: Global) -> Result<Finished, Fail> {
+    let first = source(alloc, lab::AUTHENTICATION_REQUEST)?;
+    let second = source(alloc, guest::AUTHENTICATION_REQUEST)?;
+    let config = lab_and_guest(alloc, 100, 64)?;
+    Ok(run_two(rt, alloc, config, first.as_slice(), second.as_slice())?)
+}
+
+/// Whether each network answers its request, and both answers left.
+fn both_answer<R: Threads + Wait + Sync>(rt: &R, alloc: Global) -> Result<bool, Fail> {
+    let end = run_sources(rt, alloc)?;
+    Ok(
+        end.left.as_slice().len() == 2
+            && sent_at(alloc, &end.sections, 0, &[lab::AUTHENTICATION_RESPONSE])?
+            && sent_at(alloc, &end.sections, 1, &[guest::AUTHENTICATION_RESPONSE])?,
+    )
+}
+
+#[test]
+fn an_access_point_has_two_sources(rt: HostRuntime) -> Result<(), Fail> {
+    expect(&rt, both_answer(&rt, rt.alloc()))
+}
