@@ -38,7 +38,10 @@ pub record RadioPassView : Type 0 where
 -- how proofs tell such passes apart: by their fields, one after the other
 abbrev pub item_code : Coded AirItem
 item_code =
-    code_by (ℕ × List ℕ) (coded× coded_ℕ (coded_list coded_ℕ)) (λ x. (x.place, x.octets)) (λ p. record { place = p.0; octets = p.1 }) (λ _. refl)
+    code_by (ℕ × List ℕ) (coded× coded_ℕ (coded_list coded_ℕ)) (λ x. (x.place, x.octets)) (λ p. record {
+      place = p.0;
+      octets = p.1;
+    }) (λ _. refl)
 
 abbrev pub taken_in_code : Coded TakenIn
 taken_in_code = finite.code coded_ℕ (coded_list (coded_list coded_ℕ))

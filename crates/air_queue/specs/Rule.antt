@@ -1,5 +1,5 @@
--- The rule of the air queue (profile), which each step of each thread keeps: over what the queue holds, oldest first, and
--- what each pass knows. A pass has a number, and what it knows stands in the list of all passes at that number.
+-- The rule of the air queue (profile), which each step of each thread keeps: over what the queue holds, oldest first,
+-- and what each pass knows. A pass has a number, and what it knows stands in the list of all passes at that number.
 use Rattle.std.specs.Prelude.{ℕ, ◌+◌, ◌<◌, ◌≡◌, All, List, [], ◌∷◌, ◌++◌, Some, None, IsSome}
 use Rattle.std.specs.FinMap as finite
 use mathlib.Core.Option.{some}
@@ -111,7 +111,8 @@ leaving Spent item = Spent
 
 -- a network's pass is taken in: the radio's pass; the other is spent
 abbrev pub taking_in : Known → Known → Known
-taking_in (Radio left networks taken_in) (Network place pushed) = Radio left networks (finite.insert taken_in place pushed)
+taking_in (Radio left networks taken_in) (Network place pushed) =
+    Radio left networks (finite.insert taken_in place pushed)
 taking_in (Radio left networks taken_in) (Radio out given taken) = Radio left networks taken_in
 taking_in (Radio left networks taken_in) Spent = Radio left networks taken_in
 taking_in (Network place pushed) other = Network place pushed
@@ -124,8 +125,8 @@ after_taking known (pass ∷ passes) = after_taking (taking_in known (Network pa
 
 -- ---- what the radio's pass learns
 
--- each network whose pass was taken in pushed what left of it and then what is queued of it; nothing is there of a place
--- that no network was given
+-- each network whose pass was taken in pushed what left of it and then what is queued of it; nothing is there of a
+-- place that no network was given
 abbrev pub Accounts : Known → List AirItem → Type 0
 Accounts (Network place pushed) queued = Unit {0}
 Accounts (Radio left networks taken_in) queued =

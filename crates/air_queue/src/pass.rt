@@ -9,8 +9,8 @@ use bss_core::AirItem;
 use mac_frame::NoMemory;
 use std::marker::Model;
 
-/// A network's right to push its frames to a queue (*profile*). Contracts see which queue it is, the network's place, and
-/// the frames that were pushed with it, in order. It has no bytes for these but the place.
+/// A network's right to push its frames to a queue (*profile*). Contracts see which queue it is, the network's place,
+/// and the frames that were pushed with it, in order. It has no bytes for these but the place.
 #[derive(Drop)]
 pub struct NetPass {
     pub(crate) place: usize,
@@ -25,7 +25,11 @@ impl Model for NetPass {
 
     ghost Value = { NetPassView };
 
-    ghost view = { λ p. record { name = p.queue_pass.table_id; place = p.place; pushed = pushed_by (known_by p.queue_pass) } };
+    ghost view = { λ p. record {
+      name = p.queue_pass.table_id;
+      place = p.place;
+      pushed = pushed_by (known_by p.queue_pass);
+    } };
 
     ghost invariant = { λ p. (p.queue_pass.me.1 ≡ []) × IsNetworkAt p.place (known_by p.queue_pass) };
 }
@@ -35,7 +39,11 @@ impl NetPass {
     pub(crate) fn new(place: usize, queue_pass: QueuePass) -> NetPass
         requires free { queue_pass.me.1 ≡ [] }
         requires network { IsNetworkAt place (known_by queue_pass) }
-        ensures { result ≡ record { name = queue_pass.table_id; place = place; pushed = pushed_by (known_by queue_pass) } }
+        ensures { result ≡ record {
+          name = queue_pass.table_id;
+          place = place;
+          pushed = pushed_by (known_by queue_pass);
+        } }
     {
         NetPass { place, queue_pass }
     }
@@ -48,8 +56,9 @@ impl NetPass {
     }
 }
 
-/// The radio's right to pop frames from a queue, with the list of what left (*profile*). Contracts see which queue it is,
-/// that list, how many networks were given a pass, what was taken in of them, and for how many frames more there is room.
+/// The radio's right to pop frames from a queue, with the list of what left (*profile*). Contracts see which queue it
+/// is, that list, how many networks were given a pass, what was taken in of them, and for how many frames more there is
+/// room.
 #[derive(Drop)]
 pub struct RadioPass {
     pub(crate) left: Vec<AirItem>,
@@ -79,8 +88,8 @@ impl Model for RadioPass {
 }
 
 impl RadioPass {
-    /// Makes room for so many frames more in the list of what left (*profile*). `NoMemory` where the growth was refused;
-    /// then nothing has changed.
+    /// Makes room for so many frames more in the list of what left (*profile*). `NoMemory` where the growth was
+    /// refused; then nothing has changed.
     pub fn reserve(&mut self, count: usize) -> Result<(), NoMemory>
         ensures name { self.new.name ≡ self.old.name }
         ensures left { self.new.left ≡ self.old.left }

@@ -1,6 +1,7 @@
 //! The queue: made with its passes, pushed to, popped from, and taken in (*profile*).
 
-ghost use Rattle.std.specs.Prelude.{◌≡◌, ◌+◌, ◌<◌, ◌≤◌, ◌++◌, [], ◌∷◌, vec_len, vec_capacity, IfOk, OnOk, IfErr, MatchBool};
+ghost use Rattle.std.specs.Prelude.{◌≡◌, ◌+◌, ◌<◌, ◌≤◌, ◌++◌, [], ◌∷◌, vec_len, vec_capacity, IfOk, OnOk, IfErr};
+ghost use Rattle.std.specs.Prelude.{MatchBool};
 ghost use Rattle.std.specs.FinMap as finite;
 ghost use Rattle.crossbeam_queue.specs.Passes.{view as known_by, IsPassOf, IsSamePass};
 ghost use Rattle.bss_core.specs.declared.radio.step.AirItem.{AirItem};
@@ -17,8 +18,8 @@ use std::marker::Model;
 use std::sync::Wait;
 
 /// A queue of whole frames (IEEE Std 802.11-2016, 9.2) that threads share by reference (*profile*). Contracts see its
-/// name, which its passes have too, and how many frames it holds at most; what it holds another thread may change at any
-/// moment, so no contract tells.
+/// name, which its passes have too, and how many frames it holds at most; what it holds another thread may change at
+/// any moment, so no contract tells.
 #[derive(Drop)]
 pub struct AirQueue {
     pub(crate) queue: RuledQueue,
@@ -81,7 +82,8 @@ impl AirQueue {
         ensures name { pass.new.name ≡ pass.old.name }
         ensures networks { (pass.new.networks ≡ pass.old.networks) × (pass.new.taken_in ≡ pass.old.taken_in) }
         ensures left { MatchBool result
-            ((item : AirItem) × (item.place < pass.old.networks) × (pass.new.left ≡ pass.old.left ++ item ∷ []) × (pass.new.spare + 1 ≡ pass.old.spare))
+            ((item : AirItem) × (item.place < pass.old.networks) × (pass.new.left ≡ pass.old.left ++ item ∷ [])
+            × (pass.new.spare + 1 ≡ pass.old.spare))
             (pass.new ≡ pass.old) }
     {
         pop_into(rt, &self.queue, &mut pass.queue_pass, &mut pass.left)
@@ -123,10 +125,14 @@ pub(crate) fn pop_into<R: Wait>(
     requires room { vec_len left.old < vec_capacity left.old }
     ensures queue { IsSamePass queue_pass.old queue_pass.new }
     ensures radio { IsRadioWith left.new.items (known_by queue_pass.new) }
-    ensures networks { (networks_of (known_by queue_pass.new) ≡ networks_of (known_by queue_pass.old)) × (taken_in_of (known_by queue_pass.new) ≡ taken_in_of (known_by queue_pass.old)) }
+    ensures networks { (networks_of (known_by queue_pass.new) ≡ networks_of (known_by queue_pass.old))
+        × (taken_in_of (known_by queue_pass.new) ≡ taken_in_of (known_by queue_pass.old)) }
     ensures left { MatchBool result
-        ((item : AirItem) × (item.place < networks_of (known_by queue_pass.old)) × (left.new.items ≡ left.old.items ++ item ∷ []) × (vec_len left.new ≡ vec_len left.old + 1) × (vec_capacity left.new ≡ vec_capacity left.old))
-        ((known_by queue_pass.new ≡ known_by queue_pass.old) × (left.new ≡ left.old) × Accounts (known_by queue_pass.old) []) }
+        ((item : AirItem) × (item.place < networks_of (known_by queue_pass.old))
+        × (left.new.items ≡ left.old.items ++ item ∷ []) × (vec_len left.new ≡ vec_len left.old + 1)
+        × (vec_capacity left.new ≡ vec_capacity left.old))
+        ((known_by queue_pass.new ≡ known_by queue_pass.old) × (left.new ≡ left.old)
+        × Accounts (known_by queue_pass.old) []) }
 {
     match queue.pop_as::<Leave, R>(rt, queue_pass) {
         Some(item) => {

@@ -4,7 +4,8 @@
 //! empty change no pass.
 
 ghost use Rattle.std.specs.Prelude.{◌≡◌, ◌<◌, ⊤};
-ghost use Rattle.air_queue.specs.Rule.{IsKept, Accounts, fresh, giving, given, pushing, leaving, networks_of, taking_in};
+ghost use Rattle.air_queue.specs.Rule.{IsKept, Accounts, fresh, giving, given, pushing, leaving, networks_of};
+ghost use Rattle.air_queue.specs.Rule.{taking_in};
 ghost use Rattle.air_queue.specs.declared.known.Known.TheVariants.{Spent};
 
 use crate::known::Known;

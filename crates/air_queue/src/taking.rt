@@ -7,7 +7,8 @@ ghost use Rattle.crossbeam_queue.specs.Passes.{view as known_by, IsPassOf, IsSam
 ghost use Rattle.bss_core.specs.Radio.{items_of};
 ghost use Rattle.air_queue.specs.Passes.{AllThere};
 ghost use Rattle.bss_core.specs.Lists.{IsPrefix};
-ghost use Rattle.air_queue.specs.Rule.{IsRadio, IsRadioWith, AllTaken, Accounts, networks_of, taken_in_of, taking_in, after_taking};
+ghost use Rattle.air_queue.specs.Rule.{IsRadio, IsRadioWith, AllTaken, Accounts, networks_of, taken_in_of, taking_in};
+ghost use Rattle.air_queue.specs.Rule.{after_taking};
 ghost use Rattle.air_queue.specs.declared.known.Known.TheVariants.{Network, Radio};
 
 use crate::pass::{NetPass, RadioPass};
@@ -38,7 +39,8 @@ pub struct TakeInFault {
 impl AirQueue {
     /// Ends the queue, once all its passes are back, those of the networks in order of place: takes out what remains,
     /// so that the answer begins with what had left and has of each network what its pass pushed, in that order, and
-    /// nothing else (*profile*). Where a growth was refused, it hands all back unchanged. It may wait for other threads.
+    /// nothing else (*profile*). Where a growth was refused, it hands all back unchanged. It may wait for other
+    /// threads.
     pub fn take_in<R: Wait>(
         self,
         rt: &R,
@@ -49,9 +51,11 @@ impl AirQueue {
         requires new { radio.taken_in ≡ finite.empty }
         requires nets { AllThere self.name radio.networks nets.items }
         ensures begins { IfOk result (λ left. IsPrefix radio.left left.items) }
-        ensures whole { IfOk result (λ left. AllByRecursion (λ pass. items_of pass.place left.items ≡ pass.pushed) nets.items) }
+        ensures whole { IfOk result (λ left.
+            AllByRecursion (λ pass. items_of pass.place left.items ≡ pass.pushed) nets.items) }
         ensures nothing_else { IfOk result (λ left. All (λ item. item.place < radio.networks) left.items) }
-        ensures fault { IfErr result (λ fault. (fault.queue ≡ self) × (fault.radio ≡ radio) × (fault.nets ≡ nets.items)) }
+        ensures fault { IfErr result (λ fault.
+            (fault.queue ≡ self) × (fault.radio ≡ radio) × (fault.nets ≡ nets.items)) }
     {
         let AirQueue { queue } = self;
         let RadioPass {
@@ -108,7 +112,8 @@ fn drain<R: Wait>(rt: &R, queue: &RuledQueue, queue_pass: &mut QueuePass, left: 
     requires taken { AllTaken (known_by queue_pass.old) }
     requires room { vec_len left.old + ruled_capacity queue.now ≤ vec_capacity left.old }
     ensures begins { IsPrefix left.old.items left.new.items }
-    ensures account { Accounts (Radio left.new.items (networks_of (known_by queue_pass.old)) (taken_in_of (known_by queue_pass.old))) [] }
+    ensures account { Accounts (Radio left.new.items (networks_of (known_by queue_pass.old))
+        (taken_in_of (known_by queue_pass.old))) [] }
 {
     let all = left.len() + queue.len_as::<Leave, R>(rt, queue_pass);
     while left.len() < all {

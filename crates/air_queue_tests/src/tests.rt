@@ -96,7 +96,8 @@ fn push_both<R: Wait>(
 /// Makes room for a frame and pops one. Whether it is the only one that left.
 fn pop_first<R: Wait>(rt: &R, queue: &AirQueue, radio: &mut RadioPass) -> Result<bool, NoMemory>
     requires { radio.old.name ≡ queue.now.name }
-    ensures { (radio.new.name ≡ radio.old.name) × (radio.new.networks ≡ radio.old.networks) × (radio.new.taken_in ≡ radio.old.taken_in) }
+    ensures { (radio.new.name ≡ radio.old.name) × (radio.new.networks ≡ radio.old.networks)
+        × (radio.new.taken_in ≡ radio.old.taken_in) }
 {
     radio.reserve(1)?;
     let has_room = radio.spare() >= 1;
@@ -267,7 +268,8 @@ fn push_and_pop<R: Threads + Wait + Sync>(
     requires radio { (radio.name ≡ queue.now.name) × (radio.networks ≡ 2) × (radio.taken_in ≡ finite.empty) }
     ensures first { (result.0.0.name ≡ queue.now.name) × (result.0.0.place ≡ 0) }
     ensures second { (result.1.0.0.name ≡ queue.now.name) × (result.1.0.0.place ≡ 1) }
-    ensures radio { (result.1.1.name ≡ queue.now.name) × (result.1.1.networks ≡ 2) × (result.1.1.taken_in ≡ finite.empty) }
+    ensures radio { (result.1.1.name ≡ queue.now.name) × (result.1.1.networks ≡ 2)
+        × (result.1.1.taken_in ≡ finite.empty) }
 {
     thread::join(
         rt,
@@ -279,7 +281,8 @@ fn push_and_pop<R: Threads + Wait + Sync>(
             requires second { (second.name ≡ queue.now.name) × (second.place ≡ 1) }
             requires radio { (radio.name ≡ queue.now.name) × (radio.networks ≡ 2) × (radio.taken_in ≡ finite.empty) }
             ensures second { (result.0.0.name ≡ queue.entry.now.name) × (result.0.0.place ≡ 1) }
-            ensures radio { (result.1.name ≡ queue.entry.now.name) × (result.1.networks ≡ 2) × (result.1.taken_in ≡ finite.empty) }
+            ensures radio { (result.1.name ≡ queue.entry.now.name) × (result.1.networks ≡ 2)
+                × (result.1.taken_in ≡ finite.empty) }
         { push_beside(rt, alloc, queue, second, radio) },
     )
 }

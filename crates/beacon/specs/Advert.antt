@@ -1,5 +1,5 @@
--- What a network announces of itself, and the fields that its beacons and probe responses share (IEEE Std 802.11-2016, 9.3.3.3
--- and 9.3.3.11).
+-- What a network announces of itself, and the fields that its beacons and probe responses share (IEEE Std 802.11-2016,
+-- 9.3.3.3 and 9.3.3.11).
 use Rattle.std.specs.Prelude.{ℕ, ◌*◌, List, [], ◌∷◌, ◌++◌}
 use Rattle.std.specs.Int.{w16, w64, to_le_bytes}
 use Rattle.mac_frame.specs.Management.{capability}
@@ -17,7 +17,14 @@ pub record Announced : Type 0 where
   pub clock : ℕ
 
 abbrev pub announced : Advert → Announced
-announced a = record { bss = a.bss; ssid = a.ssid.now; rates = a.rates.now; channel = a.channel; interval = a.interval; clock = a.clock }
+announced a = record {
+  bss = a.bss;
+  ssid = a.ssid.now;
+  rates = a.rates.now;
+  channel = a.channel;
+  interval = a.interval;
+  clock = a.clock;
+}
 
 -- Timestamp (9.4.1.10), in microseconds: the clock counts beacon intervals of so many time units of 1024 (profile)
 unfoldable pub timestamp : ℕ → ℕ → List ℕ

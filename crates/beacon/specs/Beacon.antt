@@ -7,7 +7,8 @@ use Rattle.elements.specs.Rates.{extended_rates}
 use Rattle.tim.specs.Tim.{tim_octets}
 use Rattle.beacon.specs.Advert.{Announced, fixed_fields, network_elements}
 
--- DTIM Count (9.4.2.6): how many beacons come before the next DTIM, 0 in a DTIM. The beacon at clock 1 is one (profile).
+-- DTIM Count (9.4.2.6): how many beacons come before the next DTIM, 0 in a DTIM. The beacon at clock 1 is one
+-- (profile).
 unfoldable pub dtim_count : ℕ → ℕ → ℕ
 dtim_count clock period = (period - (clock - 1) % period) % period
 
@@ -15,8 +16,8 @@ dtim_count clock period = (period - (clock - 1) % period) % period
 abbrev pub traffic_indicator : ℕ → Bool → Bool
 traffic_indicator count group = group && count == 0
 
--- the TIM of a beacon: the DTIM period, whether units for the group are kept, and which association identifiers are those of
--- stations for which units are kept
+-- the TIM of a beacon: the DTIM period, whether units for the group are kept, and which association identifiers are
+-- those of stations for which units are kept
 abbrev pub beacon_tim : ℕ → ℕ → Bool → (ℕ → Bool) → List ℕ
 beacon_tim clock period group members =
     tim_octets (dtim_count clock period) period (traffic_indicator (dtim_count clock period) group) members

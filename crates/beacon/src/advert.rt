@@ -1,5 +1,5 @@
-//! What a network announces, and the fields that its beacons and probe responses share (IEEE Std 802.11-2016, 9.3.3.3 and
-//! 9.3.3.11).
+//! What a network announces, and the fields that its beacons and probe responses share (IEEE Std 802.11-2016, 9.3.3.3
+//! and 9.3.3.11).
 
 ghost use Rattle.std.specs.Prelude.{◌≡◌, ◌++◌, ◌≤◌, length, take, OnOk, OnErr};
 ghost use Rattle.beacon.specs.Advert.{announced, timestamp, fixed_fields, network_elements};
@@ -33,8 +33,8 @@ pub struct Advert<'a> {
     pub seq: u16,
 }
 
-/// Appends the fields before the elements: Timestamp, Beacon Interval and Capability Information. After `NoMemory` some may
-/// follow what was there.
+/// Appends the fields before the elements: Timestamp, Beacon Interval and Capability Information. After `NoMemory` some
+/// may follow what was there.
 #[tactic(auto, unfolding(crate::specs::Advert::fixed_fields))]
 pub(crate) fn append_fixed_fields(out: &mut Octets, advert: &Advert<'_>) -> Result<(), NoMemory>
     ensures ok { OnOk result (out.new ≡ out.old ++ fixed_fields (announced advert.now)) }
@@ -53,8 +53,8 @@ fn timestamp(clock: u32, interval: u16) -> [u8; 8]
     (u64::from(clock) * u64::from(interval) * TIME_UNIT).to_le_bytes()
 }
 
-/// Appends the elements that stand first: SSID, Supported Rates and DSSS Parameter Set. After `NoMemory` some may follow what
-/// was there.
+/// Appends the elements that stand first: SSID, Supported Rates and DSSS Parameter Set. After `NoMemory` some may
+/// follow what was there.
 #[tactic(auto, unfolding(crate::specs::Advert::network_elements))]
 pub(crate) fn append_network_elements(out: &mut Octets, advert: &Advert<'_>) -> Result<(), NoMemory>
     requires { length advert.now.ssid.now ≤ 32 }

@@ -13,11 +13,11 @@ use tim::{Bitmap, write_tim};
 /// The octets of a TIM with one octet of the virtual bitmap, the fewest that it has (9.4.2.6).
 const LEAST_TIM_LEN: usize = 6;
 
-/// Appends a whole beacon to the broadcast address (9.3.3.3), of a network whose clock is at least 1, with an SSID of at most 32
-/// octets (9.4.2.2), 1 to 16 rates (*profile*) and a sequence number below 4096 (9.2.4.4.2). `period`, at least 1, is the DTIM
-/// period: one of so many beacons is a DTIM (9.4.2.6). `group` tells whether units for the group are kept, which the TIM of a
-/// DTIM alone shows; `bits` has the association identifiers of the stations for which units are kept. After `NoMemory` `out` is
-/// as it was.
+/// Appends a whole beacon to the broadcast address (9.3.3.3), of a network whose clock is at least 1, with an SSID of
+/// at most 32 octets (9.4.2.2), 1 to 16 rates (*profile*) and a sequence number below 4096 (9.2.4.4.2). `period`, at
+/// least 1, is the DTIM period: one of so many beacons is a DTIM (9.4.2.6). `group` tells whether units for the group
+/// are kept, which the TIM of a DTIM alone shows; `bits` has the association identifiers of the stations for which
+/// units are kept. After `NoMemory` `out` is as it was.
 pub fn write_beacon(
     out: &mut Octets,
     advert: &Advert<'_>,
@@ -31,7 +31,8 @@ pub fn write_beacon(
     requires seq { advert.now.seq < 4096 }
     requires clock { 1 ≤ advert.now.clock }
     requires period { 1 ≤ period }
-    ensures ok { OnOk result (out.new ≡ out.old ++ beacon (announced advert.now) advert.now.seq period group (set.contains bits.now)) }
+    ensures ok { OnOk result (out.new
+        ≡ out.old ++ beacon (announced advert.now) advert.now.seq period group (set.contains bits.now)) }
     ensures err { OnErr result (out.new ≡ out.old) }
 {
     let len = out.as_slice().len();
@@ -53,7 +54,8 @@ fn append_body(
     requires few_rates { length advert.now.rates.now ≤ 16 }
     requires clock { 1 ≤ advert.now.clock }
     requires period { 1 ≤ period }
-    ensures ok { OnOk result (out.new ≡ out.old ++ beacon_body (announced advert.now) period group (set.contains bits.now)) }
+    ensures ok { OnOk result (out.new
+        ≡ out.old ++ beacon_body (announced advert.now) period group (set.contains bits.now)) }
     ensures err { OnErr result (take (length out.old) out.new ≡ out.old) }
 {
     append_fixed_fields(out, advert)?;
@@ -79,8 +81,8 @@ fn append_tim(
     write_tim(out, count, period, traffic_indicator(count, group), bits)
 }
 
-/// DTIM Count (9.4.2.6): how many beacons come before the next DTIM, 0 in a DTIM. The beacon at clock 1 is one (*profile*).
-/// Takes a clock and a period of at least 1, and no memory.
+/// DTIM Count (9.4.2.6): how many beacons come before the next DTIM, 0 in a DTIM. The beacon at clock 1 is one
+/// (*profile*). Takes a clock and a period of at least 1, and no memory.
 #[tactic(auto, unfolding(crate::specs::Beacon::dtim_count))]
 pub fn dtim_count(clock: u32, period: u8) -> u8
     requires clock { 1 ≤ clock }

@@ -1,7 +1,7 @@
 //! What a network announces of itself (IEEE Std 802.11-2016, 9.3.3): beacons and probe responses.
 //!
-//! It promises that [`write_beacon`] and [`write_probe_response`] append exactly the octets of the frame, every field in its
-//! place.
+//! It promises that [`write_beacon`] and [`write_probe_response`] append exactly the octets of the frame, every field
+//! in its place.
 //!
 //! When a network sends one, for whom units are kept, and with which sequence number, is left to the network.
 #![tactic(auto)]

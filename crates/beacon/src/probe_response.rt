@@ -8,8 +8,9 @@ use crate::advert::{Advert, FIXED_LEN, append_fixed_fields, append_network_eleme
 use elements::write_extended_rates;
 use mac_frame::{MacAddr, NoMemory, Octets, PROBE_RESPONSE, write_mgmt};
 
-/// Appends a whole probe response to the station `to` (9.3.3.11), of a network with an SSID of at most 32 octets (9.4.2.2), 1 to 16
-/// rates (*profile*) and a sequence number below 4096 (9.2.4.4.2), at any clock. After `NoMemory` `out` is as it was.
+/// Appends a whole probe response to the station `to` (9.3.3.11), of a network with an SSID of at most 32 octets
+/// (9.4.2.2), 1 to 16 rates (*profile*) and a sequence number below 4096 (9.2.4.4.2), at any clock. After `NoMemory`
+/// `out` is as it was.
 pub fn write_probe_response(
     out: &mut Octets,
     advert: &Advert<'_>,

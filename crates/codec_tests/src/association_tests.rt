@@ -12,7 +12,8 @@ use std::test::Fail;
 
 const FOUR_RATES: [u8; 4] = [0x82, 0x84, 0x0b, 0x16];
 
-/// The algorithms that a station begins to authenticate itself by, sequence numbers, and the answers, each after an octet.
+/// The algorithms that a station begins to authenticate itself by, sequence numbers, and the answers, each after an
+/// octet.
 const AUTHENTICATIONS: [(u16, u8, [u8; 31]); 2] = [
     (
         0,
@@ -59,7 +60,8 @@ fn open_system_is_accepted_and_shared_key_is_not(rt: HostRuntime) -> Result<(), 
     Ok(())
 }
 
-/// The answer to a station that asks with these elements to be associated, after an octet. Nothing where they are no list.
+/// The answer to a station that asks with these elements to be associated, after an octet. Nothing where they are no
+/// list.
 fn association(
     alloc: Global,
     elements: &[u8],

@@ -19,4 +19,6 @@ mod elements_tests;
 #[cfg(test)]
 mod mac_frame_tests;
 #[cfg(test)]
+mod powersave_tests;
+#[cfg(test)]
 mod tim_tests;

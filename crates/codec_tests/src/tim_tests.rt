@@ -83,8 +83,8 @@ fn sets_are_shown_in_one_spelling(rt: HostRuntime) -> Result<(), Fail> {
     shows(&rt, rt.alloc(), &[1, 2007], &longest)
 }
 
-/// The TIM of a set at DTIM Count 0 and DTIM Period 1, bit by bit: from the octet of the least number, or the one before it
-/// where that stands at an odd place, to the octet of the greatest.
+/// The TIM of a set at DTIM Count 0 and DTIM Period 1, bit by bit: from the octet of the least number, or the one
+/// before it where that stands at an odd place, to the octet of the greatest.
 fn plain_tim(rt: &impl Abort, alloc: Global, aids: &[u16]) -> Result<Octets, Fail> {
     let first = aids.iter().min().map_or(0, |aid| aid / 16 * 2);
     let last = aids.iter().max().map_or(0, |aid| aid / 8);

@@ -1,6 +1,7 @@
--- Rates, in two elements (IEEE Std 802.11-2016, 9.4.2.3 and 9.4.2.13): those of a network, and those that a body has. A rate
--- is an octet: units of 500 kb/s in bits 0 to 6, and in bit 7 whether it is a basic rate.
-use Rattle.std.specs.Prelude.{ℕ, ◌%◌, Bool, false, nat_le, ◌==◌, ◌||◌, List, [], ◌∷◌, ◌++◌, take, drop, Option, Some, None}
+-- Rates, in two elements (IEEE Std 802.11-2016, 9.4.2.3 and 9.4.2.13): those of a network, and those that a body has. A
+-- rate is an octet: units of 500 kb/s in bits 0 to 6, and in bit 7 whether it is a basic rate.
+use Rattle.std.specs.Prelude.{ℕ, ◌%◌, Bool, false, nat_le, ◌==◌, ◌||◌, List, [], ◌∷◌, ◌++◌, take, drop, Option, Some}
+use Rattle.std.specs.Prelude.{None}
 use Rattle.std.specs.List.{list_any}
 use Rattle.elements.specs.Elements.{Pair, first_of, element, supported_rates_id, extended_supported_rates_id}
 
@@ -44,8 +45,8 @@ abbrev pub is_in_element : ℕ → Option (List ℕ) → Bool
 is_in_element rate None = false
 is_in_element rate (Some rates) = is_rate_among rate rates
 
--- a station has a rate: the first Supported Rates of its body has it, or the first Extended Supported Rates has (which of
--- several counts is profile)
+-- a station has a rate: the first Supported Rates of its body has it, or the first Extended Supported Rates has (which
+-- of several counts is profile)
 abbrev pub has_rate : ℕ → List Pair → Bool
 has_rate rate es =
     is_in_element rate (first_of supported_rates_id es) || is_in_element rate (first_of extended_supported_rates_id es)

@@ -1,6 +1,7 @@
 //! Elements (IEEE Std 802.11-2016, 9.4.2.1): their element IDs, the list of a body, and one that is sent.
 
-ghost use Rattle.std.specs.Prelude.{◌≡◌, ◌==◌, ◌++◌, ℕ, ◌<◌, ◌≤◌, List, [], length, slice_index, Some, None, is_some, option_map, IfSome, IfNone, IfOk, IsOkAnd, OnOk, OnErr, MatchResult, if◌then◌else◌};
+ghost use Rattle.std.specs.Prelude.{◌≡◌, ◌==◌, ◌++◌, ℕ, ◌<◌, ◌≤◌, List, [], length, slice_index, Some, None, is_some};
+ghost use Rattle.std.specs.Prelude.{option_map, IfSome, IfNone, IfOk, IsOkAnd, OnOk, OnErr, MatchResult, if◌then◌else◌};
 ghost use Rattle.std.specs.Iterator.{YieldsFirstBy, item_count};
 ghost use Rattle.elements.specs.Elements.{Pair, IsElements, elements_of, before, first_of, shown, element};
 
@@ -32,7 +33,8 @@ pub struct Element<'a> {
 #[derive(Clone, Copy, Debug, PartialEq, Eq)]
 pub struct Overrun;
 
-/// The elements of a body that are still to come (9.4.2.1). Contracts see them as pairs of an element ID and its octets.
+/// The elements of a body that are still to come (9.4.2.1). Contracts see them as pairs of an element ID and its
+/// octets.
 #[derive(Debug, Drop)]
 pub struct Elements<'a> {
     rest: &'a [u8],
@@ -64,8 +66,8 @@ impl<'a> Elements<'a> {
         Ok(Elements { rest: body })
     }
 
-    /// The Information field of the first element with this element ID, if there is one (9.4.2.1; which of several counts is
-    /// *profile*). It takes no memory.
+    /// The Information field of the first element with this element ID, if there is one (9.4.2.1; which of several
+    /// counts is *profile*). It takes no memory.
     pub fn first(&self, id: u8) -> Option<&'a [u8]>
         ensures { option_map (λ body. body.now) result ≡ first_of id self.now }
     {
@@ -122,8 +124,8 @@ fn split_element(body: &[u8]) -> Option<(Element<'_>, &[u8])>
     Some((Element { id: *id, body }, others))
 }
 
-/// Appends an element with this element ID and Information field, of at most 255 octets (9.4.2.1). After `NoMemory` `out` is as
-/// it was.
+/// Appends an element with this element ID and Information field, of at most 255 octets (9.4.2.1). After `NoMemory`
+/// `out` is as it was.
 pub fn write_element(out: &mut Octets, id: u8, body: &[u8]) -> Result<(), NoMemory>
     requires { length body.now ≤ 255 }
     ensures ok { OnOk result (out.new ≡ out.old ++ element id body.now) }
@@ -136,5 +138,6 @@ pub fn write_element(out: &mut Octets, id: u8, body: &[u8]) -> Result<(), NoMemo
 pub fn one_list()
     ensures unique { (body : List ℕ) (es fs : List Pair) → IsElements body es → IsElements body fs → es ≡ fs }
     ensures read { (body : List ℕ) (es : List Pair) → IsElements body es → elements_of body ≡ Some es }
-    ensures found { (body : List ℕ) (es : List Pair) → ((place : ℕ) → slice_index body place < 256) → elements_of body ≡ Some es → IsElements body es }
+    ensures found { (body : List ℕ) (es : List Pair) → ((place : ℕ) → slice_index body place < 256)
+        → elements_of body ≡ Some es → IsElements body es }
 {}

@@ -1,7 +1,8 @@
 //! Rates, in two elements (IEEE Std 802.11-2016, 9.4.2.3 and 9.4.2.13): whether a body has one, and those of a network.
 
 ghost use Rattle.std.specs.Prelude.{◌≡◌, ◌++◌, ◌≤◌, length, option_map, OnOk, OnErr};
-ghost use Rattle.elements.specs.Rates.{units_of, is_rate_among, is_in_element, has_rate, supported_rates, extended_rates, rates_of};
+ghost use Rattle.elements.specs.Rates.{units_of, is_rate_among, is_in_element, has_rate, supported_rates};
+ghost use Rattle.elements.specs.Rates.{extended_rates, rates_of};
 
 use crate::element::{EXTENDED_SUPPORTED_RATES, Elements, SUPPORTED_RATES, write_element};
 use mac_frame::{NoMemory, Octets};
@@ -44,7 +45,8 @@ pub fn units_of(rate: u8) -> u8
     rate % BASIC_RATE
 }
 
-/// Appends the first eight rates in Supported Rates, or all where there are fewer (9.4.2.3). After `NoMemory` `out` is as it was.
+/// Appends the first eight rates in Supported Rates, or all where there are fewer (9.4.2.3). After `NoMemory` `out` is
+/// as it was.
 pub fn write_supported_rates(out: &mut Octets, rates: &[u8]) -> Result<(), NoMemory>
     ensures ok { OnOk result (out.new ≡ out.old ++ supported_rates rates.now) }
     ensures err { OnErr result (out.new ≡ out.old) }
@@ -53,8 +55,8 @@ pub fn write_supported_rates(out: &mut Octets, rates: &[u8]) -> Result<(), NoMem
     write_element(out, SUPPORTED_RATES, first)
 }
 
-/// Appends the rates after the eighth, if there are any, in Extended Supported Rates (9.4.2.13), of at most 16 rates in all
-/// (*profile*). After `NoMemory` `out` is as it was.
+/// Appends the rates after the eighth, if there are any, in Extended Supported Rates (9.4.2.13), of at most 16 rates in
+/// all (*profile*). After `NoMemory` `out` is as it was.
 pub fn write_extended_rates(out: &mut Octets, rates: &[u8]) -> Result<(), NoMemory>
     requires { length rates.now ≤ 16 }
     ensures ok { OnOk result (out.new ≡ out.old ++ extended_rates rates.now) }
@@ -67,8 +69,8 @@ pub fn write_extended_rates(out: &mut Octets, rates: &[u8]) -> Result<(), NoMemo
     write_element(out, EXTENDED_SUPPORTED_RATES, others)
 }
 
-/// Appends the 1 to 16 rates of a network (*profile*): the first eight in Supported Rates, the rest, if any, in Extended
-/// Supported Rates (9.4.2.3, 9.4.2.13). After `NoMemory` `out` is as it was.
+/// Appends the 1 to 16 rates of a network (*profile*): the first eight in Supported Rates, the rest, if any, in
+/// Extended Supported Rates (9.4.2.3, 9.4.2.13). After `NoMemory` `out` is as it was.
 pub fn write_rates(out: &mut Octets, rates: &[u8]) -> Result<(), NoMemory>
     requires some { 1 ≤ length rates.now }
     requires few { length rates.now ≤ 16 }

@@ -19,8 +19,8 @@ invalid_class_3_frame = 7
 
 -- ---- what is sent
 
--- For a frame that is not taken: a station is told that it is not authenticated, or that it is not associated. The reason
--- goes by the frame's class (profile).
+-- For a frame that is not taken: a station is told that it is not authenticated, or that it is not associated. The
+-- reason goes by the frame's class (profile).
 abbrev pub class_fault : Standing → Class → Option Notice
 class_fault Unknown One = None
 class_fault Unknown Two = Some (Deauthenticate invalid_class_2_frame)
