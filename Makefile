@@ -1,7 +1,7 @@
 # The targets of this repository. All need the Rattle toolchain's command `rt` on the path, GNU make, bash, coreutils,
-# diffutils, grep and sed; `wrong` and `bench` need python3 too.
+# diffutils, grep and sed; `wrong`, `bench`, `bench-limits` and `fuzz` need python3 too.
 
-.PHONY: run try try-check test wrong bench apctl test-tools picture captures
+.PHONY: run try try-check test wrong bench bench-limits fuzz apctl test-tools picture captures
 
 # What `run` and `try` give to the program, a configuration and a trace: a file, named from the folder in which make
 # runs.
@@ -21,8 +21,8 @@ try-check:
 	@.ci/try "$(CONFIG)"
 
 # The gate. Proves every crate from nothing, tries each edit of crates/*/must-fail, runs each test, runs the program
-# that was built of what was proved over the examples and with one growth after another refused, and finds edits of
-# wrong/ that can't be applied. The last line is 'N passed, M failed'.
+# that was built of what was proved over the examples, with one growth after another refused and over files and streams
+# that fail, and finds edits of wrong/ that can't be applied. The last line is 'N passed, M failed'.
 test:
 	@.ci/gate
 
@@ -36,6 +36,16 @@ wrong:
 bench: apctl
 	@bench/measure
 	@bench/stations
+
+# Runs the program where its tables are as large as a configuration and a trace allow, and compares each report with
+# that of the model of the rules, bench/model.py; prints the seconds and the peak memory.
+bench-limits: apctl
+	@bench/limits
+
+# Runs the program over hostile frames, wired frames and traces, each drawn from a fixed seed, and compares each answer
+# with that of the model, octet for octet. The last line is 'N compared, M differ'.
+fuzz: apctl
+	@bench/fuzz
 
 # The built program, build/apctl, of proved crates.
 apctl:
