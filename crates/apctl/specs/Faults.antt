@@ -5,8 +5,11 @@ use Rattle.replay.specs.declared.fault.TextFault.{TextFault}
 use Rattle.replay.specs.declared.fault.TextFault.TheVariants as replay
 use Rattle.replay.specs.declared.fault.StreamFault.{StreamFault}
 use Rattle.replay.specs.declared.fault.StreamFault.TheVariants as streams
+use Rattle.replay.specs.declared.fault.PlayTextFault.{PlayTextFault}
+use Rattle.replay.specs.declared.fault.PlayTextFault.TheVariants as plays
 use Rattle.apctl.specs.declared.fault.Fault.{Fault}
-use Rattle.apctl.specs.declared.fault.Fault.TheVariants.{Config, Trace, Words, Memory, File, Output}
+use Rattle.apctl.specs.declared.fault.Fault.TheVariants.{Config, Trace, InTrace, Sources, Words, Memory, Thread, Finish}
+use Rattle.apctl.specs.declared.fault.Fault.TheVariants.{File, Output}
 
 -- the fault of two texts that were not answered
 abbrev pub of_texts : TextFault → Fault
@@ -15,11 +18,25 @@ of_texts (replay.Trace fault) = Trace fault
 of_texts replay.NoMemory = Memory
 of_texts replay.Write = Output
 
+-- the fault of several texts that could not be played
+abbrev pub of_play : PlayTextFault → Fault
+of_play (plays.Config fault) = Config fault
+of_play plays.Sources = Sources
+of_play (plays.Trace source fault) = InTrace (record { source = source; fault = fault })
+of_play plays.NoThread = Thread
+of_play plays.NoMemory = Memory
+of_play (plays.Finish fault) = Finish fault
+of_play plays.Write = Output
+
 abbrev pub status_of : Fault → ℕ
 status_of (Config fault) = 1
 status_of (Trace fault) = 1
+status_of (InTrace fault) = 1
+status_of Sources = 1
 status_of Words = 2
 status_of Memory = 3
+status_of Thread = 3
+status_of (Finish fault) = 3
 status_of (File name) = 4
 status_of Output = 4
 

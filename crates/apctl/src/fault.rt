@@ -3,14 +3,34 @@
 ghost use Rattle.std.specs.Prelude.{◌≡◌, ◌≢◌, ◌+◌, IfOk, Ok, Err};
 ghost use Rattle.trace.specs.Endings.{Ends, failures_of};
 ghost use Rattle.trace.specs.Sinks.{MayFail, report_ending};
-ghost use Rattle.apctl.specs.Faults.{of_texts, status_of, memory_line, IsOfFile, IsOfStream};
+ghost use Rattle.apctl.specs.Faults.{of_texts, of_play, status_of, memory_line, IsOfFile, IsOfStream};
 ghost use Rattle.apctl.specs.declared.fault.Fault.TheVariants as faults;
 
 use bss_core::ConfigFault;
-use replay::{StreamFault, TextFault};
-use std::alloc::{AllocError, Global};
+use replay::{PlayTextFault, StreamFault, TextFault};
+use std::alloc::{AllocError, AllocFailed, Global};
+use std::fmt;
 use thiserror::Error;
 use trace::{ReportFault, Sink, TraceFault, write_all};
+use workers::FinishFault;
+
+/// The first fault of one of several traces.
+#[derive(Clone, Copy, Debug, PartialEq, Eq)]
+pub struct FaultInTrace {
+    /// The trace's place, from 0.
+    pub source: usize,
+    /// Its first fault.
+    pub fault: TraceFault,
+}
+
+/// The fault as a user meets it, as in `L2 trace 0 line 7`.
+impl fmt::Display for FaultInTrace {
+    fn fmt<W: fmt::Write>(&self, f: &mut fmt::Formatter<W>) -> fmt::Result {
+        let source = self.source;
+        let TraceFault { code, line } = self.fault;
+        write!(f, "L{code} trace {source} line {line}")
+    }
+}
 
 /// A fault of the program. It is shown as its line, without the LF.
 #[derive(Debug, Drop, Error)]
@@ -21,12 +41,24 @@ pub enum Fault {
     /// The first fault of the trace.
     #[error("fault {0}")]
     Trace(TraceFault),
+    /// The first fault of the first of several traces that has one.
+    #[error("fault {0}")]
+    InTrace(FaultInTrace),
+    /// Not 1 to 64 traces.
+    #[error("fault sources")]
+    Sources,
     /// The program was given words that it has no use for.
     #[error("fault words")]
     Words,
     /// A growth was refused.
     #[error("fault memory")]
     Memory,
+    /// A thread could not be started.
+    #[error("fault thread")]
+    Thread,
+    /// The access point could not be finished.
+    #[error("fault {0}")]
+    Finish(FinishFault),
     /// A file of this name, or standard input where it is `-`, can't be read.
     #[error("fault file {0}")]
     File(String),
@@ -37,14 +69,14 @@ pub enum Fault {
 
 impl Fault {
     /// The exit status of the program that ends with it: 1 for a fault of what it read, 2 for its words, 3 where
-    /// it ran out of memory, 4 for a file or a stream.
+    /// it ran out of memory or threads, or could not end what it played, 4 for a file or a stream.
     pub fn status(&self) -> u8
         ensures { result ≡ status_of self.now }
     {
         match self {
-            Fault::Config(_) | Fault::Trace(_) => 1,
+            Fault::Config(_) | Fault::Trace(_) | Fault::InTrace(_) | Fault::Sources => 1,
             Fault::Words => 2,
-            Fault::Memory => 3,
+            Fault::Memory | Fault::Thread | Fault::Finish(_) => 3,
             Fault::File(_) | Fault::Output => 4,
         }
     }
@@ -86,10 +118,36 @@ impl From<TextFault> for Fault {
     }
 }
 
+impl From<PlayTextFault> for Fault {
+    ghost from_gives = { λ fault given. given ≡ of_play fault };
+
+    fn from(fault: PlayTextFault) -> Fault {
+        match fault {
+            PlayTextFault::Config(fault) => Fault::Config(fault),
+            PlayTextFault::Sources => Fault::Sources,
+            PlayTextFault::Trace { source, fault } => {
+                Fault::InTrace(FaultInTrace { source, fault })
+            }
+            PlayTextFault::NoThread => Fault::Thread,
+            PlayTextFault::NoMemory => Fault::Memory,
+            PlayTextFault::Finish(fault) => Fault::Finish(fault),
+            PlayTextFault::Write => Fault::Output,
+        }
+    }
+}
+
 impl From<AllocError> for Fault {
     ghost from_gives = { λ _ given. given ≡ faults.Memory };
 
     fn from(_e: AllocError) -> Fault {
+        Fault::Memory
+    }
+}
+
+impl<T: Drop> From<AllocFailed<T>> for Fault {
+    ghost from_gives = { λ _ given. given ≡ faults.Memory };
+
+    fn from(_e: AllocFailed<T>) -> Fault {
         Fault::Memory
     }
 }

@@ -2,6 +2,7 @@
 
 use crate::fault::Fault;
 use crate::input::read_all;
+use mac_frame::Octets;
 use std::fs::File;
 use std::io::ErrorKind;
 
@@ -10,6 +11,16 @@ use std::io::ErrorKind;
 pub fn read_file(rt: &HostRuntime, name: &str) -> Result<Vec<u8>, Fault> {
     let mut file = open_file(rt, name)?;
     read_all(rt.alloc(), &mut file, name)
+}
+
+/// All that the files of these names hold, in their order. `File` with the name of the first that can't be opened or
+/// read; `Memory` where a growth was refused.
+pub fn read_traces(rt: &HostRuntime, names: &[&str]) -> Result<Vec<Octets>, Fault> {
+    let mut traces = Vec::new(rt.alloc());
+    for name in names {
+        traces.push(Octets::from_vec(read_file(rt, name)?))?;
+    }
+    Ok(traces)
 }
 
 /// The file of this name, the word as it stands. `File` with its name where it can't be opened; `Memory` where a growth

@@ -14,12 +14,14 @@ mod input;
 mod words;
 
 use fault::{Fault, show_fault};
-use files::{open_file, read_file};
+use files::{open_file, read_file, read_traces};
 use input::run_input;
-use replay::{check_text, run_stream};
+use replay::{check_text, play_text, run_stream};
 use std::env;
 use std::io::ErrorKind;
 use std::process::ExitCode;
+use std::sync::Wait;
+use std::thread::Threads;
 use trace::{Counted, ReportFault};
 use words::{Task, task_of};
 
@@ -30,7 +32,7 @@ mod tests;
 const UNWRITTEN: u8 = 4;
 
 fn main(rt: HostRuntime) -> ExitCode {
-    match run(&rt) {
+    match run(&rt, &rt) {
         Ok(()) => ExitCode::SUCCESS,
         Err(fault) => ExitCode::from(tell(&rt, &fault)),
     }
@@ -48,8 +50,9 @@ fn tell(rt: &HostRuntime, fault: &Fault) -> u8 {
 }
 
 /// Does what the words ask for. Files are opened in the order of the words, and a configuration is read whole, before
-/// anything is done with them. The trace of `run` is read as it comes.
-fn run(rt: &HostRuntime) -> Result<(), Fault> {
+/// anything is done with them, and so are the traces of `play`. The trace of `run` is read as it comes.
+/// `threads` starts the threads of `play`.
+fn run<T: Threads + Wait + Sync>(rt: &HostRuntime, threads: &T) -> Result<(), Fault> {
     let alloc = rt.alloc();
     let words = given_words(rt)?;
     let mut out = Counted::new(rt.stdout());
@@ -58,6 +61,17 @@ fn run(rt: &HostRuntime) -> Result<(), Fault> {
         Task::Check { config } => {
             let config = read_file(rt, config)?;
             Ok(check_text(alloc, config.as_slice(), &mut out)?)
+        }
+        Task::Play { config, traces } => {
+            let config = read_file(rt, config)?;
+            let traces = read_traces(rt, traces.as_slice())?;
+            Ok(play_text(
+                threads,
+                alloc,
+                config.as_slice(),
+                traces.as_slice(),
+                &mut out,
+            )?)
         }
         Task::Run { config, trace } => {
             let config = read_file(rt, config)?;

@@ -11,14 +11,17 @@ const CHECK: &str = "check";
 /// The subcommand that runs a trace.
 const RUN: &str = "run";
 
+/// The subcommand that plays several traces at once.
+const PLAY: &str = "play";
+
 /// What stands for the name of a configuration's file.
 const CONFIG: &str = "CONFIG";
 
-/// What stands for the name of a trace's file.
+/// What stands for the name of a trace's file, or for those of several.
 const TRACE: &str = "TRACE";
 
 /// What the program is asked to do.
-#[derive(Clone, Copy, Debug, PartialEq, Eq)]
+#[derive(Debug, Drop, PartialEq, Eq)]
 pub enum Task<'a> {
     /// Without a word: run what standard input holds, a configuration and a trace.
     Joined,
@@ -34,6 +37,13 @@ pub enum Task<'a> {
         /// The trace's file.
         trace: &'a str,
     },
+    /// `play CONFIG TRACE...`: play the traces of several files at once, on the configuration of another.
+    Play {
+        /// The configuration's file.
+        config: &'a str,
+        /// The traces' files, in order.
+        traces: Vec<&'a str>,
+    },
 }
 
 /// The task that the words ask for, of which the first is the program's own name. `Words` for any others, also where
@@ -46,7 +56,7 @@ pub fn task_of<'a>(alloc: Global, words: &'a [String]) -> Result<Task<'a>, Fault
         Ok(matches) => matches,
         Err(error) => return Err(refusal(error.kind())),
     };
-    matched(&matches).ok_or(Fault::Words)
+    matched(alloc, &matches)?.ok_or(Fault::Words)
 }
 
 /// The program's subcommands with the files that each needs.
@@ -55,10 +65,14 @@ fn command<'a>(alloc: Global) -> Result<Command<'a>, AllocError> {
     let run = Command::new(alloc, RUN)
         .arg(file(alloc, CONFIG))?
         .arg(file(alloc, TRACE))?;
+    let play = Command::new(alloc, PLAY)
+        .arg(file(alloc, CONFIG))?
+        .arg(file(alloc, TRACE).num_args(1..))?;
     Command::new(alloc, "apctl")
         .subcommand_required(true)
         .subcommand(check)?
-        .subcommand(run)
+        .subcommand(run)?
+        .subcommand(play)
 }
 
 /// The name of a file, which must be there.
@@ -75,16 +89,35 @@ fn refusal(kind: ErrorKind) -> Fault {
     }
 }
 
-/// The task of words that were accepted. None for another subcommand than those of [`command`].
-fn matched<'a>(matches: &ArgMatches<'a>) -> Option<Task<'a>> {
-    let (name, files) = matches.subcommand()?;
-    let config = files.get_str(CONFIG)?;
-    match name {
-        CHECK => Some(Task::Check { config }),
-        RUN => Some(Task::Run {
-            config,
-            trace: files.get_str(TRACE)?,
-        }),
-        _ => None,
+/// The task of words that were accepted. None for another subcommand than those of [`command`]. `AllocError` where a
+/// growth was refused.
+fn matched<'a>(alloc: Global, matches: &ArgMatches<'a>) -> Result<Option<Task<'a>>, AllocError> {
+    let Some((name, files)) = matches.subcommand() else {
+        return Ok(None);
+    };
+    let (Some(config), trace) = (files.get_str(CONFIG), files.get_str(TRACE)) else {
+        return Ok(None);
+    };
+    match (name, trace) {
+        (CHECK, _) => Ok(Some(Task::Check { config })),
+        (RUN, Some(trace)) => Ok(Some(Task::Run { config, trace })),
+        (PLAY, _) => played(alloc, config, files.get_strs(TRACE)),
+        _ => Ok(None),
     }
+}
+
+/// The task of playing these traces, if there are any.
+fn played<'a>(
+    alloc: Global,
+    config: &'a str,
+    traces: Option<&[&'a str]>,
+) -> Result<Option<Task<'a>>, AllocError> {
+    let Some(names) = traces else {
+        return Ok(None);
+    };
+    let mut traces = Vec::new(alloc);
+    for name in names {
+        traces.push(*name)?;
+    }
+    Ok(Some(Task::Play { config, traces }))
 }

@@ -13,3 +13,4 @@ pub mod AnswerLemmas
 pub mod StreamEnds
 pub mod ReplayRows
 pub mod AnswerRows
+pub mod PlayEnds

@@ -5,3 +5,4 @@ pub mod Replay
 pub mod Answer
 pub mod Stream
 pub mod Checking
+pub mod Playing

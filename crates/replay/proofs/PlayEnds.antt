@@ -1,0 +1,134 @@
+-- What a play of several traces leaves, by how it ended.
+use Rattle.std.proofs.Common.{◌≡◌, ◌↔◌, ℕ, suc, ◌+◌, ◌++◌, ◌∷◌, [], Bool, true, false, List, Option, Some, None, Result, Ok, Err, length, map, refl, sym, ap, subst, ◌∙◌}
+use Rattle.std.proofs.KnownBytes.{Keeps-refl}
+use Rattle.std.specs.Io.KnownBytes.{Appends}
+use Rattle.std.specs.List.{AllZip}
+use Rattle.bss_core.specs.Configuration.{fault_of}
+use Rattle.bss_core.specs.declared.config.RadioConfig.{RadioConfig}
+use Rattle.bss_core.specs.declared.config.ConfigFault.{ConfigFault}
+use Rattle.bss_core.specs.declared.line.Line.{Line}
+use Rattle.trace.specs.ConfigurationText.{configuration_of}
+use Rattle.trace.specs.Endings.{IsFaultOf, Ends}
+use Rattle.trace.specs.Faults.{read_ending}
+use Rattle.trace.specs.Report.{report_text}
+use Rattle.trace.specs.Sinks.{report_ending}
+use Rattle.trace.specs.TraceText.{lines_of}
+use Rattle.trace.specs.declared.fault.TraceFault.{TraceFault}
+use Rattle.trace.specs.declared.read_fault.ReadFault.{ReadFault}
+use Rattle.trace.specs.declared.read_fault.ReadFault.TheVariants as reads
+use Rattle.trace.specs.declared.report.ReportFault.{ReportFault}
+use Rattle.trace.specs.declared.report.ReportFault.TheVariants as reports
+use Rattle.workers.specs.Names.{callers_fit}
+use Rattle.workers.specs.declared.finish.Finished.{Finished}
+use Rattle.workers.specs.declared.playing.PlayFault.{PlayFault}
+use Rattle.workers.specs.declared.playing.PlayFault.TheVariants as plays
+use Rattle.replay.specs.Playing.{AreLines, IsFirstFault, IsTracesFault, IsPlayOf, ArePlayable, EndsPlay, in_trace}
+use Rattle.replay.specs.Playing.{of_config, of_play, of_report}
+use Rattle.replay.specs.declared.fault.PlayTextFault.{PlayTextFault}
+use Rattle.replay.specs.declared.fault.PlayTextFault.TheVariants.{Config, Sources, Trace, NoThread, NoMemory}
+use Rattle.replay.specs.declared.fault.PlayTextFault.TheVariants.{Finish, Write}
+
+-- ---- the traces
+
+-- one trace more was read
+pub lines-more : (c : RadioConfig) (traces : List (List ℕ)) (sources : List (List Line)) (text : List ℕ)
+    (lines : List Line) → AreLines c traces sources → lines_of c text ≡ Ok lines
+    → AreLines c (traces ++ text ∷ []) (sources ++ lines ∷ [])
+lines-more c [] [] text lines h is = (is, tt)
+lines-more c [] (s ∷ sources) text lines h is = absurd h
+lines-more c (t ∷ traces) [] text lines h is = absurd h
+lines-more c (t ∷ traces) (s ∷ sources) text lines h is = (h.0, lines-more c traces sources text lines h.1 is)
+
+-- there are as many sources as traces
+pub lines-length : (c : RadioConfig) (traces : List (List ℕ)) (sources : List (List Line)) → AreLines c traces sources
+    → length sources ≡ length traces
+lines-length c [] [] h = refl
+lines-length c [] (s ∷ sources) h = absurd h
+lines-length c (t ∷ traces) [] h = absurd h
+lines-length c (t ∷ traces) (s ∷ sources) h = ap (λ (n : ℕ). suc n) (lines-length c traces sources h.1)
+
+-- the trace after those that were read is at fault
+pub fault_met : (c : RadioConfig) (traces before : List (List ℕ)) (text : List ℕ) (after : List (List ℕ))
+    (sources : List (List Line)) (n : ℕ) (e : ReadFault TraceFault) → traces ≡ before ++ text ∷ after
+    → AreLines c before sources → n ≡ length sources → IsFaultOf (lines_of c text) (read_ending e)
+    → IsTracesFault c traces (in_trace n e)
+fault_met c traces before text after sources n (reads.At fault) parts read count is = record {
+  before = before;
+  text = text;
+  after = after;
+  in_order = parts;
+  place = count ∙ lines-length c before sources read;
+  sound = (sources, read);
+  found = is;
+}
+fault_met c traces before text after sources n reads.NoMemory parts read count is = tt
+
+-- ---- a play
+
+-- a fault of the configuration
+pub config_plays : (e : ReadFault ConfigFault) (ct : List ℕ) (traces : List (List ℕ)) (old : Option (List ℕ))
+    → IsFaultOf (configuration_of ct) (read_ending e) → EndsPlay (Err (of_config e)) ct traces old old
+config_plays (reads.At fault) ct traces old h =
+    record { answer = Err (Config fault); allowed = h; taken = (refl, Keeps-refl old) }
+config_plays reads.NoMemory ct traces old h =
+    record { answer = Err NoMemory; allowed = tt; taken = Keeps-refl old }
+
+-- too many traces, or none
+pub count_plays : (c : RadioConfig) (ct : List ℕ) (traces : List (List ℕ)) (old : Option (List ℕ))
+    → configuration_of ct ≡ Ok c → callers_fit (length traces) ≡ false → EndsPlay (Err Sources) ct traces old old
+count_plays c ct traces old read many =
+    record { answer = Err Sources; allowed = ((c, read), many); taken = (refl, Keeps-refl old) }
+
+-- a fault of a trace
+pub traces_play : (e : PlayTextFault) (c : RadioConfig) (ct : List ℕ) (traces : List (List ℕ)) (old : Option (List ℕ))
+    → configuration_of ct ≡ Ok c → callers_fit (length traces) ≡ true → IsTracesFault c traces e
+    → EndsPlay (Err e) ct traces old old
+traces_play (Config fault) c ct traces old read fit is = absurd is
+traces_play Sources c ct traces old read fit is = absurd is
+traces_play (Trace source fault) c ct traces old read fit is =
+    record { answer = Err (Trace source fault); allowed = (fit, (c, read, is)); taken = (refl, Keeps-refl old) }
+traces_play NoThread c ct traces old read fit is = absurd is
+traces_play NoMemory c ct traces old read fit is =
+    record { answer = Err NoMemory; allowed = tt; taken = Keeps-refl old }
+traces_play (Finish fault) c ct traces old read fit is = absurd is
+traces_play Write c ct traces old read fit is = absurd is
+
+-- the access point could not be played
+pub play_fails : (e : PlayFault) (c : RadioConfig) (ct : List ℕ) (traces : List (List ℕ)) (sources : List (List Line))
+    (old : Option (List ℕ)) → ArePlayable ct traces c sources
+    → ((fault : ConfigFault) → e ≡ plays.Config fault → ⊥) → (e ≡ plays.Sources → ⊥)
+    → EndsPlay (Err (of_play e)) ct traces old old
+play_fails (plays.Config fault) c ct traces sources old able config count = absurd (config fault refl)
+play_fails plays.Sources c ct traces sources old able config count = absurd (count refl)
+play_fails plays.NoThread c ct traces sources old able config count =
+    record { answer = Err NoThread; allowed = (c, sources, able); taken = (refl, Keeps-refl old) }
+play_fails plays.NoMemory c ct traces sources old able config count =
+    record { answer = Err NoMemory; allowed = tt; taken = Keeps-refl old }
+play_fails (plays.Finish fault) c ct traces sources old able config count =
+    record { answer = Err (Finish fault); allowed = (c, sources, able); taken = (refl, Keeps-refl old) }
+
+-- the report was cut short
+pub report_plays : (e : ReportFault) (c : RadioConfig) (ct : List ℕ) (traces : List (List ℕ)) (sources : List (List Line))
+    (end : Finished) (old new : Option (List ℕ)) → ArePlayable ct traces c sources → IsPlayOf c sources end
+    → Ends {A = Unit} report_ending (Err e) (Ok (report_text end.sections)) old new
+    → EndsPlay (Err (of_report e)) ct traces old new
+report_plays reports.Write c ct traces sources end old new able play part = record {
+  answer = Ok (report_text end.sections);
+  allowed = record { c = c; sources = sources; playable = able; end = end; play = play; text = refl };
+  taken = part;
+}
+report_plays reports.NoMemory c ct traces sources end old new able play part = record {
+  answer = Ok (report_text end.sections);
+  allowed = record { c = c; sources = sources; playable = able; end = end; play = play; text = refl };
+  taken = part;
+}
+
+-- the report was written
+pub whole_plays : (c : RadioConfig) (ct : List ℕ) (traces : List (List ℕ)) (sources : List (List Line)) (end : Finished)
+    (old new : Option (List ℕ)) → ArePlayable ct traces c sources → IsPlayOf c sources end
+    → Appends old new (report_text end.sections) → EndsPlay (Ok tt) ct traces old new
+whole_plays c ct traces sources end old new able play written = record {
+  answer = Ok (report_text end.sections);
+  allowed = record { c = c; sources = sources; playable = able; end = end; play = play; text = refl };
+  taken = written;
+}
