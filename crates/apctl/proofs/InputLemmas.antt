@@ -11,7 +11,8 @@ use Rattle.replay.specs.declared.fault.TextFault.TheVariants as replay
 use Rattle.apctl.specs.Faults.{IsOfFile, of_texts, run_ending}
 use Rattle.apctl.specs.Input.{EndsInput, EndsOn, joined_answer}
 use Rattle.apctl.specs.declared.fault.Fault.{Fault}
-use Rattle.apctl.specs.declared.fault.Fault.TheVariants.{Config, Trace, Words, Memory, File, Output}
+use Rattle.apctl.specs.declared.fault.Fault.TheVariants.{Config, Trace, InTrace, Sources, Words, Memory, Thread, Finish}
+use Rattle.apctl.specs.declared.fault.Fault.TheVariants.{File, Output}
 use Rattle.std.specs.Prelude.{codes}
 
 -- the run of two texts, with the program's faults
@@ -56,5 +57,9 @@ read_ends (File name) left old is = (is, Keeps-refl old)
 read_ends Memory left old is = unread_ends left old
 read_ends (Config fault) left old is = absurd is
 read_ends (Trace fault) left old is = absurd is
+read_ends (InTrace fault) left old is = absurd is
+read_ends Sources left old is = absurd is
 read_ends Words left old is = absurd is
+read_ends Thread left old is = absurd is
+read_ends (Finish fault) left old is = absurd is
 read_ends Output left old is = absurd is

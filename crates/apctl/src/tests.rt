@@ -1,12 +1,13 @@
-use crate::fault::{Fault, show_fault};
+use crate::fault::{Fault, FaultInTrace, show_fault};
 use crate::input::run_input;
-use crate::words::{Task, task_of};
+use crate::words::task_of;
 use bss_core::ConfigFault;
-use replay::StreamFault;
+use replay::{PlayTextFault, StreamFault};
 use std::alloc::{AllocError, Global};
 use std::io::{self, ErrorKind, Read};
 use std::test::Fail;
 use trace::{Counted, TraceFault};
+use workers::FinishFault;
 
 /// A configuration and a trace in one text: a network, and a probe to it.
 const JOINED: &str = "version = 1\nchannel = 6\ninterval = 100\nqueue = 64\n[[network]]\n\
@@ -31,6 +32,10 @@ fn each_fault_has_its_line_and_status(rt: HostRuntime) -> Result<(), Fail> {
         (in_trace(2, 7), "fault L2 line 7\n", 1),
         (in_trace(3, 1), "fault L3 line 1\n", 1),
         (in_trace(4, 1_000_000), "fault L4 line 1000000\n", 1),
+        (in_second_trace(2, 7), "fault L2 trace 1 line 7\n", 1),
+        (Fault::Sources, "fault sources\n", 1),
+        (Fault::Thread, "fault thread\n", 3),
+        (Fault::Finish(FinishFault::BadReceipt), "fault F2\n", 3),
         (Fault::Words, "fault words\n", 2),
         (Fault::Memory, "fault memory\n", 3),
         (Fault::File(input), "fault file -\n", 4),
@@ -42,6 +47,24 @@ fn each_fault_has_its_line_and_status(rt: HostRuntime) -> Result<(), Fail> {
         assert_eq!(rt; written.as_slice(), line.as_bytes());
     }
     Ok(())
+}
+
+/// A fault of the second of several traces.
+fn in_second_trace(code: u8, line: u32) -> Fault {
+    let fault = TraceFault { code, line };
+    Fault::InTrace(FaultInTrace { source: 1, fault })
+}
+
+#[test]
+fn faults_of_several_traces_are_those_of_the_program(rt: HostRuntime) {
+    let fault = TraceFault { code: 2, line: 7 };
+    let found = Fault::from(PlayTextFault::Trace { source: 1, fault });
+    let told = FaultInTrace { source: 1, fault };
+    assert!(rt; matches!(found, Fault::InTrace(found) if found == told));
+    assert!(rt; matches!(Fault::from(PlayTextFault::Sources), Fault::Sources));
+    assert!(rt; matches!(Fault::from(PlayTextFault::NoThread), Fault::Thread));
+    let ended = PlayTextFault::Finish(FinishFault::Uncovered);
+    assert!(rt; matches!(Fault::from(ended), Fault::Finish(FinishFault::Uncovered)));
 }
 
 #[test]
@@ -127,11 +150,6 @@ fn a_reader_that_fails_is_a_fault_and_nothing_is_written(rt: HostRuntime) {
     assert_eq!(rt; out.into_inner().len(), 0);
 }
 
-/// The task that these words ask for, after the program's name.
-fn asked<'a>(alloc: Global, words: &'a [String]) -> Option<Task<'a>> {
-    task_of(alloc, words).ok()
-}
-
 /// The words of a line, parted by single spaces.
 fn words_of(alloc: Global, line: &str) -> Result<Vec<String>, AllocError> {
     let mut words = Vec::new(alloc);
@@ -141,29 +159,34 @@ fn words_of(alloc: Global, line: &str) -> Result<Vec<String>, AllocError> {
     Ok(words)
 }
 
+/// The task that the words of a line ask for.
+fn asked(alloc: Global, line: &str) -> Result<String, Fail> {
+    let words = words_of(alloc, line)?;
+    let task = task_of(alloc, words.as_slice()).ok();
+    Ok(format!(in alloc; "{task:?}")?)
+}
+
 #[test]
 fn words_ask_for_a_task(rt: HostRuntime) -> Result<(), Fail> {
-    let alloc = rt.alloc();
     for (line, task) in [
-        ("apctl", Task::Joined),
-        ("apctl check a.toml", Task::Check { config: "a.toml" }),
+        ("apctl", "Some(Joined)"),
+        ("apctl check a.toml", "Some(Check { config: \"a.toml\" })"),
         (
             "apctl run a.toml -",
-            Task::Run {
-                config: "a.toml",
-                trace: "-",
-            },
+            "Some(Run { config: \"a.toml\", trace: \"-\" })",
+        ),
+        ("apctl run  b", "Some(Run { config: \"\", trace: \"b\" })"),
+        (
+            "apctl play a b",
+            "Some(Play { config: \"a\", traces: [\"b\"] })",
         ),
         (
-            "apctl run  b",
-            Task::Run {
-                config: "",
-                trace: "b",
-            },
+            "apctl play a b c",
+            "Some(Play { config: \"a\", traces: [\"b\", \"c\"] })",
         ),
     ] {
-        let words = words_of(alloc, line)?;
-        assert_eq!(rt; asked(alloc, words.as_slice()), Some(task));
+        let found = asked(rt.alloc(), line)?;
+        assert_eq!(rt; found.as_str(), task);
     }
     Ok(())
 }
@@ -182,7 +205,8 @@ fn other_words_are_refused(rt: HostRuntime) -> Result<(), Fail> {
         "apctl check --help",
         "apctl run a",
         "apctl run a b c",
-        "apctl play a b",
+        "apctl play",
+        "apctl play a",
         "apctl ",
     ] {
         let words = words_of(alloc, line)?;
