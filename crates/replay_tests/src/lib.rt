@@ -7,6 +7,8 @@
 #[cfg(test)]
 mod line_by_line;
 #[cfg(test)]
+mod playing;
+#[cfg(test)]
 mod samples;
 #[cfg(test)]
 mod streams;
