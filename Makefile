@@ -1,7 +1,7 @@
 # The targets of this repository. All need the Rattle toolchain's command `rt` on the path, GNU make, bash, coreutils,
-# diffutils, grep and sed; `wrong`, `bench`, `bench-limits` and `fuzz` need python3 too.
+# diffutils, grep and sed; `wrong`, `bench`, `bench-limits`, `stress` and `fuzz` need python3 too.
 
-.PHONY: run try try-check test wrong bench bench-limits fuzz apctl test-tools picture captures
+.PHONY: run try try-check test wrong bench bench-limits stress fuzz apctl test-tools picture captures
 
 # What `run` and `try` give to the program, a configuration and a trace: a file, named from the folder in which make
 # runs.
@@ -32,15 +32,22 @@ wrong:
 	@JOBS="$(JOBS)" wrong/try $(NAME)
 
 # Measures the program on long traces: of probes, of stations that join, doze, poll and wake, of units between air and
-# wire, of beacons, and of all these in four networks.
+# wire, of beacons, and of all these in four networks; then on several traces that are played at once.
 bench: apctl
 	@bench/measure
 	@bench/stations
+	@bench/playing
 
 # Runs the program where its tables are as large as a configuration and a trace allow, and compares each report with
 # that of the model of the rules, bench/model.py; prints the seconds and the peak memory.
 bench-limits: apctl
 	@bench/limits
+
+# Plays four traces of 20,000 lines at once over eight networks, a hundred times or with TIMES=5 five, and compares the
+# section of each network with what `run` writes of the lines in the order that its frames name. The last line is
+# 'N times, M sections compared, 0 differ'.
+stress: apctl
+	@bench/stress $(TIMES)
 
 # Runs the program over hostile frames, wired frames and traces, each drawn from a fixed seed, and compares each answer
 # with that of the model, octet for octet. The last line is 'N compared, M differ'.
