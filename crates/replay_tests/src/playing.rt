@@ -102,7 +102,7 @@ fn lines_with(report: &[u8], word: &[u8]) -> usize {
     let mut count = 0;
     for line in report.split(|octet| *octet == b'\n') {
         if line.starts_with(word) {
-            count += 1;
+            count = count.saturating_add(1);
         }
     }
     count
