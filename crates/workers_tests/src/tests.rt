@@ -15,6 +15,7 @@ mod answers;
 mod ending;
 mod opening;
 mod overlap;
+mod playing;
 mod receipts;
 mod receipts_shared;
 mod running;
