@@ -26,7 +26,7 @@ struct Signs {
 }
 
 /// Whether a sign is given in time.
-fn comes(sign: &AtomicU64) -> bool {
+pub(super) fn comes(sign: &AtomicU64) -> bool {
     for _ in 0..TURNS {
         if sign.load(Ordering::SeqCst) == 1 {
             return true;

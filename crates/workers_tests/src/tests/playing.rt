@@ -1,30 +1,22 @@
-//! Several sources that are played at once.
+//! Sources that feed one access point, each by a thread of its own.
 
+use super::overlap::comes;
+use super::receipts_shared::{ASSOCIATIONS, AUTHENTICATIONS, is_as_alone, queue_of_one};
+use super::units::DOZE;
 use super::{
-    ASSOCIATION, AUTHENTICATION, BSSIDS, count_of, expect, network, octets, one_network, radio,
-    section_at, two_networks,
+    ASSOCIATION, AUTHENTICATION, are_frames, count_of, expect, network, octets, one_network, radio,
+    section_at,
 };
-use bss_core::{ConfigFault, NetConfig, RadioConfig, Section};
-use mac_frame::Octets;
+use bss_core::{ConfigFault, RadioConfig, Section};
+use mac_frame::{NoMemory, Octets};
 use std::alloc::Global;
 use std::sync::Wait;
 use std::sync::atomic::{AtomicU64, Ordering};
 use std::test::Fail;
-use std::thread;
 use std::thread::Threads;
 use workers::{Finished, Gate, Line, PlayFault, play};
 
-/// The second station's requests, those of the first with another address.
-const OTHER_AUTHENTICATION: &str =
-    "b0000000 020000000001 02aa00000002 020000000001 0000 0000 0100 0000";
-
-const OTHER_ASSOCIATION: &str = "00000000 020000000001 02aa00000002 020000000001 0000 0100 0a00 \
-    00036c6162 010402040b16";
-
-/// How often a source looks at most whether another has come to its line.
-const TURNS: u32 = 1_000_000;
-
-/// A gate that holds no source back.
+/// Holds nobody.
 #[derive(Clone, Copy)]
 struct Open;
 
@@ -32,246 +24,372 @@ impl Gate for Open {
     fn before(&self, _source: u32, _line: u32) {}
 }
 
-/// The lines of a source: these frames are heard, and then a beacon interval begins.
-fn frames_and_tick(alloc: Global, frames: &[&str]) -> Result<Vec<Line>, Fail> {
+/// What the access point ends with, where no source is held.
+fn played<R: Threads + Wait + Sync>(
+    rt: &R,
+    alloc: Global,
+    config: RadioConfig,
+    sources: Vec<Vec<Line>>,
+) -> Result<Finished, Fail> {
+    Ok(play(rt, alloc, config, sources, &Open)?)
+}
+
+/// Why the sources are not played, if they are not.
+fn fault<R: Threads + Wait + Sync>(
+    rt: &R,
+    alloc: Global,
+    config: RadioConfig,
+    sources: Vec<Vec<Line>>,
+) -> Option<PlayFault> {
+    play(rt, alloc, config, sources, &Open).err()
+}
+
+/// A source of so many ticks.
+fn ticks(alloc: Global, count: u32) -> Result<Vec<Line>, NoMemory> {
     let mut lines = Vec::new(alloc);
-    for frame in frames {
-        lines.push(Line::Air(octets(alloc, frame)?))?;
+    for _ in 0..count {
+        lines.push(Line::Tick)?;
     }
+    Ok(lines)
+}
+
+/// So many sources of so many ticks each.
+fn alike(alloc: Global, sources: u32, count: u32) -> Result<Vec<Vec<Line>>, NoMemory> {
+    let mut all = Vec::new(alloc);
+    for _ in 0..sources {
+        all.push(ticks(alloc, count)?)?;
+    }
+    Ok(all)
+}
+
+/// A source in which a station joins by these requests, and a beacon interval begins.
+fn joining(alloc: Global, authentication: &str, association: &str) -> Result<Vec<Line>, Fail> {
+    let mut lines = Vec::new(alloc);
+    lines.push(Line::Air(octets(alloc, authentication)?))?;
+    lines.push(Line::Air(octets(alloc, association)?))?;
     lines.push(Line::Tick)?;
     Ok(lines)
 }
 
-/// So many sources of one beacon interval each.
-fn ticks(alloc: Global, count: usize) -> Result<Vec<Vec<Line>>, Fail> {
+/// Such a source of each of two stations.
+fn both_joining(alloc: Global) -> Result<Vec<Vec<Line>>, Fail> {
     let mut sources = Vec::new(alloc);
-    for _ in 0..count {
-        sources.push(frames_and_tick(alloc, &[])?)?;
+    for (authentication, association) in AUTHENTICATIONS.iter().zip(ASSOCIATIONS) {
+        sources.push(joining(alloc, authentication, association)?)?;
     }
     Ok(sources)
 }
 
-/// A radio whose queue holds one frame.
-fn narrow(config: RadioConfig) -> RadioConfig {
-    RadioConfig { queue: 1, ..config }
-}
-
-/// The events, the clock, the frames on the air and the association identifiers of a section.
-fn told(alloc: Global, section: &Section) -> Result<(u32, u32, usize, Vec<u16>), Fail> {
-    let mut aids = Vec::new(alloc);
-    for row in section.table.as_slice() {
-        aids.push(row.aid)?;
-    }
-    aids.sort_unstable();
-    let counts = section.counts;
+/// How many events the network took and how many intervals began, how many frames it sent, the least and the greatest
+/// association identifier of its stations, and whether the network alone makes the same of the events.
+fn shown(alloc: Global, section: &Section) -> Result<([u32; 2], usize, [u16; 2], bool), Fail> {
+    let counts = [section.counts.events, section.counts.clock];
+    let sent = section.air.as_slice().len();
     Ok((
-        counts.events,
-        counts.clock,
-        section.air.as_slice().len(),
-        aids,
+        counts,
+        sent,
+        identifiers(section),
+        is_as_alone(alloc, section)?,
     ))
 }
 
-/// Two sources, each of which lets its station join, and of which each then begins a beacon interval.
-fn two_stations(alloc: Global) -> Result<Vec<Vec<Line>>, Fail> {
-    let mut sources = Vec::new(alloc);
-    sources.push(frames_and_tick(alloc, &[AUTHENTICATION, ASSOCIATION])?)?;
-    sources.push(frames_and_tick(alloc, &[OTHER_AUTHENTICATION, OTHER_ASSOCIATION])?)?;
-    Ok(sources)
+/// The least and the greatest association identifier of the stations.
+fn identifiers(section: &Section) -> [u16; 2] {
+    let mut bounds = [u16::MAX, 0];
+    for row in section.table.as_slice() {
+        bounds = [bounds[0].min(row.aid), bounds[1].max(row.aid)];
+    }
+    bounds
 }
 
-/// What is told of the one network that hears them.
-fn two_join<R: Threads + Wait + Sync>(
+/// What comes of the two sources.
+fn two_joined<R: Threads + Wait + Sync>(
     rt: &R,
     alloc: Global,
-) -> Result<(u32, u32, usize, Vec<u16>), Fail> {
-    let config = narrow(one_network(alloc, 100)?);
-    let end = play(rt, alloc, config, two_stations(alloc)?, &Open)?;
-    told(alloc, section_at(&end.sections, 0)?)
+) -> Result<([u32; 2], usize, [u16; 2], bool), Fail> {
+    let end = played(rt, alloc, queue_of_one(alloc)?, both_joining(alloc)?)?;
+    shown(alloc, section_at(&end.sections, 0)?)
 }
 
 #[test]
 fn two_sources_are_played(rt: HostRuntime) -> Result<(), Fail> {
-    let aids = Vec::from_slice(rt.alloc(), &[1, 2])?;
-    expect(&rt, two_join(&rt, rt.alloc()), (6, 2, 6, aids))
+    expect(&rt, two_joined(&rt, rt.alloc()), ([6, 2], 6, [1, 2], true))
 }
 
-/// A gate at which two sources meet: the first is held before its first line until the other comes to its second,
-/// and the other there until the first has come to its first.
+/// Holds the first line of source 0 until source 1 comes to its second, and that one until source 0 comes to its first.
 #[derive(Drop)]
 struct Meeting {
-    first_came: AtomicU64,
-    second_came: AtomicU64,
-    // how many of the two saw the other come in time
+    first: AtomicU64,
+    second: AtomicU64,
     met: AtomicU64,
 }
 
-/// Whether the sign is given in time.
-fn comes(sign: &AtomicU64) -> bool {
-    for _ in 0..TURNS {
-        if sign.load(Ordering::SeqCst) == 1 {
-            return true;
-        }
-        thread::yield_now();
-    }
-    false
-}
-
-impl Gate for Meeting {
-    fn before(&self, source: u32, line: u32) {
-        let (mine, other) = match (source, line) {
-            (0, 1) => (&self.first_came, &self.second_came),
-            (1, 2) => (&self.second_came, &self.first_came),
-            _ => return,
-        };
-        mine.store(1, Ordering::SeqCst);
+impl Meeting {
+    /// Gives a sign of its own, waits for the other's, and counts who saw it.
+    fn meet(&self, own: &AtomicU64, other: &AtomicU64) {
+        own.store(1, Ordering::SeqCst);
         if comes(other) {
             self.met.fetch_add(1, Ordering::SeqCst);
         }
     }
 }
 
-/// How many sources saw the other come, and how many events the network took.
-fn meet<R: Threads + Wait + Sync>(rt: &R, alloc: Global) -> Result<(u64, u32), Fail> {
-    let gate = Meeting {
-        first_came: AtomicU64::new(0),
-        second_came: AtomicU64::new(0),
+impl Gate for Meeting {
+    fn before(&self, source: u32, line: u32) {
+        match (source, line) {
+            (0, 1) => self.meet(&self.first, &self.second),
+            (1, 2) => self.meet(&self.second, &self.first),
+            _ => {}
+        }
+    }
+}
+
+/// How many of the two sources saw the other.
+fn met<R: Threads + Wait + Sync>(rt: &R, alloc: Global) -> Result<u64, Fail> {
+    let meeting = Meeting {
+        first: AtomicU64::new(0),
+        second: AtomicU64::new(0),
         met: AtomicU64::new(0),
     };
-    let end = play(
-        rt,
-        alloc,
-        one_network(alloc, 100)?,
-        two_stations(alloc)?,
-        &gate,
-    )?;
-    let events = section_at(&end.sections, 0)?.counts.events;
-    Ok((gate.met.load(Ordering::SeqCst), events))
+    let (config, sources) = (one_network(alloc, 100)?, alike(alloc, 2, 2)?);
+    let _end = play(rt, alloc, config, sources, &meeting)?;
+    Ok(meeting.met.load(Ordering::SeqCst))
 }
 
 #[test]
 fn sources_overlap(rt: HostRuntime) -> Result<(), Fail> {
-    expect(&rt, meet(&rt, rt.alloc()), (2, 6))
+    expect(&rt, met(&rt, rt.alloc()), 2)
 }
 
-/// How many events a network took of so many sources of one beacon interval each, or why they weren't played.
-fn tick_together<R: Threads + Wait + Sync>(
-    rt: &R,
-    alloc: Global,
-    config: RadioConfig,
-    count: usize,
-) -> Result<Result<u32, PlayFault>, Fail> {
-    match play(rt, alloc, config, ticks(alloc, count)?, &Open) {
-        Ok(end) => Ok(Ok(section_at(&end.sections, 0)?.counts.events)),
-        Err(fault) => Ok(Err(fault)),
+/// Holds the first line of source 0 until source 1 comes to its second, and that one until source 0 comes to its third.
+#[derive(Drop)]
+struct Order {
+    second: AtomicU64,
+    third: AtomicU64,
+    held: AtomicU64,
+}
+
+impl Order {
+    /// Waits for a sign, and counts that it came.
+    fn hold(&self, sign: &AtomicU64) {
+        if comes(sign) {
+            self.held.fetch_add(1, Ordering::SeqCst);
+        }
     }
 }
 
-/// The same of one network that takes so many events.
-fn tick_alone<R: Threads + Wait + Sync>(
-    rt: &R,
-    alloc: Global,
-    max_events: u32,
-    count: usize,
-) -> Result<Result<u32, PlayFault>, Fail> {
-    tick_together(rt, alloc, narrow(one_network(alloc, max_events)?), count)
+impl Gate for Order {
+    fn before(&self, source: u32, line: u32) {
+        match (source, line) {
+            (0, 1) => self.hold(&self.second),
+            (0, 3) => self.third.store(1, Ordering::SeqCst),
+            (1, 2) => {
+                self.second.store(1, Ordering::SeqCst);
+                self.hold(&self.third);
+            }
+            _ => {}
+        }
+    }
 }
 
-#[test]
-fn one_to_sixty_four_sources_are_played(rt: HostRuntime) -> Result<(), Fail> {
-    let of = |count| tick_alone(&rt, rt.alloc(), 100, count);
-    expect(&rt, of(0), Err(PlayFault::Sources))?;
-    expect(&rt, of(1), Ok(1))?;
-    expect(&rt, of(64), Ok(64))?;
-    expect(&rt, of(65), Err(PlayFault::Sources))
+/// A source of a tick, a request, and another tick.
+fn asking(alloc: Global, request: &str) -> Result<Vec<Line>, Fail> {
+    let mut lines = ticks(alloc, 1)?;
+    lines.push(Line::Air(octets(alloc, request)?))?;
+    lines.push(Line::Tick)?;
+    Ok(lines)
 }
 
-/// What a radio on a channel that isn't there is answered.
-fn on_no_channel<R: Threads + Wait + Sync>(
-    rt: &R,
-    alloc: Global,
-) -> Result<Result<u32, PlayFault>, Fail> {
-    let config = RadioConfig {
-        channel: 0,
-        ..one_network(alloc, 100)?
+/// How many of the two lines were held until the sign came, and the least and the greatest association identifier of
+/// the stations, where a station authenticates itself by source 0 and associates itself by source 1.
+fn held<R: Threads + Wait + Sync>(rt: &R, alloc: Global) -> Result<(u64, [u16; 2]), Fail> {
+    let order = Order {
+        second: AtomicU64::new(0),
+        third: AtomicU64::new(0),
+        held: AtomicU64::new(0),
     };
-    tick_together(rt, alloc, config, 0)
+    let sources = vec![in alloc; asking(alloc, AUTHENTICATION)?, asking(alloc, ASSOCIATION)?]?;
+    let end = play(rt, alloc, one_network(alloc, 100)?, sources, &order)?;
+    let section = section_at(&end.sections, 0)?;
+    Ok((order.held.load(Ordering::SeqCst), identifiers(section)))
+}
+
+/// A line is given once the gate let it, and before the gate is asked for the next: the station associates itself after
+/// it was authenticated, though by another source.
+#[test]
+fn a_line_is_given_once_the_gate_let_it(rt: HostRuntime) -> Result<(), Fail> {
+    expect(&rt, held(&rt, rt.alloc()), (2, [1, 1]))
+}
+
+/// Why so many sources are not played, if they are not.
+fn fault_of_count<R: Threads + Wait + Sync>(
+    rt: &R,
+    alloc: Global,
+    count: u32,
+) -> Result<Option<PlayFault>, Fail> {
+    Ok(fault(rt, alloc, one_network(alloc, 100)?, alike(alloc, count, 1)?))
 }
 
 #[test]
-fn a_fault_of_the_configuration_comes_first(rt: HostRuntime) -> Result<(), Fail> {
+fn one_to_sixty_four_sources(rt: HostRuntime) -> Result<(), Fail> {
+    for count in [0, 65] {
+        expect(
+            &rt,
+            fault_of_count(&rt, rt.alloc(), count),
+            Some(PlayFault::Sources),
+        )?;
+    }
+    for count in [1, 64] {
+        expect(&rt, fault_of_count(&rt, rt.alloc(), count), None)?;
+    }
+    Ok(())
+}
+
+/// Why sources are not played on channel 15, of which there are none.
+fn fault_on_15<R: Threads + Wait + Sync>(rt: &R, alloc: Global) -> Result<Option<PlayFault>, Fail> {
+    let mut config = one_network(alloc, 100)?;
+    config.channel = 15;
+    Ok(fault(rt, alloc, config, Vec::new(alloc)))
+}
+
+#[test]
+fn the_configuration_comes_before_the_sources(rt: HostRuntime) -> Result<(), Fail> {
     let fault = ConfigFault {
         code: 4,
         place: None,
     };
     expect(
         &rt,
-        on_no_channel(&rt, rt.alloc()),
-        Err(PlayFault::Config(fault)),
+        fault_on_15(&rt, rt.alloc()),
+        Some(PlayFault::Config(fault)),
     )
 }
 
-#[test]
-fn a_full_network_takes_the_event_of_one_source(rt: HostRuntime) -> Result<(), Fail> {
-    expect(&rt, tick_alone(&rt, rt.alloc(), 1, 2), Ok(1))
+/// What two sources of one tick each come to where the network takes one event: how many events it took, how many
+/// frames it sent, and how many left.
+fn full<R: Threads + Wait + Sync>(rt: &R, alloc: Global) -> Result<(u32, [usize; 2]), Fail> {
+    let mut config = one_network(alloc, 1)?;
+    config.queue = 1;
+    let end = played(rt, alloc, config, alike(alloc, 2, 1)?)?;
+    let section = section_at(&end.sections, 0)?;
+    let frames = [section.air.as_slice().len(), end.left.as_slice().len()];
+    Ok((section.counts.events, frames))
 }
 
-/// A radio of eight networks, whose queue holds one frame.
-fn eight_networks(alloc: Global) -> Result<RadioConfig, Fail> {
+#[test]
+fn a_full_network_takes_one_of_two_ticks(rt: HostRuntime) -> Result<(), Fail> {
+    expect(&rt, full(&rt, rt.alloc()), (1, [1, 1]))
+}
+
+/// A radio of eight networks whose queue holds one frame.
+fn eight_networks(alloc: Global) -> Result<RadioConfig, NoMemory> {
     let mut networks = Vec::new(alloc);
-    for number in 1..=8 {
-        networks.push(network(alloc, [2, 0, 0, 0, 0, number], 100)?)?;
+    for last in 1..=8u8 {
+        networks.push(network(alloc, [2, 0, 0, 0, 0, last], 100)?)?;
     }
-    Ok(narrow(radio(networks)))
+    let mut config = radio(networks);
+    config.queue = 1;
+    Ok(config)
 }
 
-/// How many frames of each of eight networks left in one beacon interval.
-fn beacons_of_eight<R: Threads + Wait + Sync>(rt: &R, alloc: Global) -> Result<Vec<usize>, Fail> {
-    let end = play(rt, alloc, eight_networks(alloc)?, ticks(alloc, 1)?, &Open)?;
-    let mut counts = Vec::new(alloc);
-    for place in 0..8 {
-        counts.push(count_of(&end.left, place))?;
-    }
-    Ok(counts)
+/// How many frames left of eight networks that were told of one tick, and whether there is one of each.
+fn eight_beacons<R: Threads + Wait + Sync>(rt: &R, alloc: Global) -> Result<(usize, bool), Fail> {
+    let end = played(rt, alloc, eight_networks(alloc)?, alike(alloc, 1, 1)?)?;
+    let is_one_of_each = (0..8).all(|place| count_of(&end.left, place) == 1);
+    Ok((end.left.as_slice().len(), is_one_of_each))
 }
 
 #[test]
-fn a_queue_of_one_serves_eight_networks(rt: HostRuntime) -> Result<(), Fail> {
-    let one_each = Vec::from_slice(rt.alloc(), &[1; 8])?;
-    expect(&rt, beacons_of_eight(&rt, rt.alloc()), one_each)
+fn frames_of_eight_networks_pass_a_queue_of_one(rt: HostRuntime) -> Result<(), Fail> {
+    expect(&rt, eight_beacons(&rt, rt.alloc()), (8, true))
 }
 
-/// How many events two networks took of a wired frame for each of these places.
-fn wired_to<R: Threads + Wait + Sync>(
-    rt: &R,
-    alloc: Global,
-    places: &[usize],
-) -> Result<(u32, u32), Fail> {
+/// Two frames for everybody from the wire.
+const WIRED: [&str; 2] = [
+    "ffffffffffff 02bb00000001 0800 05",
+    "ffffffffffff 02bb00000001 0800 06",
+];
+
+/// What the network sends: it answers both requests, and its beacons tell of no unit for the group.
+const SENT: [&str; 6] = [
+    "b0000000 02aa00000001 020000000001 020000000001 0000 0000 0200 0000",
+    "10000000 02aa00000001 020000000001 020000000001 1000 0100 0000 01c0 010482840b16",
+    "80000000 ffffffffffff 020000000001 020000000001 2000 0090010000000000 6400 0100 \
+        00036c6162 010482840b16 030106 050400030000",
+    "80000000 ffffffffffff 020000000001 020000000001 3000 0020030000000000 6400 0100 \
+        00036c6162 010482840b16 030106 050402030000",
+    "80000000 ffffffffffff 020000000001 020000000001 4000 00b0040000000000 6400 0100 \
+        00036c6162 010482840b16 030106 050401030000",
+    "80000000 ffffffffffff 020000000001 020000000001 5000 0040060000000000 6400 0100 \
+        00036c6162 010482840b16 030106 050400030000",
+];
+
+/// A radio of one network that keeps no unit, whose third beacons may be followed by units for the group.
+fn no_quota(alloc: Global) -> Result<RadioConfig, NoMemory> {
+    let mut lab = network(alloc, [2, 0, 0, 0, 0, 1], 100)?;
+    lab.dtim = 3;
+    lab.quota = 0;
+    let networks = vec![in alloc; lab]?;
+    Ok(radio(networks))
+}
+
+/// A wired frame for the first network.
+fn wired(alloc: Global, frame: &str) -> Result<Line, Fail> {
+    Ok(Line::Wire {
+        place: 0,
+        octets: octets(alloc, frame)?,
+    })
+}
+
+/// A station joins and dozes, two frames come for everybody, and three beacon intervals begin.
+fn dozing(alloc: Global) -> Result<Vec<Line>, Fail> {
+    let mut lines = joining(alloc, AUTHENTICATION, ASSOCIATION)?;
+    lines.push(Line::Air(octets(alloc, DOZE)?))?;
+    for frame in WIRED {
+        lines.push(wired(alloc, frame)?)?;
+    }
+    for _ in 0..3 {
+        lines.push(Line::Tick)?;
+    }
+    Ok(lines)
+}
+
+/// How many units the network keeps of it and how many it lost, and whether it sent those frames.
+fn lost<R: Threads + Wait + Sync>(rt: &R, alloc: Global) -> Result<([u32; 2], bool), Fail> {
+    let sources = vec![in alloc; dozing(alloc)?]?;
+    let end = played(rt, alloc, no_quota(alloc)?, sources)?;
+    let section = section_at(&end.sections, 0)?;
+    let counts = [section.counts.kept, section.counts.lost];
+    Ok((counts, are_frames(alloc, section.air.as_slice(), &SENT)?))
+}
+
+#[test]
+fn without_a_quota_all_units_are_lost(rt: HostRuntime) -> Result<(), Fail> {
+    expect(&rt, lost(&rt, rt.alloc()), ([0, 2], true))
+}
+
+/// A source that gives frames for networks that are not there, and then a tick.
+fn misplaced(alloc: Global) -> Result<Vec<Line>, Fail> {
     let mut lines = Vec::new(alloc);
-    for place in places {
-        let octets = Octets::from_slice(alloc, &[0; 13])?;
+    for place in [1, 64, usize::MAX] {
         lines.push(Line::Wire {
-            place: *place,
-            octets,
+            place,
+            octets: Octets::from_slice(alloc, &[0; 13])?,
         })?;
     }
-    let mut sources = Vec::new(alloc);
-    sources.push(lines)?;
-    let end = play(rt, alloc, two_networks(alloc)?, sources, &Open)?;
-    taken(&end)
+    lines.push(Line::Tick)?;
+    Ok(lines)
 }
 
-/// How many events each of two networks took.
-fn taken(end: &Finished) -> Result<(u32, u32), Fail> {
-    let one = section_at(&end.sections, 0)?.counts.events;
-    Ok((one, section_at(&end.sections, 1)?.counts.events))
+/// How many events the network took of it, and how many of them are unread.
+fn heard_of_misplaced<R: Threads + Wait + Sync>(rt: &R, alloc: Global) -> Result<[u32; 2], Fail> {
+    let sources = vec![in alloc; misplaced(alloc)?]?;
+    let end = played(rt, alloc, one_network(alloc, 100)?, sources)?;
+    let section = section_at(&end.sections, 0)?;
+    Ok([section.counts.events, section.counts.unread])
 }
 
 #[test]
-fn a_wired_frame_for_no_network_does_nothing(rt: HostRuntime) -> Result<(), Fail> {
-    expect(
-        &rt,
-        wired_to(&rt, rt.alloc(), &[0, 2, 1, 1, usize::MAX]),
-        (1, 2),
-    )
+fn a_frame_for_no_network_does_nothing(rt: HostRuntime) -> Result<(), Fail> {
+    expect(&rt, heard_of_misplaced(&rt, rt.alloc()), [1, 0])
 }

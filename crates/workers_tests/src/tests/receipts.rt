@@ -30,6 +30,8 @@ enum Handed {
     Stranger(Caller),
     /// Its own, and a caller of another.
     Both(Caller),
+    /// Its own, and a caller of another that gives it a tick.
+    Guest(Caller),
 }
 
 fn give<N: ApName, R: Wait>(
@@ -105,6 +107,11 @@ fn ended_of<N: ApName, R: Wait>(
         Handed::Both(stranger) => {
             callers.push(own)?;
             callers.push(stranger)?;
+        }
+        Handed::Guest(mut guest) => {
+            give(rt, &ap, &mut guest, Gift::Ticks(1))?;
+            callers.push(own)?;
+            callers.push(guest)?;
         }
     }
     Ok(ap.finish(rt, callers, transmitter))
@@ -206,6 +213,19 @@ fn an_event_that_two_receipts_tell_of(rt: HostRuntime) -> Result<(), Fail> {
     let config = one_network(alloc, 100)?;
     assert_eq!(rt;
         fault(&rt, alloc, config, Gift::Ticks(1), Handed::Both(stranger))?,
+        Some(FinishFault::BadReceipt)
+    );
+    Ok(())
+}
+
+/// A caller of another access point was told 0 there, and is told 1 here.
+#[test]
+fn a_guest_whose_first_receipt_is_of_another(rt: HostRuntime) -> Result<(), Fail> {
+    let alloc = rt.alloc();
+    let guest = told(&rt, alloc, one_network(alloc, 100)?, 1, None)?;
+    let config = one_network(alloc, 100)?;
+    assert_eq!(rt;
+        fault(&rt, alloc, config, Gift::Ticks(1), Handed::Guest(guest))?,
         Some(FinishFault::BadReceipt)
     );
     Ok(())

@@ -9,22 +9,22 @@ use std::alloc::Global;
 use std::marker::Brand;
 use std::sync::Wait;
 use std::test::Fail;
-use workers::{Ap, ApName, Caller, Finished, Parts};
+use workers::{Ap, ApName, Caller, FinishFault, Finished, Parts};
 
 /// Each station authenticates itself, and its answer is the first frame.
-const AUTHENTICATIONS: [&str; 2] = [
+pub(super) const AUTHENTICATIONS: [&str; 2] = [
     "b0000000 020000000001 02aa00000001 020000000001 0000 0000 0100 0000",
     "b0000000 020000000001 02aa00000002 020000000001 0000 0000 0100 0000",
 ];
 
 /// Each associates itself.
-const ASSOCIATIONS: [&str; 2] = [
+pub(super) const ASSOCIATIONS: [&str; 2] = [
     "00000000 020000000001 02aa00000001 020000000001 0000 0100 0a00 00036c6162 010402040b16",
     "00000000 020000000001 02aa00000002 020000000001 0000 0100 0a00 00036c6162 010402040b16",
 ];
 
 /// A radio of one network whose queue holds one frame.
-fn queue_of_one(alloc: Global) -> Result<RadioConfig, Fail> {
+pub(super) fn queue_of_one(alloc: Global) -> Result<RadioConfig, Fail> {
     let networks = vec![in alloc; network(alloc, BSSIDS[0], 100)?]?;
     Ok(RadioConfig {
         channel: 6,
@@ -84,6 +84,32 @@ fn shared<R: Wait>(rt: &R, alloc: Global) -> Result<Finished, Fail> {
     shared_of::<Brand, R>(rt, alloc, parts)
 }
 
+/// How an access point ends to which two callers gave a tick each, with the first alone or with both.
+fn ticked_of<N: ApName, R: Wait>(
+    rt: &R,
+    alloc: Global,
+    parts: Parts,
+    with_both: bool,
+) -> Result<Result<Finished, FinishFault>, Fail>
+    requires { AreNamed N.config N.queue parts }
+{
+    let (ap, mut callers, transmitter) = Ap::<N>::start(alloc, parts)?;
+    tick(rt, &ap, callers.as_mut_slice())?;
+    if !with_both {
+        callers.pop();
+    }
+    Ok(ap.finish(rt, callers, transmitter))
+}
+
+/// Why a new access point can't be finished so, if it can't.
+fn fault<R: Wait>(rt: &R, alloc: Global, with_both: bool) -> Result<Option<FinishFault>, Fail> {
+    let parts = Parts::open(alloc, queue_of_one(alloc)?, 2)?;
+    match ticked_of::<Brand, R>(rt, alloc, parts, with_both)? {
+        Ok(_) => Ok(None),
+        Err(fault) => Ok(Some(fault)),
+    }
+}
+
 /// A copy of an event.
 fn copy(alloc: Global, event: &Event) -> Result<Event, Fail> {
     match event {
@@ -124,6 +150,13 @@ fn is_same(one: &Section, other: &Section) -> bool {
         && are_same(&one.wire, &other.wire)
 }
 
+/// Whether the network alone makes the same of its events.
+pub(super) fn is_as_alone(alloc: Global, section: &Section) -> Result<bool, Fail> {
+    let steps = steps(alloc, section.events.as_slice())?;
+    let alone = run(alloc, queue_of_one(alloc)?, steps.as_slice())?;
+    Ok(is_same(section, section_at(&alone.sections, 0)?))
+}
+
 #[test]
 fn two_callers_give_in_turn(rt: HostRuntime) -> Result<(), Fail> {
     let end = shared(&rt, rt.alloc())?;
@@ -136,11 +169,19 @@ fn two_callers_give_in_turn(rt: HostRuntime) -> Result<(), Fail> {
 }
 
 #[test]
+fn an_event_of_the_caller_that_is_missing(rt: HostRuntime) -> Result<(), Fail> {
+    assert_eq!(rt;
+        fault(&rt, rt.alloc(), false)?,
+        Some(FinishFault::Uncovered)
+    );
+    assert_eq!(rt; fault(&rt, rt.alloc(), true)?, None);
+    Ok(())
+}
+
+#[test]
 fn the_network_alone_makes_the_same_of_them(rt: HostRuntime) -> Result<(), Fail> {
     let end = shared(&rt, rt.alloc())?;
     let section = section_at(&end.sections, 0)?;
-    let steps = steps(rt.alloc(), section.events.as_slice())?;
-    let alone = run(rt.alloc(), queue_of_one(rt.alloc())?, steps.as_slice())?;
-    assert!(rt; is_same(section, section_at(&alone.sections, 0)?));
+    assert!(rt; is_as_alone(rt.alloc(), section)?);
     Ok(())
 }

@@ -10,7 +10,7 @@ use std::test::Fail;
 use workers::{Ap, ApName, Caller, Finished, Outcome};
 
 /// The station dozes.
-const DOZE: &str = "48110000 020000000001 02aa00000001 020000000001 0000";
+pub(super) const DOZE: &str = "48110000 020000000001 02aa00000001 020000000001 0000";
 
 /// Two frames for it from the wire.
 const FIRST_WIRED: &str = "02aa00000001 02bb00000001 0800 01";
