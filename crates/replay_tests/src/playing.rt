@@ -99,7 +99,7 @@ fn a_fault_of_the_configuration_comes_first(rt: HostRuntime) -> Result<(), Fail>
 
 /// The number of lines of a report that begin so.
 fn lines_with(report: &[u8], word: &[u8]) -> usize {
-    let mut count = 0;
+    let mut count: usize = 0;
     for line in report.split(|octet| *octet == b'\n') {
         if line.starts_with(word) {
             count = count.saturating_add(1);
