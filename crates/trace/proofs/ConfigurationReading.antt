@@ -1,6 +1,6 @@
 -- Lists, tables and texts, as the readers of a configuration go over them.
 use Rattle.std.proofs.Common.{◌≡◌, ℕ, length, nat_le, codes, Ok, Err, if◌then◌else◌, Bool, true, false, List, [], ◌∷◌}
-use Rattle.std.proofs.Common.{map, Bor, Option, Some, None, String, Global, string_bytes, refl, subst, inl, inr, ◌∙◌}
+use Rattle.std.proofs.Common.{map, Bor, Some, None, String, Global, string_bytes, refl, inl, inr, ◌∙◌}
 use Rattle.std.proofs.Common.{arith}
 use Rattle.std.specs.List.{list_any, list_all}
 use Rattle.std.specs.Map.{keys_of}
@@ -14,7 +14,7 @@ use Rattle.toml.specs.View.{view, items_of, items_view, members_view}
 use Rattle.toml.specs.declared.value.Value.{Value}
 use Rattle.toml.proofs.Views.{Entry, items_view-drop}
 use Rattle.bss_core.specs.declared.config.NetConfig.{NetConfig}
-use Rattle.bss_core.specs.Configuration.{is_between, dtim_fits, max_stations_fits, max_known_fits, quota_fits}
+use Rattle.bss_core.specs.Configuration.{dtim_fits, max_stations_fits, max_known_fits, quota_fits}
 use Rattle.bss_core.specs.Configuration.{max_events_fits}
 use Rattle.trace.specs.ConfigurationText.{number_at, bssid_at, ssid_at, rates_at, has_only, are_tables, tables_in}
 use Rattle.trace.specs.ConfigurationText.{fault_after, network_of_table, document_of}

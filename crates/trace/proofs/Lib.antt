@@ -14,3 +14,5 @@ pub mod SinkSteps
 pub mod BufferSteps
 pub mod ReportRows
 pub mod ReportDigits
+pub mod AddressDigits
+pub mod OctetPlaces

@@ -11,6 +11,7 @@ use Rattle.bss_core.specs.declared.section.Counts.{Counts}
 use Rattle.bss_core.specs.declared.section.Section.{Section}
 use Rattle.bss_core.specs.declared.section.StationRow.{StationRow}
 use Rattle.trace.specs.Report.{report_text, section_text, network_line, counts_line, station_line, frame_line}
+use Rattle.trace.specs.Report.{authenticated_line, associated_line}
 
 -- the network 02:00:00:00:00:01 with the name lab
 abbrev lab : NetConfig
@@ -72,17 +73,17 @@ unknown_station_has_no_line = refl
 
 pub authenticated_station : station_line (station Authenticated) ≡ codes "station 02:aa:00:00:00:01 authenticated" ++ 10
     ∷ []
-unfolding station_line
+unfolding station_line authenticated_line
 authenticated_station = refl
 
 pub active_station : station_line (station Associated)
     ≡ codes "station 02:aa:00:00:00:01 associated aid 1 listen 10 active kept 0" ++ 10 ∷ []
-unfolding station_line digits
+unfolding station_line associated_line digits
 active_station = refl
 
 pub dozing_station : station_line (record (station Associated) { aid = 2007; doze = true; kept = 12 })
     ≡ codes "station 02:aa:00:00:00:01 associated aid 2007 listen 10 doze kept 12" ++ 10 ∷ []
-unfolding station_line digits
+unfolding station_line associated_line digits
 dozing_station = refl
 
 -- a frame of no octets
@@ -120,7 +121,7 @@ pub stations_stand_in_the_order_of_the_table :
     ++ codes "station 02:aa:00:00:00:02 associated aid 1 listen 10 active kept 0" ++ 10 ∷ []
     ++ codes "air 01" ++ 10 ∷ []
     ++ codes "end" ++ 10 ∷ []
-unfolding section_text network_line counts_line station_line frame_line digits encode_with
+unfolding section_text network_line counts_line station_line authenticated_line associated_line frame_line digits encode_with
 stations_stand_in_the_order_of_the_table = refl
 
 pub sections_stand_in_order : report_text (idle ∷ record idle { config = record lab { ssid = codes "guest" } } ∷ [])

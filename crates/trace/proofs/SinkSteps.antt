@@ -66,9 +66,20 @@ Stops-first {p} {t} u e = record {
   };
 }
 
--- it stopped between two texts
-pub Stops-between : {a b : Option (List ℕ)} {p q t : List ℕ} (u : List ℕ) → Delivers a p b q t → Stops a p b (t ++ u)
-Stops-between u d = Stops-first u (record { rest = _; prefix = d })
+-- an empty buffer let the text through
+pub Delivers-whole : {a b : Option (List ℕ)} {p q t : List ℕ} → p ≡ [] → q ≡ [] → Appends a b t → Delivers a p b q t
+Delivers-whole {p} {q} {t} e f taken = record {
+  written = t;
+  in_order = ap (λ l. l ++ t) e ∙ sym (append-nil t) ∙ ap (λ l. t ++ l) (sym f);
+  taken = taken;
+}
+
+-- or a part of it
+pub Stops-part : {a b : Option (List ℕ)} {p t : List ℕ} → p ≡ [] → AppendsPrefix a b t → Stops a p b t
+Stops-part {t} e h = record {
+  rest = h.rest;
+  prefix = record { written = h.written; in_order = ap (λ l. l ++ t) e ∙ h.in_order; taken = h.taken };
+}
 
 -- it stopped while what it held was written
 pub Stops-written : {a b : Option (List ℕ)} {p : List ℕ} → AppendsPrefix a b p → Stops a p b []

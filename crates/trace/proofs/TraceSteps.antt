@@ -1,19 +1,11 @@
 -- What the steps of reading a trace text rest on.
-use Rattle.std.proofs.Common.{◌≡◌, ℕ, ◌+◌, ◌<◌, Bool, true, false, cond, List, [], ◌∷◌, ◌++◌, length, take, drop}
-use Rattle.std.proofs.Common.{Option, Some, None, Result, Ok, Err, refl, ap, sym, ◌∙◌, get_or, append_assoc, one-add}
+use Rattle.std.proofs.Common.{◌≡◌, ℕ, ◌<◌, Bool, true, false, cond, List, [], ◌∷◌, length, drop}
+use Rattle.std.proofs.Common.{refl, ap, get_or, one-add}
 use Rattle.std.proofs.Common.{arith}
-use Rattle.std.specs.List.{position, slice_split, onto_first, list_any}
-use Rattle.std.specs.Str.Lines.{lines, lines_of_parts, strip_carriage_return}
+use Rattle.std.specs.List.{slice_split, onto_first, list_any}
+use Rattle.std.specs.Str.Lines.{lines_of_parts}
 use Rattle.std.proofs.lemmas.Bool.{or_parts, eq-eqb, ne_eqb}
-use Rattle.std.proofs.lemmas.List.Quantifiers.{position-Some}
-use Rattle.trace.specs.Texts.{is_line_feed, cut}
-use Rattle.std.specs.Option.{option_to_list}
-use Rattle.trace.specs.Faults.{◌>>=◌}
-use Rattle.trace.specs.TraceText.{is_space, digits_of, without_spaces_at_start, line_of, lines_from}
-use Rattle.bss_core.specs.declared.line.Line.{Line}
-use Rattle.trace.specs.declared.fault.TraceFault.{TraceFault}
-use Rattle.trace.specs.Pieces.{said_after}
-use Rattle.trace.proofs.TextLemmas.{around_line_feed, prefix_lacks, lacks_from_none, cut-ended, cut-last}
+use Rattle.trace.specs.TraceText.{is_space, digits_of, without_spaces_at_start}
 
 -- ---- the lines of a text
 

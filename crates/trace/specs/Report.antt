@@ -9,6 +9,7 @@ use Rattle.bss_core.specs.declared.section.Counts.{Counts}
 use Rattle.bss_core.specs.declared.section.Section.{Section}
 use Rattle.bss_core.specs.declared.section.StationRow.{StationRow}
 use Rattle.trace.specs.Texts.{ended}
+use Rattle.trace.specs.declared.report.lines.Totals.{Totals}
 
 -- which network it is: its address, and its name as octets
 unfoldable pub network_line : NetConfig → List ℕ
@@ -29,15 +30,27 @@ counts_line events counts =
     ++ codes " kept "
     ++ decimal counts.kept)
 
+-- the counts that a line tells, as a section has them
+abbrev pub counts_in : Totals → Counts
+counts_in totals = record {
+  events = totals.events;
+  clock = totals.clock;
+  unread = totals.unread;
+  lost = totals.lost;
+  kept = totals.kept;
+}
+
 -- whether a station dozes
 abbrev pub mode_text : Bool → List ℕ
 mode_text doze = if doze then codes "doze" else codes "active"
 
--- how far a station has come; one that is not known has no line
-abbrev pub standing_line : Standing → StationRow → List ℕ
-standing_line Unknown row = []
-standing_line Authenticated row = ended (codes "station " ++ address_text row.addr ++ codes " authenticated")
-standing_line Associated row =
+-- the line of a station that is authenticated and not associated
+unfoldable pub authenticated_line : List ℕ → List ℕ
+authenticated_line addr = ended (codes "station " ++ address_text addr ++ codes " authenticated")
+
+-- the line of one that is associated
+unfoldable pub associated_line : StationRow → List ℕ
+associated_line row =
     ended
     (codes "station " ++ address_text row.addr
     ++ codes " associated aid "
@@ -48,6 +61,12 @@ standing_line Associated row =
     ++ mode_text row.doze
     ++ codes " kept "
     ++ decimal row.kept)
+
+-- how far a station has come; one that is not known has no line
+abbrev pub standing_line : Standing → StationRow → List ℕ
+standing_line Unknown row = []
+standing_line Authenticated row = authenticated_line row.addr
+standing_line Associated row = associated_line row
 
 unfoldable pub station_line : StationRow → List ℕ
 station_line row = standing_line row.standing row

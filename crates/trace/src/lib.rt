@@ -30,7 +30,10 @@ pub use line::read_line;
 pub use line_reader::LineReader;
 pub use read::read_trace;
 pub use read_fault::ReadFault;
-pub use report::{ReportFault, write_report};
+pub use report::{
+    Buffered, ReportFault, Totals, address_text, put_counts_line, put_end_line, put_frame_line,
+    put_network_line, put_station_line, write_report,
+};
 pub use sink::{Failed, Sink, write_all};
 pub use source::Source;
 pub use text::place_of;

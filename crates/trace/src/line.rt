@@ -42,6 +42,7 @@ pub fn read_line(
 }
 
 /// A line less the spaces at its end.
+#[inline]
 fn without_spaces_at_end(line: &[u8]) -> &[u8]
     ensures { result.now ≡ without_spaces_at_end line.now }
 {
@@ -53,6 +54,7 @@ fn without_spaces_at_end(line: &[u8]) -> &[u8]
 }
 
 /// What a line less the spaces at its end says: nothing where it is skipped.
+#[inline]
 fn read_content(
     alloc: Global,
     bssids: &[MacAddr],
@@ -122,6 +124,7 @@ fn place_with(address: MacAddr, bssids: &[MacAddr]) -> Option<usize>
 
 /// A text less the spaces at its start.
 #[tactic(auto, using(crate::proofs::TraceSteps::starts))]
+#[inline]
 fn without_spaces_at_start(text: &[u8]) -> &[u8]
     ensures { result.now ≡ without_spaces_at_start text.now }
 {
@@ -133,6 +136,7 @@ fn without_spaces_at_start(text: &[u8]) -> &[u8]
 }
 
 /// Whether a line is empty or begins with `#`.
+#[inline]
 fn is_skipped(line: &[u8]) -> bool
     ensures { result ≡ is_skipped line.now }
 {
@@ -140,6 +144,7 @@ fn is_skipped(line: &[u8]) -> bool
 }
 
 /// The first word of a line, and what stands after the space that ends it.
+#[inline]
 fn split_word(line: &[u8]) -> (&[u8], &[u8])
     ensures word { result.0.now ≡ first_word line.now }
     ensures after { result.1.now ≡ after_first_word line.now }

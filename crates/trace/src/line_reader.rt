@@ -262,6 +262,7 @@ impl LineReader {
 }
 
 /// Adds what a line says to the others, if it says something.
+#[inline]
 pub fn add(lines: &mut Vec<Line>, said: Option<Line>) -> Result<(), AllocFailed<Line>>
     ensures { OnOk result (lines.new.items ≡ lines.old.items ++ option_to_list said) }
 {
@@ -280,6 +281,7 @@ fn bssids_of(alloc: Global, networks: &[NetConfig]) -> Result<Vec<MacAddr>, NoMe
 
 /// Whether a line may begin with these octets after so many that have ended: the fault of a line too many, where there
 /// is an octet.
+#[inline]
 fn may_begin(ended_lines: u32, octets: &[u8]) -> Result<(), TraceTextFault>
     requires { ended_lines ≤ MAX_LINES }
     ensures exact { Gives (λ _. []) read_ending result (before_line (ended_lines + 1) octets.now []) }
@@ -292,6 +294,7 @@ fn may_begin(ended_lines: u32, octets: &[u8]) -> Result<(), TraceTextFault>
 }
 
 /// A line less the CR at its end, if it has one.
+#[inline]
 fn without_carriage_return(line: &[u8]) -> &[u8]
     ensures { result.now ≡ strip_carriage_return line.now }
 {

@@ -1,3 +1,6 @@
+ghost use Rattle.trace.specs.Buffers.{sink_of};
+ghost use Rattle.trace.specs.Sinks.{MayFail};
+
 use bss_core::{Counts, Event, NetConfig, Section, StationRow};
 use fixtures::texts::ANSWERED_REPORT;
 use fixtures::{PROBE_REQUEST, lab, octets};
@@ -5,7 +8,10 @@ use mac_frame::{List, MacAddr, Octets};
 use station_state::Standing;
 use std::alloc::{AllocError, Global};
 use std::test::Fail;
-use trace::{Counted, ReportFault, Sink, write_report};
+use trace::{
+    Buffered, Counted, Failed, ReportFault, Sink, Totals, put_counts_line, put_end_line,
+    put_frame_line, put_network_line, put_station_line, write_report,
+};
 
 const IDLE: &str = "network 02:00:00:00:00:01 ssid 6c6162\n\
     events 0 clock 0 unread 0 lost 0 kept 0\n";
@@ -211,5 +217,47 @@ fn a_counted_writer_gives_back_its_writer(rt: HostRuntime) -> Result<(), Fail> {
     assert_eq!(rt; grows.failures(), 0);
     let taken: Vec<u8> = grows.into_inner();
     assert_eq!(rt; taken.as_slice(), ANSWERED_REPORT.as_bytes());
+    Ok(())
+}
+
+/// Puts the lines of [`STATIONS`] one by one, and has the sink take what the piece holds.
+fn put_lines<W: Sink>(
+    out: &mut Buffered<'_, W>,
+    config: &NetConfig,
+    totals: &Totals,
+) -> Result<(), Failed>
+    requires { MayFail (W.failed (sink_of out.old)) }
+{
+    put_network_line(out, config)?;
+    put_counts_line(out, totals)?;
+    put_station_line(out, &station(Standing::Authenticated, 1))?;
+    put_station_line(out, &station(Standing::Unknown, 2))?;
+    put_station_line(out, &station(Standing::Associated, 3))?;
+    put_station_line(out, &station(Standing::Associated, 4))?;
+    put_frame_line(out, b"wire ", &[0, 0xff])?;
+    put_frame_line(out, b"wire ", &[])?;
+    put_end_line(out)?;
+    out.flush()
+}
+
+#[test]
+fn lines_go_through_a_piece_of_any_length(rt: HostRuntime) -> Result<(), Fail> {
+    let alloc = rt.alloc();
+    let config = lab::config(alloc, 100)?;
+    let totals = Totals {
+        events: 0,
+        clock: 0,
+        unread: 0,
+        lost: 0,
+        kept: 0,
+    };
+    for len in 0..100 {
+        let mut piece = vec![in alloc; 0; len]?;
+        let mut sink = Counted::new(Vec::new(alloc));
+        let mut out = Buffered::new(&mut sink, piece.as_mut_slice());
+        assert_eq!(rt; put_lines(&mut out, &config, &totals), Ok(()), "at {len}");
+        let taken: Vec<u8> = sink.into_inner();
+        assert_eq!(rt; taken.as_slice(), STATIONS.as_bytes(), "at {len}");
+    }
     Ok(())
 }

@@ -1,9 +1,8 @@
-use Rattle.std.proofs.Common.{◌≡◌, ◌∙◌, ℕ, List, Ok, ap, sym}
+use Rattle.std.proofs.Common.{◌∙◌, ℕ, List, Ok, ap, sym}
 use Rattle.std.proofs.lemmas.Result.{err_from_is_err_and}
 use Rattle.bss_core.specs.declared.config.RadioConfig.{RadioConfig}
 use Rattle.bss_core.specs.declared.line.Line.{Line}
-use Rattle.trace.specs.TraceText.{bssids_of}
-use Rattle.trace.specs.Pieces.{ReaderView, new_reader, answer_to, answer_to_end, after_piece}
+use Rattle.trace.specs.Pieces.{ReaderView, answer_to, answer_to_end, after_piece}
 use Rattle.trace.proofs.EndingLemmas.{same_fault}
 use Rattle.trace.proofs.PieceSteps.{whole-fault, whole-end_fault, whole-said}
 use Rattle.trace.proofs.read.read_trace.Goals as goal

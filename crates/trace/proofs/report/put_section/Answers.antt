@@ -50,4 +50,4 @@ returns g c =
     Puts-then c.in_ok-put_heading.ensures (subst (Puts _ _ _ _ _) stations c.in_ok-put_stations.ensures) in
     let air_put = Puts-then stations_put (subst (Puts _ _ _ _ _) air c.in_ok-put_frames.ensures) in
     let wire_put = Puts-then air_put (subst (Puts _ _ _ _ _) wire c.in_ok-put_frames-2.ensures) in
-    Puts-then wire_put c.put.ensures
+    Puts-then wire_put c.put_end_line.ensures

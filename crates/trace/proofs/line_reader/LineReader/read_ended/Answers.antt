@@ -1,5 +1,4 @@
-use Rattle.std.proofs.Common.{◌≡◌, ◌∙◌, ◌++◌, ℕ, List, length, ap, sym, eqb-true}
-use Rattle.std.specs.Str.Lines.{strip_carriage_return}
+use Rattle.std.proofs.Common.{◌≡◌, ◌∙◌, ℕ, List, length, sym, eqb-true}
 use Rattle.trace.proofs.PieceSteps.{begins_nothing}
 use Rattle.trace.proofs.line_reader.LineReader.read_ended.Goals as goal
 

@@ -1,4 +1,4 @@
-use Rattle.std.proofs.Common.{◌≡◌, ◌∙◌, ◌+◌, ◌++◌, ◌∷◌, ℕ, List, Ok, Err, ap, sym}
+use Rattle.std.proofs.Common.{◌∙◌, ◌++◌, ℕ, List}
 use Rattle.std.proofs.lemmas.Result.{err_from_is_err_and}
 use Rattle.std.specs.Str.Lines.{strip_carriage_return}
 use Rattle.trace.specs.Pieces.{whole_lines, unfinished_line}

@@ -1,11 +1,11 @@
-use Rattle.std.proofs.Common.{◌≡◌, ◌∙◌, ◌+◌, ℕ, List, [], ◌++◌, Some, Ok, ap, sym, append-nil, arith, length, take, drop}
+use Rattle.std.proofs.Common.{◌≡◌, ◌∙◌, ◌+◌, ℕ, List, Some, Ok, ap, sym, append-nil, arith, length, take, drop}
 use Rattle.std.proofs.lemmas.List.{take_rest}
 use Rattle.std.proofs.lemmas.Result.{err_from_is_err_and}
 use Rattle.std.specs.List.{position}
 use Rattle.std.specs.Option.{option_to_list}
 use Rattle.std.specs.Str.Lines.{strip_carriage_return}
 use Rattle.bss_core.specs.declared.line.Line.{Line}
-use Rattle.trace.specs.Texts.{is_line_feed, LacksLineFeed}
+use Rattle.trace.specs.Texts.{is_line_feed}
 use Rattle.trace.specs.TraceText.{line_of, lines_from}
 use Rattle.trace.specs.Pieces.{said_after, whole_lines}
 use Rattle.trace.proofs.TextLemmas.{lacks_from_none}

@@ -1,7 +1,5 @@
-use Rattle.std.proofs.Common.{◌≡◌, ℕ, List, Some, None, ◌++◌, sym}
+use Rattle.std.proofs.Common.{◌++◌, sym}
 use Rattle.std.proofs.lemmas.List.{take_rest}
-use Rattle.std.specs.List.{position}
-use Rattle.trace.specs.Texts.{is_line_feed}
 use Rattle.trace.proofs.TextLemmas.{lacks_from_none}
 use Rattle.trace.proofs.PieceLines.{lacks_both}
 use Rattle.trace.proofs.PieceSteps.{held_says, held_past, lines_say, lines_past}

@@ -1,7 +1,7 @@
 -- The word, the digits and LF are put, one after the other.
 use Rattle.trace.specs.Report.{frame_line}
 use Rattle.trace.proofs.BufferSteps.{Puts-err, Puts-first, Puts-then}
-use Rattle.trace.proofs.report.put_frame.Goals as goal
+use Rattle.trace.proofs.report.lines.put_frame_line.Goals as goal
 
 pub returns-in_err-put : goal.returns-in_err-put
 unfolding frame_line

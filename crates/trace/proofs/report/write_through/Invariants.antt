@@ -3,7 +3,7 @@ use Rattle.std.proofs.Common.{take}
 use Rattle.std.specs.Prelude.{flat_map}
 use Rattle.trace.specs.Report.{section_text}
 use Rattle.trace.proofs.BufferSteps.{HasPut}
-use Rattle.trace.proofs.report.write_report.Given as goal
+use Rattle.trace.proofs.report.write_through.Given as goal
 
 abbrev pub invariant-loop-section : goal.invariant-loop-section
 invariant-loop-section g l =

@@ -1,10 +1,10 @@
 -- One more section is put, and in the end the piece is written. The sink after the piece is the one that was passed.
-use Rattle.std.proofs.Common.{rules, ◌≡◌, ◌∙◌, ℕ, List, [], Option, Ok, ap, subst}
+use Rattle.std.proofs.Common.{rules, ◌∙◌, ℕ, List, Option, Ok, subst}
 use Rattle.trace.specs.Endings.{Ends}
 use Rattle.trace.specs.Report.{report_text, section_text}
-use Rattle.trace.specs.Sinks.{report_ending}
+use Rattle.trace.specs.Sinks.{write_ending}
 use Rattle.trace.proofs.BufferSteps.{Puts-item, Puts-in_item, Puts-items, Puts-flushed, Puts-stopped}
-use Rattle.trace.proofs.report.write_report.Goals as goal
+use Rattle.trace.proofs.report.write_through.Goals as goal
 
 pub returns-in_err-put_section-clause-ends : goal.returns-in_err-put_section-clause-ends
 returns-in_err-put_section-clause-ends g c =
@@ -15,14 +15,12 @@ returns-in_err-put_section-clause-ends g c =
     Puts-in_item section_text sections c.loop-section.section-index c.section-item.result c.loop-section-test.true
     c.section-item.is c.loop-section.invariant
     c.in_err-put_section.ensures in
-    let empty : c.new-buffered.result.piece.now.items ≡ [] =
-    ap (λ piece. piece.items) c.new-buffered.ensures.piece ∙ c.in_ok-piece.ensures.items in
     let same_sink = stops.same_sink ∙ c.new-buffered.ensures.same_sink in
-    let ends : Ends report_ending c.from_residual-in_err-put_section.result (Ok text) (g.W.Sink.taken c.args.out.now)
+    let ends : Ends write_ending c.from_residual.result (Ok text) (g.W.Sink.taken c.args.out.now)
     after =
-    subst (λ s. Ends report_ending c.from_residual-in_err-put_section.result (Ok text) (g.W.Sink.taken s) after)
+    subst (λ s. Ends write_ending c.from_residual.result (Ok text) (g.W.Sink.taken s) after)
     c.new-buffered.ensures.sink
-    (Puts-stopped _ c.from_residual-in_err-put_section.ensures.1 stops empty) in
+    (Puts-stopped _ c.from_residual.ensures.1 stops c.new-buffered.ensures.empty) in
     search rules
 
 pub loop-section-preserved : goal.loop-section-preserved
@@ -39,11 +37,9 @@ returns-clause-ends g c =
     let put =
     Puts-items section_text c.args.sections.now c.loop-section.section-index c.loop-section-test.false
     c.loop-section.invariant in
-    let empty : c.new-buffered.result.piece.now.items ≡ [] =
-    ap (λ piece. piece.items) c.new-buffered.ensures.piece ∙ c.in_ok-piece.ensures.items in
     let same_sink =
     c.flush.ensures.puts.same_sink ∙ c.loop-section.invariant.same_sink ∙ c.new-buffered.ensures.same_sink in
-    let ends : Ends report_ending c.flush.result (Ok text) (g.W.Sink.taken c.args.out.now) after =
-    subst (λ s. Ends report_ending c.flush.result (Ok text) (g.W.Sink.taken s) after) c.new-buffered.ensures.sink
-    (Puts-flushed c.flush.result put c.flush.ensures.puts c.flush.ensures.empty empty) in
+    let ends : Ends write_ending c.flush.result (Ok text) (g.W.Sink.taken c.args.out.now) after =
+    subst (λ s. Ends write_ending c.flush.result (Ok text) (g.W.Sink.taken s) after) c.new-buffered.ensures.sink
+    (Puts-flushed c.flush.result put c.flush.ensures.puts c.flush.ensures.empty c.new-buffered.ensures.empty) in
     search rules

@@ -5,7 +5,7 @@ use Rattle.trace.specs.Buffers.{Puts}
 use Rattle.trace.proofs.ReportDigits.{encode_lower-nil, encode_lower-append, prefix_and_suffix, digits_grow}
 use Rattle.trace.proofs.ReportDigits.{digits_in_parts}
 use Rattle.trace.proofs.BufferSteps.{Puts-nothing, Puts-then, Puts-first, Puts-err}
-use Rattle.trace.proofs.report.put_digits.Goals as goal
+use Rattle.trace.proofs.report.buffer.Buffered.put_digits_past.Goals as goal
 
 pub loop-rest-init : goal.loop-rest-init
 loop-rest-init g c = ([], refl, rw encode_lower-nil (Puts-nothing _))

@@ -1,0 +1,15 @@
+use Rattle.trace.specs.Report.{station_line, associated_line}
+use Rattle.trace.proofs.BufferSteps.{Puts-nothing}
+use Rattle.trace.proofs.report.lines.put_station_line.Goals as goal
+
+pub returns-in-Unknown : goal.returns-in-Unknown
+unfolding station_line
+returns-in-Unknown g c = rw c.in-Unknown.is (Puts-nothing c.args.out.now)
+
+pub returns-in-Authenticated : goal.returns-in-Authenticated
+unfolding station_line
+returns-in-Authenticated g c = rw c.in-Authenticated.is c.put_authenticated.ensures
+
+pub returns-in-Associated : goal.returns-in-Associated
+unfolding station_line associated_line
+returns-in-Associated g c = rw c.in-Associated.is c.put_associated.ensures

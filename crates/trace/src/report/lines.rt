@@ -1,0 +1,168 @@
+//! The lines of a section, each put into a sink after what came before it. None takes memory.
+
+ghost use Rattle.std.specs.Prelude.{◌≡◌, ◌++◌, codes};
+ghost use Rattle.hex.specs.Hex.{encode_lower};
+ghost use Rattle.mac_frame.specs.Address.{IsAddress, address_text};
+ghost use Rattle.trace.specs.Buffers.{Puts, sink_of};
+ghost use Rattle.trace.specs.Report.{network_line, counts_line, counts_in, station_line, mode_text, frame_line};
+ghost use Rattle.trace.specs.Report.{authenticated_line, associated_line};
+ghost use Rattle.trace.specs.Sinks.{MayFail};
+ghost use Rattle.trace.specs.Texts.{ended};
+
+use crate::report::buffer::Buffered;
+use crate::sink::{Failed, Sink};
+use bss_core::{NetConfig, StationRow};
+use mac_frame::MacAddr;
+use station_state::Standing;
+
+/// What the line of a network's counts tells. Those of a history fit 32 bits; a network that runs without one may go
+/// on to count.
+#[derive(Clone, Copy, Debug, PartialEq, Eq)]
+pub struct Totals {
+    /// The events that it took.
+    pub events: u64,
+    /// The beacon intervals that began.
+    pub clock: u64,
+    /// The events that were no request it reads.
+    pub unread: u64,
+    /// The units that were lost.
+    pub lost: u64,
+    /// The units that are kept now.
+    pub kept: u64,
+}
+
+/// Puts the line of a network's address and name. `Failed` comes exactly where a write to the sink failed.
+pub fn put_network_line<W: Sink>(
+    out: &mut Buffered<'_, W>,
+    config: &NetConfig,
+) -> Result<(), Failed>
+    requires { MayFail (W.failed (sink_of out.old)) }
+    ensures { Puts W.taken W.failed result out.old out.new (network_line config.now) }
+{
+    let bssid = address_text(config.bssid);
+    out.put_parts(&[b"network ", &bssid, b" ssid "])?;
+    out.put_digits(config.ssid.as_slice())?;
+    out.put(b"\n")
+}
+
+/// Puts the line of a network's counts. `Failed` comes exactly where a write to the sink failed.
+pub fn put_counts_line<W: Sink>(out: &mut Buffered<'_, W>, totals: &Totals) -> Result<(), Failed>
+    requires { MayFail (W.failed (sink_of out.old)) }
+    ensures { Puts W.taken W.failed result out.old out.new
+        (counts_line totals.now.events (counts_in totals.now)) }
+{
+    let mut events = itoa::Buffer::new();
+    let mut clock = itoa::Buffer::new();
+    let mut unread = itoa::Buffer::new();
+    let mut lost = itoa::Buffer::new();
+    let mut kept = itoa::Buffer::new();
+    out.put_parts(&[
+        b"events ",
+        events.format(totals.events).as_bytes(),
+        b" clock ",
+        clock.format(totals.clock).as_bytes(),
+        b" unread ",
+        unread.format(totals.unread).as_bytes(),
+        b" lost ",
+        lost.format(totals.lost).as_bytes(),
+        b" kept ",
+        kept.format(totals.kept).as_bytes(),
+        b"\n",
+    ])
+}
+
+/// Puts a station's line, or nothing where it is not known. `Failed` comes exactly where a write to the sink failed.
+pub fn put_station_line<W: Sink>(out: &mut Buffered<'_, W>, row: &StationRow) -> Result<(), Failed>
+    requires { MayFail (W.failed (sink_of out.old)) }
+    ensures { Puts W.taken W.failed result out.old out.new (station_line row.now) }
+{
+    match row.standing {
+        Standing::Unknown => Ok(()),
+        Standing::Authenticated => put_authenticated(out, row.addr),
+        Standing::Associated => put_associated(out, row),
+    }
+}
+
+/// Puts the line of a station that is authenticated and not associated.
+fn put_authenticated<W: Sink>(out: &mut Buffered<'_, W>, addr: MacAddr) -> Result<(), Failed>
+    requires { MayFail (W.failed (sink_of out.old)) }
+    ensures { Puts W.taken W.failed result out.old out.new (authenticated_line addr) }
+{
+    out.put_parts(&[b"station ", &address_text(addr), b" authenticated\n"])
+}
+
+/// Puts the line of a station that is associated.
+fn put_associated<W: Sink>(out: &mut Buffered<'_, W>, row: &StationRow) -> Result<(), Failed>
+    requires { MayFail (W.failed (sink_of out.old)) }
+    ensures { Puts W.taken W.failed result out.old out.new (associated_line row.now) }
+{
+    let addr = address_text(row.addr);
+    let mut aid = itoa::Buffer::new();
+    let mut listen = itoa::Buffer::new();
+    let mut kept = itoa::Buffer::new();
+    out.put_parts(&[
+        b"station ",
+        &addr,
+        b" associated aid ",
+        aid.format(row.aid).as_bytes(),
+        b" listen ",
+        listen.format(row.listen).as_bytes(),
+        b" ",
+        mode_text(row.doze),
+        b" kept ",
+        kept.format(row.kept).as_bytes(),
+        b"\n",
+    ])
+}
+
+/// The word for a station that dozes, or does not.
+fn mode_text(doze: bool) -> &'static [u8]
+    ensures { result.now ≡ mode_text doze }
+{
+    if doze { b"doze" } else { b"active" }
+}
+
+/// Puts a frame's line: a word that says where it was sent, and its octets. `Failed` comes exactly where a write to the
+/// sink failed.
+#[inline]
+pub fn put_frame_line<W: Sink>(
+    out: &mut Buffered<'_, W>,
+    word: &[u8],
+    frame: &[u8],
+) -> Result<(), Failed>
+    requires { MayFail (W.failed (sink_of out.old)) }
+    ensures { Puts W.taken W.failed result out.old out.new (frame_line word.now frame.now) }
+{
+    out.put(word)?;
+    out.put_digits(frame)?;
+    out.put(b"\n")
+}
+
+/// Puts the line that ends a section. `Failed` comes exactly where a write to the sink failed.
+#[inline]
+pub fn put_end_line<W: Sink>(out: &mut Buffered<'_, W>) -> Result<(), Failed>
+    requires { MayFail (W.failed (sink_of out.old)) }
+    ensures { Puts W.taken W.failed result out.old out.new (ended (codes "end")) }
+{
+    out.put(b"end\n")
+}
+
+/// The text of an address: its octets as pairs of hexadecimal digits in lower case, with `:` between.
+pub fn address_text(address: MacAddr) -> [u8; 17]
+    ensures { result ≡ address_text address }
+{
+    let [a, b, c, d, e, f, g, h, i, j, k, l] = address_digits(address);
+    [
+        a, b, b':', c, d, b':', e, f, b':', g, h, b':', i, j, b':', k, l,
+    ]
+}
+
+/// The octets of an address as pairs of hexadecimal digits in lower case.
+fn address_digits(address: MacAddr) -> [u8; 12]
+    ensures digits { result ≡ encode_lower address }
+    ensures address { IsAddress address }
+{
+    let mut digits = [0; 12];
+    hex::encode_to_slice(address.octets().as_slice(), &mut digits).unwrap();
+    digits
+}
