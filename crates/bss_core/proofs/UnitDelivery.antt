@@ -9,15 +9,15 @@ use Rattle.std.proofs.lemmas.Slice.Eq.{bytes_eq-Decides}
 use borrow.Author.Tests.{ltb-true, ltb-false}
 use Rattle.std.proofs.Math.Bool.{beq}
 use Rattle.mac_frame.specs.Address.{is_group}
-use Rattle.powersave.specs.Keep.{Entry, without_all, without_oldest}
+use Rattle.powersave.specs.Keep.{Entry, units_for, without_all, without_oldest}
 use Rattle.powersave.specs.declared.unit.Whom.{Whom}
 use Rattle.powersave.specs.declared.unit.Whom.TheVariants.{One, Group}
 use Rattle.powersave.specs.declared.unit.Unit.{Unit as DataUnit}
-use Rattle.bss_core.specs.Network.{Setting, Network, send, send_unit, send_each, serve_poll, set_power_mode, deliver_by, deliver}
-use Rattle.bss_core.specs.Replies.{after_reply, no_reply, sending, without, is_leaving, IsAwake}
+use Rattle.bss_core.specs.Network.{Setting, Network, send, send_unit, send_each, serve_poll, answer_poll, set_power_mode, deliver_by, deliver}
+use Rattle.bss_core.specs.Replies.{after_reply, no_reply, sending, serving, done, without, is_leaving, IsAwake, IsFitting}
 use Rattle.bss_core.specs.Sound.{IsKeptFor}
 use Rattle.bss_core.specs.Stations.{Table, link_of, is_dozing, some_station_dozes, changed}
-use Rattle.bss_core.specs.Units.{others_follow, delivery_of, delivery_with, group_is_kept, unit_frame}
+use Rattle.bss_core.specs.Units.{may_poll, others_follow, delivery_of, delivery_with, group_is_kept, unit_frame}
 use Rattle.bss_core.specs.declared.reply.keeping.Leaving.{Leaving}
 use Rattle.bss_core.specs.declared.reply.keeping.Leaving.TheVariants as leavings
 use Rattle.bss_core.specs.declared.reply.Reply.{Reply}
@@ -134,3 +134,32 @@ first-served s from (v ∷ vs) u n h =
     let same : v ≡ u = cc in
     ap (λ (b : Bool). send_unit s b v (record n { kept = without_oldest (One from) n.kept })) (others_follow-after (v ∷ vs) 1)
     ∙ ap (λ (w : DataUnit). send_unit s (nat_lt 1 (length (v ∷ vs))) w (record n { kept = without_oldest (One from) n.kept })) same
+
+-- ---- polls
+
+-- the first of these units, where there is one, is sent and leaves
+served : (s : Setting) (from : List ℕ) (us : List DataUnit) (n : Network) → serve_poll s from us n ≡ after_reply (serving s from us (no_reply n.sequence)) n
+served s from [] n = sym (nothing-replied n)
+served s from (u ∷ us) n =
+    let left : Network = record n { kept = without_oldest (One from) n.kept } in
+    let r : Reply = record (no_reply n.sequence) { keeping = record { leaving = leavings.Oldest (One from); arriving = None } } in
+    let is : after_reply r n ≡ left = oldest-replied from n in
+    ap (send (unit_frame s.network.bssid (others_follow us) u)) (sym is) ∙ after-sent r n (unit_frame s.network.bssid (others_follow us) u)
+  where
+    oldest-replied : (from : List ℕ) (n : Network) → after_reply (record (no_reply n.sequence) { keeping = record { leaving = leavings.Oldest (One from); arriving = None } }) n ≡ record n { kept = without_oldest (One from) n.kept }
+    oldest-replied from n = search rules
+
+pub poll-served : (s : Setting) (from : List ℕ) (aid : ℕ) (n : Network) → may_poll aid (link_of from n.stations) ≡ true → answer_poll s from aid n ≡ after_reply (done s n (Some from) (no_reply n.sequence)) n
+poll-served s from aid n may = rw may (served s from (units_for (One from) n.kept) n)
+
+pub poll-refused : (s : Setting) (from : List ℕ) (aid : ℕ) (n : Network) → may_poll aid (link_of from n.stations) ≡ false → answer_poll s from aid n ≡ after_reply (done s n None (no_reply n.sequence)) n
+poll-refused s from aid n not = rw not (sym (nothing-replied n))
+
+-- such a reply can be carried out
+pub poll-fits : (s : Setting) (n : Network) (polled : Option (List ℕ)) (sequence : ℕ) → IsFitting s (done s n polled (no_reply sequence)) n
+poll-fits s n None sequence = record { change = tt; keeping = tt }
+poll-fits s n (Some from) sequence = by (units_for (One from) n.kept)
+  where
+    by : (us : List DataUnit) → IsFitting s (serving s from us (no_reply sequence)) n
+    by [] = record { change = tt; keeping = tt }
+    by (u ∷ us) = record { change = tt; keeping = tt }

@@ -1,5 +1,5 @@
 -- Which configurations are sound, and the first fault of one that isn't (profile).
-use Rattle.std.specs.Prelude.{ℕ, ◌++◌, nat_le, nat_lt, Bool, true, not, ◌==◌, ◌&&◌, List, [], ◌∷◌, length, Option, Some}
+use Rattle.std.specs.Prelude.{ℕ, ◌++◌, nat_le, nat_lt, Bool, true, not, ◌&&◌, List, [], ◌∷◌, length, Option, Some}
 use Rattle.std.specs.Prelude.{None, if◌then◌else◌}
 use Rattle.std.specs.List.{list_any, list_all}
 use Rattle.std.specs.Str.{bytes_eq}

@@ -1,7 +1,9 @@
 -- What a reply makes of a network (profile).
 use Rattle.std.specs.Prelude.{ℕ, ◌+◌, ◌<◌, ◌≡◌, Bool, false, List, [], ◌∷◌, ◌++◌, length, Option, Some, None}
 use Rattle.std.specs.Prelude.{option_to_list}
-use Rattle.powersave.specs.Keep.{Entry, Kept, is_same, room_beside, without_all, without_oldest}
+use Rattle.powersave.specs.declared.unit.Unit.{Unit as DataUnit}
+use Rattle.bss_core.specs.Units.{unit_frame, others_follow}
+use Rattle.powersave.specs.Keep.{Entry, Kept, units_for, is_same, room_beside, without_all, without_oldest}
 use Rattle.powersave.specs.declared.unit.Whom.{Whom}
 use Rattle.powersave.specs.declared.unit.Whom.TheVariants.{One, Group}
 use Rattle.bss_core.specs.Network.{Setting, Network, next_sequence}
@@ -83,6 +85,20 @@ pub record IsFitting (s : Setting) (r : Reply) (n : Network) : Type 0 where
 -- the reply that sends a frame too
 abbrev pub sending : Reply → (ℕ → List ℕ) → Reply
 sending r frame = record r { frames = r.frames ++ frame r.sequence ∷ []; sequence = next_sequence r.sequence }
+
+-- ---- polls (11.2.3.6)
+
+-- the first unit for a station, where there is one, is sent and leaves
+abbrev pub serving : Setting → List ℕ → List DataUnit → Reply → Reply
+serving s from [] r = r
+serving s from (u ∷ us) r =
+    sending (record r { keeping = record { leaving = leavings.Oldest (One from); arriving = r.keeping.arriving } })
+    (unit_frame s.network.bssid (others_follow us) u)
+
+-- the whole reply, where a station's poll may have to be served besides
+abbrev pub done : Setting → Network → Option (List ℕ) → Reply → Reply
+done s n None r = r
+done s n (Some from) r = serving s from (units_for (One from) n.kept) r
 
 -- ---- a reply that sets a mode, to which something is added
 

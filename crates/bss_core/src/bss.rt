@@ -220,11 +220,12 @@ impl Bss {
         if self.history.len() >= self.config().max_events as usize {
             return Err(Refusal::HistoryFull);
         }
-        let reply = self.network.reply(&event)?;
+        let mut reply = self.network.no_reply();
+        let polled = self.network.reply(&mut reply, &event)?;
         self.history.reserve(1)?;
         reply.frames.reserve_in(&mut self.waiting)?;
         self.wired.reserve(1)?;
-        let sent = self.network.carry_out(reply)?;
+        let sent = self.network.finish(reply, polled)?;
         // All that may be refused is done.
         let number = self.history.len() as u32;
         self.history.push_reserved(event);

@@ -1,11 +1,11 @@
 //! A network as it runs, without its history.
 
-ghost use Rattle.std.specs.Prelude.{◌≡◌, ◌<◌, ◌^◌, ◌↔◌, None, Some, Err, IfOk, OnOk, OnErr};
+ghost use Rattle.std.specs.Prelude.{◌≡◌, ◌<◌, ◌≤◌, ◌^◌, ℕ, IfSome, ◌↔◌, None, Some, Err, IfOk, OnOk, OnErr};
 ghost use Rattle.std.specs.Prelude.{length, slice_get, option_to_list};
 ghost use Rattle.bss_core.specs.Configuration.{setting_fault, network_fault};
 ghost use Rattle.bss_core.specs.Network.{step, table_of};
 ghost use Rattle.bss_core.specs.NetworkView.{new_network, took_event, carried_out, MayFollow};
-ghost use Rattle.bss_core.specs.Replies.{after_reply};
+ghost use Rattle.bss_core.specs.Replies.{no_reply, done, serving, after_reply};
 ghost use Rattle.bss_core.specs.Roster.{AreWaitedFor};
 ghost use Rattle.bss_core.specs.declared.event.Event.TheVariants as events;
 ghost use Rattle.bss_core.specs.declared.network.NetworkRefusal.TheVariants as refusals;
@@ -13,7 +13,7 @@ ghost use Rattle.powersave.specs.Keep.{units_for};
 ghost use Rattle.powersave.specs.declared.unit.Whom.TheVariants as whoms;
 
 use crate::event::Event;
-use crate::reply::{Frames, Reply};
+use crate::reply::{Frames, Reply, SEQUENCE_NUMBERS};
 use crate::roster::Roster;
 use crate::section::StationRow;
 use crate::setting::Setting;
@@ -188,24 +188,92 @@ impl Network {
         if matches!(event, Event::Tick) && self.clock == u32::MAX {
             return Err(NetworkRefusal::Clock);
         }
-        let reply = self.reply(event)?;
-        Ok(self.carry_out(reply)?)
+        let mut reply = self.no_reply();
+        let polled = self.reply(&mut reply, event)?;
+        Ok(self.finish(reply, polled)?)
     }
 
-    /// What it does about an event, and it can be carried out. It changes nothing.
-    pub(crate) fn reply(&self, event: &Event) -> Result<Reply, NoMemory>
+    /// Fills in what it does about an event, which can be carried out, and answers whose poll is to be served besides, if
+    /// one is. It changes nothing.
+    pub(crate) fn reply(
+        &self,
+        reply: &mut Reply,
+        event: &Event,
+    ) -> Result<Option<MacAddr>, NoMemory>
+        requires nothing { reply.old ≡ no_reply self.now.network.sequence }
+        requires sequence { reply.old.sequence < 4096 }
         requires ticks { event.now ≡ events.Tick → self.now.network.clock < 4294967295 }
-        ensures follows { IfOk result (λ reply. MayFollow self.now reply) }
-        ensures step { IfOk result (λ reply.
-            step self.now.setting self.now.network event.now ≡ after_reply reply self.now.network) }
+        ensures follows { IfOk result (λ polled.
+            MayFollow self.now (done self.now.setting self.now.network polled reply.new)) }
+        ensures step { IfOk result (λ polled. step self.now.setting self.now.network event.now
+            ≡ after_reply (done self.now.setting self.now.network polled reply.new) self.now.network) }
+        ensures alone { IfOk result (λ polled. IfSome polled (λ _. reply.new ≡ no_reply self.now.network.sequence)) }
     {
         // The prover opens what the network keeps, which bounds its counts, where a field is read.
         let _ = &self.roster;
         match event {
-            Event::Air(frame) => self.answer(frame.as_slice()),
-            Event::Wire(frame) => self.answer_wired(frame.as_slice()),
-            Event::Tick => self.tick(),
+            Event::Air(frame) => self.answer(reply, frame.as_slice()),
+            Event::Wire(frame) => {
+                self.answer_wired(reply, frame.as_slice())?;
+                Ok(None)
+            }
+            Event::Tick => {
+                self.tick(reply)?;
+                Ok(None)
+            }
         }
+    }
+
+    /// Does what a reply to an event says, or serves a poll, and hands out what is sent. After `NoMemory` nothing has
+    /// changed.
+    pub(crate) fn finish(&mut self, reply: Reply, polled: Option<MacAddr>) -> Result<Sent, NoMemory>
+        requires follows { MayFollow self.old (done self.old.setting self.old.network polled reply) }
+        requires countable { self.old.events < 2 ^ 62 }
+        requires alone { IfSome polled (λ _. reply ≡ no_reply self.old.network.sequence) }
+        ensures after { OnOk result
+            (self.new ≡ carried_out (done self.old.setting self.old.network polled reply) self.old) }
+        ensures air { IfOk result (λ sent.
+            sent.air ≡ (done self.old.setting self.old.network polled reply).frames) }
+        ensures wire { IfOk result (λ sent.
+            sent.wire ≡ (done self.old.setting self.old.network polled reply).wired) }
+        ensures few { IfOk result (λ sent.
+            (room : ℕ) → 1 ≤ room → length reply.frames ≤ room → length sent.air ≤ room) }
+        ensures err { OnErr result (self.new ≡ self.old) }
+    {
+        match polled {
+            None => self.carry_out(reply),
+            Some(from) => self.serve_poll(from),
+        }
+    }
+
+    /// Serves the poll of a station: sends the unit that was kept first for it, if there is one. After `NoMemory` nothing
+    /// has changed.
+    fn serve_poll(&mut self, from: MacAddr) -> Result<Sent, NoMemory>
+        requires follows { MayFollow self.old (serving self.old.setting from
+            (units_for (whoms.One from) self.old.network.kept) (no_reply self.old.network.sequence)) }
+        requires countable { self.old.events < 2 ^ 62 }
+        ensures after { OnOk result (self.new ≡ carried_out (serving self.old.setting from
+            (units_for (whoms.One from) self.old.network.kept) (no_reply self.old.network.sequence)) self.old) }
+        ensures air { IfOk result (λ sent. sent.air ≡ (serving self.old.setting from
+            (units_for (whoms.One from) self.old.network.kept) (no_reply self.old.network.sequence)).frames) }
+        ensures wire { IfOk result (λ sent. sent.wire ≡ None) }
+        ensures few { IfOk result (λ sent. length sent.air ≤ 1) }
+        ensures err { OnErr result (self.new ≡ self.old) }
+    {
+        let bssid = self.setting.network.bssid;
+        let sent = self.roster.send_oldest(from, bssid, self.sequence)?;
+        self.events += 1;
+        let Some(frame) = sent else {
+            return Ok(Sent {
+                air: Frames::new(self.alloc),
+                wire: None,
+            });
+        };
+        self.sequence = (self.sequence + 1) % SEQUENCE_NUMBERS;
+        Ok(Sent {
+            air: Frames::one(self.alloc, frame),
+            wire: None,
+        })
     }
 
     /// Does what a reply to an event says, and hands out what is sent. After `NoMemory` nothing has changed.

@@ -20,7 +20,7 @@ use std::alloc::Global;
 pub use unit::{Arrival, Body, Delivery};
 
 /// How many sequence numbers there are (IEEE Std 802.11-2016, 9.2.4.4.2).
-const SEQUENCE_NUMBERS: u16 = 4096;
+pub const SEQUENCE_NUMBERS: u16 = 4096;
 
 /// What a network does about one event. Each field is one effect.
 #[derive(Debug, Drop)]

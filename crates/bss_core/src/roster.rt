@@ -1,9 +1,10 @@
 //! The stations of a network with the units that are kept for them (IEEE Std 802.11-2016, 11.2.3).
 
 ghost use Rattle.std.specs.Prelude.{◌≡◌, ◌<◌, ◌≤◌, ◌+◌, ◌^◌, ◌++◌, ◌∷◌, ◌&&◌, ◌||◌, ℕ, List, [], not, None, Some};
-ghost use Rattle.std.specs.Prelude.{IfSome, OnOk, OnErr, length, nat_lt};
+ghost use Rattle.std.specs.Prelude.{IfSome, IfNone, IfOk, OnOk, OnErr, length, nat_lt, option_map};
 ghost use Rattle.std.specs.FinSet as set;
-ghost use Rattle.powersave.specs.Keep.{Entry, units_for, without_all, without_oldest, room_beside};
+ghost use Rattle.powersave.specs.Keep.{Entry, units_for, without_all, without_oldest, room_beside, first_frame};
+ghost use Rattle.powersave.specs.declared.unit.Whom.TheVariants as whoms;
 ghost use Rattle.tim.specs.Tim.{IsAid};
 ghost use Rattle.bss_core.specs.Replies.{without, room_after, kept_after, IsWithin, IsRoomFor};
 ghost use Rattle.bss_core.specs.Roster.{empty_roster, is_number, renumbered, AreWaitedFor, StayBeside};
@@ -12,7 +13,7 @@ ghost use Rattle.bss_core.specs.Stations.{with_table, changed, IsAllowed};
 
 use crate::reply::{Keeping, Leaving};
 use crate::stations::{Change, Stations};
-use mac_frame::{MAX_AID, MacAddr, NoMemory};
+use mac_frame::{MAX_AID, MacAddr, NoMemory, Octets};
 use powersave::{Keep, Unit, Whom, parts_stay};
 use std::alloc::Global;
 use std::marker::Model;
@@ -167,6 +168,36 @@ impl Roster {
         self.kept.oldest(*whom);
         let waits = self.kept.count_for(*whom) > 0;
         follow(&mut self.traffic, &self.stations, whom, waits);
+    }
+
+    /// Takes out the unit that was kept first for a station as the Data frame that carries it from the network `bss` with
+    /// this sequence number; `None`, and no unit leaves, where none is kept for it. After `NoMemory` all is as it was.
+    pub fn send_oldest(
+        &mut self,
+        addr: MacAddr,
+        bss: MacAddr,
+        seq: u16,
+    ) -> Result<Option<Octets>, NoMemory>
+        requires { seq < 4096 }
+        ensures sent { IfOk result (λ sent. sent ≡ option_map (λ first. first.0)
+            (first_frame bss seq (units_for (whoms.One addr) self.old.kept.entries))) }
+        ensures stations { self.new.stations ≡ self.old.stations }
+        ensures quota { self.new.kept.quota ≡ self.old.kept.quota }
+        ensures puts { self.new.kept.puts ≡ self.old.kept.puts }
+        ensures entries { IfOk result (λ sent. IfSome sent (λ _.
+            self.new.kept.entries ≡ without_oldest (whoms.One addr) self.old.kept.entries)) }
+        ensures none { IfOk result (λ sent. IfNone sent (self.new.kept.entries ≡ self.old.kept.entries)) }
+        ensures err { OnErr result (self.new ≡ self.old) }
+    {
+        // the units for the others stay
+        parts_stay();
+        let whom = Whom::One(addr);
+        let sent = self.kept.send_oldest(whom, bss, seq)?;
+        let Some((frame, waits)) = sent else {
+            return Ok(None);
+        };
+        follow(&mut self.traffic, &self.stations, &whom, waits);
+        Ok(Some(frame))
     }
 
     /// Keeps a unit for one, for which room was made.

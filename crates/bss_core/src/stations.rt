@@ -3,7 +3,7 @@
 ghost use Rattle.std.specs.Prelude.{◌≡◌, ◌<◌, ◌≤◌, [], IsTrue, OnOk, OnErr, IfSome, Some, None, option_map};
 ghost use Rattle.std.specs.Prelude.{length, slice_get, is_some, if◌then◌else◌};
 ghost use Rattle.tim.specs.Tim.{IsAid};
-ghost use Rattle.bss_core.specs.Stations.{with_table, link_of, standing_of, aid_of, aid_with, dozes_with};
+ghost use Rattle.bss_core.specs.Stations.{with_table, link_of, standing_with, aid_of, aid_with, dozes_with};
 ghost use Rattle.bss_core.specs.Stations.{some_station_dozes};
 ghost use Rattle.bss_core.specs.Stations.{may_associate, next_aid, is_associated, set_link, authenticate, associate};
 ghost use Rattle.bss_core.specs.Stations.{disassociate, forget, set_mode, with_mode, changed, IsAllowed, IsModeAlone};
@@ -126,17 +126,6 @@ impl Stations {
         aid_with(self.link_of(addr))
     }
 
-    /// The state of a station (11.3.1).
-    pub fn standing_of(&self, addr: MacAddr) -> Standing
-        ensures { result ≡ standing_of addr self.now.table }
-    {
-        match self.link_of(addr) {
-            None => Standing::Unknown,
-            Some(Link::Authenticated) => Standing::Authenticated,
-            Some(Link::Associated { .. }) => Standing::Associated,
-        }
-    }
-
     /// How far a station has come once the mode of one is set.
     pub fn link_after(&self, change: Change, addr: MacAddr) -> Option<Link>
         requires { IsModeAlone change }
@@ -166,14 +155,15 @@ impl Stations {
         after || self.dozing > usize::from(before)
     }
 
-    /// The identifier that an association of this station gives: the one that it has, or the least that is free.
-    /// `None` exactly where as many others are associated as may be.
-    pub fn next_aid(&self, addr: MacAddr) -> Option<u16>
+    /// The identifier that an association of the station with this link gives: the one that it has, or the least that
+    /// is free. `None` exactly where as many others are associated as may be.
+    pub fn next_aid(&self, addr: MacAddr, link: Option<Link>) -> Option<u16>
+        requires { link ≡ link_of addr self.now.table }
         ensures room { is_some result ≡ may_associate self.now.most addr self.now.table }
         ensures aid { IfSome result (λ aid. aid ≡ next_aid addr self.now.table) }
         ensures last { IfSome result (λ aid. aid ≤ MAX_AID) }
     {
-        match aid_with(self.link_of(addr)) {
+        match aid_with(link) {
             Some(aid) => Some(aid),
             None => self.pool.least(),
         }
@@ -261,13 +251,25 @@ impl Stations {
     pub fn set_mode(&mut self, addr: MacAddr, doze: bool)
         ensures { self.new ≡ with_table self.old (set_mode addr doze self.old.table) }
     {
-        let Some(before) = self.link_of(addr) else {
+        let Some(known) = self.links.get_mut(&addr) else {
             return;
         };
+        let before = *known;
         let link = with_mode(before, doze);
+        *known = link;
         self.dozing -= usize::from(dozes_with(Some(before)));
         self.dozing += usize::from(dozes_with(Some(link)));
-        set_known(&mut self.links, addr, link);
+    }
+}
+
+/// The state of a station with this link (11.3.1).
+pub fn standing_with(link: Option<Link>) -> Standing
+    ensures { result ≡ standing_with link }
+{
+    match link {
+        None => Standing::Unknown,
+        Some(Link::Authenticated) => Standing::Authenticated,
+        Some(Link::Associated { .. }) => Standing::Associated,
     }
 }
 

@@ -1,7 +1,8 @@
 -- The units that a network keeps for stations that doze (IEEE Std 802.11-2016, 11.2.3): one list, of which a part is
 -- for each.
-use Rattle.std.specs.Prelude.{ℕ, Bool, true, false, not, List, [], ◌∷◌, map, filter, Option, Some, None, if◌then◌else◌}
+use Rattle.std.specs.Prelude.{ℕ, Bool, true, false, not, List, [], ◌∷◌, ◌++◌, map, filter, Option, Some, None, if◌then◌else◌}
 use Rattle.std.specs.Str.{bytes_eq}
+use Rattle.mac_frame.specs.Data.{data_header}
 use Rattle.powersave.specs.declared.unit.Whom.{Whom}
 use Rattle.powersave.specs.declared.unit.Whom.TheVariants.{One, Group}
 use Rattle.powersave.specs.declared.unit.Unit.{Unit as Msdu}
@@ -49,3 +50,16 @@ without_oldest whom entries = without_first (is_for whom) entries
 abbrev pub room_beside : Whom → Option Whom → Option Whom
 room_beside whom None = None
 room_beside whom (Some other) = if is_same other whom then None else Some other
+
+-- ---- the first unit for one as a Data frame (9.3.2.1)
+
+-- others follow
+abbrev pub others_follow : List Msdu → Bool
+others_follow [] = false
+others_follow (u ∷ us) = true
+
+-- it, from a network with a sequence number, with More Data (9.2.4.1.8) where others follow, and whether they do
+abbrev pub first_frame : (bss : List ℕ) → (sequence : ℕ) → List Msdu → Option (List ℕ × Bool)
+first_frame bss sequence [] = None
+first_frame bss sequence (u ∷ us) =
+    Some (data_header u.to bss u.source sequence (others_follow us) ++ u.body, others_follow us)

@@ -6,6 +6,7 @@ use Rattle.std.specs.Map.{keys_of, lookup}
 use Rattle.std.specs.Option.{option_map, IsSomeAnd}
 use Rattle.std.specs.declared.alloc.Global.{Global}
 use Rattle.std.specs.declared.collections.VecDeque.{VecDeque}
+use Rattle.mac_frame.specs.Data.{data_header}
 use Rattle.powersave.specs.declared.unit.Whom.{Whom}
 use Rattle.powersave.specs.declared.unit.Unit.{Unit as Msdu}
 use Rattle.powersave.specs.declared.queues.Arrived.{Arrived}
@@ -93,6 +94,16 @@ pub record Pops (whom : Whom) (old : Queues) (taken : Option Msdu) (new : Queues
   pub rest : (next : ℕ) → AreSound next old → entries_in new ≡ without_oldest whom (entries_in old)
   pub sound : (next : ℕ) → AreSound next old → AreSound next new
   pub room : (reserved : Option Whom) → HasRoom reserved old → HasRoom (room_beside whom reserved) new
+
+-- the oldest unit for one is gone as a frame, which tells whether others follow
+abbrev pub SendsOne : (whom : Whom) (bss : List ℕ) (sequence : ℕ) (old : Queues) → List ℕ → Bool → Msdu → (new : Queues) → Type 0
+SendsOne whom bss sequence old frame follows unit new = Pops whom old (Some unit) new
+    × (frame ≡ data_header unit.to bss unit.source sequence follows ++ unit.body)
+    × (follows ≡ nat_lt 1 (length (queue_for whom old)))
+
+abbrev pub Sends : (whom : Whom) (bss : List ℕ) (sequence : ℕ) (old : Queues) → Option (List ℕ × Bool) → (new : Queues) → Type 0
+Sends whom bss sequence old None new = Pops whom old None new
+Sends whom bss sequence old (Some sent) new = (unit : Msdu) × SendsOne whom bss sequence old sent.0 sent.1 unit new
 
 -- all units for one are gone, as many as are told
 pub record Removes (whom : Whom) (old : Queues) (removed : ℕ) (new : Queues) : Type 0 where

@@ -1,16 +1,16 @@
 //! The units that are kept (IEEE Std 802.11-2016, 11.2.3): one list in order of arrival, made of a queue for each whom.
 
 ghost use Rattle.std.specs.Prelude.{◌≡◌, ◌≢◌, ◌<◌, ◌≤◌, ◌+◌, ◌^◌, ◌++◌, ◌↔◌, List, [], ◌∷◌, length, drop, slice_get};
-ghost use Rattle.std.specs.Prelude.{IsTrue, Some, None, OnOk, OnErr, IsOk};
+ghost use Rattle.std.specs.Prelude.{IsTrue, Some, None, IfOk, OnOk, OnErr, IsOk};
 ghost use Rattle.std.specs.Option.{option_copied};
 ghost use Rattle.powersave.specs.declared.unit.Whom.{Whom};
 ghost use Rattle.powersave.specs.declared.unit.Unit.{Unit as Msdu};
-ghost use Rattle.powersave.specs.Keep.{Entry, units_for, without_oldest, without_all, room_beside};
+ghost use Rattle.powersave.specs.Keep.{Entry, units_for, without_oldest, without_all, room_beside, first_frame};
 ghost use Rattle.powersave.specs.Queues.{HasRoom, MakesRoom};
 
 use crate::queues::{Arrived, Queues};
 use crate::unit::{Unit, Whom};
-use mac_frame::NoMemory;
+use mac_frame::{MacAddr, NoMemory, Octets};
 use std::alloc::Global;
 use std::marker::Model;
 
@@ -114,6 +114,34 @@ impl Keep {
         let unit = self.queues.pop(&whom)?;
         self.len -= 1;
         Some(unit)
+    }
+
+    /// Takes out the first unit that came for `whom` as the Data frame that carries it from the network `bss` with this
+    /// sequence number (9.3.2.1), which tells by More Data whether others follow (9.2.4.1.8), and tells this beside it.
+    /// `None` where none is kept for it. The others stay in their order, and a reservation for `whom` ends. The queue is
+    /// found once. After `NoMemory` all is as it was.
+    pub fn send_oldest(
+        &mut self,
+        whom: Whom,
+        bss: MacAddr,
+        seq: u16,
+    ) -> Result<Option<(Octets, bool)>, NoMemory>
+        requires { seq < 4096 }
+        ensures sent { IfOk result (λ sent. sent ≡ first_frame bss seq (units_for whom self.old.entries)) }
+        ensures after { OnOk result (self.new ≡ record self.old {
+          entries = without_oldest whom self.old.entries;
+          reserved = room_beside whom self.old.reserved;
+        }) }
+        ensures none { IfOk result (λ sent. sent ≡ None → self.new.entries ≡ self.old.entries) }
+        ensures err { OnErr result (self.new ≡ self.old) }
+    {
+        let sent = self.queues.send(&whom, bss, seq)?;
+        self.reserved = room_beside(self.reserved, &whom);
+        let Some(sent) = sent else {
+            return Ok(None);
+        };
+        self.len -= 1;
+        Ok(Some(sent))
     }
 
     /// Takes out all units for `whom`. The others stay in their order. A reservation for `whom` ends.

@@ -1,12 +1,13 @@
 //! The queues that a [`Keep`](crate::Keep) is made of: one for each for whom units are kept, found without a walk over
 //! the others.
 
-ghost use Rattle.std.specs.Prelude.{◌≡◌, ◌≤◌, [], length, OnOk, OnErr, Some, None};
+ghost use Rattle.std.specs.Prelude.{◌≡◌, ◌≤◌, ◌<◌, ◌++◌, [], length, IfOk, OnOk, OnErr, Some, None};
 ghost use Rattle.std.specs.Option.{option_map, option_copied};
-ghost use Rattle.powersave.specs.Queues.{queue_for, unit_at, HasRoom, Pops, Removes, MakesRoom, Pushes, AreSound};
+ghost use Rattle.mac_frame.specs.Data.{data_header};
+ghost use Rattle.powersave.specs.Queues.{queue_for, unit_at, HasRoom, Pops, Sends, Removes, MakesRoom, Pushes, AreSound};
 
 use crate::unit::{Unit, Whom};
-use mac_frame::NoMemory;
+use mac_frame::{HEADER_LEN, MacAddr, NoMemory, Octets, write_msdu};
 use std::alloc::Global;
 use std::collections::{BTreeMap, VecDeque};
 
@@ -62,6 +63,30 @@ impl Queues {
         Some(unit)
     }
 
+    /// Takes out the first unit of the queue for `whom` as the Data frame that carries it, which tells whether others
+    /// follow, and tells this beside it. The queue stays, and is found once. After `NoMemory` the units are as they were.
+    pub(crate) fn send(
+        &mut self,
+        whom: &Whom,
+        bss: MacAddr,
+        seq: u16,
+    ) -> Result<Option<(Octets, bool)>, NoMemory>
+        requires { seq < 4096 }
+        ensures ok { IfOk result (λ sent. Sends whom.now bss seq self.old.map.entries sent self.new.map.entries) }
+        ensures err { OnErr result (MakesRoom self.old.map.entries self.new.map.entries) }
+    {
+        let Some(queue) = self.map.get_mut(whom) else {
+            return Ok(None);
+        };
+        let follows = queue.len() > 1;
+        let Some(first) = queue.get(0) else {
+            return Ok(None);
+        };
+        let frame = frame_of(self.alloc, &first.unit, bss, seq, follows)?;
+        queue.pop_front();
+        Ok(Some((frame, follows)))
+    }
+
     /// Removes the queue for `whom`, and gives the number of its units.
     pub(crate) fn remove(&mut self, whom: &Whom) -> usize
         ensures { Removes whom.now self.old.map.entries result self.new.map.entries }
@@ -97,4 +122,23 @@ impl Queues {
             queue.push_back_reserved(arrived);
         }
     }
+}
+
+/// The Data frame from the network `bss` that carries a unit, with More Data or without (9.3.2.1).
+fn frame_of(
+    alloc: Global,
+    unit: &Unit,
+    bss: MacAddr,
+    seq: u16,
+    more: bool,
+) -> Result<Octets, NoMemory>
+    requires { seq < 4096 }
+    ensures { IfOk result (λ frame. frame ≡ data_header unit.now.to bss unit.now.source seq more ++ unit.now.body) }
+{
+    let mut frame = Octets::new(alloc);
+    let body = unit.body.as_slice();
+    frame.reserve(HEADER_LEN + body.len())?;
+    write_msdu(&mut frame, unit.to, bss, unit.source, seq, more)?;
+    frame.append(body)?;
+    Ok(frame)
 }

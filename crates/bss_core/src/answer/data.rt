@@ -1,11 +1,11 @@
 //! Data frames: the mode of a station, and its units (IEEE Std 802.11-2016, 4.5.2 and 11.2.3.2).
 
-ghost use Rattle.std.specs.Prelude.{◌≡◌, ◌≤◌, false, None, IfOk, OnOk};
+ghost use Rattle.std.specs.Prelude.{◌≡◌, ◌≤◌, ◌<◌, false, None, OnOk};
 ghost use Rattle.bridge.specs.Encapsulation.{on_wire};
 ghost use Rattle.powersave.specs.Keep.{units_for};
 ghost use Rattle.powersave.specs.declared.unit.Whom.TheVariants as whoms;
 ghost use Rattle.bss_core.specs.Network.{forward, set_power_mode, put_on_wire, send_each, change_state};
-ghost use Rattle.bss_core.specs.Replies.{after_reply, IsFitting, IsModeReply};
+ghost use Rattle.bss_core.specs.Replies.{no_reply, after_reply, IsFitting, IsModeReply};
 ghost use Rattle.bss_core.specs.Stations.{Table, link_of, set_mode};
 ghost use Rattle.bss_core.specs.Units.{unit, goes_on_wire};
 
@@ -21,69 +21,83 @@ impl Network {
     /// the wire, or both.
     pub(crate) fn answer_unit(
         &self,
+        reply: &mut Reply,
         from: MacAddr,
+        link: Option<Link>,
         doze: bool,
         to: MacAddr,
         body: &[u8],
-    ) -> Result<Reply, NoMemory>
-        ensures fitting { IfOk result (λ reply. IsFitting self.now.setting reply self.now.network) }
-        ensures answer { IfOk result (λ reply.
+    ) -> Result<(), NoMemory>
+        requires nothing { reply.old ≡ no_reply self.now.network.sequence }
+        requires sequence { reply.old.sequence < 4096 }
+        requires link { link ≡ link_of from self.now.network.stations }
+        ensures fitting { OnOk result (IsFitting self.now.setting reply.new self.now.network) }
+        ensures answer { OnOk result (
             forward self.now.setting (unit to from body.now)
             (set_power_mode self.now.setting from doze self.now.network)
-            ≡ after_reply reply self.now.network) }
+            ≡ after_reply reply.new self.now.network) }
     {
-        let mut reply = self.set_power_mode(from, doze)?;
-        let link = self.stations().link_after(reply.change, to);
-        let goes_on_wire = goes_on_wire(to, link);
+        self.set_power_mode(reply, from, link, doze)?;
+        let there = self.stations().link_after(reply.change, to);
+        let goes_on_wire = goes_on_wire(to, there);
         let unit = Arrival {
             to,
             source: from,
             body: Body::Plain(body),
         };
-        self.deliver(&mut reply, &unit, link)?;
+        self.deliver(reply, &unit, there)?;
         if goes_on_wire {
-            self.put_on_wire(&mut reply, to, from, body)?;
+            self.put_on_wire(reply, to, from, body)?;
         }
-        Ok(reply)
+        Ok(())
     }
 
     /// The reply to what tells the mode of an associated station. One that dozed and is active now is sent all units
     /// that were kept for it. A mode that stays changes nothing.
-    pub(crate) fn set_power_mode(&self, from: MacAddr, doze: bool) -> Result<Reply, NoMemory>
-        ensures fitting { IfOk result (λ reply. IsFitting self.now.setting reply self.now.network) }
-        ensures answer { IfOk result (λ reply.
-            set_power_mode self.now.setting from doze self.now.network ≡ after_reply reply self.now.network) }
-        ensures mode { IfOk result (λ reply. IsModeReply reply self.now.network) }
+    pub(crate) fn set_power_mode(
+        &self,
+        reply: &mut Reply,
+        from: MacAddr,
+        link: Option<Link>,
+        doze: bool,
+    ) -> Result<(), NoMemory>
+        requires nothing { reply.old ≡ no_reply self.now.network.sequence }
+        requires sequence { reply.old.sequence < 4096 }
+        requires link { link ≡ link_of from self.now.network.stations }
+        ensures fitting { OnOk result (IsFitting self.now.setting reply.new self.now.network) }
+        ensures answer { OnOk result (
+            set_power_mode self.now.setting from doze self.now.network ≡ after_reply reply.new self.now.network) }
+        ensures mode { OnOk result (IsModeReply reply.new self.now.network) }
     {
-        let dozed = dozes_with(self.stations().link_of(from));
+        let dozed = dozes_with(link);
         if dozed == doze {
-            return Ok(self.no_reply());
+            return Ok(());
         }
         if dozed {
-            return self.wake(from);
+            return self.wake(reply, from);
         }
-        let mut reply = self.no_reply();
         reply.change = Change::SetMode { addr: from, doze };
-        Ok(reply)
+        Ok(())
     }
 
     /// The reply to a station that dozed and is active now: it is sent all units that were kept for it.
-    fn wake(&self, from: MacAddr) -> Result<Reply, NoMemory>
-        ensures fitting { IfOk result (λ reply. IsFitting self.now.setting reply self.now.network) }
-        ensures answer { IfOk result (λ reply.
+    fn wake(&self, reply: &mut Reply, from: MacAddr) -> Result<(), NoMemory>
+        requires nothing { reply.old ≡ no_reply self.now.network.sequence }
+        requires sequence { reply.old.sequence < 4096 }
+        ensures fitting { OnOk result (IsFitting self.now.setting reply.new self.now.network) }
+        ensures answer { OnOk result (
             send_each self.now.setting false (units_for (whoms.One from) self.now.network.kept)
             (change_state from (set_mode from false) self.now.network)
-            ≡ after_reply reply self.now.network) }
-        ensures mode { IfOk result (λ reply. IsModeReply reply self.now.network) }
+            ≡ after_reply reply.new self.now.network) }
+        ensures mode { OnOk result (IsModeReply reply.new self.now.network) }
     {
-        let mut reply = self.no_reply();
         let awake = Change::SetMode {
             addr: from,
             doze: false,
         };
         reply.change_state(from, awake);
-        self.send_kept(&mut reply, &Whom::One(from), false)?;
-        Ok(reply)
+        self.send_kept(reply, &Whom::One(from), false)?;
+        Ok(())
     }
 
     /// Goes on with a reply: puts a unit on the wire, or counts it as lost where it has no wired form.

@@ -1,14 +1,14 @@
 //! Requests to associate or reassociate and their answers (IEEE Std 802.11-2016, 11.3.5.3 and
 //! 11.3.5.5).
 
-ghost use Rattle.std.specs.Prelude.{◌≡◌, IfOk, is_some, true};
+ghost use Rattle.std.specs.Prelude.{◌≡◌, ◌<◌, OnOk, is_some, true};
 ghost use Rattle.bss_core.specs.Network.{answer_association};
-ghost use Rattle.bss_core.specs.Replies.{after_reply, IsFitting};
+ghost use Rattle.bss_core.specs.Replies.{no_reply, after_reply, IsFitting};
 ghost use Rattle.bss_core.specs.Stations.{link_of};
 
 use crate::network::Network;
 use crate::reply::Reply;
-use crate::stations::Change;
+use crate::stations::{Change, Link};
 use association::{SUCCESS, assoc_status, write_assoc};
 use elements::Elements;
 use mac_frame::{MacAddr, NoMemory, Octets};
@@ -18,23 +18,27 @@ impl Network {
     /// is served the station is associated.
     pub(crate) fn answer_association(
         &self,
+        reply: &mut Reply,
         from: MacAddr,
+        link: Option<Link>,
         again: bool,
         listen: u16,
         elements: &Elements<'_>,
-    ) -> Result<Reply, NoMemory>
-        requires { is_some (link_of from self.now.network.stations) ≡ true }
-        ensures fitting { IfOk result (λ reply. IsFitting self.now.setting reply self.now.network) }
-        ensures answer { IfOk result (λ reply.
+    ) -> Result<(), NoMemory>
+        requires known { is_some link ≡ true }
+        requires nothing { reply.old ≡ no_reply self.now.network.sequence }
+        requires sequence { reply.old.sequence < 4096 }
+        requires link { link ≡ link_of from self.now.network.stations }
+        ensures fitting { OnOk result (IsFitting self.now.setting reply.new self.now.network) }
+        ensures answer { OnOk result (
             answer_association self.now.setting from again listen elements.now self.now.network
-            ≡ after_reply reply self.now.network) }
+            ≡ after_reply reply.new self.now.network) }
     {
         let network = &self.setting().network;
         let rates = network.rates.as_slice();
-        let aid = self.stations().next_aid(from);
+        let aid = self.stations().next_aid(from, link);
         let status = assoc_status(network.ssid.as_slice(), rates, aid.is_some(), elements);
         let aid = aid.unwrap_or(0);
-        let mut reply = self.no_reply();
         let mut frame = Octets::new(self.alloc());
         let sequence = reply.sequence;
         write_assoc(
@@ -51,6 +55,6 @@ impl Network {
         if status == SUCCESS {
             reply.change_state(from, Change::Associate { addr: from, listen });
         }
-        Ok(reply)
+        Ok(())
     }
 }

@@ -1,35 +1,38 @@
 //! Polls of stations that doze (IEEE Std 802.11-2016, 11.2.3.6).
 
-ghost use Rattle.std.specs.Prelude.{◌≡◌, IfOk};
+ghost use Rattle.std.specs.Prelude.{◌≡◌};
 ghost use Rattle.bss_core.specs.Network.{answer_poll};
-ghost use Rattle.bss_core.specs.Replies.{after_reply, IsFitting};
+ghost use Rattle.bss_core.specs.Replies.{no_reply, done, after_reply, IsFitting};
+ghost use Rattle.bss_core.specs.Stations.{link_of};
 ghost use Rattle.bss_core.specs.Units.{may_poll};
 
 use crate::network::Network;
-use crate::reply::{Leaving, Reply};
+use crate::reply::Reply;
 use crate::stations::Link;
-use mac_frame::{MacAddr, NoMemory};
-use powersave::Whom;
+use mac_frame::MacAddr;
 
 impl Network {
-    /// The reply to a poll: the unit that was kept first for the station, which tells whether others follow, where the
-    /// station dozes and names its own identifier.
-    pub(crate) fn answer_poll(&self, from: MacAddr, aid: u16) -> Result<Reply, NoMemory>
-        ensures fitting { IfOk result (λ reply. IsFitting self.now.setting reply self.now.network) }
-        ensures answer { IfOk result (λ reply.
-            answer_poll self.now.setting from aid self.now.network ≡ after_reply reply self.now.network) }
+    /// Whose poll is served, if this one is: that of a station with this link which dozes and names its own identifier.
+    /// The unit that was kept first for it leaves as a frame where the reply, which does nothing else, is carried out.
+    pub(crate) fn polled(
+        &self,
+        reply: &Reply,
+        from: MacAddr,
+        link: Option<Link>,
+        aid: u16,
+    ) -> Option<MacAddr>
+        requires nothing { reply.now ≡ no_reply self.now.network.sequence }
+        requires link { link ≡ link_of from self.now.network.stations }
+        ensures fitting { IsFitting self.now.setting
+            (done self.now.setting self.now.network result reply.now) self.now.network }
+        ensures answer { answer_poll self.now.setting from aid self.now.network
+            ≡ after_reply (done self.now.setting self.now.network result reply.now) self.now.network }
     {
-        let mut reply = self.no_reply();
-        if !may_poll(aid, self.stations().link_of(from)) {
-            return Ok(reply);
+        if may_poll(aid, link) {
+            Some(from)
+        } else {
+            None
         }
-        let count = self.kept().count_for(Whom::One(from));
-        if count == 0 {
-            return Ok(reply);
-        }
-        reply.keeping.leaving = Leaving::Oldest(Whom::One(from));
-        self.send_nth(&mut reply, &Whom::One(from), 0, count > 1)?;
-        Ok(reply)
     }
 }
 

@@ -1,8 +1,8 @@
 //! Probe requests and their answers (IEEE Std 802.11-2016, 11.1.4.3).
 
-ghost use Rattle.std.specs.Prelude.{◌≡◌, IfOk, option_map};
+ghost use Rattle.std.specs.Prelude.{◌≡◌, ◌<◌, OnOk, option_map};
 ghost use Rattle.bss_core.specs.Network.{asks_for, answer_probe};
-ghost use Rattle.bss_core.specs.Replies.{after_reply, IsFitting};
+ghost use Rattle.bss_core.specs.Replies.{no_reply, after_reply, IsFitting};
 
 use crate::network::Network;
 use crate::reply::Reply;
@@ -11,22 +11,27 @@ use mac_frame::{MacAddr, NoMemory, Octets};
 
 impl Network {
     /// The reply to a probe: a probe response, where the probe asks for this network.
-    pub(crate) fn answer_probe(&self, from: MacAddr, ssid: Option<&[u8]>) -> Result<Reply, NoMemory>
-        ensures fitting { IfOk result (λ reply. IsFitting self.now.setting reply self.now.network) }
-        ensures answer { IfOk result (λ reply.
+    pub(crate) fn answer_probe(
+        &self,
+        reply: &mut Reply,
+        from: MacAddr,
+        ssid: Option<&[u8]>,
+    ) -> Result<(), NoMemory>
+        requires nothing { reply.old ≡ no_reply self.now.network.sequence }
+        requires sequence { reply.old.sequence < 4096 }
+        ensures fitting { OnOk result (IsFitting self.now.setting reply.new self.now.network) }
+        ensures answer { OnOk result (
             answer_probe self.now.setting from (option_map (λ s. s.now) ssid.entry) self.now.network
-            ≡ after_reply reply self.now.network) }
+            ≡ after_reply reply.new self.now.network) }
     {
         let setting = self.setting();
-        let mut reply = self.no_reply();
         if !asks_for(setting.network.ssid.as_slice(), ssid) {
-            return Ok(reply);
+            return Ok(());
         }
         let mut frame = Octets::new(self.alloc());
         let advert = setting.advert(self.clock(), reply.sequence);
         write_probe_response(&mut frame, &advert, from)?;
-        reply.send(frame)?;
-        Ok(reply)
+        reply.send(frame)
     }
 }
 

@@ -1,8 +1,8 @@
 //! Beacon intervals (IEEE Std 802.11-2016, 11.1.3.2 and 11.2.3.3).
 
-ghost use Rattle.std.specs.Prelude.{◌≡◌, ◌<◌, ◌≤◌, IfOk, OnOk, OnErr};
+ghost use Rattle.std.specs.Prelude.{◌≡◌, ◌<◌, ◌≤◌, OnOk, OnErr};
 ghost use Rattle.bss_core.specs.Network.{tick, beacon_frame};
-ghost use Rattle.bss_core.specs.Replies.{after_reply, sending, IsFitting};
+ghost use Rattle.bss_core.specs.Replies.{no_reply, after_reply, sending, IsFitting};
 
 use crate::network::Network;
 use crate::reply::{Leaving, Reply};
@@ -14,21 +14,22 @@ use tim::one_tim;
 impl Network {
     /// The reply to a beacon interval that begins: a beacon, and at a DTIM after it all units that are kept for the
     /// group.
-    pub(crate) fn tick(&self) -> Result<Reply, NoMemory>
-        requires { self.now.network.clock < 4294967295 }
-        ensures fitting { IfOk result (λ reply. IsFitting self.now.setting reply self.now.network) }
-        ensures answer { IfOk result (λ reply. tick self.now.setting self.now.network
-            ≡ after_reply reply self.now.network) }
+    pub(crate) fn tick(&self, reply: &mut Reply) -> Result<(), NoMemory>
+        requires clock { self.now.network.clock < 4294967295 }
+        requires nothing { reply.old ≡ no_reply self.now.network.sequence }
+        requires sequence { reply.old.sequence < 4096 }
+        ensures fitting { OnOk result (IsFitting self.now.setting reply.new self.now.network) }
+        ensures answer { OnOk result (tick self.now.setting self.now.network
+            ≡ after_reply reply.new self.now.network) }
     {
-        let mut reply = self.no_reply();
         let clock = self.clock() + 1;
         reply.clock = 1;
-        self.announce(&mut reply, clock)?;
+        self.announce(reply, clock)?;
         if dtim_count(clock, self.setting().network.dtim) == 0 {
             reply.keeping.leaving = Leaving::All(Whom::Group);
-            self.send_kept(&mut reply, &Whom::Group, true)?;
+            self.send_kept(reply, &Whom::Group, true)?;
         }
-        Ok(reply)
+        Ok(())
     }
 
     /// Goes on with a reply: sends the beacon at this clock.

@@ -1,6 +1,7 @@
 //! The frames that one reply sends.
 
-ghost use Rattle.std.specs.Prelude.{◌≡◌, ◌+◌, ◌≤◌, ◌++◌, ◌∷◌, [], length, IsOk, OnOk, OnErr};
+ghost use Rattle.std.specs.Prelude.{◌≡◌, ◌+◌, ◌≤◌, ◌++◌, ◌∷◌, [], length, option_to_list, option_map};
+ghost use Rattle.std.specs.Prelude.{IsOk, OnOk, OnErr};
 
 use mac_frame::{NoMemory, Octets};
 use std::alloc::Global;
@@ -38,6 +39,16 @@ impl Frames {
         }
     }
 
+    /// This frame alone. It takes no memory.
+    pub fn one(alloc: Global, frame: Octets) -> Frames
+        ensures { result ≡ frame ∷ [] }
+    {
+        Frames {
+            first: Some(frame),
+            others: Vec::new(alloc),
+        }
+    }
+
     /// Appends a frame; the first one takes no memory. After `NoMemory` the frames are as they were.
     pub fn push(&mut self, frame: Octets) -> Result<(), NoMemory>
         ensures ok { OnOk result (self.new ≡ self.old ++ frame ∷ []) }
@@ -52,13 +63,21 @@ impl Frames {
         Ok(())
     }
 
-    /// Makes room for the frames after those that wait, which stay as they are. `NoMemory` where the growth was
-    /// refused.
+    /// The first frame, if there is one, and those after it.
+    pub fn parts(&self) -> (Option<&Octets>, &[Octets])
+        ensures { option_to_list (option_map (λ frame. frame.now) result.0) ++ result.1.now ≡ self.now }
+    {
+        (self.first.as_ref(), self.others.as_slice())
+    }
+
+    /// Makes room for the frames, and for one at least, after those that wait, which stay as they are. `NoMemory` where
+    /// the growth was refused.
     pub fn reserve_in(&self, waiting: &mut VecDeque<Octets>) -> Result<(), NoMemory>
         ensures items { waiting.new.items ≡ waiting.old.items }
         ensures len { deque_len waiting.new ≡ deque_len waiting.old }
         ensures capacity { deque_capacity waiting.old ≤ deque_capacity waiting.new }
         ensures room { OnOk result (deque_len waiting.new + length self.now ≤ deque_capacity waiting.new) }
+        ensures one { OnOk result (deque_len waiting.new + 1 ≤ deque_capacity waiting.new) }
     {
         let count = self.others.len().checked_add(1).ok_or(NoMemory)?;
         waiting.reserve(count)?;

@@ -1,6 +1,6 @@
 use Rattle.std.proofs.Common.{◌≡◌, ◌∙◌, sym, ap}
 use Rattle.bss_core.specs.Replies.{after_reply}
-use Rattle.bss_core.specs.Stations.{dozes_with, is_dozing, link_of}
+use Rattle.bss_core.specs.Stations.{dozes_with, is_dozing}
 use Rattle.bss_core.specs.declared.reply.Reply.{Reply}
 use Rattle.bss_core.proofs.UnitDelivery.{nothing-replied, mode-kept, same-truth}
 use Rattle.bss_core.proofs.network.Network.set_power_mode.Goals as goal
@@ -9,6 +9,6 @@ pub returns-then-dozed-doze-clause-answer : goal.returns-then-dozed-doze-clause-
 returns-then-dozed-doze-clause-answer c =
     let n = c.args.self.now.network in
     let is : is_dozing c.args.from n.stations ≡ c.args.doze =
-    sym (c.dozes_with-dozed.ensures ∙ ap dozes_with (c.link_of.ensures ∙ ap (link_of c.args.from) c.stations.ensures.table)) ∙ same-truth _ _ c.if-dozed-doze.true in
+    sym (c.dozes_with-dozed.ensures ∙ ap dozes_with c.requires.link) ∙ same-truth _ _ c.if-dozed-doze.true in
     mode-kept c.args.self.now.setting c.args.from c.args.doze n is
-    ∙ sym (ap (λ (r : Reply). after_reply r n) c.no_reply.ensures.nothing ∙ nothing-replied n)
+    ∙ sym (ap (λ (r : Reply). after_reply r n) c.requires.nothing ∙ nothing-replied n)

@@ -15,7 +15,7 @@ returns-clause-mode c =
     let t : Table = c.args.self.now.network.stations in
     let leaving : c.send_kept.new.reply.keeping.leaving ≡ All (One c.args.from) = ap (λ (r : Reply). r.keeping.leaving) c.send_kept.ensures.same ∙ ap (λ (r : Reply). r.keeping.leaving) c.change_state.ensures in
     let change : c.send_kept.new.reply.change ≡ SetMode c.args.from false = ap (λ (r : Reply). r.change) c.send_kept.ensures.same ∙ ap (λ (r : Reply). r.change) c.change_state.ensures in
-    let none : c.no_reply-reply.result ≡ no_reply c.args.self.now.network.sequence = c.no_reply-reply.ensures.nothing in
+    let none : c.args.reply.now ≡ no_reply c.args.self.now.network.sequence = c.requires.nothing in
     record {
       change = rw change tt;
       awake = subst (λ (l : Leaving). IsAwake l (changed c.send_kept.new.reply.change t)) (sym leaving)
