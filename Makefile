@@ -1,7 +1,7 @@
 # The targets of this repository. All need the Rattle toolchain's command `rt` on the path, GNU make, bash, coreutils,
 # diffutils, grep and sed; `wrong`, `bench`, `bench-limits`, `stress` and `fuzz` need python3 too.
 
-.PHONY: run try try-check test wrong bench bench-limits stress fuzz apctl test-tools picture captures
+.PHONY: run try try-check test wrong refused bench bench-limits stress fuzz apctl test-tools picture captures
 
 # What `run` and `try` give to the program, a configuration and a trace: a file, named from the folder in which make
 # runs.
@@ -21,8 +21,9 @@ try-check:
 	@.ci/try "$(CONFIG)"
 
 # The gate. Proves every crate from nothing, tries each edit of crates/*/must-fail, runs each test, runs the program
-# that was built of what was proved over the examples, with one growth after another refused and over files and streams
-# that fail, and finds edits of wrong/ that can't be applied. The last line is 'N passed, M failed'.
+# that was built of what was proved over the examples, with more and more memory and over files and streams that fail,
+# refuses each growth of some calls in turn, and finds edits of wrong/ that can't be applied. The last line is
+# 'N passed, M failed'.
 test:
 	@.ci/gate
 
@@ -30,6 +31,11 @@ test:
 # at a time as there are processors, or with JOBS=2 two. The last line is 'N refused, M not'.
 wrong:
 	@JOBS="$(JOBS)" wrong/try $(NAME)
+
+# Refuses each growth of some calls in turn, one in each run: those of which the gate does so, and those of a reader of
+# lines and of whole runs. The last line is 'N passed, M failed'.
+refused: apctl
+	@.ci/refused build/apctl
 
 # Measures the program on long traces: of probes, of stations that join, doze, poll and wake, of units between air and
 # wire, of beacons, and of all these in four networks; then on several traces that are played at once.
