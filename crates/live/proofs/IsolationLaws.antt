@@ -1,0 +1,161 @@
+-- What is written of a network is what it does alone.
+use Rattle.std.proofs.Common.{◌≡◌, ℕ, suc, zero, ◌<◌, List, [], ◌∷◌, ◌++◌, length, map, take, Option, Some, None, Ok, Err}
+use Rattle.std.proofs.Common.{refl, sym, ap, subst, ◌∙◌}
+use Rattle.std.specs.Prelude.{slice_get, flat_map, option_map}
+use Rattle.std.proofs.lemmas.Option.{slice_get-get_or, slice_get-map}
+use Rattle.bss_core.specs.Lines.{heard}
+use Rattle.bss_core.specs.Network.{Network, alone}
+use Rattle.bss_core.specs.declared.setting.Setting.{Setting}
+use Rattle.bss_core.specs.NetworkView.{NetworkState, new_network}
+use Rattle.bss_core.specs.Radio.{network_at, setting_in, setting_at, no_network}
+use Rattle.bss_core.specs.declared.config.NetConfig.{NetConfig}
+use Rattle.bss_core.specs.declared.config.RadioConfig.{RadioConfig}
+use Rattle.bss_core.specs.declared.event.Event.{Event}
+use Rattle.trace.specs.TraceText.{bssids_of}
+use Rattle.live.specs.TextLines.{TextLine}
+use Rattle.live.specs.Moments.{Moment, first_moment, bssid_of, bssids_at, Reply, MayReplyAll, after_events}
+use Rattle.live.specs.Answers.{Asked, IsTooLong, ForTables, Says, asked_by, Answer, Tables}
+use Rattle.live.specs.Answers.{MayAnswer, after_answer, Answers}
+use Rattle.live.specs.Own.{lines_read, replies_at, events_at, air_in, wire_in, air_at, wire_at, alone_after}
+use Rattle.live.specs.Own.{IsAlone, AreAlike}
+use Rattle.live.proofs.OwnSteps.{AloneLaws, alone_after-none, RepliesAlone, replies-alone}
+use Rattle.live.proofs.OwnLines.{RepliesThere, own}
+
+-- ---- before the first line
+
+pub bssids-first : (c : RadioConfig) (ns : List NetConfig)
+    → map bssid_of (map (λ n. new_network (setting_in c n)) ns) ≡ map (λ n. n.bssid) ns
+bssids-first c [] = refl
+bssids-first c (n ∷ ns) = ap (λ (bs : List (List ℕ)). n.bssid ∷ bs) (bssids-first c ns)
+
+network-first : (c : RadioConfig) (place : ℕ) → place < length c.networks
+    → slice_get (first_moment c).networks place ≡ Some (new_network (setting_at c place))
+network-first c place within =
+    slice_get-map (λ n. new_network (setting_in c n)) c.networks place
+    ∙ ap
+    (λ (o : Option NetConfig). option_map (λ n. new_network (setting_in c n)) o)
+    (slice_get-get_or c.networks place no_network within)
+
+-- ---- after some lines
+
+-- the network at a place, with its own events
+record OwnAlone (c : RadioConfig) (place : ℕ) (lines : List TextLine) (answers : List Answer) (next : Moment) :
+    Type 0 where
+  may : MayReplyAll (alone_after (setting_at c place) [])
+      (heard place (network_at c place).bssid (lines_read (bssids_of c) lines answers))
+      (replies_at place answers)
+  there : slice_get next.networks place ≡ Some (alone_after (setting_at c place) (events_at c place lines answers))
+  replies : RepliesAlone (setting_at c place) []
+      (heard place (network_at c place).bssid (lines_read (bssids_of c) lines answers))
+      (replies_at place answers)
+
+own-alone : AloneLaws → (c : RadioConfig) (lines : List TextLine) (answers : List Answer) (next : Moment) (place : ℕ)
+    → place < length c.networks → Answers (first_moment c) lines answers next → OwnAlone c place lines answers next
+own-alone laws c lines answers next place within h =
+    let s : Setting = setting_at c place in
+    let rs : List Reply = replies_at place answers in
+    let hs : List Event = heard place (network_at c place).bssid (lines_read (bssids_of c) lines answers) in
+    let there = own place (first_moment c) lines answers next (new_network s) h (network-first c place within) in
+    let mine : RepliesThere place (new_network s) hs rs (slice_get next.networks place) =
+    subst
+    (λ (bs : List (List ℕ)).
+    RepliesThere place (new_network s) (heard place (network_at c place).bssid (lines_read bs lines answers)) rs
+    (slice_get next.networks place))
+    (bssids-first c c.networks) there in
+    let begun : new_network s ≡ alone_after s [] = sym (alone_after-none laws s) in
+    let may : MayReplyAll (alone_after s []) hs rs = subst (λ (n : NetworkState). MayReplyAll n hs rs) begun mine.0 in
+    let on : RepliesAlone s [] hs rs = replies-alone laws s [] hs rs may in
+    record {
+      may = may;
+      there = mine.1
+          ∙ ap (λ (n : NetworkState). Some (after_events n hs rs)) begun
+          ∙ ap (λ (n : NetworkState). Some n) on.after;
+      replies = on;
+    }
+
+pub own-may : AloneLaws → (c : RadioConfig) (lines : List TextLine) (answers : List Answer) (next : Moment) (place : ℕ)
+    → place < length c.networks → Answers (first_moment c) lines answers next
+    → MayReplyAll (alone_after (setting_at c place) [])
+    (heard place (network_at c place).bssid (lines_read (bssids_of c) lines answers)) (replies_at place answers)
+own-may laws c lines answers next place within h = (own-alone laws c lines answers next place within h).may
+
+-- ---- the tables that were asked for
+
+tables-are : (m : Moment) (asked : Asked) (networks : List NetworkState) → MayAnswer m asked (Tables networks)
+    → networks ≡ m.networks
+tables-are m IsTooLong networks h = cc
+tables-are m ForTables networks h = cc
+tables-are m (Says (Ok None)) networks h = cc
+tables-are m (Says (Ok (Some line))) networks h = cc
+tables-are m (Says (Err fault)) networks h = cc
+
+-- they are those of the moment to which the lines before led
+tables-at : (m next : Moment) (lines : List TextLine) (answers : List Answer) (k : ℕ) (networks : List NetworkState)
+    → Answers m lines answers next → slice_get answers k ≡ Some (Tables networks)
+    → (between : Moment) × Answers m (take k lines) (take k answers) between × (networks ≡ between.networks)
+tables-at m next [] [] k networks h e = absurd (cc)
+tables-at m next [] (answer ∷ answers) k networks h e = absurd h
+tables-at m next (line ∷ lines) [] k networks h e = absurd h
+tables-at m next (line ∷ lines) (answer ∷ answers) zero networks h e =
+    let is : answer ≡ Tables networks = cc in (
+      m,
+      refl,
+      tables-are m (asked_by (bssids_at m) line) networks
+          (subst (λ (a : Answer). MayAnswer m (asked_by (bssids_at m) line) a) is h.0),
+    )
+tables-at m next (line ∷ lines) (answer ∷ answers) (suc k) networks h e =
+    let on = tables-at (after_answer m (asked_by (bssids_at m) line) answer) next lines answers k networks h.1 e in
+    (on.0, (h.0, on.1), on.2)
+
+-- ---- the law
+
+pub is-alone : AloneLaws → (c : RadioConfig) (lines : List TextLine) (answers : List Answer) (next : Moment) (place : ℕ)
+    → place < length c.networks → Answers (first_moment c) lines answers next → IsAlone c place lines answers next
+is-alone laws c lines answers next place within h =
+    let s : Setting = setting_at c place in
+    let rs : List Reply = replies_at place answers in
+    let es : List Event = events_at c place lines answers in
+    let all = own-alone laws c lines answers next place within h in
+    record {
+      air = sym (all.replies.air ∙ ap (λ (n : Network). n.air ++ flat_map air_in rs) (laws.first s));
+      wire = sym (all.replies.wire ∙ ap (λ (n : Network). n.wire ++ flat_map wire_in rs) (laws.first s));
+      last = all.there;
+      asked = λ k networks e.
+          let at = tables-at (first_moment c) next lines answers k networks h e in
+          ap (λ (ns : List NetworkState). slice_get ns place) at.2
+          ∙ (own-alone laws c (take k lines) (take k answers) at.0 place within at.1).there;
+    }
+
+-- ---- two inputs
+
+setting-alike : (c d : RadioConfig) (p q : ℕ) → c.channel ≡ d.channel → c.interval ≡ d.interval
+    → network_at c p ≡ network_at d q → setting_at c p ≡ setting_at d q
+setting-alike c d p q channel interval network =
+    ap (λ n. record (setting_at c p) { channel = n }) channel
+    ∙ ap (λ n. record (setting_at c p) { channel = d.channel; interval = n }) interval
+    ∙ ap (λ (n : NetConfig). record (setting_at d q) { network = n }) network
+
+abbrev pub Isolated : Type 0
+Isolated =
+    (c : RadioConfig) (lines : List TextLine) (answers : List Answer) (next : Moment) (place : ℕ)
+    → place < length c.networks → Answers (first_moment c) lines answers next → IsAlone c place lines answers next
+
+pub alike : Isolated → (c d : RadioConfig) (lines others : List TextLine) (answers replies : List Answer)
+    (next after : Moment) (p q : ℕ) → AreAlike c d lines others answers replies p q
+    → Answers (first_moment c) lines answers next → Answers (first_moment d) others replies after
+    → (air_at p answers ≡ air_at q replies) × (wire_at p answers ≡ wire_at q replies)
+    × (slice_get next.networks p ≡ slice_get after.networks q)
+alike isolated c d lines others answers replies next after p q h first second =
+    let one = isolated c lines answers next p h.here first in
+    let two = isolated d others replies after q h.there second in
+    let s = setting-alike c d p q h.channel h.interval h.network in
+    let network : alone (setting_at c p) (events_at c p lines answers) ≡ alone (setting_at d q) (events_at d q others replies) =
+    ap (λ (t : Setting). alone t (events_at c p lines answers)) s
+    ∙ ap (λ (es : List Event). alone (setting_at d q) es) h.events in
+    let state : alone_after (setting_at c p) (events_at c p lines answers) ≡ alone_after (setting_at d q) (events_at d q others replies) =
+    ap (λ (t : Setting). alone_after t (events_at c p lines answers)) s
+    ∙ ap (λ (es : List Event). alone_after (setting_at d q) es) h.events in (
+      one.air ∙ ap (λ (n : Network). n.air) network ∙ sym two.air,
+      one.wire ∙ ap (λ (n : Network). n.wire) network ∙ sym two.wire,
+      one.last ∙ ap (λ (n : NetworkState). Some n) state ∙ sym two.last,
+    )

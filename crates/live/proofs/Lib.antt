@@ -1,0 +1,11 @@
+pub mod PieceLines
+pub mod OwnSteps
+pub mod OwnLines
+pub mod IsolationLaws
+pub mod MoreLines
+pub mod EnoughMemory
+pub mod Replayed
+pub mod Rows
+pub mod BegunSteps
+pub mod WriterSteps
+pub mod ReplySteps

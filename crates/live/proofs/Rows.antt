@@ -1,0 +1,207 @@
+-- Single lines and their answers, computed.
+use Rattle.std.proofs.Common.{◌≡◌, ℕ, ◌+◌, false, List, [], ◌∷◌, ◌++◌, Some, Ok, Err, codes, refl}
+use Rattle.std.specs.Prelude.{replicate}
+use Rattle.std.specs.Fmt.{digits}
+use Rattle.hex.specs.Hex.{encode_with}
+use Rattle.hex.proofs.OnLiterals.{hex_on_literals}
+use Rattle.beacon.specs.ProbeResponse.{timestamp, fixed_fields, network_elements}
+use Rattle.elements.specs.Elements.{elements_of, elements_within}
+use Rattle.bss_core.specs.NetworkView.{NetworkState}
+use Rattle.bss_core.specs.declared.config.RadioConfig.{RadioConfig}
+use Rattle.bss_core.specs.declared.event.Event.TheVariants.{Tick}
+use Rattle.bss_core.specs.declared.line.Line.TheVariants as line
+use Rattle.bss_core.specs.declared.network.NetworkRefusal.TheVariants.{NoMemory, Clock}
+use Rattle.bss_core.proofs.Samples.{network, radio, setting}
+use Rattle.trace.specs.Report.{network_line, counts_line, station_line, frame_line}
+use Rattle.trace.specs.declared.fault.LineFault.TheVariants.{UnknownKind}
+use Rattle.live.specs.TextLines.{Octets, TooLong, line_with, lines_of_text, begun_in, lines_in}
+use Rattle.live.specs.TextLines.{begun_after, last_line}
+use Rattle.live.specs.Moments.{Moment, first_moment, Sends, Refuses, is_past_clock, reply_of, after_event}
+use Rattle.live.specs.Answers.{ForTables, Says, asked_by, Answer, Replies, Tables, Unread, MayAnswer}
+use Rattle.live.specs.Answers.{after_answer}
+use Rattle.live.specs.AnswerText.{table_text, answer_text, answers_text, live_text}
+
+abbrev cr : List ℕ
+cr = 13 ∷ []
+
+abbrev lf : List ℕ
+lf = 10 ∷ []
+
+-- 02:00:00:00:00:01 and 02:00:00:00:00:02
+abbrev two : RadioConfig
+two = record radio { networks = network ∷ record network { bssid = 2 ∷ 0 ∷ 0 ∷ 0 ∷ 0 ∷ 2 ∷ [] } ∷ [] }
+
+abbrev bssids : List (List ℕ)
+bssids = (2 ∷ 0 ∷ 0 ∷ 0 ∷ 0 ∷ 1 ∷ []) ∷ (2 ∷ 0 ∷ 0 ∷ 0 ∷ 0 ∷ 2 ∷ []) ∷ []
+
+abbrev start : Moment
+start = first_moment two
+
+-- ---- lines of a text
+
+pub lines_end_with_lf : lines_of_text (codes "T" ++ lf ++ lf ++ codes "I") ≡ Octets (codes "T") ∷ Octets [] ∷ Octets (codes "I") ∷ []
+lines_end_with_lf = refl
+
+pub one_cr_before_lf_is_dropped : lines_of_text (codes "T" ++ cr ++ cr ++ lf ++ codes "T" ++ cr)
+    ≡ Octets (codes "T" ++ cr) ∷ Octets (codes "T" ++ cr) ∷ []
+one_cr_before_lf_is_dropped = refl
+
+pub a_piece_ends_the_line_before_it : lines_in (begun_in (codes "T" ++ lf ++ codes "A 0")) (codes "0" ++ lf ++ codes "T")
+    ≡ Octets (codes "A 00") ∷ []
+a_piece_ends_the_line_before_it = refl
+
+pub the_rest_of_a_long_line_is_no_line : lines_in TooLong (codes "T" ++ lf ++ codes "T" ++ lf) ≡ TooLong ∷ Octets (codes "T") ∷ []
+the_rest_of_a_long_line_is_no_line = refl
+
+pub a_long_line_goes_on : begun_after TooLong (codes "T") ≡ TooLong
+a_long_line_goes_on = refl
+
+pub a_long_line_without_lf_counts : last_line TooLong ≡ TooLong ∷ []
+a_long_line_without_lf_counts = refl
+
+pub nothing_has_begun : last_line (begun_in (codes "T" ++ lf)) ≡ []
+nothing_has_begun = refl
+
+-- spaces count, whatever the line is
+pub the_longest_line : line_with (35 ∷ replicate 65535 32) ≡ Octets (35 ∷ replicate 65535 32)
+the_longest_line = refl
+
+pub one_octet_too_many : line_with (35 ∷ replicate 65536 32) ≡ TooLong
+one_octet_too_many = refl
+
+pub a_cr_may_still_be_dropped : begun_in (replicate 65536 32 ++ cr) ≡ Octets (replicate 65536 32 ++ cr)
+a_cr_may_still_be_dropped = refl
+
+pub two_octets_too_many : begun_in (replicate 65536 32 ++ cr ++ cr) ≡ TooLong
+two_octets_too_many = refl
+
+-- ---- what lines ask
+
+pub capital_i_asks_for_tables : asked_by bssids (Octets (codes "I")) ≡ ForTables
+capital_i_asks_for_tables = refl
+
+pub spaces_after_it_are_dropped : asked_by bssids (Octets (codes "I  ")) ≡ ForTables
+spaces_after_it_are_dropped = refl
+
+pub a_space_before_it_is_a_fault : asked_by bssids (Octets (codes " I")) ≡ Says (Err UnknownKind)
+a_space_before_it_is_a_fault = refl
+
+pub a_word_after_it_is_a_fault : asked_by bssids (Octets (codes "I 0")) ≡ Says (Err UnknownKind)
+a_word_after_it_is_a_fault = refl
+
+pub small_i_is_a_fault : asked_by bssids (Octets (codes "i")) ≡ Says (Err UnknownKind)
+small_i_is_a_fault = refl
+
+pub a_tick : asked_by bssids (Octets (codes "T ")) ≡ Says (Ok (Some line.Tick))
+a_tick = refl
+
+-- ---- answers
+
+pub skipped_lines_have_none : live_text start (Octets [] ∷ Octets (codes "# T") ∷ Octets (codes "  ") ∷ []) ≡ []
+unfolding digits
+skipped_lines_have_none = refl
+
+pub a_fault_has_the_number_of_its_line : live_text start (Octets [] ∷ Octets (codes "#") ∷ Octets (codes "A 4") ∷ [])
+    ≡ codes "fault L2 line 3" ++ lf
+unfolding digits hex_on_literals
+a_fault_has_the_number_of_its_line = refl
+
+pub too_long_is_l5 : live_text start (TooLong ∷ []) ≡ codes "fault L5 line 1" ++ lf
+unfolding digits
+too_long_is_l5 = refl
+
+pub an_unknown_network_is_l4 : live_text start (Octets (codes "W 02:00:00:00:00:09 00") ∷ []) ≡ codes "fault L4 line 1" ++ lf
+unfolding digits hex_on_literals
+an_unknown_network_is_l4 = refl
+
+pub a_probe_to_all_is_answered_in_order_of_place : live_text start
+    (Octets (codes "A 40000000ffffffffffff02aa00000001ffffffffffff00000000010402040b16") ∷ [])
+    ≡ codes "air 02:00:00:00:00:01 5000000002aa00000001020000000001020000000001000000000000000000006400"
+    ++ codes "010000036c6162010482840b16030106"
+    ++ lf
+    ++ codes "air 02:00:00:00:00:02 5000000002aa00000001020000000002020000000002000000000000000000006400"
+    ++ codes "010000036c6162010482840b16030106"
+    ++ lf
+unfolding digits hex_on_literals encode_with frame_line timestamp fixed_fields network_elements elements_of elements_within
+a_probe_to_all_is_answered_in_order_of_place = refl
+
+pub a_probe_is_answered : live_text (first_moment radio)
+    (Octets (codes "A 40000000ffffffffffff02aa00000001ffffffffffff00000000010402040b16") ∷ [])
+    ≡ codes "air 02:00:00:00:00:01 5000000002aa00000001020000000001020000000001000000000000000000006400"
+    ++ codes "010000036c6162010482840b16030106"
+    ++ lf
+unfolding digits hex_on_literals encode_with frame_line timestamp fixed_fields network_elements elements_of elements_within
+a_probe_is_answered = refl
+
+pub tables_are_those_of_a_report_without_frames : live_text (first_moment radio) (Octets (codes "I") ∷ [])
+    ≡ codes "network 02:00:00:00:00:01 ssid 6c6162" ++ lf ++ codes "events 0 clock 0 unread 0 lost 0 kept 0" ++ lf
+    ++ codes "end"
+    ++ lf
+unfolding digits encode_with table_text network_line counts_line station_line
+tables_are_those_of_a_report_without_frames = refl
+
+-- `I` is no event
+pub tables_change_nothing : (m : Moment) → after_answer m ForTables (Tables m.networks) ≡ record m { lines = m.lines + 1 }
+tables_change_nothing m = refl
+
+-- a fault changes nothing but the number of the next line
+pub the_line_after_a_fault_is_read : live_text start (Octets (codes "X") ∷ Octets (codes "T 0") ∷ Octets (codes "#") ∷ [])
+    ≡ codes "fault L1 line 1" ++ lf ++ codes "fault L1 line 2" ++ lf
+unfolding digits
+the_line_after_a_fault_is_read = refl
+
+-- ---- refusals
+
+pub a_line_may_not_be_read : MayAnswer start (Says (Ok (Some line.Tick))) Unread
+a_line_may_not_be_read = tt
+
+pub and_then_nothing_changes : after_answer start (Says (Ok (Some line.Tick))) Unread ≡ record start { lines = 1 }
+and_then_nothing_changes = refl
+
+pub it_is_told_so : answers_text bssids 7 (Unread ∷ []) ≡ codes "fault memory line 7" ++ lf
+unfolding digits
+it_is_told_so = refl
+
+-- one network refuses, and the next takes the line
+abbrev refused : Answer
+refused = Replies ((Refuses NoMemory ∷ []) ∷ (Sends ((1 ∷ 2 ∷ []) ∷ []) ((3 ∷ []) ∷ []) ∷ []) ∷ [])
+
+pub a_refusal_is_told_at_its_place : answer_text bssids 7 refused
+    ≡ codes "fault memory line 7 network 02:00:00:00:00:01" ++ lf
+    ++ codes "air 02:00:00:00:00:02 0102"
+    ++ lf
+    ++ codes "wire 02:00:00:00:00:02 03"
+    ++ lf
+unfolding digits encode_with frame_line
+a_refusal_is_told_at_its_place = refl
+
+-- the beacon intervals that began
+abbrev at_clock : ℕ → NetworkState
+at_clock clock = record {
+  setting = setting;
+  events = clock;
+  network = record {
+    stations = [];
+    kept = [];
+    clock = clock;
+    sequence = 0;
+    lost = 0;
+    unread = 0;
+    air = [];
+    wire = [];
+  };
+}
+
+pub a_full_clock_refuses : reply_of (at_clock 4294967295) Tick ≡ Refuses Clock
+a_full_clock_refuses = refl
+
+pub nothing_has_changed_then : after_event (at_clock 4294967295) Tick (Refuses Clock) ≡ at_clock 4294967295
+nothing_has_changed_then = refl
+
+pub one_before_it_is_not_full : is_past_clock (at_clock 4294967294) Tick ≡ false
+one_before_it_is_not_full = refl
+
+pub a_full_clock_is_told : answer_text bssids 7 (Replies ((Refuses Clock ∷ []) ∷ [] ∷ []))
+    ≡ codes "fault clock line 7 network 02:00:00:00:00:01" ++ lf
+unfolding digits
+a_full_clock_is_told = refl

@@ -1,0 +1,8 @@
+use Rattle.live.proofs.Replayed.{is-shown}
+use Rattle.live.proofs.laws.as_replayed.Goals as goal
+
+pub returns : goal.returns
+returns c =
+    is-shown
+    (record { first = c.one_step.ensures.first; next = c.one_step.ensures.next; append = c.steps_append.ensures })
+    c.reachable.ensures c.checked_networks.ensures.networks

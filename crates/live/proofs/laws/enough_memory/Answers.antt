@@ -1,0 +1,8 @@
+use Rattle.live.proofs.EnoughMemory.{answers-only, answers-may}
+use Rattle.live.proofs.laws.enough_memory.Goals as goal
+
+pub returns-clause-only : goal.returns-clause-only
+returns-clause-only c = answers-only
+
+pub returns-clause-some : goal.returns-clause-some
+returns-clause-some c = answers-may

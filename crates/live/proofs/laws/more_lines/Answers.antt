@@ -1,0 +1,11 @@
+use Rattle.live.proofs.MoreLines.{begins, joins, texts-join}
+use Rattle.live.proofs.laws.more_lines.Goals as goal
+
+pub returns-clause-begin : goal.returns-clause-begin
+returns-clause-begin c = begins
+
+pub returns-clause-join : goal.returns-clause-join
+returns-clause-join c = joins
+
+pub returns-clause-text : goal.returns-clause-text
+returns-clause-text c = texts-join

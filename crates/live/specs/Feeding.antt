@@ -1,0 +1,15 @@
+-- A line that has begun, and the octets that end it.
+use Rattle.std.specs.Prelude.{ℕ, List, ◌++◌}
+use Rattle.std.specs.Str.Lines.{strip_carriage_return}
+use Rattle.trace.specs.Texts.{LacksLineFeed}
+use Rattle.live.specs.TextLines.{TextLine, Octets, TooLong, line_with}
+
+-- a line that ends with these octets and an LF
+abbrev pub ended_with : TextLine → List ℕ → TextLine
+ended_with (Octets octets) end = line_with (strip_carriage_return (octets ++ end))
+ended_with TooLong end = TooLong
+
+-- what came of it has no LF
+abbrev pub IsUnended : TextLine → Type 0
+IsUnended (Octets octets) = LacksLineFeed octets
+IsUnended TooLong = Unit {0}

@@ -1,0 +1,83 @@
+-- What is known between two lines, and what a network makes of an event.
+use Rattle.std.specs.Prelude.{ℕ, ◌+◌, ◌≡◌, ◌==◌, Bool, false, List, [], ◌∷◌, map, if◌then◌else◌}
+use Rattle.bss_core.specs.Network.{Network, step}
+use Rattle.bss_core.specs.NetworkView.{NetworkState, new_network, took_event}
+use Rattle.bss_core.specs.Radio.{setting_in}
+use Rattle.bss_core.specs.declared.config.RadioConfig.{RadioConfig}
+use Rattle.bss_core.specs.declared.event.Event.{Event}
+use Rattle.bss_core.specs.declared.event.Event.TheVariants.{Air, Wire, Tick}
+use Rattle.bss_core.specs.declared.network.NetworkRefusal.{NetworkRefusal}
+use Rattle.bss_core.specs.declared.network.NetworkRefusal.TheVariants.{NoMemory, Clock}
+
+-- A moment, between two lines: how many lines have ended, skipped ones too; and of each network by its place how many
+-- events it took, and what these made of it but for the frames that it sent (profile).
+pub record Moment : Type 0 where
+  pub lines : ℕ
+  pub networks : List NetworkState
+
+-- before the first line
+abbrev pub first_moment : RadioConfig → Moment
+first_moment c = record { lines = 0; networks = map (λ n. new_network (setting_in c n)) c.networks }
+
+-- a line more has ended
+abbrev pub one_line_more : Moment → Moment
+one_line_more m = record m { lines = m.lines + 1 }
+
+abbrev pub bssid_of : NetworkState → List ℕ
+bssid_of n = n.setting.network.bssid
+
+-- the addresses of the networks, in order of place
+abbrev pub bssids_at : Moment → List (List ℕ)
+bssids_at m = map bssid_of m.networks
+
+-- ---- one network
+
+-- What a network replies to an event: the frames that it sends on the air and then those on the wire; or that it
+-- refuses the event, and why.
+pub data Reply : Type 0 where
+  Sends : (air wire : List (List ℕ)) → Reply
+  Refuses : NetworkRefusal → Reply
+
+-- A beacon interval is to begin, and as many began as its clock of 32 bits can count (profile).
+abbrev pub is_past_clock : NetworkState → Event → Bool
+is_past_clock n (Air x) = false
+is_past_clock n (Wire y) = false
+is_past_clock n Tick = n.network.clock == 4294967295
+
+-- the network with the frames that an event makes it send
+abbrev pub sending : NetworkState → Event → Network
+sending n e = step n.setting n.network e
+
+-- the reply where memory suffices
+abbrev pub reply_of : NetworkState → Event → Reply
+reply_of n e = if is_past_clock n e then Refuses Clock else Sends (sending n e).air (sending n e).wire
+
+-- A network may refuse any event for memory, but for one that its clock can't count; and it does nothing else
+-- than to reply so.
+abbrev pub MayReply : NetworkState → Event → Reply → Type 0
+MayReply n e (Refuses NoMemory) = is_past_clock n e ≡ false
+MayReply n e (Refuses Clock) = Refuses Clock ≡ reply_of n e
+MayReply n e (Sends air wire) = Sends air wire ≡ reply_of n e
+
+-- the network after an event, by its reply: it takes the event whole or not at all
+abbrev pub after_event : NetworkState → Event → Reply → NetworkState
+after_event n e (Sends air wire) = took_event e n
+after_event n e (Refuses why) = n
+
+-- ---- several events of one network, the first of them first
+
+abbrev pub replies_of : NetworkState → List Event → List Reply
+replies_of n [] = []
+replies_of n (e ∷ es) = reply_of n e ∷ replies_of (after_event n e (reply_of n e)) es
+
+-- one reply to each
+abbrev pub MayReplyAll : NetworkState → List Event → List Reply → Type 0
+MayReplyAll n [] [] = Unit {0}
+MayReplyAll n [] (r ∷ rs) = ⊥
+MayReplyAll n (e ∷ es) [] = ⊥
+MayReplyAll n (e ∷ es) (r ∷ rs) = MayReply n e r × MayReplyAll (after_event n e r) es rs
+
+abbrev pub after_events : NetworkState → List Event → List Reply → NetworkState
+after_events n [] rs = n
+after_events n (e ∷ es) [] = n
+after_events n (e ∷ es) (r ∷ rs) = after_events (after_event n e r) es rs

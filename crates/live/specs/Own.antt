@@ -1,0 +1,126 @@
+-- What of the lines and of the answers is one network's own.
+use Rattle.std.specs.Prelude.{ℕ, ◌<◌, ◌≤◌, ◌≡◌, List, [], ◌∷◌, ◌++◌, length, flat_map, take, slice_get, Some, None}
+use Rattle.std.specs.Prelude.{Ok}
+use Rattle.std.specs.List.{slice_index_or, AllByRecursion}
+use Rattle.std.specs.Str.Lines.{lines}
+use Rattle.bss_core.specs.Lines.{heard}
+use Rattle.bss_core.specs.Configuration.{fault_of}
+use Rattle.bss_core.specs.Network.{alone, table_of, counts_of}
+use Rattle.bss_core.specs.declared.setting.Setting.{Setting}
+use Rattle.bss_core.specs.NetworkView.{NetworkState, unsent}
+use Rattle.bss_core.specs.Radio.{network_at, setting_at}
+use Rattle.bss_core.specs.declared.config.RadioConfig.{RadioConfig}
+use Rattle.bss_core.specs.declared.event.Event.{Event}
+use Rattle.bss_core.specs.declared.line.Line.{Line}
+use Rattle.bss_core.specs.declared.section.Section.{Section}
+use Rattle.trace.specs.TraceText.{bssids_of, lines_of}
+use Rattle.live.specs.TextLines.{TextLine, max_line, lines_of_text}
+use Rattle.live.specs.Moments.{Moment, first_moment, Reply, Sends, Refuses}
+use Rattle.live.specs.Answers.{Asked, Says, asked_by, Answer, Replies, Tables, Answers, AreUnrefused}
+
+-- ---- its events
+
+-- the line of a trace that was read
+abbrev pub read_in : Asked → Answer → List Line
+read_in (Says (Ok (Some line))) (Replies replies) = line ∷ []
+read_in asked answer = []
+
+-- the lines that were read, in their order
+abbrev pub lines_read : List (List ℕ) → List TextLine → List Answer → List Line
+lines_read bssids [] answers = []
+lines_read bssids (line ∷ lines) [] = []
+lines_read bssids (line ∷ lines) (answer ∷ answers) =
+    read_in (asked_by bssids line) answer ++ lines_read bssids lines answers
+
+-- the replies of the network at a place
+abbrev pub replies_in : ℕ → Answer → List Reply
+replies_in place (Replies replies) = slice_index_or replies place []
+replies_in place answer = []
+
+abbrev pub replies_at : ℕ → List Answer → List Reply
+replies_at place answers = flat_map (replies_in place) answers
+
+-- of events, those that were not refused
+abbrev pub taken : List Event → List Reply → List Event
+taken [] replies = []
+taken (e ∷ es) [] = []
+taken (e ∷ es) (Sends air wire ∷ replies) = e ∷ taken es replies
+taken (e ∷ es) (Refuses why ∷ replies) = taken es replies
+
+-- The events of the network at a place: what it hears of the lines that were read, less what it refused.
+abbrev pub events_at : RadioConfig → ℕ → List TextLine → List Answer → List Event
+events_at c place lines answers =
+    taken
+    (heard place (network_at c place).bssid (lines_read (bssids_of c) lines answers))
+    (replies_at place answers)
+
+-- ---- its frames
+
+abbrev pub air_in : Reply → List (List ℕ)
+air_in (Sends air wire) = air
+air_in (Refuses why) = []
+
+abbrev pub wire_in : Reply → List (List ℕ)
+wire_in (Sends air wire) = wire
+wire_in (Refuses why) = []
+
+-- the frames of its `air` lines, and of its `wire` lines
+abbrev pub air_at : ℕ → List Answer → List (List ℕ)
+air_at place answers = flat_map air_in (replies_at place answers)
+
+abbrev pub wire_at : ℕ → List Answer → List (List ℕ)
+wire_at place answers = flat_map wire_in (replies_at place answers)
+
+-- ---- the network alone
+
+-- a network that took these events and no other, without the frames that it sent
+abbrev pub alone_after : Setting → List Event → NetworkState
+alone_after s es = record { setting = s; events = length es; network = unsent (alone s es) }
+
+-- What was written of the network at a place, and what is known of it in the end, is what it does alone with its own
+-- events: its frames, its table at each `I`, with its events so far, and its table at the last moment.
+pub record IsAlone (c : RadioConfig) (place : ℕ) (lines : List TextLine) (answers : List Answer) (next : Moment) :
+    Type 0 where
+  pub air : air_at place answers ≡ (alone (setting_at c place) (events_at c place lines answers)).air
+  pub wire : wire_at place answers ≡ (alone (setting_at c place) (events_at c place lines answers)).wire
+  pub last : slice_get next.networks place ≡ Some (alone_after (setting_at c place) (events_at c place lines answers))
+  pub asked :
+      (k : ℕ) (networks : List NetworkState)
+      → slice_get answers k ≡ Some (Tables networks)
+      → slice_get networks place
+      ≡ Some (alone_after (setting_at c place) (events_at c place (take k lines) (take k answers)))
+
+-- The network at place p of one configuration and that at place q of another have the same configuration, channel and
+-- interval, and the same events. The other networks, their events and the lines may differ.
+pub record AreAlike (c d : RadioConfig) (lines others : List TextLine) (answers replies : List Answer) (p q : ℕ) :
+    Type 0 where
+  pub here : p < length c.networks
+  pub there : q < length d.networks
+  pub channel : c.channel ≡ d.channel
+  pub interval : c.interval ≡ d.interval
+  pub network : network_at c p ≡ network_at d q
+  pub events : events_at c p lines answers ≡ events_at d q others replies
+
+-- ---- as in a report
+
+-- what was written of the network at a place, and what is known of it in the end, is what a section says of it
+pub record IsShown (section : Section) (place : ℕ) (answers : List Answer) (next : Moment) : Type 0 where
+  pub air : air_at place answers ≡ section.air
+  pub wire : wire_at place answers ≡ section.wire
+  pub network : NetworkState
+  pub there : slice_get next.networks place ≡ Some network
+  pub events : network.events ≡ length section.events
+  pub table : table_of network.network ≡ section.table
+  pub counts : counts_of network.events network.network ≡ section.counts
+
+-- A text that is a trace, whose lines are not too long, and of which a network hears at most as many events as a
+-- history may have, was answered, and nothing was refused for memory.
+pub record IsLikeTrace (c : RadioConfig) (text : List ℕ) (said : List Line) (place : ℕ) (answers : List Answer)
+    (next : Moment) : Type 0 where
+  pub sound : fault_of c ≡ None
+  pub read : lines_of c text ≡ Ok said
+  pub short : AllByRecursion (λ line. length line ≤ max_line) (lines text)
+  pub there : place < length c.networks
+  pub events : length (heard place (network_at c place).bssid said) ≤ (network_at c place).max_events
+  pub answered : Answers (first_moment c) (lines_of_text text) answers next
+  pub unrefused : AreUnrefused answers

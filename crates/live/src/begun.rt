@@ -1,0 +1,74 @@
+//! A line that has begun, of which more is to come.
+
+ghost use Rattle.std.specs.Prelude.{◌≡◌, ◌++◌, [], length, IfOk, if◌then◌else◌};
+ghost use Rattle.std.specs.Str.Lines.{strip_carriage_return};
+ghost use Rattle.trace.specs.Texts.{LacksLineFeed};
+ghost use Rattle.live.specs.Feeding.{IsUnended, ended_with};
+ghost use Rattle.live.specs.TextLines.{TextLine, Octets, TooLong, line_with, begun_after};
+
+use mac_frame::NoMemory;
+use std::alloc::Global;
+use std::marker::Model;
+
+/// The most octets of a line, without the LF that ends it and one CR before that.
+const MAX_LINE: usize = 65_536;
+
+/// The most octets that are kept of a line that has begun: as many, and a CR that may be dropped.
+const MAX_BEGUN: usize = 65_537;
+
+/// What came of a line that has not ended, in memory that was taken when it was made. Contracts see its octets, or that
+/// they are too many.
+#[derive(Drop)]
+pub struct Begun {
+    octets: Vec<u8>,
+    too_long: bool,
+}
+
+impl Model for Begun {
+    ghost use Rattle.std.specs.Prelude.{◌≤◌, length, vec_len, vec_capacity, if◌then◌else◌};
+    ghost use Rattle.trace.specs.Texts.{LacksLineFeed};
+    ghost use Rattle.live.specs.TextLines.{TextLine, Octets, TooLong};
+
+    ghost Value = { TextLine };
+
+    ghost view = { λ b. if b.too_long then TooLong else Octets b.octets.items };
+
+    ghost invariant = { λ b. LacksLineFeed b.octets.items
+        × (vec_len b.octets ≤ 65537) × (65537 ≤ vec_capacity b.octets) };
+}
+
+impl Begun {
+    /// A line of which nothing came. `NoMemory` where its memory was refused.
+    pub fn new(alloc: Global) -> Result<Begun, NoMemory>
+        ensures { IfOk result (λ begun. begun ≡ Octets []) }
+    {
+        Ok(Begun {
+            octets: Vec::with_capacity(alloc, MAX_BEGUN)?,
+            too_long: false,
+        })
+    }
+
+    /// More octets came of it. It takes no memory.
+    pub fn add(&mut self, octets: &[u8])
+        requires { LacksLineFeed octets.now }
+        ensures { self.new ≡ begun_after self.old octets.now }
+    {
+        if self.too_long {
+            return;
+        }
+        if octets.len() > MAX_BEGUN - self.octets.len() {
+            self.octets.clear();
+            self.too_long = true;
+            return;
+        }
+        self.octets.extend_from_slice(octets).unwrap();
+    }
+
+    /// The next line begins, of which nothing came.
+    pub fn begin(&mut self)
+        ensures { self.new ≡ Octets [] }
+    {
+        self.octets.clear();
+        self.too_long = false;
+    }
+}

@@ -1,0 +1,88 @@
+//! What follows from the definitions, for whoever stands on them.
+
+ghost use Rattle.std.specs.Prelude.{◌≡◌, ◌<◌, ◌++◌, List, [], ◌∷◌, ℕ, length, codes, flat_map, Some, slice_get};
+ghost use Rattle.bss_core.specs.Lines.{sections_of_lines};
+ghost use Rattle.bss_core.specs.Network.{alone, table_of, counts_of};
+ghost use Rattle.bss_core.specs.declared.config.RadioConfig.{RadioConfig};
+ghost use Rattle.bss_core.specs.declared.setting.Setting.{Setting};
+ghost use Rattle.bss_core.specs.declared.event.Event.{Event};
+ghost use Rattle.bss_core.specs.declared.line.Line.{Line};
+ghost use Rattle.bss_core.specs.declared.section.Section.{Section};
+ghost use Rattle.trace.specs.Report.{network_line, counts_line, station_line};
+ghost use Rattle.trace.specs.Texts.{ended};
+ghost use Rattle.live.specs.AnswerText.{table_text, text_after};
+ghost use Rattle.live.specs.Answers.{Answer, Answers, answers_of, AreUnrefused, Begins};
+ghost use Rattle.live.specs.Moments.{Moment, first_moment};
+ghost use Rattle.live.specs.Own.{IsAlone, AreAlike, IsLikeTrace, IsShown, air_at, wire_at, alone_after};
+ghost use Rattle.live.specs.TextLines.{TextLine, lines_of_text, ended_lines, begun_in};
+ghost use Rattle.live.specs.TextLines.{lines_in, begun_after, last_line};
+
+use bss_core::{checked_networks, one_step, reachable, steps_append};
+
+/// However a text is cut, the lines that end in its pieces, and the last line, are those of the whole text.
+pub fn lines_come_in_pieces()
+    ensures ended { (text piece : List ℕ)
+        → ended_lines (text ++ piece) ≡ ended_lines text ++ lines_in (begun_in text) piece }
+    ensures begun { (text piece : List ℕ) → begun_in (text ++ piece) ≡ begun_after (begun_in text) piece }
+    ensures last { (text : List ℕ) → lines_of_text text ≡ ended_lines text ++ last_line (begun_in text) }
+{}
+
+/// No network reaches another: what is written of one, line by line, is what it does alone with its own events, the
+/// lines that it hears less those that it refused. So are the tables that `I` asks for, and those of the last moment.
+pub fn isolation()
+    ensures alone { (c : RadioConfig) (lines : List TextLine) (answers : List Answer) (next : Moment) (place : ℕ)
+        → place < length c.networks → Answers (first_moment c) lines answers next
+        → IsAlone c place lines answers next }
+    ensures shown { (s : Setting) (es : List Event) → table_text (alone_after s es)
+        ≡ network_line s.network ++ counts_line (length es) (counts_of (length es) (alone s es))
+        ++ flat_map station_line (table_of (alone s es)) ++ ended (codes "end") }
+{
+    one_step();
+    steps_append();
+}
+
+/// Of two inputs in which a network has the same configuration, channel, interval and events, its frames and its last
+/// table are the same, whatever the other networks and the other lines are.
+pub fn two_inputs()
+    ensures { (c d : RadioConfig) (lines others : List TextLine) (answers replies : List Answer) (next after : Moment)
+        (p q : ℕ) → AreAlike c d lines others answers replies p q → Answers (first_moment c) lines answers next
+        → Answers (first_moment d) others replies after
+        → (air_at p answers ≡ air_at q replies) × (wire_at p answers ≡ wire_at q replies)
+        × (slice_get next.networks p ≡ slice_get after.networks q) }
+{
+    isolation();
+}
+
+/// The answers to more lines begin with the answers to fewer, so that what holds of all answers holds at each moment;
+/// and so do their texts.
+pub fn more_lines()
+    ensures begin { (m : Moment) (lines more : List TextLine) (answers : List Answer) (next : Moment)
+        → Answers m (lines ++ more) answers next → Begins m lines more answers next }
+    ensures join { (m : Moment) (lines more : List TextLine) (answers : List Answer) (next : Moment)
+        → Begins m lines more answers next → Answers m (lines ++ more) answers next }
+    ensures text { (m between : Moment) (lines : List TextLine) (some others : List Answer)
+        → Answers m lines some between
+        → text_after m (some ++ others) ≡ text_after m some ++ text_after between others }
+{}
+
+/// Where nothing is refused for memory, the answers are the ones of `live_text`, and there are such.
+pub fn enough_memory()
+    ensures only { (m : Moment) (lines : List TextLine) (answers : List Answer) (next : Moment)
+        → Answers m lines answers next → AreUnrefused answers → answers ≡ answers_of m lines }
+    ensures some { (m : Moment) (lines : List TextLine)
+        → (next : Moment) × Answers m lines (answers_of m lines) next }
+{}
+
+/// Where a text is a trace, so that no line of it has a fault, is `I` or is one of more than 1,000,000, and no line is
+/// too long, a network that hears no more than its history may have is told as its report tells it: the same frames,
+/// table and counts.
+pub fn as_replayed()
+    ensures { (c : RadioConfig) (text : List ℕ) (said : List Line) (place : ℕ) (answers : List Answer)
+        (next : Moment) (section : Section) → IsLikeTrace c text said place answers next
+        → slice_get (sections_of_lines c said) place ≡ Some section → IsShown section place answers next }
+{
+    one_step();
+    steps_append();
+    reachable();
+    checked_networks();
+}
