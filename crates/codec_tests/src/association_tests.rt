@@ -8,6 +8,7 @@ use elements::Elements;
 use mac_frame::{MacAddr, NoMemory, Octets};
 use station_state::{Class, Notice};
 use std::alloc::Global;
+use std::process::Abort;
 use std::test::Fail;
 
 const FOUR_RATES: [u8; 4] = [0x82, 0x84, 0x0b, 0x16];
@@ -43,18 +44,24 @@ const AUTHENTICATIONS: [(u16, u8, [u8; 31]); 2] = [
     ),
 ];
 
+/// The answer to a station that begins to authenticate itself, after an octet.
+fn authentication(alloc: Global, algorithm: u16, sequence: u8) -> Result<Octets, NoMemory> {
+    let mut out = Octets::from_slice(alloc, &[0xff])?;
+    write_auth(
+        &mut out,
+        MacAddr::new(STATION),
+        MacAddr::new(NETWORK),
+        u16::from(sequence),
+        algorithm,
+        auth_status(algorithm, 1, true),
+    )?;
+    Ok(out)
+}
+
 #[test]
 fn open_system_is_accepted_and_shared_key_is_not(rt: HostRuntime) -> Result<(), Fail> {
     for (algorithm, sequence, frame) in AUTHENTICATIONS {
-        let mut out = Octets::from_slice(rt.alloc(), &[0xff])?;
-        write_auth(
-            &mut out,
-            MacAddr::new(STATION),
-            MacAddr::new(NETWORK),
-            u16::from(sequence),
-            algorithm,
-            auth_status(algorithm, 1, true),
-        )?;
+        let out = authentication(rt.alloc(), algorithm, sequence)?;
         assert_eq!(rt; out.as_slice(), frame.as_slice());
     }
     Ok(())
@@ -175,20 +182,36 @@ const NOTICES: [(Notice, u8, [u8; 27]); 2] = [
     ),
 ];
 
+/// A notice to the station, after an octet.
+fn noticed(alloc: Global, notice: Notice, sequence: u8) -> Result<Octets, NoMemory> {
+    let mut out = Octets::from_slice(alloc, &[0xff])?;
+    write_notice(
+        &mut out,
+        MacAddr::new(STATION),
+        MacAddr::new(NETWORK),
+        u16::from(sequence),
+        notice,
+    )?;
+    Ok(out)
+}
+
 #[test]
 fn a_station_is_told_to_leave(rt: HostRuntime) -> Result<(), Fail> {
     for (notice, sequence, frame) in NOTICES {
-        let mut out = Octets::from_slice(rt.alloc(), &[0xff])?;
-        write_notice(
-            &mut out,
-            MacAddr::new(STATION),
-            MacAddr::new(NETWORK),
-            u16::from(sequence),
-            notice,
-        )?;
+        let out = noticed(rt.alloc(), notice, sequence)?;
         assert_eq!(rt; out.as_slice(), frame.as_slice());
     }
     Ok(())
+}
+
+/// What a frame of the station asks for, which must be of class 3.
+fn request_of<'a>(rt: &impl Abort, frame: &'a [u8]) -> Request<'a> {
+    let Ok(request) = read(MacAddr::new(NETWORK), frame) else {
+        panic!(rt; "no request");
+    };
+    assert_eq!(rt; class(&request), Class::Three);
+    assert_eq!(rt; sender(&request), MacAddr::new(STATION));
+    request
 }
 
 /// A unit to all.
@@ -203,12 +226,7 @@ const UNIT: [u8; 27] = [
 
 #[test]
 fn a_unit_is_read(rt: HostRuntime) {
-    let Ok(request) = read(MacAddr::new(NETWORK), &UNIT) else {
-        panic!(rt; "no request");
-    };
-    assert_eq!(rt; class(&request), Class::Three);
-    assert_eq!(rt; sender(&request), MacAddr::new(STATION));
-    let Request::Msdu { doze, to, body, .. } = request else {
+    let Request::Msdu { doze, to, body, .. } = request_of(&rt, &UNIT) else {
         panic!(rt; "no unit");
     };
     assert!(rt; doze);
@@ -226,12 +244,7 @@ const POLL: [u8; 16] = [
 
 #[test]
 fn a_poll_is_read(rt: HostRuntime) {
-    let Ok(request) = read(MacAddr::new(NETWORK), &POLL) else {
-        panic!(rt; "no request");
-    };
-    assert_eq!(rt; class(&request), Class::Three);
-    assert_eq!(rt; sender(&request), MacAddr::new(STATION));
-    let Request::Poll { aid, .. } = request else {
+    let Request::Poll { aid, .. } = request_of(&rt, &POLL) else {
         panic!(rt; "no poll");
     };
     assert_eq!(rt; aid, 1);

@@ -5,6 +5,7 @@ ghost use Rattle.std.specs.Prelude.{◌≡◌, ◌≤◌, ◌<◌, length};
 use crate::addresses::{NETWORK, STATION};
 use beacon::{Advert, write_beacon, write_probe_response};
 use mac_frame::{MacAddr, Octets};
+use std::process::Abort;
 use std::test::Fail;
 use tim::Bitmap;
 
@@ -98,6 +99,14 @@ fn has_part(frame: &[u8], place: usize, part: &[u8]) -> bool {
     place <= frame.len() && frame[place..].starts_with(part)
 }
 
+/// A frame must have this length, and these parts at their places.
+fn has_parts(rt: &impl Abort, frame: &[u8], len: usize, parts: &[(usize, &[u8])]) {
+    assert_eq!(rt; frame.len(), len);
+    for (place, part) in parts {
+        assert!(rt; has_part(frame, *place, part), "at {place}");
+    }
+}
+
 #[test]
 fn a_network_announces_itself(rt: HostRuntime) -> Result<(), Fail> {
     let mut out = Octets::from_slice(rt.alloc(), &[0xff])?;
@@ -118,10 +127,7 @@ fn the_first_beacon_is_sent_to_all(rt: HostRuntime) -> Result<(), Fail> {
 fn the_longest_probe_response_has_93_octets(rt: HostRuntime) -> Result<(), Fail> {
     let mut out = Octets::new(rt.alloc());
     write_probe_response(&mut out, &longest(), MacAddr::new(STATION))?;
-    assert_eq!(rt; out.as_slice().len(), 93);
-    for (place, part) in LONGEST_PROBE_RESPONSE {
-        assert!(rt; has_part(out.as_slice(), place, part), "at {place}");
-    }
+    has_parts(&rt, out.as_slice(), 93, &LONGEST_PROBE_RESPONSE);
     Ok(())
 }
 
@@ -137,9 +143,6 @@ fn bits() -> Bitmap {
 fn the_longest_beacon_has_349_octets(rt: HostRuntime) -> Result<(), Fail> {
     let mut out = Octets::new(rt.alloc());
     write_beacon(&mut out, &longest(), 255, true, &bits())?;
-    assert_eq!(rt; out.as_slice().len(), 349);
-    for (place, part) in LONGEST_BEACON {
-        assert!(rt; has_part(out.as_slice(), place, part), "at {place}");
-    }
+    has_parts(&rt, out.as_slice(), 349, &LONGEST_BEACON);
     Ok(())
 }

@@ -7,6 +7,8 @@
 #[cfg(test)]
 mod addresses;
 #[cfg(test)]
+mod aging_tests;
+#[cfg(test)]
 mod aid_pool_tests;
 #[cfg(test)]
 mod association_tests;

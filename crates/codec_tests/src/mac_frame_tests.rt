@@ -2,9 +2,11 @@
 
 use crate::addresses::{HOST, NETWORK, STATION};
 use mac_frame::{
-    List, MacAddr, Octets, PROBE_REQUEST, PROBE_RESPONSE, Rx, address_at, addressed, decode,
-    write_mgmt, write_msdu,
+    List, MacAddr, NoMemory, Octets, PROBE_REQUEST, PROBE_RESPONSE, Rx, address_at, addressed,
+    decode, write_mgmt, write_msdu,
 };
+use std::alloc::Global;
+use std::process::Abort;
 use std::test::Fail;
 
 /// The header of a probe response with sequence number 1.
@@ -63,11 +65,17 @@ const POLL: [u8; 16] = [
     0x02, 0xaa, 0x00, 0x00, 0x00, 0x01, // the station
 ];
 
-#[test]
-fn octets_are_copied_appended_and_cut(rt: HostRuntime) -> Result<(), Fail> {
-    let mut octets = Octets::from_slice(rt.alloc(), &[1, 2])?;
+/// The octets 1, 2 and 3, of which the last is appended where room is reserved for it.
+fn three_octets(alloc: Global) -> Result<Octets, NoMemory> {
+    let mut octets = Octets::from_slice(alloc, &[1, 2])?;
     octets.reserve(1)?;
     octets.append(&[3])?;
+    Ok(octets)
+}
+
+#[test]
+fn octets_are_copied_appended_and_cut(rt: HostRuntime) -> Result<(), Fail> {
+    let mut octets = three_octets(rt.alloc())?;
     let copy = octets.copy(rt.alloc())?;
     octets.truncate(1);
     assert_eq!(rt; octets.as_slice(), [1].as_slice());
@@ -133,17 +141,22 @@ fn a_probe_request_is_addressed(rt: HostRuntime) {
     assert_eq!(rt; address_at(&PROBE, 10), MacAddr::new(STATION));
 }
 
-#[test]
-fn a_probe_request_is_read(rt: HostRuntime) {
-    let Ok(frame) = decode(MacAddr::new(NETWORK), &PROBE) else {
+/// The frame that these octets are to the network.
+fn frame_of<'a>(rt: &impl Abort, octets: &'a [u8]) -> Rx<'a> {
+    let Ok(frame) = decode(MacAddr::new(NETWORK), octets) else {
         panic!(rt; "no frame");
     };
+    frame
+}
+
+#[test]
+fn a_probe_request_is_read(rt: HostRuntime) {
     let Rx::Mgmt {
         subtype,
         from,
         to_all,
         body,
-    } = frame
+    } = frame_of(&rt, &PROBE)
     else {
         panic!(rt; "no management frame");
     };
@@ -155,15 +168,12 @@ fn a_probe_request_is_read(rt: HostRuntime) {
 
 #[test]
 fn a_unit_is_read(rt: HostRuntime) {
-    let Ok(frame) = decode(MacAddr::new(NETWORK), &UNIT) else {
-        panic!(rt; "no frame");
-    };
     let Rx::Msdu {
         from,
         doze,
         to,
         body,
-    } = frame
+    } = frame_of(&rt, &UNIT)
     else {
         panic!(rt; "no Data frame");
     };
@@ -175,10 +185,7 @@ fn a_unit_is_read(rt: HostRuntime) {
 
 #[test]
 fn a_mode_is_read(rt: HostRuntime) {
-    let Ok(frame) = decode(MacAddr::new(NETWORK), &NULL) else {
-        panic!(rt; "no frame");
-    };
-    let Rx::Null { from, doze } = frame else {
+    let Rx::Null { from, doze } = frame_of(&rt, &NULL) else {
         panic!(rt; "no Null frame");
     };
     assert_eq!(rt; from, MacAddr::new(STATION));
@@ -187,10 +194,7 @@ fn a_mode_is_read(rt: HostRuntime) {
 
 #[test]
 fn a_poll_is_read(rt: HostRuntime) {
-    let Ok(frame) = decode(MacAddr::new(NETWORK), &POLL) else {
-        panic!(rt; "no frame");
-    };
-    let Rx::Poll { from, aid } = frame else {
+    let Rx::Poll { from, aid } = frame_of(&rt, &POLL) else {
         panic!(rt; "no PS-Poll frame");
     };
     assert_eq!(rt; from, MacAddr::new(STATION));

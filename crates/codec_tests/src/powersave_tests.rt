@@ -16,35 +16,70 @@ fn unit(alloc: Global, octet: u8) -> Result<Unit, Fail> {
         to: MacAddr::new(STATION),
         source: MacAddr::new(HOST),
         body: Octets::from_slice(alloc, &[octet])?,
+        at: 0,
     })
+}
+
+/// Puts a unit with a body of this octet into a list that is not full.
+fn put_one(alloc: Global, keep: &mut Keep, whom: Whom, octet: u8) -> Result<(), Fail> {
+    if keep.is_full() || keep.puts() >= 1000 {
+        return Err(Fail::from("full"));
+    }
+    Ok(keep.put(whom, unit(alloc, octet)?)?)
+}
+
+/// Whether there is a unit, with a body of this octet.
+fn has_body(unit: Option<&Unit>, octet: u8) -> bool {
+    unit.is_some_and(|unit| unit.body.as_slice() == [octet].as_slice())
+}
+
+/// Puts three units, one of them for the group, into a new list that holds three.
+fn three(rt: &impl Abort, alloc: Global, keep: &mut Keep, station: &Whom) -> Result<(), Fail> {
+    assert!(rt; keep.is_empty());
+    assert_eq!(rt; keep.puts(), 0);
+    for (whom, octet) in [(*station, 1), (Whom::Group, 2), (*station, 3)] {
+        assert!(rt; !keep.is_full());
+        put_one(alloc, keep, whom, octet)?;
+    }
+    assert!(rt; keep.is_full());
+    Ok(())
+}
+
+/// The oldest of the station's two units leaves.
+fn the_oldest_leaves(rt: &impl Abort, keep: &mut Keep, station: &Whom) {
+    assert_eq!(rt; keep.count_for(*station), 2);
+    let oldest = keep.oldest(*station);
+    assert!(rt; has_body(oldest.as_ref(), 1));
+    assert_eq!(rt; keep.count_for(*station), 1);
+}
+
+/// The other is its only one then, beside the unit for the group.
+fn others_stay(rt: &impl Abort, keep: &Keep, station: &Whom) {
+    assert!(rt; has_body(keep.nth(*station, 0), 3));
+    assert!(rt; keep.nth(*station, 1).is_none());
+    assert!(rt; has_body(keep.nth(Whom::Group, 0), 2));
 }
 
 #[test]
 fn each_has_its_part_in_order_of_arrival(rt: HostRuntime) -> Result<(), Fail> {
     let station = Whom::One(MacAddr::new(STATION));
     let mut keep = Keep::new(rt.alloc(), 3);
-    assert!(rt; keep.is_empty());
-    assert_eq!(rt; keep.puts(), 0);
-    assert!(rt; !keep.is_full());
-    keep.put(station, unit(rt.alloc(), 1)?)?;
-    assert!(rt; !keep.is_full());
-    keep.put(Whom::Group, unit(rt.alloc(), 2)?)?;
-    assert!(rt; !keep.is_full());
-    keep.put(station, unit(rt.alloc(), 3)?)?;
-    assert!(rt; keep.is_full());
-    assert_eq!(rt; keep.count_for(station), 2);
-    let oldest = keep.oldest(station).ok_or("no unit")?;
-    assert_eq!(rt; oldest.body.as_slice(), [1].as_slice());
-    assert_eq!(rt; keep.count_for(station), 1);
-    let next = keep.nth(station, 0).ok_or("no unit")?;
-    assert_eq!(rt; next.body.as_slice(), [3].as_slice());
-    assert!(rt; keep.nth(station, 1).is_none());
-    let group = keep.nth(Whom::Group, 0).ok_or("no unit")?;
-    assert_eq!(rt; group.body.as_slice(), [2].as_slice());
+    three(&rt, rt.alloc(), &mut keep, &station)?;
+    the_oldest_leaves(&rt, &mut keep, &station);
+    others_stay(&rt, &keep, &station);
     keep.drop_for(station);
     assert_eq!(rt; keep.len(), 1);
     assert_eq!(rt; keep.puts(), 3);
     Ok(())
+}
+
+/// The room that is reserved for the station is there, and stays where a call is for another.
+fn room_stays(rt: &impl Abort, keep: &mut Keep, station: &Whom, host: &Whom) {
+    assert!(rt; keep.has_room(*station));
+    assert!(rt; !keep.has_room(*host));
+    assert!(rt; keep.oldest(*host).is_none());
+    keep.drop_for(Whom::Group);
+    assert!(rt; keep.has_room(*station));
 }
 
 #[test]
@@ -54,12 +89,8 @@ fn room_is_for_the_one_that_it_was_made_for(rt: HostRuntime) -> Result<(), Fail>
     let mut keep = Keep::new(rt.alloc(), 1);
     assert!(rt; !keep.has_room(station));
     keep.reserve(station)?;
-    assert!(rt; keep.has_room(station));
-    assert!(rt; !keep.has_room(host));
-    assert!(rt; keep.oldest(host).is_none());
-    keep.drop_for(Whom::Group);
-    assert!(rt; keep.has_room(station));
-    keep.put(station, unit(rt.alloc(), 1)?)?;
+    room_stays(&rt, &mut keep, &station, &host);
+    put_one(rt.alloc(), &mut keep, station, 1)?;
     assert!(rt; !keep.has_room(station));
     Ok(())
 }
@@ -124,6 +155,11 @@ fn octet_of(unit: &Unit) -> Option<u8> {
     unit.body.as_slice().first().copied()
 }
 
+/// The octet of the unit for one that `n` others for it came before.
+fn octet_at(keep: &Keep, whom: &Whom, n: usize) -> Option<u8> {
+    octet_of(keep.nth(*whom, n)?)
+}
+
 /// For whom a number stands: one of three stations, or the group.
 fn whom_of(number: u8) -> Whom {
     match number % 4 {
@@ -137,7 +173,7 @@ fn compare_for(rt: &impl Abort, keep: &Keep, plain: &Plain, whom: &Whom) {
     assert_eq!(rt; keep.count_for(*whom), plain.count_for(whom));
     assert_eq!(rt; keep.has_room(*whom), plain.has_room(whom));
     for n in 0..9usize {
-        assert_eq!(rt; keep.nth(*whom, n).and_then(octet_of), plain.nth(whom, n));
+        assert_eq!(rt; octet_at(keep, whom, n), plain.nth(whom, n));
     }
 }
 
@@ -184,7 +220,7 @@ fn put(
     if keep.is_full() || keep.puts() >= 1000 {
         return Ok(());
     }
-    keep.put(*whom, unit(alloc, octet)?)?;
+    put_one(alloc, keep, *whom, octet)?;
     plain.put(whom, octet)
 }
 

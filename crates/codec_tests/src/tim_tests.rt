@@ -1,6 +1,6 @@
 //! Calls with ample memory, on TIMs that were written by hand.
 
-use mac_frame::{MAX_AID, Octets};
+use mac_frame::{MAX_AID, NoMemory, Octets};
 use std::alloc::Global;
 use std::process::Abort;
 use std::test::Fail;
@@ -57,18 +57,46 @@ fn set_of(rt: &impl Abort, aids: &[u16]) -> Bitmap {
     bits
 }
 
+/// Whether a number is in a set.
+fn has(rt: &impl Abort, bits: &Bitmap, aid: u16) -> bool {
+    assert!(rt; 1 <= aid && aid <= MAX_AID);
+    bits.has(aid)
+}
+
+/// What is written where an octet was must be that octet and `tim`.
+fn is_behind(rt: &impl Abort, out: &[u8], tim: &[u8]) {
+    let [0xff, written @ ..] = out else {
+        panic!(rt; "another octet first");
+    };
+    assert_eq!(rt; written, tim);
+}
+
+/// Reads a TIM, which must have this DTIM Count, DTIM Period and group bit.
+fn read_with(rt: &impl Abort, tim: &[u8], count: u8, period: u8, group: bool) -> Bitmap {
+    let Some(read) = read_tim(tim) else {
+        panic!(rt; "no TIM");
+    };
+    assert_eq!(rt;
+        (read.count, read.period, read.group),
+        (count, period, group)
+    );
+    read.bits
+}
+
+/// A TIM must show these numbers and no other.
+fn reads(rt: &impl Abort, tim: &[u8], aids: &[u16]) {
+    let bits = read_with(rt, tim, 0, 1, false);
+    for aid in 1..=MAX_AID {
+        assert_eq!(rt; has(rt, &bits, aid), aids.contains(&aid), "{aid}");
+    }
+}
+
 /// Writes the set as `tim`, after what was there, and reads it back.
 fn shows(rt: &impl Abort, alloc: Global, aids: &[u16], tim: &[u8]) -> Result<(), Fail> {
     let mut out = Octets::from_slice(alloc, &[0xff])?;
     write_tim(&mut out, 0, 1, false, &set_of(rt, aids))?;
-    let (first, written) = out.as_slice().split_first().ok_or("nothing")?;
-    assert_eq!(rt; *first, 0xff);
-    assert_eq!(rt; written, tim);
-    let read = read_tim(tim).ok_or("no TIM")?;
-    assert_eq!(rt; (read.count, read.period, read.group), (0, 1, false));
-    for aid in 1..=MAX_AID {
-        assert_eq!(rt; read.bits.has(aid), aids.contains(&aid), "{aid}");
-    }
+    is_behind(rt, out.as_slice(), tim);
+    reads(rt, tim, aids);
     Ok(())
 }
 
@@ -83,53 +111,87 @@ fn sets_are_shown_in_one_spelling(rt: HostRuntime) -> Result<(), Fail> {
     shows(&rt, rt.alloc(), &[1, 2007], &longest)
 }
 
-/// The TIM of a set at DTIM Count 0 and DTIM Period 1, bit by bit: from the octet of the least number, or the one
-/// before it where that stands at an odd place, to the octet of the greatest.
-fn plain_tim(rt: &impl Abort, alloc: Global, aids: &[u16]) -> Result<Octets, Fail> {
+/// The octet at a place of the virtual bitmap, bit by bit.
+fn plain_octet(aids: &[u16], place: u16) -> u8 {
+    let mut octet = 0;
+    for aid in aids {
+        if *aid / 8 == place {
+            octet |= 1 << (*aid % 8);
+        }
+    }
+    octet
+}
+
+/// A TIM at DTIM Count 0 and DTIM Period 1 up to its bitmap, which goes from one octet to another.
+fn plain_head(rt: &impl Abort, alloc: Global, first: u16, last: u16) -> Result<Octets, NoMemory> {
+    assert!(rt; first <= last && last <= 250);
+    Octets::from_slice(alloc, &[5, (last - first + 4) as u8, 0, 1, first as u8])
+}
+
+/// The TIM of a set at DTIM Count 0 and DTIM Period 1: from the octet of the least number, or the one before it where
+/// that stands at an odd place, to the octet of the greatest.
+fn plain_tim(rt: &impl Abort, alloc: Global, aids: &[u16]) -> Result<Octets, NoMemory> {
     let first = aids.iter().min().map_or(0, |aid| aid / 16 * 2);
     let last = aids.iter().max().map_or(0, |aid| aid / 8);
-    assert!(rt; first <= last && last <= 250);
-    let mut tim = Octets::from_slice(alloc, &[5, (last - first + 4) as u8, 0, 1, first as u8])?;
+    let mut tim = plain_head(rt, alloc, first, last)?;
     for place in first..=last {
-        let mut octet = 0;
-        for k in 0..8 {
-            if aids.contains(&(8 * place + k)) {
-                octet |= 1 << k;
-            }
-        }
-        tim.append(&[octet])?;
+        tim.append(&[plain_octet(aids, place)])?;
     }
     Ok(tim)
 }
 
+/// Numbers at the edges of octets.
+const EDGES: [u16; 13] = [1, 7, 8, 15, 16, 63, 64, 65, 1984, 1999, 2000, 2006, 2007];
+
+/// A TIM must show these of the numbers at the edges and no other.
+fn reads_edges(rt: &impl Abort, tim: &[u8], aids: &[u16]) {
+    let bits = read_with(rt, tim, 0, 1, false);
+    for aid in EDGES {
+        assert_eq!(rt; has(rt, &bits, aid), aids.contains(&aid), "{aid}");
+    }
+}
+
+/// Writes these numbers at the edges as the plain TIM, and reads that.
+fn shows_edges(rt: &impl Abort, alloc: Global, aids: &[u16]) -> Result<(), Fail> {
+    let tim = plain_tim(rt, alloc, aids)?;
+    let mut out = Octets::new(alloc);
+    write_tim(&mut out, 0, 1, false, &set_of(rt, aids))?;
+    assert_eq!(rt; out.as_slice(), tim.as_slice(), "{aids:?}");
+    reads_edges(rt, tim.as_slice(), aids);
+    Ok(())
+}
+
 #[test]
 fn pairs_at_the_edges_of_octets_are_shown_bit_by_bit(rt: HostRuntime) -> Result<(), Fail> {
-    let edges = [1, 7, 8, 15, 16, 63, 64, 65, 1984, 1999, 2000, 2006, 2007];
-    for one in edges {
-        for other in edges {
-            let tim = plain_tim(&rt, rt.alloc(), &[one, other])?;
-            let mut out = Octets::new(rt.alloc());
-            write_tim(&mut out, 0, 1, false, &set_of(&rt, &[one, other]))?;
-            assert_eq!(rt; out.as_slice(), tim.as_slice(), "{one} {other}");
-            let read = read_tim(tim.as_slice()).ok_or("no TIM")?;
-            for aid in edges {
-                assert_eq!(rt; read.bits.has(aid), aid == one || aid == other, "{aid}");
-            }
+    for one in EDGES {
+        for other in EDGES {
+            shows_edges(&rt, rt.alloc(), &[one, other])?;
         }
     }
     Ok(())
 }
 
-#[test]
-fn count_period_and_group_are_shown(rt: HostRuntime) -> Result<(), Fail> {
-    let mut out = Octets::new(rt.alloc());
+/// Nobody at count 2 of 3.
+fn count_is_shown(rt: &impl Abort, alloc: Global) -> Result<(), NoMemory> {
+    let mut out = Octets::new(alloc);
     write_tim(&mut out, 2, 3, false, &Bitmap::new())?;
     assert_eq!(rt; out.as_slice(), [5, 4, 2, 3, 0, 0].as_slice());
-    let mut out = Octets::new(rt.alloc());
+    Ok(())
+}
+
+/// The group at count 0 of 3, which is read back.
+fn group_is_shown(rt: &impl Abort, alloc: Global) -> Result<(), NoMemory> {
+    let mut out = Octets::new(alloc);
     write_tim(&mut out, 0, 3, true, &Bitmap::new())?;
     assert_eq!(rt; out.as_slice(), [5, 4, 0, 3, 1, 0].as_slice());
-    let read = read_tim(out.as_slice()).ok_or("no TIM")?;
-    assert_eq!(rt; (read.count, read.period, read.group), (0, 3, true));
+    read_with(rt, out.as_slice(), 0, 3, true);
+    Ok(())
+}
+
+#[test]
+fn count_period_and_group_are_shown(rt: HostRuntime) -> Result<(), Fail> {
+    count_is_shown(&rt, rt.alloc())?;
+    group_is_shown(&rt, rt.alloc())?;
     Ok(())
 }
 

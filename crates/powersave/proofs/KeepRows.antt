@@ -1,12 +1,12 @@
 -- What the definitions say of some lists.
-use Rattle.std.proofs.Common.{◌≡◌, [], ◌∷◌, length, map, Some, None, refl}
+use Rattle.std.proofs.Common.{◌≡◌, [], ◌∷◌, length, map, filter, true, false, Some, None, refl}
 use Rattle.std.specs.List.{slice_get}
 use Rattle.powersave.specs.declared.unit.Whom.TheVariants.{One, Group}
-use Rattle.powersave.specs.Keep.{units_for, without_oldest, without_all, room_beside}
+use Rattle.powersave.specs.Keep.{units_for, without_oldest, without_all, without_older, is_older, is_after, room_beside}
 use Rattle.mac_frame.specs.Address.{broadcast}
 use Rattle.mac_frame.proofs.Samples.{station}
 use Rattle.powersave.specs.Queues.{merged}
-use Rattle.powersave.proofs.Samples.{other_station, unit_to, for_station, for_other, for_group, three, arrived}
+use Rattle.powersave.proofs.Samples.{other_station, unit_to, for_station, for_other, for_group, three, at_clocks, arrived}
 use Rattle.powersave.proofs.QueueSteps.{entry_of}
 
 units_for_a_station_are_in_order_of_arrival : units_for (One station) three ≡ unit_to station 1 ∷ unit_to station 3 ∷ []
@@ -42,6 +42,31 @@ all_of_a_station_leave = refl
 
 the_rest_stays_in_its_order : without_all Group (for_station 1 ∷ for_group 2 ∷ for_other 3 ∷ for_group 4 ∷ for_station 5 ∷ []) ≡ for_station 1 ∷ for_other 3 ∷ for_station 5 ∷ []
 the_rest_stays_in_its_order = refl
+
+-- ---- units that came before a clock
+
+those_before_it_leave : without_older (One station) 6 at_clocks ≡ (One other_station, record (unit_to other_station 2) { at = 4 }) ∷ (Group, record (unit_to broadcast 3) { at = 5 }) ∷ (One station, record (unit_to station 4) { at = 6 }) ∷ []
+those_before_it_leave = refl
+
+one_that_came_at_it_stays : length (filter (is_older (One station) 6) at_clocks) ≡ 1
+one_that_came_at_it_stays = refl
+
+before_clock_0_nothing_came : without_older (One station) 0 at_clocks ≡ at_clocks
+before_clock_0_nothing_came = refl
+
+-- ---- one by one
+
+the_first_address_comes_first : is_after (Some (One station)) (One other_station) ≡ true
+the_first_address_comes_first = refl
+
+none_comes_after_itself : is_after (Some (One station)) (One station) ≡ false
+none_comes_after_itself = refl
+
+the_group_comes_last : is_after (Some (One other_station)) Group ≡ true
+the_group_comes_last = refl
+
+nothing_comes_after_the_group : is_after (Some Group) (One station) ≡ false
+nothing_comes_after_the_group = refl
 
 -- ---- room
 

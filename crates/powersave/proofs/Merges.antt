@@ -110,6 +110,20 @@ arrivals-insert_empty cmp whom w (e ∷ es) none empty = placed (cmp whom e.0) n
     placed Equal other later = absurd (cc other)
     placed Greater other later = ap (merged e.0 e.1.items) later
 
+-- a queue of one unit, which came after all, wherever it stands
+pub arrivals-insert_one : (cmp : Whom → Whom → Ordering) (whom : Whom) (last : Arrived) (w : Queue) (queues : Queues) → NonePasses (is_at (cmp whom)) queues → w.items ≡ last ∷ [] → AreNumbered last.number queues → arrivals (insert_entry cmp queues whom w) ≡ arrivals queues ++ arrival_for whom last ∷ []
+arrivals-insert_one cmp whom last w [] none one numbered = ap (λ queue. merged whom queue []) one
+arrivals-insert_one cmp whom last w (e ∷ es) none one numbered = placed (cmp whom e.0) none.0 (arrivals-insert_one cmp whom last w es none.1 one numbered.1)
+  where
+    placed : (o : Ordering) → is_eq o ≡ false → arrivals (insert_entry cmp es whom w) ≡ arrivals es ++ arrival_for whom last ∷ [] → arrivals (match_ordering o ((whom, w) ∷ e ∷ es) ((e.0, w) ∷ es) (e ∷ insert_entry cmp es whom w)) ≡ arrivals (e ∷ es) ++ arrival_for whom last ∷ []
+    placed Less other later =
+        ap (λ queue. merged whom queue (arrivals (e ∷ es))) one
+        ∙ put_last (arrival_for whom last) (arrivals (e ∷ es)) (AllBelow-arrivals last.number (e ∷ es) numbered)
+    placed Equal other later = absurd (cc other)
+    placed Greater other later =
+        ap (merged e.0 e.1.items) later
+        ∙ merged-before_last e.0 e.1.items (arrival_for whom last) (arrivals es) numbered.0
+
 module _ (t : Whom → Bool) where
   -- where one passes, no later one does
   abbrev pub IsOnce : Queues → Type 0

@@ -75,7 +75,7 @@ put_for_one whom unit [] = ap (λ b. map msdu (cond b ((whom, unit) ∷ []) []))
 put_for_one whom unit (e ∷ es) = chosen (is_for whom e) e (filter (is_for whom) (es ++ (whom, unit) ∷ [])) (filter (is_for whom) es) (unit ∷ []) (put_for_one whom unit es)
 
 -- two lists with the same units still have them after an entry that passes or doesn't
-kept : (b : Bool) (e : Entry) (es fs : List Entry) → map msdu es ≡ map msdu fs → map msdu (cond b (e ∷ es) es) ≡ map msdu (cond b (e ∷ fs) fs)
+pub kept : (b : Bool) (e : Entry) (es fs : List Entry) → map msdu es ≡ map msdu fs → map msdu (cond b (e ∷ es) es) ≡ map msdu (cond b (e ∷ fs) fs)
 kept true e es fs h = ap (λ us. e.1 ∷ us) h
 kept false e es fs h = h
 
@@ -84,7 +84,7 @@ put_for_others whom other unit [] differ = ap (λ b. map msdu (cond b ((whom, un
 put_for_others whom other unit (e ∷ es) differ = kept (is_for other e) e (filter (is_for other) (es ++ (whom, unit) ∷ [])) (filter (is_for other) es) (put_for_others whom other unit es differ)
 
 -- an entry for one is not for another
-not_for_other : (whom other : Whom) (e : Entry) → whom ≢ other → is_for whom e ≡ true → is_for other e ≡ false
+pub not_for_other : (whom other : Whom) (e : Entry) → whom ≢ other → is_for whom e ≡ true → is_for other e ≡ false
 not_for_other whom other e differ here = other_whom e.0 other (λ same. differ (sym (same_whom e.0 whom here) ∙ same))
 
 oldest_step : (whom : Whom) (e : Entry) (es : List Entry) (b : Bool) → is_for whom e ≡ b → units_for whom (without_oldest whom es) ≡ drop 1 (units_for whom es) → units_for whom (cond b es (e ∷ without_oldest whom es)) ≡ drop 1 (map msdu (cond b (e ∷ filter (is_for whom) es) (filter (is_for whom) es)))

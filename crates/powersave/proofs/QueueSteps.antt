@@ -18,7 +18,7 @@ use Rattle.powersave.specs.declared.queues.Arrived.{Arrived}
 use Rattle.powersave.specs.Keep.{Entry, is_same, is_for, units_for, without_first, room_beside}
 use Rattle.powersave.specs.Queues.{Queue, Queues, Arrival, is_whom, queue_for, unit_at, arrival_for, arrivals, entries_in, IsNumbered, AreNumbered, AreSound, AreKept, HasRoom, Pops, Removes, MakesRoom, Pushes}
 use Rattle.powersave.proofs.Parts.{msdu, same_whom, without_oldest_none, length-without_oldest, length-without_all}
-use Rattle.powersave.proofs.Merges.{passes, unit_of, IsOnce, units-arrivals, arrivals-pop, arrivals-remove, arrivals-set_same, arrivals-push, arrivals-insert_empty}
+use Rattle.powersave.proofs.Merges.{passes, unit_of, IsOnce, units-arrivals, arrivals-pop, arrivals-remove, arrivals-set_same, arrivals-push, arrivals-insert_empty, arrivals-insert_one}
 
 -- ---- the units of one
 
@@ -84,13 +84,10 @@ AreNumbered-later : (next : ℕ) (queues : Queues) → AreNumbered next queues �
 AreNumbered-later next [] numbered = tt
 AreNumbered-later next (e ∷ es) numbered = (IsNumbered-later next e.1.items numbered.0, AreNumbered-later next es numbered.1)
 
-AreNumbered-insert_empty : (next : ℕ) (cmp : Whom → Whom → Ordering) (whom : Whom) (w : Queue) (queues : Queues) → w.items ≡ [] → AreNumbered next queues → AreNumbered next (insert_entry cmp queues whom w)
-AreNumbered-insert_empty next cmp whom w [] empty numbered = (subst (IsNumbered next) (sym empty) tt, tt)
-AreNumbered-insert_empty next cmp whom w (e ∷ es) empty numbered = placed (cmp whom e.0) (AreNumbered-insert_empty next cmp whom w es empty numbered.1)
+AreNumbered-insert : (next : ℕ) (cmp : Whom → Whom → Ordering) (whom : Whom) (w : Queue) (queues : Queues) → IsNumbered next w.items → AreNumbered next queues → AreNumbered next (insert_entry cmp queues whom w)
+AreNumbered-insert next cmp whom w [] here numbered = (here, tt)
+AreNumbered-insert next cmp whom w (e ∷ es) here numbered = placed (cmp whom e.0) (AreNumbered-insert next cmp whom w es here numbered.1)
   where
-    here : IsNumbered next w.items
-    here = subst (IsNumbered next) (sym empty) tt
-
     placed : (o : Ordering) → AreNumbered next (insert_entry cmp es whom w) → AreNumbered next (match_ordering o ((whom, w) ∷ e ∷ es) ((e.0, w) ∷ es) (e ∷ insert_entry cmp es whom w))
     placed Less later = (here, numbered)
     placed Equal later = (here, numbered.1)
@@ -275,6 +272,20 @@ module _ (whom : Whom) (old new : Queues) where
         (subst (IsNumbered (arrived.number + 1)) (sym more) (IsNumbered-push q.items arrived (IsNumbered-found (is_whom whom) arrived.number old q sound.numbered found)));
   }
 
+  pub pushes_new : (cmp : Whom → Whom → Ordering) (w : Queue) (arrived : Arrived) → NonePasses (is_at (cmp whom)) old → new ≡ insert_entry cmp old whom w → IsDistinct is_whom (keys_of new) → w.items ≡ arrived ∷ [] → AreSound arrived.number old → Pushes whom arrived old new
+  pushes_new cmp w arrived none is one_each one sound = record {
+    units =
+        ap entries_in is
+        ∙ ap (map entry_of) (arrivals-insert_one cmp whom arrived w old none one sound.numbered)
+        ∙ map-append entry_of (arrivals old) (arrival_for whom arrived ∷ []);
+    sound = record {
+      one_each = one_each;
+      numbered =
+          subst (AreNumbered (arrived.number + 1)) (sym is)
+          (AreNumbered-insert (arrived.number + 1) cmp whom w old (subst (IsNumbered (arrived.number + 1)) (sym one) (omega arith, tt, tt)) (AreNumbered-later arrived.number old sound.numbered));
+    };
+  }
+
   pub makes_room_in : (q w : Queue) → lookup (is_whom whom) old ≡ Some q → new ≡ set_value (is_whom whom) old w → w.items ≡ q.items → (HasSpace q → HasSpace w) → MakesRoom old new
   makes_room_in q w found is same keeps = record {
     units = ap entries_in is ∙ ap (map entry_of) (arrivals-set_same (is_whom whom) old q w found same);
@@ -287,7 +298,7 @@ module _ (whom : Whom) (old new : Queues) where
     units = ap entries_in is ∙ ap (map entry_of) (arrivals-insert_empty cmp whom w old none empty);
     sound = λ next sound. record {
       one_each = one_each;
-      numbered = subst (AreNumbered next) (sym is) (AreNumbered-insert_empty next cmp whom w old empty sound.numbered);
+      numbered = subst (AreNumbered next) (sym is) (AreNumbered-insert next cmp whom w old (subst (IsNumbered next) (sym empty) tt) sound.numbered);
     };
     room = HasRoom-kept old new (λ other room. subst (λ (es : Queues). IsSomeAnd (lookup (is_whom other) es) HasSpace) (sym is) (HasSpace-insert (is_whom other) cmp whom w old here room));
   }
@@ -314,6 +325,14 @@ module _ (len next : ℕ) (reserved : Option Whom) (old new : Queues) (kept : Ar
 
   pub kept_reserved : (whom : Whom) → MakesRoom old new → HasRoom (Some whom) new → AreKept len next (Some whom) new
   kept_reserved whom made room = record { sound = made.sound next kept.sound; counted = kept.counted ∙ ap length (sym made.units); room = room }
+
+  -- room for one is given up
+  pub kept_beside : (whom : Whom) (room : Option Whom) → new ≡ old → room ≡ room_beside whom reserved → AreKept len next room new
+  kept_beside whom room same is = subst (AreKept len next room) (sym same) (record {
+    sound = kept.sound;
+    counted = kept.counted;
+    room = subst (λ r. HasRoom r old) (sym is) (HasRoom-beside whom old old (λ other apart space. space) reserved kept.room);
+  })
 
   pub kept_empty : (whom : Whom) (room : Option Whom) → Pops whom old None new → room ≡ room_beside whom reserved → AreKept len next room new
   kept_empty whom room popped is = record {

@@ -1,5 +1,5 @@
 -- The queues of the units that are kept, one for each for whom units are kept, and the one list that they make.
-use Rattle.std.specs.Prelude.{ℕ, ◌≡◌, ◌+◌, ◌<◌, ◌++◌, Bool, List, [], ◌∷◌, length, map, nat_lt, Option, Some, None}
+use Rattle.std.specs.Prelude.{ℕ, ◌≡◌, ◌+◌, ◌<◌, ◌++◌, Bool, List, [], ◌∷◌, length, map, filter, nat_lt, Option, Some, None}
 use Rattle.std.specs.Prelude.{unwrap_or, if◌then◌else◌}
 use Rattle.std.specs.List.{AllByRecursion, IsDistinct, slice_get}
 use Rattle.std.specs.Map.{keys_of, lookup}
@@ -10,7 +10,7 @@ use Rattle.mac_frame.specs.Data.{data_header}
 use Rattle.powersave.specs.declared.unit.Whom.{Whom}
 use Rattle.powersave.specs.declared.unit.Unit.{Unit as Msdu}
 use Rattle.powersave.specs.declared.queues.Arrived.{Arrived}
-use Rattle.powersave.specs.Keep.{Entry, is_same, units_for, without_all, without_oldest, room_beside}
+use Rattle.powersave.specs.Keep.{Entry, is_same, is_after, units_for, without_all, without_oldest, room_beside}
 
 abbrev pub Queue : Type 0
 Queue = VecDeque Arrived Global
@@ -32,6 +32,15 @@ queue_for whom queues = unwrap_or (option_map (λ q. q.items) (lookup (is_whom w
 -- the unit that this many others stand before
 abbrev pub unit_at : List Arrived → ℕ → Option Msdu
 unit_at queue n = option_map (λ a. a.unit) (slice_get queue n)
+
+-- the first of these queues that has a unit
+abbrev pub first_kept : Queues → Option Whom
+first_kept [] = None
+first_kept (q ∷ queues) = if nat_lt 0 (length q.1.items) then Some q.0 else first_kept queues
+
+-- those after one
+abbrev pub queues_after : Option Whom → Queues → Queues
+queues_after last queues = filter (λ q. is_after last q.0) queues
 
 -- ---- one list of all units, by the numbers of their arrivals
 

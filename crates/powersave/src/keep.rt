@@ -1,12 +1,12 @@
 //! The units that are kept (IEEE Std 802.11-2016, 11.2.3): one list in order of arrival, made of a queue for each whom.
 
-ghost use Rattle.std.specs.Prelude.{◌≡◌, ◌≢◌, ◌<◌, ◌≤◌, ◌+◌, ◌^◌, ◌++◌, ◌↔◌, List, [], ◌∷◌, length, drop, slice_get};
-ghost use Rattle.std.specs.Prelude.{IsTrue, Some, None, IfOk, OnOk, OnErr, IsOk};
+ghost use Rattle.std.specs.Prelude.{◌≡◌, ◌≢◌, ◌<◌, ◌≤◌, ◌+◌, ◌^◌, ◌++◌, ◌↔◌, ℕ, List, [], ◌∷◌, length, drop, slice_get};
+ghost use Rattle.std.specs.Prelude.{filter, not, nat_lt, IsTrue, Some, None, IfSome, IfNone, IfOk, OnOk, OnErr, IsOk};
 ghost use Rattle.std.specs.Option.{option_copied};
 ghost use Rattle.powersave.specs.declared.unit.Whom.{Whom};
 ghost use Rattle.powersave.specs.declared.unit.Unit.{Unit as Msdu};
 ghost use Rattle.powersave.specs.Keep.{Entry, units_for, without_oldest, without_all, room_beside, first_frame};
-ghost use Rattle.powersave.specs.Queues.{HasRoom, MakesRoom};
+ghost use Rattle.powersave.specs.Keep.{is_older, without_older, first_is_older, CameInOrder, IsNext, NoneComesAfter};
 
 use crate::queues::{Arrived, Queues};
 use crate::unit::{Unit, Whom};
@@ -155,9 +155,77 @@ impl Keep {
         self.len -= self.queues.remove(&whom);
     }
 
-    /// Appends a unit for `whom` to a list that is not full and has seen fewer than 2^62 puts. It needs no memory where
-    /// room is reserved for `whom`. A reservation, whoever it is for, ends. After `NoMemory` all is as it was, and the
-    /// unit is dropped.
+    /// Takes out the units for `whom` that came before the clock `limit`, and answers how many these were. Their clocks
+    /// don't fall in the order in which they came, so only those that leave are walked over. The others stay in their
+    /// order. A reservation for `whom` ends.
+    pub fn drop_older(&mut self, whom: Whom, limit: u32) -> u32
+        requires in_order { CameInOrder (units_for whom self.old.entries) }
+        requires countable { length self.old.entries < 2 ^ 32 }
+        ensures count { result ≡ length (filter (is_older whom limit) self.old.entries) }
+        ensures after { self.new ≡ record self.old {
+          entries = without_older whom limit self.old.entries;
+          reserved = room_beside whom self.old.reserved;
+        } }
+    {
+        self.give_up_room(&whom);
+        self.drop_first_while_older(&whom, limit)
+    }
+
+    /// Takes out the first units that came for `whom`, as long as they came before the clock `limit`.
+    fn drop_first_while_older(&mut self, whom: &Whom, limit: u32) -> u32
+        requires in_order { CameInOrder (units_for whom.now self.old.entries) }
+        requires countable { length self.old.entries < 2 ^ 32 }
+        requires room { room_beside whom.now self.old.reserved ≡ self.old.reserved }
+        ensures count { result ≡ length (filter (is_older whom.now limit) self.old.entries) }
+        ensures after { self.new ≡ record self.old { entries = without_older whom.now limit self.old.entries } }
+    {
+        let mut dropped = 0;
+        while self.has_older(whom, limit) {
+            self.drop_first(whom);
+            dropped += 1;
+        }
+        dropped
+    }
+
+    /// Takes out the first unit that came for `whom`, if there is one.
+    fn drop_first(&mut self, whom: &Whom)
+        ensures { self.new ≡ record self.old {
+          entries = without_oldest whom.now self.old.entries;
+          reserved = room_beside whom.now self.old.reserved;
+        } }
+    {
+        self.oldest(*whom);
+    }
+
+    /// Whether the first unit that came for `whom` came before the clock `limit`.
+    fn has_older(&self, whom: &Whom, limit: u32) -> bool
+        ensures { result ≡ first_is_older limit (units_for whom.now self.now.entries) }
+    {
+        match self.nth(*whom, 0) {
+            Some(unit) => unit.at < limit,
+            None => false,
+        }
+    }
+
+    /// A reservation for `whom` ends.
+    fn give_up_room(&mut self, whom: &Whom)
+        ensures { self.new ≡ record self.old { reserved = room_beside whom.now self.old.reserved } }
+    {
+        self.reserved = room_beside(self.reserved, whom);
+    }
+
+    /// The first for whom units are kept, of those after `last` in the order of [`Whom`], and of all where there is no
+    /// `last`; `None` where there is none. Called with each answer in turn it gives all for whom units are kept.
+    pub fn next_whom(&self, last: Option<Whom>) -> Option<Whom>
+        ensures next { IfSome result (λ next. IsNext last next self.now.entries) }
+        ensures none { IfNone result (NoneComesAfter last self.now.entries) }
+    {
+        self.queues.first_after(last)
+    }
+
+    /// Appends a unit for `whom` to a list that is not full and has seen fewer than 2^62 puts. Its queue is found once,
+    /// and it needs no memory where room is reserved for `whom`. A reservation, whoever it is for, ends. After `NoMemory`
+    /// all is as it was, and the unit is dropped.
     pub fn put(&mut self, whom: Whom, unit: Unit) -> Result<(), NoMemory>
         requires not_full { length self.old.entries < self.old.quota }
         requires countable { self.old.puts < 2 ^ 62 }
@@ -169,12 +237,11 @@ impl Keep {
         ensures err { OnErr result (self.new ≡ self.old) }
         ensures room { self.old.reserved ≡ Some whom → IsOk result }
     {
-        make_room_unless(&mut self.queues, self.reserved, &whom)?;
         let arrived = Arrived {
             number: self.puts,
             unit,
         };
-        self.queues.push(&whom, arrived);
+        self.queues.push(&whom, arrived)?;
         self.len += 1;
         self.puts += 1;
         self.reserved = None;
@@ -200,23 +267,6 @@ impl Keep {
     }
 }
 
-/// Makes room for one more unit for `whom`, unless room is reserved for it.
-fn make_room_unless(
-    queues: &mut Queues,
-    reserved: Option<Whom>,
-    whom: &Whom,
-) -> Result<(), NoMemory>
-    requires { HasRoom reserved queues.old.map.entries }
-    ensures ok { OnOk result (HasRoom (Some whom.now) queues.new.map.entries) }
-    ensures units { MakesRoom queues.old.map.entries queues.new.map.entries }
-    ensures room { reserved ≡ Some whom.now → IsOk result }
-{
-    if reserved == Some(*whom) {
-        return Ok(());
-    }
-    queues.make_room(whom)
-}
-
 /// The reservation, unless it is for `whom`.
 fn room_beside(reserved: Option<Whom>, whom: &Whom) -> Option<Whom>
     ensures { result ≡ room_beside whom.now reserved }
@@ -228,19 +278,23 @@ fn room_beside(reserved: Option<Whom>, whom: &Whom) -> Option<Whom>
 }
 
 /// The units for one station, or for the group, don't depend on those for others (*profile*): a unit is put last among
-/// those for the same one, the oldest of these leaves first, and dropping leaves none of them. The units for any other
-/// stay as they were, and so does a reservation for another.
+/// those for the same one, the oldest of these leaves first, and dropping leaves none of them, or those that came at a
+/// clock or later. The units for any other stay as they were, and so does a reservation for another.
 pub fn parts_stay()
     ensures put { (whom : Whom) (unit : Msdu) (es : List Entry) → units_for whom (es ++ (whom, unit) ∷ [])
         ≡ units_for whom es ++ unit ∷ [] }
     ensures oldest { (whom : Whom) (es : List Entry) → units_for whom (without_oldest whom es)
         ≡ drop 1 (units_for whom es) }
     ensures dropped { (whom : Whom) (es : List Entry) → units_for whom (without_all whom es) ≡ [] }
+    ensures older { (whom : Whom) (limit : ℕ) (es : List Entry) → units_for whom (without_older whom limit es)
+        ≡ filter (λ unit. not (nat_lt unit.at limit)) (units_for whom es) }
     ensures others_put { (whom other : Whom) (unit : Msdu) (es : List Entry) → whom ≢ other
         → units_for other (es ++ (whom, unit) ∷ []) ≡ units_for other es }
     ensures others_oldest { (whom other : Whom) (es : List Entry) → whom ≢ other
         → units_for other (without_oldest whom es) ≡ units_for other es }
     ensures others_dropped { (whom other : Whom) (es : List Entry) → whom ≢ other
         → units_for other (without_all whom es) ≡ units_for other es }
+    ensures others_older { (whom other : Whom) (limit : ℕ) (es : List Entry) → whom ≢ other
+        → units_for other (without_older whom limit es) ≡ units_for other es }
     ensures others_room { (whom other : Whom) → whom ≢ other → room_beside whom (Some other) ≡ Some other }
 {}

@@ -1,15 +1,18 @@
 //! The queues that a [`Keep`](crate::Keep) is made of: one for each for whom units are kept, found without a walk over
 //! the others.
 
-ghost use Rattle.std.specs.Prelude.{◌≡◌, ◌≤◌, ◌<◌, ◌++◌, [], length, IfOk, OnOk, OnErr, Some, None};
+ghost use Rattle.std.specs.Prelude.{◌≡◌, ◌≤◌, ◌<◌, ◌++◌, [], length, IfOk, OnOk, OnErr, IsOk, Some, None};
 ghost use Rattle.std.specs.Option.{option_map, option_copied};
 ghost use Rattle.mac_frame.specs.Data.{data_header};
-ghost use Rattle.powersave.specs.Queues.{queue_for, unit_at, HasRoom, Pops, Sends, Removes, MakesRoom, Pushes, AreSound};
+ghost use Rattle.std.specs.BTreeMap.{IsOrdered};
+ghost use Rattle.powersave.specs.contracts.unit.WhomOrd.TheImpl as order;
+ghost use Rattle.powersave.specs.Queues.{queue_for, unit_at, first_kept, queues_after, HasRoom, Pops, Sends, Removes, MakesRoom, Pushes, AreSound};
 
 use crate::unit::{Unit, Whom};
 use mac_frame::{HEADER_LEN, MacAddr, NoMemory, Octets, write_msdu};
 use std::alloc::Global;
 use std::collections::{BTreeMap, VecDeque};
+use std::ops::Bound;
 
 /// A unit, and the number of its arrival: how many were put before it.
 #[derive(Debug, Drop)]
@@ -53,6 +56,24 @@ impl Queues {
     {
         let arrived = self.map.get(whom)?.get(n)?;
         Some(&arrived.unit)
+    }
+
+    /// The first whose queue has a unit, of those after `last` in the order of [`Whom`], and of all where there is no
+    /// `last`.
+    pub(crate) fn first_after(&self, last: Option<Whom>) -> Option<Whom>
+        ensures first { result ≡ first_kept (queues_after last self.now.map.entries) }
+        ensures ordered { IsOrdered order.ghosts.cmp self.now.map }
+    {
+        let start = match last {
+            Some(whom) => Bound::Excluded(whom),
+            None => Bound::Unbounded,
+        };
+        for (whom, queue) in self.map.range((start, Bound::Unbounded)) {
+            if !queue.is_empty() {
+                return Some(*whom);
+            }
+        }
+        None
     }
 
     /// Takes out the first unit of the queue for `whom`. The queue stays, also where it has become empty.
@@ -112,15 +133,22 @@ impl Queues {
         Ok(())
     }
 
-    /// Puts a unit last into the queue for `whom`, which has room.
-    pub(crate) fn push(&mut self, whom: &Whom, arrived: Arrived)
-        requires room { HasRoom (Some whom.now) self.old.map.entries }
+    /// Puts a unit last into the queue for `whom`, which is made where there is none. It needs no memory where the queue
+    /// has room. After `NoMemory` the units are as they were, and this one is dropped.
+    pub(crate) fn push(&mut self, whom: &Whom, arrived: Arrived) -> Result<(), NoMemory>
         requires sound { AreSound arrived.number self.old.map.entries }
-        ensures { Pushes whom.now arrived self.old.map.entries self.new.map.entries }
+        ensures ok { OnOk result (Pushes whom.now arrived self.old.map.entries self.new.map.entries) }
+        ensures err { OnErr result (MakesRoom self.old.map.entries self.new.map.entries) }
+        ensures room { HasRoom (Some whom.now) self.old.map.entries → IsOk result }
     {
         if let Some(queue) = self.map.get_mut(whom) {
-            queue.push_back_reserved(arrived);
+            queue.push_back(arrived)?;
+            return Ok(());
         }
+        let mut fresh = VecDeque::with_capacity(self.alloc, 1)?;
+        fresh.push_back_reserved(arrived);
+        self.map.insert(*whom, fresh)?;
+        Ok(())
     }
 }
 

@@ -20,4 +20,6 @@ pub struct Unit {
     pub source: MacAddr,
     /// The Frame Body of the Data frame that carries it (9.2.4.7).
     pub body: Octets,
+    /// The clock at which it came: how many beacon intervals had begun by then (*profile*).
+    pub at: u32,
 }

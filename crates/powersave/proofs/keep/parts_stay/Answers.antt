@@ -1,4 +1,5 @@
 use Rattle.powersave.proofs.Parts.{put_for_one, put_for_others, oldest_for_one, oldest_for_others, dropped_for_one, dropped_for_others, room_for_others}
+use Rattle.powersave.proofs.Older.{older_for_one, older_for_others}
 use Rattle.powersave.proofs.keep.parts_stay.Goals as goal
 
 pub returns-clause-put : goal.returns-clause-put
@@ -21,3 +22,9 @@ returns-clause-others_dropped c = dropped_for_others
 
 pub returns-clause-others_room : goal.returns-clause-others_room
 returns-clause-others_room c = room_for_others
+
+pub returns-clause-older : goal.returns-clause-older
+returns-clause-older c = older_for_one
+
+pub returns-clause-others_older : goal.returns-clause-others_older
+returns-clause-others_older c = older_for_others

@@ -1,26 +1,66 @@
-use Rattle.std.proofs.Common.{ap, ◌∙◌, subst}
+use Rattle.std.proofs.Common.{[], ◌∷◌, ◌++◌, Result, Ok, Err, OnErr, sym, ap, ◌∙◌, subst, arith}
+use Rattle.std.specs.BTreeMap.{insert_entry, is_at}
 use Rattle.std.specs.Map.{set_value}
 use Rattle.std.specs.Option.{IsSomeAnd}
-use Rattle.powersave.proofs.QueueSteps.{HasSpace, pushes}
-use Rattle.powersave.proofs.Whoms.{is_at_whom, found_in, missing_in}
+use Rattle.std.proofs.lemmas.Map.{none_passes_from_lookup}
+use Rattle.powersave.proofs.QueueSteps.{HasSpace, makes_room_in, pushes, pushes_new}
+use Rattle.powersave.proofs.Whoms.{whom_cmp, is_at_whom, found_in, missing_in, one_each}
 use Rattle.powersave.proofs.queues.Queues.push.Goals as goal
 
-pub push_back_reserved-requires : goal.push_back_reserved-requires
-push_back_reserved-requires c =
-    subst (λ o. IsSomeAnd o HasSpace) (found_in c.args.whom.now c.args.self.now.map c.in-Some.queue.now c.in-Some.ensures.value) c.requires.room
+on_err : {A E P : Type 0} (result : Result A E) → P → OnErr result P
+on_err (Ok value) p = tt
+on_err (Err fault) p = p
 
-pub returns-in-Some : goal.returns-in-Some
-returns-in-Some c =
+pub returns-in_err-push_back-clause-err : goal.returns-in_err-push_back-clause-err
+returns-in_err-push_back-clause-err c =
     let whom = c.args.whom.now in
     let map = c.args.self.now.map in
     let queue = c.in-Some.queue.now in
-    let more = c.push_back_reserved.new.self in
+    let left = c.push_back.new.self in
+    let told = c.in_err-push_back.ensures in
+    on_err c.from_residual.result
+    (makes_room_in whom map.entries (c.get_mut.follows.lender left).entries queue left
+    (found_in whom map queue c.in-Some.ensures.value)
+    ((c.get_mut.follows.holds left).0 ∙ ap (λ t. set_value t map.entries left) (is_at_whom whom))
+    told.items
+    (λ space. let full = told.full in absurd (omega arith)))
+
+pub returns-in_err-push_back-clause-room : goal.returns-in_err-push_back-clause-room
+returns-in_err-push_back-clause-room c room =
+    let found = found_in c.args.whom.now c.args.self.now.map c.in-Some.queue.now c.in-Some.ensures.value in
+    let space = subst (λ o. IsSomeAnd o HasSpace) found room in
+    let full = c.in_err-push_back.ensures.full in
+    absurd (omega arith)
+
+pub returns-in-Some-clause-ok : goal.returns-in-Some-clause-ok
+returns-in-Some-clause-ok c =
+    let whom = c.args.whom.now in
+    let map = c.args.self.now.map in
+    let queue = c.in-Some.queue.now in
+    let more = c.push_back.new.self in
     pushes whom map.entries (c.get_mut.follows.lender more).entries queue more c.args.arrived
     (found_in whom map queue c.in-Some.ensures.value)
     ((c.get_mut.follows.holds more).0 ∙ ap (λ t. set_value t map.entries more) (is_at_whom whom))
-    c.push_back_reserved.ensures.items
+    c.in_ok-push_back.ensures.items
     c.requires.sound
 
-pub returns-in_default : goal.returns-in_default
-returns-in_default c =
-    absurd (subst (λ o. IsSomeAnd o HasSpace) (missing_in c.args.whom.now c.args.self.now.map c.in_default.ensures.value) c.requires.room)
+pub returns-in_err-fresh-clause-room : goal.returns-in_err-fresh-clause-room
+returns-in_err-fresh-clause-room c room =
+    absurd (subst (λ o. IsSomeAnd o HasSpace) (missing_in c.args.whom.now c.args.self.now.map c.in_default.ensures.value) room)
+
+pub returns-in_err-insert-clause-room : goal.returns-in_err-insert-clause-room
+returns-in_err-insert-clause-room c room =
+    absurd (subst (λ o. IsSomeAnd o HasSpace) (missing_in c.args.whom.now c.args.self.now.map c.in_default.ensures.value) room)
+
+pub returns-clause-ok : goal.returns-clause-ok
+returns-clause-ok c =
+    let whom = c.args.whom.now in
+    let map = c.args.self.now.map in
+    let new = c.insert.new.self in
+    let queue = c.push_back_reserved.new.self in
+    pushes_new whom map.entries new.entries whom_cmp queue c.args.arrived
+    (none_passes_from_lookup (is_at (whom_cmp whom)) map.entries (sym c.in_default.ensures.value))
+    (c.in_ok-insert.ensures.entries ∙ ap (λ m. insert_entry whom_cmp m.entries whom queue) c.get_mut.follows.holds-at-none)
+    (one_each new c.in_ok-insert.ensures.ordered)
+    (c.push_back_reserved.ensures.items ∙ ap (λ xs. xs ++ c.args.arrived ∷ []) c.in_ok-fresh.ensures.items)
+    c.requires.sound
