@@ -30,10 +30,13 @@ use Rattle.bss_core.specs.declared.reply.unit.Delivery.{Delivery}
 use Rattle.bss_core.specs.declared.reply.unit.Delivery.TheVariants.{Now, Kept, Nowhere}
 use Rattle.bss_core.proofs.UnitsKept.{kept-elsewhere, kept-where, kept-filtered, kept-without_first, kept-push, length-filtered, length-without_first, link_of-set, link_of-forgotten, link_of-moded, mode-stays}
 use Rattle.bss_core.specs.declared.stations.Link.TheVariants.{Authenticated, Associated}
-use Rattle.bss_core.specs.Sound.{AreSound, IsKeptFor, AreKeptFor}
+use Rattle.bss_core.specs.Sound.{AreSound, IsKeptFor, AreKeptFor, CameBy}
+use Rattle.bss_core.proofs.Clocks.{modes}
+use Rattle.bss_core.proofs.Aging.{came-filtered, came-without_first, came-push, came-later}
+use Rattle.std.proofs.lemmas.List.Filters.{length-filter_both}
 use Rattle.bss_core.proofs.Checked.{stations_fit}
 use Rattle.bss_core.proofs.Statuses.{room-authenticated, room-associated, known-where_taken, known-where_associated}
-use Rattle.bss_core.specs.Network.{Setting, Network, empty_network, send, count_unread, change_state, change_where_served, lose, keep_or_lose, deliver, answer_wired, drop_units, send_unit, send_each, put_on_wire, forward, set_power_mode, serve_poll, answer_poll, beacon_frame, release, tick, may_be_known, authentication_status, answer_authentication, association_status, answer_association, serve, notify_or_serve, announced_at, asks_for, answer, answer_probe, step, after, alone}
+use Rattle.bss_core.specs.Network.{Setting, Network, empty_network, send, count_unread, change_state, change_where_served, lose, keep_or_lose, deliver, answer_wired, drop_units, send_unit, send_each, put_on_wire, relay, forward, has_aged, age_units, set_power_mode, serve_poll, answer_poll, beacon_frame, release, tick, may_be_known, authentication_status, answer_authentication, association_status, answer_association, serve, notify_or_serve, announced_at, asks_for, answer, answer_probe, step, after, alone}
 use Rattle.bss_core.specs.Configuration.{network_fault}
 use Rattle.bss_core.specs.Sound.{IsSoundNetwork}
 use Rattle.bss_core.proofs.StationsSound.{length-set_link, length-forgotten, length-moded, mode-sound, authenticate-sound, associate-sound, disassociate-sound, forget-sound}
@@ -61,6 +64,7 @@ empty-sound s = record {
   stations = record { addresses = tt; aids = tt; associated = omega arith };
   known = omega arith;
   kept = tt;
+  came = tt;
   quota = omega arith;
   sequence = omega arith;
   unread = omega arith;
@@ -69,11 +73,12 @@ empty-sound s = record {
 }
 
 -- of a network with the same stations and kept units, where its counts stay within their bounds
-counts-sound : (s : Setting) (events units more most : ℕ) (n other : Network) → (other.stations ≡ n.stations) × (other.kept ≡ n.kept) → other.sequence < 4096 → other.unread ≤ more → other.clock ≤ more → other.lost + length other.kept ≤ most → IsSoundNetwork s events units n → IsSoundNetwork s more most other
+counts-sound : (s : Setting) (events units more most : ℕ) (n other : Network) → (other.stations ≡ n.stations) × (other.kept ≡ n.kept) × (n.clock ≤ other.clock) → other.sequence < 4096 → other.unread ≤ more → other.clock ≤ more → other.lost + length other.kept ≤ most → IsSoundNetwork s events units n → IsSoundNetwork s more most other
 counts-sound s events units more most n other same sequence unread clock lost h = record {
   stations = rw same.0 h.stations;
   known = rw same.0 h.known;
   kept = rw (same.0, same.1) h.kept;
+  came = rw same.1 (came-later n.clock other.clock n.kept same.2 h.came);
   quota = rw same.1 h.quota;
   sequence = sequence;
   unread = unread;
@@ -83,30 +88,31 @@ counts-sound s events units more most n other same sequence unread clock lost h 
 
 -- more events and units are no less
 pub more-sound : (s : Setting) (events units more most : ℕ) (n : Network) → events ≤ more → units ≤ most → IsSoundNetwork s events units n → IsSoundNetwork s more most n
-more-sound s events units more most n e u h = counts-sound s events units more most n n (refl, refl) h.sequence (omega (arith, e, h.unread)) (omega (arith, e, h.clock)) (omega (arith, u, h.lost)) h
+more-sound s events units more most n e u h = counts-sound s events units more most n n (refl, refl, omega arith) h.sequence (omega (arith, e, h.unread)) (omega (arith, e, h.clock)) (omega (arith, u, h.lost)) h
 
 send-sound : (s : Setting) (events units : ℕ) (n : Network) (frame : ℕ → List ℕ) → IsSoundNetwork s events units n → IsSoundNetwork s events units (send frame n)
-send-sound s events units n frame h = counts-sound s events units events units n (send frame n) (refl, refl) (omega arith) h.unread h.clock h.lost h
+send-sound s events units n frame h = counts-sound s events units events units n (send frame n) (refl, refl, omega arith) (omega arith) h.unread h.clock h.lost h
 
 count_unread-sound : (s : Setting) (events units : ℕ) (n : Network) → IsSoundNetwork s events units n → IsSoundNetwork s (events + 1) units (count_unread n)
-count_unread-sound s events units n h = counts-sound s events units (events + 1) units n (count_unread n) (refl, refl) h.sequence (omega (arith, h.unread)) (omega (arith, h.clock)) h.lost h
+count_unread-sound s events units n h = counts-sound s events units (events + 1) units n (count_unread n) (refl, refl, omega arith) h.sequence (omega (arith, h.unread)) (omega (arith, h.clock)) h.lost h
 
 clock-sound : (s : Setting) (events units : ℕ) (n : Network) → IsSoundNetwork s events units n → IsSoundNetwork s (events + 1) units (record n { clock = n.clock + 1 })
-clock-sound s events units n h = counts-sound s events units (events + 1) units n (record n { clock = n.clock + 1 }) (refl, refl) h.sequence (omega (arith, h.unread)) (omega (arith, h.clock)) h.lost h
+clock-sound s events units n h = counts-sound s events units (events + 1) units n (record n { clock = n.clock + 1 }) (refl, refl, omega arith) h.sequence (omega (arith, h.unread)) (omega (arith, h.clock)) h.lost h
 
 lose-sound : (s : Setting) (events units : ℕ) (n : Network) → IsSoundNetwork s events units n → IsSoundNetwork s events (units + 1) (lose n)
-lose-sound s events units n h = counts-sound s events units events (units + 1) n (lose n) (refl, refl) h.sequence h.unread h.clock (omega (arith, h.lost)) h
+lose-sound s events units n h = counts-sound s events units events (units + 1) n (lose n) (refl, refl, omega arith) h.sequence h.unread h.clock (omega (arith, h.lost)) h
 
 -- which frames were sent, on the air or on the wire, is nothing to it
 pub frames-sound : (s : Setting) (events units : ℕ) (n : Network) (air wire : List (List ℕ)) → IsSoundNetwork s events units n → IsSoundNetwork s events units (record n { air = air; wire = wire })
-frames-sound s events units n air wire h = counts-sound s events units events units n (record n { air = air; wire = wire }) (refl, refl) h.sequence h.unread h.clock h.lost h
+frames-sound s events units n air wire h = counts-sound s events units events units n (record n { air = air; wire = wire }) (refl, refl, omega arith) h.sequence h.unread h.clock h.lost h
 
 -- some units leave
-kept-sound : (s : Setting) (events units : ℕ) (n : Network) (kept : List Entry) → AreKeptFor n.stations kept → length kept ≤ length n.kept → IsSoundNetwork s events units n → IsSoundNetwork s events units (record n { kept = kept })
-kept-sound s events units n kept for fewer h = record {
+kept-sound : (s : Setting) (events units : ℕ) (n : Network) (kept : List Entry) → AreKeptFor n.stations kept → CameBy n.clock kept → length kept ≤ length n.kept → IsSoundNetwork s events units n → IsSoundNetwork s events units (record n { kept = kept })
+kept-sound s events units n kept for came fewer h = record {
   stations = h.stations;
   known = h.known;
   kept = for;
+  came = came;
   quota = omega (arith, fewer, h.quota);
   sequence = h.sequence;
   unread = h.unread;
@@ -120,6 +126,7 @@ stations-sound s events units n table sound few for h = record {
   stations = sound;
   known = few;
   kept = for;
+  came = h.came;
   quota = h.quota;
   sequence = h.sequence;
   unread = h.unread;
@@ -133,6 +140,7 @@ state-sound s addr change events units n sound few elsewhere h = record {
   stations = sound;
   known = few;
   kept = kept-elsewhere addr n.stations (change n.stations) elsewhere n.kept h.kept;
+  came = came-filtered (λ entry. not (is_for (One addr) entry)) n.clock n.kept h.came;
   quota = omega (arith, length-filtered (λ entry. not (is_for (One addr) entry)) n.kept, h.quota);
   sequence = h.sequence;
   unread = h.unread;
@@ -142,8 +150,8 @@ state-sound s addr change events units n sound few elsewhere h = record {
 
 -- ---- units
 
-keep-sound : (s : Setting) (whom : Whom) (u : DataUnit) (events units : ℕ) (n : Network) → IsKeptFor n.stations whom → IsSoundNetwork s events units n → IsSoundNetwork s events (units + 1) (keep_or_lose s whom u n)
-keep-sound s whom u events units n for h = by (nat_lt (length n.kept) s.network.quota) refl
+keep-sound : (s : Setting) (whom : Whom) (u : DataUnit) (events units : ℕ) (n : Network) → u.at ≡ n.clock → IsKeptFor n.stations whom → IsSoundNetwork s events units n → IsSoundNetwork s events (units + 1) (keep_or_lose s whom u n)
+keep-sound s whom u events units n at for h = by (nat_lt (length n.kept) s.network.quota) refl
   where
     by : (b : Bool) → nat_lt (length n.kept) s.network.quota ≡ b → IsSoundNetwork s events (units + 1) (keep_or_lose s whom u n)
     by false is = rw is (lose-sound s events units n h)
@@ -154,6 +162,7 @@ keep-sound s whom u events units n for h = by (nat_lt (length n.kept) s.network.
           stations = h.stations;
           known = h.known;
           kept = kept-push n.stations whom u n.kept h.kept for;
+          came = came-push whom u n.clock n.kept at h.came;
           quota = omega (arith, room, len);
           sequence = h.sequence;
           unread = h.unread;
@@ -179,12 +188,12 @@ delivery-for to t kept whom h = by (is_group to) refl
     by true is = to_group (some_station_dozes t || group_is_kept kept) (sym (rw is refl) ∙ h)
     by false is = to_one (link_of to t) refl (sym (rw is refl) ∙ h)
 
-deliver-sound : (s : Setting) (u : DataUnit) (events units : ℕ) (n : Network) → IsSoundNetwork s events units n → IsSoundNetwork s events (units + 1) (deliver s u n)
-deliver-sound s u events units n h = by (delivery_of u.to n.stations n.kept) refl
+deliver-sound : (s : Setting) (u : DataUnit) (events units : ℕ) (n : Network) → u.at ≡ n.clock → IsSoundNetwork s events units n → IsSoundNetwork s events (units + 1) (deliver s u n)
+deliver-sound s u events units n at h = by (delivery_of u.to n.stations n.kept) refl
   where
     by : (d : Delivery) → delivery_of u.to n.stations n.kept ≡ d → IsSoundNetwork s events (units + 1) (deliver s u n)
     by Now is = rw is (more-sound s events units events (units + 1) _ (omega arith) (omega arith) (send-sound s events units n (unit_frame s.network.bssid false u) h))
-    by (Kept whom) is = rw is (keep-sound s whom u events units n (delivery-for u.to n.stations n.kept whom is) h)
+    by (Kept whom) is = rw is (keep-sound s whom u events units n at (delivery-for u.to n.stations n.kept whom is) h)
     by Nowhere is = rw is (more-sound s events units events (units + 1) n (omega arith) (omega arith) h)
 
 send_each-sound : (s : Setting) (shows_more : Bool) (us : List DataUnit) (events units : ℕ) (n : Network) → IsSoundNetwork s events units n → IsSoundNetwork s events units (send_each s shows_more us n)
@@ -196,14 +205,21 @@ put_on_wire-sound : (s : Setting) (wired : Option (List ℕ)) (events units : �
 put_on_wire-sound s (Some octets) events units n h = more-sound s events units events (units + 1) _ (omega arith) (omega arith) (frames-sound s events units n n.air (n.wire ++ octets ∷ []) h)
 put_on_wire-sound s None events units n h = lose-sound s events units n h
 
-forward-sound : (s : Setting) (u : DataUnit) (events units : ℕ) (n : Network) → IsSoundNetwork s events units n → IsSoundNetwork s events (units + 2) (forward s u n)
-forward-sound s u events units n h = by (goes_on_wire u.to n.stations) refl
+relay-sound : (s : Setting) (u : DataUnit) (events units : ℕ) (n : Network) → u.at ≡ n.clock → IsSoundNetwork s events units n → IsSoundNetwork s events (units + 1) (relay s u n)
+relay-sound s u events units n at h = by s.network.relay
   where
-    by : (b : Bool) → goes_on_wire u.to n.stations ≡ b → IsSoundNetwork s events (units + 2) (forward s u n)
+    by : (b : Bool) → IsSoundNetwork s events (units + 1) (if b then deliver s u n else n)
+    by true = deliver-sound s u events units n at h
+    by false = more-sound s events units events (units + 1) n (omega arith) (omega arith) h
+
+forward-sound : (s : Setting) (u : DataUnit) (events units : ℕ) (n : Network) → u.at ≡ n.clock → IsSoundNetwork s events units n → IsSoundNetwork s events (units + 2) (forward s u n)
+forward-sound s u events units n at h = by (goes_on_wire s.network.relay u.to n.stations) refl
+  where
+    by : (b : Bool) → goes_on_wire s.network.relay u.to n.stations ≡ b → IsSoundNetwork s events (units + 2) (forward s u n)
     by true is =
         rw is (more-sound s events (units + 1 + 1) events (units + 2) _ (omega arith) (omega arith)
-        (put_on_wire-sound s (on_wire u.to u.source u.body) events (units + 1) (deliver s u n) (deliver-sound s u events units n h)))
-    by false is = rw is (more-sound s events (units + 1) events (units + 2) _ (omega arith) (omega arith) (deliver-sound s u events units n h))
+        (put_on_wire-sound s (on_wire u.to u.source u.body) events (units + 1) (relay s u n) (relay-sound s u events units n at h)))
+    by false is = rw is (more-sound s events (units + 1) events (units + 2) _ (omega arith) (omega arith) (relay-sound s u events units n at h))
 
 mode_set-sound : (s : Setting) (from : List ℕ) (doze : Bool) (events units : ℕ) (n : Network) → IsSoundNetwork s events units n → IsSoundNetwork s events units (set_power_mode s from doze n)
 mode_set-sound s from doze events units n h = by (is_dozing from n.stations && not doze) refl
@@ -223,7 +239,7 @@ poll-sound : (s : Setting) (from : List ℕ) (us : List DataUnit) (events units 
 poll-sound s from [] events units n h = h
 poll-sound s from (u ∷ us) events units n h =
     send-sound s events units _ (unit_frame s.network.bssid (others_follow us) u)
-    (kept-sound s events units n (without_oldest (One from) n.kept) (kept-without_first n.stations (is_for (One from)) n.kept h.kept) (length-without_first (is_for (One from)) n.kept) h)
+    (kept-sound s events units n (without_oldest (One from) n.kept) (kept-without_first n.stations (is_for (One from)) n.kept h.kept) (came-without_first (is_for (One from)) n.clock n.kept h.came) (length-without_first (is_for (One from)) n.kept) h)
 
 polled-sound : (s : Setting) (from : List ℕ) (aid events units : ℕ) (n : Network) → IsSoundNetwork s events units n → IsSoundNetwork s events units (answer_poll s from aid n)
 polled-sound s from aid events units n h = by (may_poll aid (link_of from n.stations)) refl
@@ -238,13 +254,31 @@ release-sound s events units n h = by (dtim_count n.clock s.network.dtim == 0) r
     by : (b : Bool) → (dtim_count n.clock s.network.dtim == 0) ≡ b → IsSoundNetwork s events units (release s n)
     by true is =
         rw is (send_each-sound s true (units_for Group n.kept) events units (drop_units Group n)
-        (kept-sound s events units n (without_all Group n.kept) (kept-filtered n.stations (λ entry. not (is_for Group entry)) n.kept h.kept) (length-filtered (λ entry. not (is_for Group entry)) n.kept) h))
+        (kept-sound s events units n (without_all Group n.kept) (kept-filtered n.stations (λ entry. not (is_for Group entry)) n.kept h.kept) (came-filtered (λ entry. not (is_for Group entry)) n.clock n.kept h.came) (length-filtered (λ entry. not (is_for Group entry)) n.kept) h))
     by false is = rw is h
 
 tick-sound : (s : Setting) (events units : ℕ) (n : Network) → IsSoundNetwork s events units n → IsSoundNetwork s (events + 1) units (tick s n)
 tick-sound s events units n h =
     release-sound s (events + 1) units _
     (send-sound s (events + 1) units (record n { clock = n.clock + 1 }) (beacon_frame s (n.clock + 1) n.stations n.kept) (clock-sound s events units n h))
+
+-- units that leave are lost, and no more are lost or kept than were
+age-sound : (s : Setting) (events units : ℕ) (n : Network) → IsSoundNetwork s events units n → IsSoundNetwork s events units (age_units s n)
+age-sound s events units n h =
+    let leaves : Entry → Bool = has_aged s n in
+    let stay : Entry → Bool = λ entry. not (leaves entry) in
+    let both = length-filter_both leaves stay (λ entry. refl) n.kept in
+    record {
+      stations = h.stations;
+      known = h.known;
+      kept = kept-filtered n.stations stay n.kept h.kept;
+      came = came-filtered stay n.clock n.kept h.came;
+      quota = omega (arith, length-filtered stay n.kept, h.quota);
+      sequence = h.sequence;
+      unread = h.unread;
+      clock = h.clock;
+      lost = omega (arith, both, h.lost);
+    }
 
 -- ---- and so by each answer, step and history
 
@@ -322,7 +356,7 @@ serve-sound s (Deauth from) events units n limit taken h =
     (state-sound s from (forget from) events units n (forget-sound s.network.max_stations from n.stations h.stations) (omega (arith, length-forgotten from n.stations, h.known))
     (λ b other. link_of-forgotten from b n.stations other) h)
 serve-sound s (Msdu from doze to body) events units n limit taken h =
-    forward-sound s (unit to from body) events units (set_power_mode s from doze n) (mode_set-sound s from doze events units n h)
+    forward-sound s (unit n.clock to from body) events units (set_power_mode s from doze n) (sym (modes s from doze n)) (mode_set-sound s from doze events units n h)
 serve-sound s (Null from doze) events units n limit taken h = more-sound s events units events (units + 2) _ (omega arith) (omega arith) (mode_set-sound s from doze events units n h)
 serve-sound s (Poll from aid) events units n limit taken h = more-sound s events units events (units + 2) _ (omega arith) (omega arith) (polled-sound s from aid events units n h)
 
@@ -335,13 +369,13 @@ answer-sound s (Ok r) events units n limit h = more-sound s events (units + 2) (
 answer-sound s (Err fault) events units n limit h = more-sound s (events + 1) units (events + 1) (units + 2) _ (omega arith) (omega arith) (count_unread-sound s events units n h)
 
 wired-sound : (s : Setting) (read : Result Ethernet Fault) (events units : ℕ) (n : Network) → IsSoundNetwork s events units n → IsSoundNetwork s (events + 1) (units + 2) (answer_wired s read n)
-wired-sound s (Ok w) events units n h = more-sound s events (units + 1) (events + 1) (units + 2) _ (omega arith) (omega arith) (deliver-sound s (unit_of w) events units n h)
+wired-sound s (Ok w) events units n h = more-sound s events (units + 1) (events + 1) (units + 2) _ (omega arith) (omega arith) (deliver-sound s (unit_of n.clock w) events units n refl h)
 wired-sound s (Err fault) events units n h = more-sound s (events + 1) units (events + 1) (units + 2) _ (omega arith) (omega arith) (count_unread-sound s events units n h)
 
 pub step-sound : (s : Setting) (events units : ℕ) (n : Network) (e : Event) → s.network.max_stations ≤ 2007 → IsSoundNetwork s events units n → IsSoundNetwork s (events + 1) (units + 2) (step s n e)
 step-sound s events units n (Air x) limit h = answer-sound s (request_of s.network.bssid x) events units n limit h
 step-sound s events units n (Wire y) limit h = wired-sound s (ethernet_of y) events units n h
-step-sound s events units n Tick limit h = more-sound s (events + 1) units (events + 1) (units + 2) _ (omega arith) (omega arith) (tick-sound s events units n h)
+step-sound s events units n Tick limit h = more-sound s (events + 1) units (events + 1) (units + 2) _ (omega arith) (omega arith) (tick-sound s events units (age_units s n) (age-sound s events units n h))
 
 after-sound : (s : Setting) (events units : ℕ) (n : Network) (es : List Event) → s.network.max_stations ≤ 2007 → IsSoundNetwork s events units n → IsSoundNetwork s (events + length es) (units + 2 * length es) (after s n es)
 after-sound s events units n [] limit h = more-sound s events units _ _ n (omega arith) (omega arith) h

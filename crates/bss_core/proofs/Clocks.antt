@@ -13,7 +13,7 @@ use Rattle.powersave.specs.declared.unit.Unit.{Unit as DataUnit}
 use Rattle.powersave.specs.declared.unit.Whom.TheVariants.{One, Group}
 use Rattle.station_state.specs.ClassFault.{class_fault}
 use Rattle.station_state.specs.declared.class.Notice.{Notice}
-use Rattle.bss_core.specs.Network.{Setting, Network, asks_for, answer, answer_wired, serve, notify_or_serve, change_state, change_where_served, change_stations, lose, deliver, deliver_by, drop_units, send_unit, send_each, put_on_wire, forward_by, set_power_mode, serve_poll, tick, send, beacon_frame, authentication_status, association_status, step}
+use Rattle.bss_core.specs.Network.{Setting, Network, asks_for, answer, answer_wired, serve, notify_or_serve, change_state, change_where_served, change_stations, lose, deliver, deliver_by, drop_units, send_unit, send_each, put_on_wire, relay, forward_by, set_power_mode, serve_poll, tick, send, beacon_frame, authentication_status, association_status, step}
 use Rattle.bss_core.specs.Stations.{Table, link_of, is_dozing, set_mode, standing_of, authenticate, associate}
 use Rattle.bss_core.specs.Units.{unit, unit_of, delivery_of, goes_on_wire, may_poll, others_follow}
 use Rattle.bss_core.specs.declared.reply.unit.Delivery.{Delivery}
@@ -38,7 +38,7 @@ each : (s : Setting) (shows_more : Bool) (us : List DataUnit) → KeepsClock (se
 each s shows_more [] n = refl
 each s shows_more (u ∷ us) n = each s shows_more us (send_unit s (shows_more && others_follow us) u n)
 
-modes : (s : Setting) (from : List ℕ) (doze : Bool) → KeepsClock (set_power_mode s from doze)
+pub modes : (s : Setting) (from : List ℕ) (doze : Bool) → KeepsClock (set_power_mode s from doze)
 modes s from doze n =
     chosen (is_dozing from n.stations && not doze) (send_each s false (units_for (One from) n.kept) (change_state from (set_mode from doze) n)) (change_stations (set_mode from doze) n) n
     (each s false (units_for (One from) n.kept) (change_state from (set_mode from doze) n)) refl
@@ -47,9 +47,12 @@ wires : (wired : Option (List ℕ)) → KeepsClock (put_on_wire wired)
 wires (Some octets) n = refl
 wires None n = refl
 
+relays : (s : Setting) (u : DataUnit) → KeepsClock (relay s u)
+relays s u n = chosen s.network.relay (deliver s u n) n n (delivered_by s u (delivery_of u.to n.stations n.kept) n) refl
+
 forwarded_by : (s : Setting) (u : DataUnit) (b : Bool) → KeepsClock (forward_by b s u)
-forwarded_by s u true n = wires (on_wire u.to u.source u.body) (deliver s u n) ∙ delivered_by s u (delivery_of u.to n.stations n.kept) n
-forwarded_by s u false n = delivered_by s u (delivery_of u.to n.stations n.kept) n
+forwarded_by s u true n = wires (on_wire u.to u.source u.body) (relay s u n) ∙ relays s u n
+forwarded_by s u false n = relays s u n
 
 polled : (s : Setting) (from : List ℕ) (us : List DataUnit) → KeepsClock (serve_poll s from us)
 polled s from [] n = refl
@@ -63,7 +66,7 @@ serves s (Disassoc from) n = refl
 serves s (Deauth from) n = refl
 serves s (Msdu from doze to body) n =
     let moded = set_power_mode s from doze n in
-    forwarded_by s (unit to from body) (goes_on_wire to moded.stations) moded ∙ modes s from doze n
+    forwarded_by s (unit n.clock to from body) (goes_on_wire s.network.relay to moded.stations) moded ∙ modes s from doze n
 serves s (Null from doze) n = modes s from doze n
 serves s (Poll from aid) n = chosen (may_poll aid (link_of from n.stations)) (serve_poll s from (units_for (One from) n.kept) n) n n (polled s from (units_for (One from) n.kept) n) refl
 
@@ -76,7 +79,7 @@ answered s (Ok r) n = notified s (class_fault (standing_of (sender r) n.stations
 answered s (Err fault) n = refl
 
 pub wired : (s : Setting) (read : Result Ethernet Unread) → KeepsClock (answer_wired s read)
-wired s (Ok w) n = let u : DataUnit = unit_of w in delivered_by s u (delivery_of u.to n.stations n.kept) n
+wired s (Ok w) n = let u : DataUnit = unit_of n.clock w in delivered_by s u (delivery_of u.to n.stations n.kept) n
 wired s (Err fault) n = refl
 
 pub ticked : (s : Setting) (n : Network) → (tick s n).clock ≡ n.clock + 1

@@ -1,6 +1,7 @@
 -- Configurations on which the first fault is computed.
 use Rattle.std.proofs.Common.{◌≡◌, ℕ, List, [], ◌∷◌, Option, Some, None, refl}
-use Rattle.std.specs.Prelude.{map, replicate}
+use Rattle.std.specs.List.{range_with_len}
+use Rattle.std.specs.Prelude.{◌++◌, map, replicate}
 use Rattle.bss_core.specs.Configuration.{of_radio, of_network, network_fault, networks_fault, fault_of}
 use Rattle.bss_core.specs.declared.config.NetConfig.{NetConfig}
 use Rattle.bss_core.specs.declared.config.ConfigFault.{ConfigFault}
@@ -52,14 +53,14 @@ second = with_number 2
 pub two_networks_are_sound : fault_of (record radio { networks = network ∷ second ∷ [] }) ≡ None
 two_networks_are_sound = refl
 
-pub eight_networks_are_sound : fault_of (record radio { networks = map with_number (1 ∷ 2 ∷ 3 ∷ 4 ∷ 5 ∷ 6 ∷ 7 ∷ 8 ∷ []) }) ≡ None
-eight_networks_are_sound = refl
+pub sixteen_networks_are_sound : fault_of (record radio { networks = map with_number (range_with_len 1 16) }) ≡ None
+sixteen_networks_are_sound = refl
 
-pub nine_networks_are_refused : fault_of (record radio { networks = map with_number (1 ∷ 2 ∷ 3 ∷ 4 ∷ 5 ∷ 6 ∷ 7 ∷ 8 ∷ 9 ∷ []) }) ≡ Some (of_radio 7)
-nine_networks_are_refused = refl
+pub seventeen_networks_are_refused : fault_of (record radio { networks = map with_number (range_with_len 1 17) }) ≡ Some (of_radio 7)
+seventeen_networks_are_refused = refl
 
-pub the_eighth_network_is_looked_at : fault_of (record radio { networks = map with_number (1 ∷ 2 ∷ 3 ∷ 4 ∷ 5 ∷ 6 ∷ 7 ∷ 1 ∷ []) }) ≡ Some (of_network 8 7)
-the_eighth_network_is_looked_at = refl
+pub the_sixteenth_network_is_looked_at : fault_of (record radio { networks = map with_number (range_with_len 1 15 ++ 1 ∷ []) }) ≡ Some (of_network 8 15)
+the_sixteenth_network_is_looked_at = refl
 
 -- ---- BSSIDs
 

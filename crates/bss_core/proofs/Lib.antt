@@ -1,6 +1,9 @@
 pub mod StationTables
 pub mod StationsSound
 pub mod UnitsKept
+pub mod Aging
+pub mod FirstVersions
+pub mod RosterAging
 pub mod UnitDelivery
 pub mod WaitedFor
 pub mod Statuses
@@ -9,7 +12,9 @@ pub mod Checked
 pub mod Samples
 pub mod NetworkRows
 pub mod AnswerRows
+pub mod UnitSamples
 pub mod UnitRows
+pub mod OptionRows
 pub mod RequestRows
 pub mod ConfigurationRows
 pub mod RadioRows

@@ -1,6 +1,6 @@
--- Steps on which the radio is computed: two networks, and a queue of one frame where nothing else is said.
-use Rattle.std.proofs.Common.{◌≡◌, ℕ, List, [], ◌∷◌, ◌++◌, refl}
-use Rattle.std.specs.Prelude.{replicate}
+-- Steps on which the radio is computed: two networks, and a queue of one frame where nothing else is said; sixteen.
+use Rattle.std.proofs.Common.{◌≡◌, ℕ, ◌+◌, List, [], ◌∷◌, ◌++◌, refl}
+use Rattle.std.specs.Prelude.{replicate, map, flat_map, drop}
 use Rattle.beacon.specs.ProbeResponse.{timestamp, fixed_fields, network_elements}
 use Rattle.elements.specs.Elements.{elements_of, elements_within}
 use Rattle.bss_core.specs.Network.{alone}
@@ -13,7 +13,7 @@ use Rattle.bss_core.specs.declared.event.Event.TheVariants.{Air}
 use Rattle.bss_core.specs.declared.radio.step.AirItem.{AirItem}
 use Rattle.bss_core.specs.declared.radio.step.Step.{Step}
 use Rattle.bss_core.specs.declared.radio.step.Step.TheVariants.{Take, Hand, Leave}
-use Rattle.bss_core.proofs.Samples.{network, radio, setting, probe, probe_for_lab, response_with}
+use Rattle.bss_core.proofs.Samples.{station, network, radio, setting, probe, probe_for_lab, response_with}
 
 -- ---- samples
 
@@ -174,3 +174,41 @@ pub each_network_numbers_its_own_frames :
     waiting_at two (after_steps two (both_asked ++ Take 0 asked ∷ [])) 1 ≡ guest_response ∷ []
 unfolding after_steps radio_step alone timestamp fixed_fields network_elements elements_of elements_within
 each_network_numbers_its_own_frames = refl
+
+-- ---- sixteen networks, and a queue of one frame
+
+-- the place of each
+abbrev places : List ℕ
+places = 0 ∷ 1 ∷ 2 ∷ 3 ∷ 4 ∷ 5 ∷ 6 ∷ 7 ∷ 8 ∷ 9 ∷ 10 ∷ 11 ∷ 12 ∷ 13 ∷ 14 ∷ 15 ∷ []
+
+-- each with a BSSID of its own, whose last octet is one more than its place
+abbrev bssid_at : ℕ → List ℕ
+bssid_at place = 0x02 ∷ 0 ∷ 0 ∷ 0 ∷ 0 ∷ (place + 1) ∷ []
+
+abbrev sixteen : RadioConfig
+sixteen = record radio { queue = 1; networks = map (λ place. record network { bssid = bssid_at place }) places }
+
+-- the answer of each, by the first octet of Sequence Control
+abbrev answer_at : ℕ → ℕ → AirItem
+answer_at low place = record {
+  place = place;
+  octets =
+      (0x50 ∷ 0x00 ∷ 0x00 ∷ 0x00 ∷ []) ++ station ++ bssid_at place ++ bssid_at place ++ (low ∷ 0x00 ∷ [])
+      ++ (0x00 ∷ 0x00 ∷ 0x00 ∷ 0x00 ∷ 0x00 ∷ 0x00 ∷ 0x00 ∷ 0x00 ∷ 0x64 ∷ 0x00 ∷ 0x01 ∷ 0x00 ∷ [])
+      ++ (0x00 ∷ 0x03 ∷ 0x6c ∷ 0x61 ∷ 0x62 ∷ 0x01 ∷ 0x04 ∷ 0x82 ∷ 0x84 ∷ 0x0b ∷ 0x16 ∷ 0x03 ∷ 0x01 ∷ 0x06 ∷ []);
+}
+
+-- Each network takes the probe, and each tries to hand its answer, for which there is room for the first alone. Then a
+-- frame leaves and the next network hands its own, fifteen times, and the last frame leaves.
+abbrev a_round : List Step
+a_round =
+    map (λ place. Take place asked) places ++ map Hand places
+    ++ flat_map (λ place. Leave ∷ Hand place ∷ []) (drop 1 places) ++ Leave ∷ []
+
+pub each_of_sixteen_networks_hands_its_answers : after_steps sixteen (a_round ++ a_round) ≡ record {
+  places = map (λ place. record { events = asked ∷ asked ∷ []; handed = 2 }) places;
+  queue = [];
+  left = map (answer_at 0x00) places ++ map (answer_at 0x10) places;
+}
+unfolding after_steps radio_step alone timestamp fixed_fields network_elements elements_of elements_within
+each_of_sixteen_networks_hands_its_answers = refl

@@ -1,5 +1,5 @@
 -- A sample configuration, and the frames of one station.
-use Rattle.std.proofs.Common.{ℕ, List, [], ◌∷◌, ◌++◌}
+use Rattle.std.proofs.Common.{ℕ, true, false, List, [], ◌∷◌, ◌++◌}
 use Rattle.mac_frame.specs.Address.{broadcast}
 pub use Rattle.mac_frame.proofs.Samples.{network as bssid, station}
 use Rattle.bss_core.specs.Network.{Setting}
@@ -24,6 +24,8 @@ network = record {
   max_known = 16;
   quota = 8;
   max_events = 100;
+  relay = true;
+  aging = false;
 }
 
 abbrev pub radio : RadioConfig

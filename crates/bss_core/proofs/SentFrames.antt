@@ -13,7 +13,7 @@ use Rattle.association.specs.Leaving.{notice_frame}
 use Rattle.station_state.specs.ClassFault.{class_fault}
 use Rattle.station_state.specs.declared.class.Notice.{Notice}
 use Rattle.bss_core.specs.Stations.{Table, link_of, is_dozing, set_mode, standing_of, next_aid, authenticate, associate}
-use Rattle.bss_core.specs.Network.{Setting, Network, announced_at, asks_for, answer, answer_probe, serve, notify_or_serve, send, change_state, change_where_served, lose, deliver, deliver_by, answer_wired, change_stations, drop_units, send_unit, send_each, put_on_wire, forward, forward_by, set_power_mode, serve_poll, answer_poll, beacon_frame, release, tick, authentication_status, association_status, step, alone}
+use Rattle.bss_core.specs.Network.{Setting, Network, announced_at, asks_for, answer, answer_probe, serve, notify_or_serve, send, change_state, change_where_served, lose, deliver, deliver_by, answer_wired, change_stations, drop_units, send_unit, send_each, put_on_wire, relay, forward, forward_by, age_units, set_power_mode, serve_poll, answer_poll, beacon_frame, release, tick, authentication_status, association_status, step, alone}
 use Rattle.bss_core.specs.Units.{unit, unit_of, unit_frame, others_follow, delivery_of, goes_on_wire, may_poll}
 use Rattle.bridge.specs.Encapsulation.{on_wire}
 use Rattle.beacon.specs.Beacon.{dtim_count}
@@ -73,12 +73,15 @@ wires : (wired : Option (List ℕ)) → StaysBehind (put_on_wire wired)
 wires (Some octets) air wire n = ap (λ (fs : List (List ℕ)). record (put_on_wire (Some octets) (sent_before air wire n)) { wire = fs }) (append_assoc wire n.wire (octets ∷ []))
 wires None air wire n = refl
 
+relays : (s : Setting) (u : DataUnit) → StaysBehind (relay s u)
+relays s u air wire n = chosen (sent_before air wire) s.network.relay (deliver s u n) n _ _ (delivers s u air wire n) refl
+
 forwarded_by : (s : Setting) (u : DataUnit) (b : Bool) → StaysBehind (forward_by b s u)
-forwarded_by s u true air wire n = ap (put_on_wire (on_wire u.to u.source u.body)) (delivers s u air wire n) ∙ wires (on_wire u.to u.source u.body) air wire (deliver s u n)
-forwarded_by s u false air wire n = delivers s u air wire n
+forwarded_by s u true air wire n = ap (put_on_wire (on_wire u.to u.source u.body)) (relays s u air wire n) ∙ wires (on_wire u.to u.source u.body) air wire (relay s u n)
+forwarded_by s u false air wire n = relays s u air wire n
 
 forwards : (s : Setting) (u : DataUnit) → StaysBehind (forward s u)
-forwards s u air wire n = forwarded_by s u (goes_on_wire u.to n.stations) air wire n
+forwards s u air wire n = forwarded_by s u (goes_on_wire s.network.relay u.to n.stations) air wire n
 
 polled : (s : Setting) (from : List ℕ) (us : List DataUnit) → StaysBehind (serve_poll s from us)
 polled s from [] air wire n = refl
@@ -111,7 +114,7 @@ serves s (Assoc from again listen es) air wire n =
 serves s (Disassoc from) air wire n = refl
 serves s (Deauth from) air wire n = refl
 serves s (Msdu from doze to body) air wire n =
-    let u : DataUnit = unit to from body in
+    let u : DataUnit = unit n.clock to from body in
     ap (forward s u) (modes s from doze air wire n) ∙ forwards s u air wire (set_power_mode s from doze n)
 serves s (Null from doze) air wire n = modes s from doze air wire n
 serves s (Poll from aid) air wire n = polls s from aid air wire n
@@ -125,14 +128,14 @@ answers s (Ok r) air wire n = notified s (class_fault (standing_of (sender r) n.
 answers s (Err fault) air wire n = refl
 
 wired : (s : Setting) (read : Result Ethernet Unread) → StaysBehind (answer_wired s read)
-wired s (Ok w) air wire n = delivers s (unit_of w) air wire n
+wired s (Ok w) air wire n = delivers s (unit_of n.clock w) air wire n
 wired s (Err fault) air wire n = refl
 
 -- a step adds its frames to those before it, whatever these are
 pub steps : (s : Setting) (n : Network) (e : Event) (air wire : List (List ℕ)) → step s (sent_before air wire n) e ≡ sent_before air wire (step s n e)
 steps s n (Air x) air wire = answers s (request_of s.network.bssid x) air wire n
 steps s n (Wire y) air wire = wired s (ethernet_of y) air wire n
-steps s n Tick air wire = ticks s air wire n
+steps s n Tick air wire = ticks s air wire (age_units s n)
 
 -- it is the step of a network that sent nothing
 pub step-unsent : (s : Setting) (n : Network) (e : Event) → step s n e ≡ sent_before n.air n.wire (step s (unsent n) e)

@@ -1,5 +1,5 @@
 -- How a reply goes on: a frame is sent, a unit is delivered.
-use Rattle.std.proofs.Common.{◌≡◌, ℕ, zero, suc, ◌+◌, ◌<◌, ◌≤◌, Bool, true, false, not, ◌||◌, ◌&&◌, List, [], ◌∷◌, ◌++◌, length, drop, slice_get, Option, Some, None, option_to_list, refl, sym, ap, ◌∙◌, arith, rules}
+use Rattle.std.proofs.Common.{◌≡◌, ℕ, zero, suc, ◌+◌, ◌<◌, ◌≤◌, Bool, true, false, not, ◌||◌, ◌&&◌, List, [], ◌∷◌, ◌++◌, length, drop, slice_get, Option, Some, None, option_map, option_to_list, refl, sym, ap, subst, ◌∙◌, arith, rules}
 use Rattle.std.specs.Prelude.{nat_lt, if◌then◌else◌}
 use Rattle.std.specs.Str.{bytes_eq}
 use Rattle.std.proofs.lemmas.Bool.{both_ways, lt-ltb, le-ltb}
@@ -9,21 +9,26 @@ use Rattle.std.proofs.lemmas.Slice.Eq.{bytes_eq-Decides}
 use borrow.Author.Tests.{ltb-true, ltb-false}
 use Rattle.std.proofs.Math.Bool.{beq}
 use Rattle.mac_frame.specs.Address.{is_group}
-use Rattle.powersave.specs.Keep.{Entry, units_for, without_all, without_oldest}
+use Rattle.powersave.specs.Keep.{Entry, units_for, without_all}
 use Rattle.powersave.specs.declared.unit.Whom.{Whom}
 use Rattle.powersave.specs.declared.unit.Whom.TheVariants.{One, Group}
 use Rattle.powersave.specs.declared.unit.Unit.{Unit as DataUnit}
-use Rattle.bss_core.specs.Network.{Setting, Network, send, send_unit, send_each, serve_poll, answer_poll, set_power_mode, deliver_by, deliver}
-use Rattle.bss_core.specs.Replies.{after_reply, no_reply, sending, serving, done, without, is_leaving, IsAwake, IsFitting}
+use Rattle.bss_core.specs.Network.{Setting, Network, send, send_unit, send_each, change_state, drop_units, serve_poll, answer_poll, set_power_mode, deliver_by, deliver}
+use Rattle.bss_core.specs.Replies.{after_reply, no_reply, sending, serving, served, done, without, entry_of, aid_at, aid_for, is_leaving, IsAwake, IsFitting}
 use Rattle.bss_core.specs.Sound.{IsKeptFor}
-use Rattle.bss_core.specs.Stations.{Table, link_of, is_dozing, some_station_dozes, changed}
+use Rattle.bss_core.specs.Stations.{Table, link_of, is_dozing, set_mode, some_station_dozes, changed, IsModeAlone}
+use Rattle.bss_core.specs.declared.stations.Change.{Change}
+use Rattle.bss_core.specs.declared.stations.Change.TheVariants as changes
+use Rattle.bss_core.specs.declared.stations.Link.{Link}
+use Rattle.bss_core.specs.declared.stations.Link.TheVariants.{Authenticated, Associated}
 use Rattle.bss_core.specs.Units.{may_poll, others_follow, delivery_of, delivery_with, group_is_kept, unit_frame}
+use Rattle.bss_core.specs.declared.reply.keeping.Arriving.{Arriving}
 use Rattle.bss_core.specs.declared.reply.keeping.Leaving.{Leaving}
 use Rattle.bss_core.specs.declared.reply.keeping.Leaving.TheVariants as leavings
 use Rattle.bss_core.specs.declared.reply.Reply.{Reply}
 use Rattle.bss_core.specs.declared.reply.unit.Delivery.{Delivery}
 use Rattle.bss_core.specs.declared.reply.unit.Delivery.TheVariants.{Now, Kept}
-use Rattle.bss_core.proofs.UnitsKept.{group-stays, set_mode-same}
+use Rattle.bss_core.proofs.UnitsKept.{aid_for-mode, group-stays, oldest-none, set_mode-same}
 
 -- ---- a frame is sent
 
@@ -67,7 +72,6 @@ left-apart (leavings.All (One a)) t (One b) awake for = by (bytes_eq b a) refl
         let dozes : is_dozing a t ≡ true = ap (λ k. is_dozing k t) (sym same) ∙ for in
         absurd (both_ways (is_dozing a t) awake dozes)
 left-apart (leavings.All Group) t whom awake for = absurd awake
-left-apart (leavings.Oldest other) t whom awake for = absurd awake
 
 -- the units of a station that leave are nothing to where another goes
 delivery-left : (leaving : Leaving) (t : Table) (kept : List Entry) (to : List ℕ) → IsAwake leaving t → delivery_of to t (without leaving kept ++ []) ≡ delivery_of to t kept
@@ -76,17 +80,39 @@ delivery-left (leavings.All (One a)) t kept to awake =
     let same : group_is_kept (without_all (One a) kept ++ []) ≡ group_is_kept kept = ap group_is_kept (append-nil (without_all (One a) kept)) ∙ group-stays a kept in
     ap (λ b. if is_group to then (if some_station_dozes t || b then Kept Group else Now) else delivery_with (link_of to t) to) same
 delivery-left (leavings.All Group) t kept to awake = absurd awake
-delivery-left (leavings.Oldest other) t kept to awake = absurd awake
 
 pub delivery-after : (r : Reply) (n : Network) (to : List ℕ) → IsAwake r.keeping.leaving (changed r.change n.stations) → r.keeping.arriving ≡ None → delivery_of to (after_reply r n).stations (after_reply r n).kept ≡ delivery_of to (changed r.change n.stations) n.kept
 delivery-after r n to awake none =
-    ap (λ (a : Option Entry). delivery_of to (changed r.change n.stations) (without r.keeping.leaving n.kept ++ option_to_list a)) none
+    ap (λ (a : Option Arriving). delivery_of to (changed r.change n.stations) (without r.keeping.leaving n.kept ++ option_to_list (option_map entry_of a))) none
     ∙ delivery-left r.keeping.leaving (changed r.change n.stations) n.kept to awake
 
 -- a unit is delivered so
 pub delivered : (s : Setting) (u : DataUnit) (r : Reply) (n : Network) (d : Delivery) → IsAwake r.keeping.leaving (changed r.change n.stations) → r.keeping.arriving ≡ None → d ≡ delivery_of u.to (changed r.change n.stations) n.kept → deliver s u (after_reply r n) ≡ deliver_by d s u (after_reply r n)
 delivered s u r n d awake none is =
     ap (λ (e : Delivery). deliver_by e s u (after_reply r n)) (delivery-after r n u.to awake none ∙ sym is)
+
+-- the identifier of the link that a kept unit goes by is that of its station
+identifier-of_kept : (to : List ℕ) (t : Table) (kept : List Entry) (whom : Whom) → delivery_of to t kept ≡ Kept whom → aid_at whom (link_of to t) ≡ aid_for whom t
+identifier-of_kept to t kept whom h = by (is_group to) refl
+  where
+    to_group : (b : Bool) → (if b then Kept Group else Now) ≡ Kept whom → aid_at whom (link_of to t) ≡ aid_for whom t
+    to_group true e = let is : Group ≡ whom = cc in subst (λ w. aid_at w (link_of to t) ≡ aid_for w t) is refl
+    to_group false e = absurd (cc)
+
+    to_one : (l : Option Link) → delivery_with l to ≡ Kept whom → aid_at whom (link_of to t) ≡ aid_for whom t
+    to_one None e = absurd (cc)
+    to_one (Some Authenticated) e = absurd (cc)
+    to_one (Some (Associated aid listen true)) e = let one : One to ≡ whom = cc in subst (λ w. aid_at w (link_of to t) ≡ aid_for w t) one refl
+    to_one (Some (Associated aid listen false)) e = absurd (cc)
+
+    by : (b : Bool) → is_group to ≡ b → aid_at whom (link_of to t) ≡ aid_for whom t
+    by true is = to_group (some_station_dozes t || group_is_kept kept) (sym (rw is refl) ∙ h)
+    by false is = to_one (link_of to t) (sym (rw is refl) ∙ h)
+
+-- and so it was before a mode was set
+pub identifier-told : (change : Change) (to : List ℕ) (t : Table) (kept : List Entry) (whom : Whom) (link : Option Link) → IsModeAlone change → link ≡ link_of to (changed change t) → delivery_of to (changed change t) kept ≡ Kept whom → aid_at whom link ≡ aid_for whom t
+identifier-told change to t kept whom link alone is goes =
+    ap (aid_at whom) is ∙ identifier-of_kept to (changed change t) kept whom goes ∙ aid_for-mode change whom t alone
 
 -- ---- units in order
 
@@ -124,42 +150,41 @@ some-at [] k h = absurd (omega (arith, h))
 some-at (u ∷ us) zero h = (u, refl)
 some-at (u ∷ us) (suc k) h = some-at us k (omega (arith, h))
 
--- ---- a poll
-
--- the first of the units that are kept is sent
-pub first-served : (s : Setting) (from : List ℕ) (us : List DataUnit) (u : DataUnit) (n : Network) → slice_get us 0 ≡ Some u
-    → serve_poll s from us n ≡ send_unit s (nat_lt 1 (length us)) u (record n { kept = without_oldest (One from) n.kept })
-first-served s from [] u n h = absurd (cc)
-first-served s from (v ∷ vs) u n h =
-    let same : v ≡ u = cc in
-    ap (λ (b : Bool). send_unit s b v (record n { kept = without_oldest (One from) n.kept })) (others_follow-after (v ∷ vs) 1)
-    ∙ ap (λ (w : DataUnit). send_unit s (nat_lt 1 (length (v ∷ vs))) w (record n { kept = without_oldest (One from) n.kept })) same
-
 -- ---- polls
 
 -- the first of these units, where there is one, is sent and leaves
-served : (s : Setting) (from : List ℕ) (us : List DataUnit) (n : Network) → serve_poll s from us n ≡ after_reply (serving s from us (no_reply n.sequence)) n
-served s from [] n = sym (nothing-replied n)
-served s from (u ∷ us) n =
-    let left : Network = record n { kept = without_oldest (One from) n.kept } in
-    let r : Reply = record (no_reply n.sequence) { keeping = record { leaving = leavings.Oldest (One from); arriving = None } } in
-    let is : after_reply r n ≡ left = oldest-replied from n in
-    ap (send (unit_frame s.network.bssid (others_follow us) u)) (sym is) ∙ after-sent r n (unit_frame s.network.bssid (others_follow us) u)
-  where
-    oldest-replied : (from : List ℕ) (n : Network) → after_reply (record (no_reply n.sequence) { keeping = record { leaving = leavings.Oldest (One from); arriving = None } }) n ≡ record n { kept = without_oldest (One from) n.kept }
-    oldest-replied from n = search rules
+poll-carried : (s : Setting) (from : List ℕ) (us : List DataUnit) (n : Network) → units_for (One from) n.kept ≡ us → serve_poll s from us n ≡ after_reply (serving s us (no_reply n.sequence)) (served (Some from) n)
+poll-carried s from [] n none =
+    sym (nothing-replied (served (Some from) n) ∙ ap (λ (es : List Entry). record n { kept = es }) (oldest-none (One from) n.kept none))
+poll-carried s from (u ∷ us) n is =
+    let left : Network = served (Some from) n in
+    ap (send (unit_frame s.network.bssid (others_follow us) u)) (sym (nothing-replied left))
+    ∙ after-sent (no_reply n.sequence) left (unit_frame s.network.bssid (others_follow us) u)
 
-pub poll-served : (s : Setting) (from : List ℕ) (aid : ℕ) (n : Network) → may_poll aid (link_of from n.stations) ≡ true → answer_poll s from aid n ≡ after_reply (done s n (Some from) (no_reply n.sequence)) n
-poll-served s from aid n may = rw may (served s from (units_for (One from) n.kept) n)
+pub poll-served : (s : Setting) (from : List ℕ) (aid : ℕ) (n : Network) → may_poll aid (link_of from n.stations) ≡ true → answer_poll s from aid n ≡ after_reply (done s n (Some from) (no_reply n.sequence)) (served (Some from) n)
+poll-served s from aid n may = rw may (poll-carried s from (units_for (One from) n.kept) n refl)
 
-pub poll-refused : (s : Setting) (from : List ℕ) (aid : ℕ) (n : Network) → may_poll aid (link_of from n.stations) ≡ false → answer_poll s from aid n ≡ after_reply (done s n None (no_reply n.sequence)) n
+pub poll-refused : (s : Setting) (from : List ℕ) (aid : ℕ) (n : Network) → may_poll aid (link_of from n.stations) ≡ false → answer_poll s from aid n ≡ after_reply (done s n None (no_reply n.sequence)) (served None n)
 poll-refused s from aid n not = rw not (sym (nothing-replied n))
 
 -- such a reply can be carried out
-pub poll-fits : (s : Setting) (n : Network) (polled : Option (List ℕ)) (sequence : ℕ) → IsFitting s (done s n polled (no_reply sequence)) n
+pub poll-fits : (s : Setting) (n : Network) (polled : Option (List ℕ)) (sequence : ℕ) → IsFitting s (done s n polled (no_reply sequence)) (served polled n)
 poll-fits s n None sequence = record { change = tt; keeping = tt }
 poll-fits s n (Some from) sequence = by (units_for (One from) n.kept)
   where
-    by : (us : List DataUnit) → IsFitting s (serving s from us (no_reply sequence)) n
+    by : (us : List DataUnit) → IsFitting s (serving s us (no_reply sequence)) (served (Some from) n)
     by [] = record { change = tt; keeping = tt }
     by (u ∷ us) = record { change = tt; keeping = tt }
+
+-- ---- units that leave with a change
+
+pub woken-replied : (from : List ℕ) (n : Network) → after_reply (record (no_reply n.sequence) { change = changes.SetMode from false; keeping = record { leaving = leavings.All (One from); arriving = None } }) n ≡ change_state from (set_mode from false) n
+woken-replied from n = search rules
+
+pub dtim-replied : (frame : ℕ → List ℕ) (n : Network) → after_reply (record (sending (record (no_reply n.sequence) { clock = 1 }) frame) { keeping = record { leaving = leavings.All Group; arriving = None } }) n ≡ drop_units Group (send frame (record n { clock = n.clock + 1 }))
+dtim-replied frame n = search rules
+
+-- with the poll of a station no beacon interval begins
+pub polled-clock : (s : Setting) (us : List DataUnit) (sequence : ℕ) → (serving s us (no_reply sequence)).clock ≡ 0
+polled-clock s [] sequence = refl
+polled-clock s (u ∷ us) sequence = refl

@@ -1,5 +1,5 @@
 -- Units, polls and beacons, and what a network makes of them: rows worked out by hand.
-use Rattle.std.proofs.Common.{◌≡◌, ℕ, true, false, List, [], ◌∷◌, ◌++◌, Ok, refl}
+use Rattle.std.proofs.Common.{◌≡◌, ℕ, true, false, [], ◌∷◌, ◌++◌, Ok, refl}
 use Rattle.mac_frame.specs.Address.{broadcast}
 use Rattle.association.specs.Request.{Request, Msdu, Null, Poll}
 use Rattle.association.proofs.Samples.{other_station}
@@ -8,11 +8,12 @@ use Rattle.powersave.specs.declared.unit.Whom.TheVariants.{One, Group}
 use Rattle.tim.specs.Tim.{tim_octets, partial_of, from_first_pair, up_to_last, virtual_bitmap, octet_at, bits_from}
 use Rattle.beacon.specs.Advert.{timestamp, fixed_fields, network_elements}
 use Rattle.beacon.specs.Beacon.{dtim_count}
-use Rattle.bss_core.specs.Network.{Setting, Network, empty_network, answer, step}
+use Rattle.bss_core.specs.Network.{Setting, Network, empty_network, age_units, answer, step}
 use Rattle.bss_core.specs.Units.{unit}
 use Rattle.bss_core.specs.declared.event.Event.TheVariants.{Wire, Tick}
 use Rattle.bss_core.specs.declared.stations.Link.TheVariants.{Authenticated, Associated}
 use Rattle.bss_core.proofs.Samples.{bssid, station, network, setting}
+use Rattle.bss_core.proofs.UnitSamples.{host, ipv4, wired, sent, last, more, beacon_with, at_1, at_2, at_3}
 
 -- ---- a network with stations
 
@@ -30,36 +31,12 @@ narrow = record setting { network = record network { quota = 1 } }
 
 -- ---- units
 
--- a host on the wire
-abbrev host : List ℕ
-host = 0x02 ∷ 0xbb ∷ 0x00 ∷ 0x00 ∷ 0x00 ∷ 0x01 ∷ []
-
--- what carries one octet of IPv4
-abbrev ipv4 : ℕ → List ℕ
-ipv4 octet = 0xaa ∷ 0xaa ∷ 0x03 ∷ 0x00 ∷ 0x00 ∷ 0x00 ∷ 0x08 ∷ 0x00 ∷ octet ∷ []
-
--- the same in an Ethernet frame
-abbrev wired : List ℕ → List ℕ → ℕ → List ℕ
-wired to source octet = to ++ source ++ 0x08 ∷ 0x00 ∷ octet ∷ []
-
--- and in a frame on the air, by its flags and sequence number below 16
-abbrev sent : (flags : ℕ) (to source : List ℕ) (sequence_control octet : ℕ) → List ℕ
-sent flags to source sequence_control octet =
-    (0x08 ∷ flags ∷ 0x00 ∷ 0x00 ∷ []) ++ to ++ bssid ++ source ++ (sequence_control ∷ 0x00 ∷ []) ++ ipv4 octet
-
--- From DS, without More Data and with it
-abbrev last : ℕ
-last = 0x02
-
-abbrev more : ℕ
-more = 0x22
-
 -- kept, from the host
 abbrev for_other : ℕ → Entry
-for_other octet = (One other_station, unit other_station host (ipv4 octet))
+for_other octet = (One other_station, unit 0 other_station host (ipv4 octet))
 
 abbrev for_group : ℕ → Entry
-for_group octet = (Group, unit broadcast host (ipv4 octet))
+for_group octet = (Group, unit 0 broadcast host (ipv4 octet))
 
 -- ---- from the wire
 
@@ -92,13 +69,13 @@ ask s n r = answer s (Ok r) n
 a_unit_for_a_host_goes_on_the_wire : ask setting joined (Msdu station false host (ipv4 7)) ≡ record joined { wire = wired host station 7 ∷ [] }
 a_unit_for_a_host_goes_on_the_wire = refl
 
-a_unit_for_a_station_stays_off_the_wire : ask setting joined (Msdu station false other_station (ipv4 7)) ≡ record joined { kept = (One other_station, unit other_station station (ipv4 7)) ∷ [] }
+a_unit_for_a_station_stays_off_the_wire : ask setting joined (Msdu station false other_station (ipv4 7)) ≡ record joined { kept = (One other_station, unit 0 other_station station (ipv4 7)) ∷ [] }
 a_unit_for_a_station_stays_off_the_wire = refl
 
 a_unit_for_the_group_goes_both_ways : ask setting one_active (Msdu station false broadcast (ipv4 7)) ≡ record one_active { sequence = 1; air = sent last broadcast station 0x00 7 ∷ []; wire = wired broadcast station 7 ∷ [] }
 a_unit_for_the_group_goes_both_ways = refl
 
-the_mode_comes_before_the_delivery : ask setting one_active (Msdu station true broadcast (ipv4 7)) ≡ record one_active { stations = (station, Associated 1 10 true) ∷ []; kept = (Group, unit broadcast station (ipv4 7)) ∷ []; wire = wired broadcast station 7 ∷ [] }
+the_mode_comes_before_the_delivery : ask setting one_active (Msdu station true broadcast (ipv4 7)) ≡ record one_active { stations = (station, Associated 1 10 true) ∷ []; kept = (Group, unit 0 broadcast station (ipv4 7)) ∷ []; wire = wired broadcast station 7 ∷ [] }
 the_mode_comes_before_the_delivery = refl
 
 -- two octets have no wired form
@@ -134,20 +111,6 @@ who_is_authenticated_only_sets_no_mode = refl
 
 -- ---- beacons
 
--- with sequence number 0, by the three low octets of the Timestamp and by the TIM
-abbrev beacon_with : List ℕ → List ℕ → List ℕ
-beacon_with time tim =
-    (0x80 ∷ 0x00 ∷ 0x00 ∷ 0x00 ∷ []) ++ broadcast ++ bssid ++ bssid ++ (0x00 ∷ 0x00 ∷ [])
-    ++ time ++ (0x00 ∷ 0x00 ∷ 0x00 ∷ 0x00 ∷ 0x00 ∷ 0x64 ∷ 0x00 ∷ 0x01 ∷ 0x00 ∷ [])
-    ++ (0x00 ∷ 0x03 ∷ 0x6c ∷ 0x61 ∷ 0x62 ∷ 0x01 ∷ 0x04 ∷ 0x82 ∷ 0x84 ∷ 0x0b ∷ 0x16 ∷ 0x03 ∷ 0x01 ∷ 0x06 ∷ []) ++ tim
-
--- one and two intervals of 100 time units of 1024 microseconds
-abbrev at_1 : List ℕ
-at_1 = 0x00 ∷ 0x90 ∷ 0x01 ∷ []
-
-abbrev at_2 : List ℕ
-at_2 = 0x00 ∷ 0x20 ∷ 0x03 ∷ []
-
 -- every second beacon is a DTIM's
 abbrev every_second : Setting
 every_second = record setting { network = record network { dtim = 2 } }
@@ -163,3 +126,72 @@ a_dtim_brings_the_units_for_the_group = refl
 another_beacon_leaves_them : step every_second (record waiting { clock = 1 }) Tick ≡ record waiting { clock = 2; sequence = 1; air = beacon_with at_2 (0x05 ∷ 0x04 ∷ 0x01 ∷ 0x02 ∷ 0x00 ∷ 0x04 ∷ []) ∷ [] }
 unfolding timestamp fixed_fields network_elements dtim_count tim_octets partial_of from_first_pair up_to_last virtual_bitmap octet_at bits_from
 another_beacon_leaves_them = refl
+
+-- ---- a network that doesn't relay
+
+abbrev apart : Setting
+apart = record setting { network = record network { relay = false } }
+
+a_unit_for_a_station_goes_on_the_wire_alone : ask apart joined (Msdu station false other_station (ipv4 7)) ≡ record joined { wire = wired other_station station 7 ∷ [] }
+a_unit_for_a_station_goes_on_the_wire_alone = refl
+
+a_unit_for_itself_does_too : ask apart joined (Msdu station false station (ipv4 7)) ≡ record joined { wire = wired station station 7 ∷ [] }
+a_unit_for_itself_does_too = refl
+
+-- a station dozes, and nothing is kept
+a_unit_for_the_group_does_too : ask apart joined (Msdu station false broadcast (ipv4 7)) ≡ record joined { wire = wired broadcast station 7 ∷ [] }
+a_unit_for_the_group_does_too = refl
+
+without_a_wired_form_it_is_lost : ask apart joined (Msdu station false other_station (0x00 ∷ 0x00 ∷ [])) ≡ record joined { lost = 1 }
+without_a_wired_form_it_is_lost = refl
+
+the_mode_is_set_all_the_same : ask apart one_active (Msdu station true broadcast (ipv4 7)) ≡ record one_active { stations = (station, Associated 1 10 true) ∷ []; wire = wired broadcast station 7 ∷ [] }
+the_mode_is_set_all_the_same = refl
+
+frames_of_the_wire_are_delivered_as_ever : step apart joined (Wire (wired station host 7)) ≡ record joined { sequence = 1; air = sent last station host 0x00 7 ∷ [] }
+frames_of_the_wire_are_delivered_as_ever = refl
+
+-- ---- a network in which units age
+
+abbrev aging : Setting
+aging = record setting { network = record network { aging = true } }
+
+-- a station that dozes with a listen interval, for which a unit came at clock 0, at a later clock
+abbrev dozing_at : (listen clock : ℕ) → Network
+dozing_at listen clock = record empty_network { stations = (other_station, Associated 2 listen true) ∷ []; kept = for_other 7 ∷ []; clock = clock }
+
+a_unit_stays_for_the_listen_interval : age_units aging (dozing_at 1 1) ≡ dozing_at 1 1
+a_unit_stays_for_the_listen_interval = refl
+
+after_it_the_unit_is_lost : age_units aging (dozing_at 1 2) ≡ record (dozing_at 1 2) { kept = []; lost = 1 }
+after_it_the_unit_is_lost = refl
+
+listen_interval_0_is_for_one_beacon : age_units aging (dozing_at 0 0) ≡ dozing_at 0 0
+listen_interval_0_is_for_one_beacon = refl
+
+and_no_other : age_units aging (dozing_at 0 1) ≡ record (dozing_at 0 1) { kept = []; lost = 1 }
+and_no_other = refl
+
+listen_interval_65535_is_as_long : age_units aging (dozing_at 65535 65535) ≡ dozing_at 65535 65535
+listen_interval_65535_is_as_long = refl
+
+and_no_longer : age_units aging (dozing_at 65535 65536) ≡ record (dozing_at 65535 65536) { kept = []; lost = 1 }
+and_no_longer = refl
+
+units_for_the_group_dont_age : age_units aging (record (dozing_at 1 1000) { kept = for_group 1 ∷ for_other 2 ∷ for_group 3 ∷ [] }) ≡ record (dozing_at 1 1000) { kept = for_group 1 ∷ for_group 3 ∷ []; lost = 1 }
+units_for_the_group_dont_age = refl
+
+where_units_dont_age_none_leaves : age_units setting (dozing_at 1 1000) ≡ dozing_at 1 1000
+where_units_dont_age_none_leaves = refl
+
+the_beacon_tells_of_a_unit_that_stays : step aging (dozing_at 1 1) Tick ≡ record (dozing_at 1 2) { sequence = 1; air = beacon_with at_2 (0x05 ∷ 0x04 ∷ 0x00 ∷ 0x01 ∷ 0x00 ∷ 0x04 ∷ []) ∷ [] }
+unfolding timestamp fixed_fields network_elements dtim_count tim_octets partial_of from_first_pair up_to_last virtual_bitmap octet_at bits_from
+the_beacon_tells_of_a_unit_that_stays = refl
+
+and_not_of_one_that_was_just_lost : step aging (dozing_at 1 2) Tick ≡ record (dozing_at 1 3) { kept = []; lost = 1; sequence = 1; air = beacon_with at_3 (0x05 ∷ 0x04 ∷ 0x00 ∷ 0x01 ∷ 0x00 ∷ 0x00 ∷ []) ∷ [] }
+unfolding timestamp fixed_fields network_elements dtim_count tim_octets partial_of from_first_pair up_to_last virtual_bitmap octet_at bits_from
+and_not_of_one_that_was_just_lost = refl
+
+-- room for one unit, which one that was too old had
+room_comes_back : step (record narrow { network = record narrow.network { aging = true } }) (age_units aging (dozing_at 1 2)) (Wire (wired other_station host 8)) ≡ record (dozing_at 1 2) { kept = (One other_station, unit 2 other_station host (ipv4 8)) ∷ []; lost = 1 }
+room_comes_back = refl

@@ -1,6 +1,6 @@
 -- The units that are kept, and whoever they are kept for.
-use Rattle.std.proofs.Common.{◌≡◌, ℕ, suc, ◌+◌, ◌≤◌, Bool, true, false, not, ◌&&◌, List, [], ◌∷◌, ◌++◌, length, Option, Some, None, refl, sym, ap, ◌∙◌, arith}
-use Rattle.std.specs.Prelude.{filter, option_map, min, nat_lt}
+use Rattle.std.proofs.Common.{◌≡◌, ℕ, suc, ◌+◌, ◌≤◌, Bool, true, false, not, ◌&&◌, cond, List, [], ◌∷◌, ◌++◌, length, Option, Some, None, refl, sym, ap, ◌∙◌, arith}
+use Rattle.std.specs.Prelude.{filter, map, option_map, nat_lt}
 use Rattle.std.specs.List.{list_any}
 use Rattle.std.specs.Str.{bytes_eq}
 use Rattle.std.proofs.lemmas.Bool.{both_ways, lt-ltb}
@@ -9,9 +9,12 @@ use Rattle.powersave.specs.Keep.{Entry, is_same, is_for, units_for, without_all,
 use Rattle.powersave.specs.declared.unit.Whom.{Whom}
 use Rattle.powersave.specs.declared.unit.Whom.TheVariants.{One, Group}
 use Rattle.powersave.specs.declared.unit.Unit.{Unit as DataUnit}
-use Rattle.bss_core.specs.Stations.{Table, link_of, dozes, dozes_with, is_dozing, with_mode, set_link, forget, set_mode}
+use Rattle.bss_core.specs.Replies.{aid_for}
+use Rattle.bss_core.specs.Stations.{Table, link_of, aid_of, aid_with, dozes, dozes_with, is_dozing, with_mode, set_link, forget, set_mode, changed, IsModeAlone}
 use Rattle.bss_core.specs.Sound.{IsKeptFor, AreKeptFor}
 use Rattle.bss_core.specs.Units.{group_is_kept}
+use Rattle.bss_core.specs.declared.stations.Change.{Change}
+use Rattle.bss_core.specs.declared.stations.Change.TheVariants as changes
 use Rattle.bss_core.specs.declared.stations.Link.{Link}
 use Rattle.bss_core.specs.declared.stations.Link.TheVariants.{Authenticated, Associated}
 
@@ -68,6 +71,31 @@ link_of-mode a doze (e ∷ t) = by (bytes_eq a e.0) refl (link_of-mode a doze t)
         let behind : link_of a (e ∷ set_mode a doze t) ≡ link_of a (set_mode a doze t) = rw apart refl in
         let before : link_of a (e ∷ t) ≡ link_of a t = rw apart refl in
         ap (link_of a) set ∙ behind ∙ later ∙ ap (option_map (with_mode doze)) (sym before)
+
+-- a mode is nothing to its identifier
+
+same-aid_with : (doze : Bool) (link : Option Link) → aid_with (option_map (with_mode doze) link) ≡ aid_with link
+same-aid_with doze None = refl
+same-aid_with doze (Some Authenticated) = refl
+same-aid_with doze (Some (Associated aid listen before)) = refl
+
+aid_of-mode : (a b : List ℕ) (doze : Bool) (t : Table) → aid_of b (set_mode a doze t) ≡ aid_of b t
+aid_of-mode a b doze t = by (bytes_eq b a) refl
+  where
+    by : (r : Bool) → bytes_eq b a ≡ r → aid_of b (set_mode a doze t) ≡ aid_of b t
+    by true same =
+        let is : b ≡ a = (bytes_eq-Decides b a).0 same in
+        ap (λ k. aid_of k (set_mode a doze t)) is ∙ ap aid_with (link_of-mode a doze t) ∙ same-aid_with doze (link_of a t) ∙ ap (λ k. aid_of k t) (sym is)
+    by false other = ap aid_with (link_of-moded a b doze t other)
+
+pub aid_for-mode : (change : Change) (whom : Whom) (t : Table) → IsModeAlone change → aid_for whom (changed change t) ≡ aid_for whom t
+aid_for-mode changes.Nothing whom t alone = refl
+aid_for-mode (changes.Authenticate a) whom t alone = absurd alone
+aid_for-mode (changes.Associate a listen) whom t alone = absurd alone
+aid_for-mode (changes.Disassociate a) whom t alone = absurd alone
+aid_for-mode (changes.Forget a) whom t alone = absurd alone
+aid_for-mode (changes.SetMode a doze) (One b) t alone = aid_of-mode a b doze t
+aid_for-mode (changes.SetMode a doze) Group t alone = refl
 
 active-link : (link : Option Link) → dozes_with (option_map (with_mode false) link) ≡ false
 active-link None = refl
@@ -197,14 +225,14 @@ length-parted w (e ∷ es) = by (is_for w e) refl (length-parted w es)
     by true is later = rw is (omega (arith, later))
     by false is later = rw is (omega (arith, later))
 
--- one leaves where there is one
-pub length-oldest : (w : Whom) (es : List Entry) → length (without_oldest w es) + min (length (units_for w es)) 1 ≡ length es
-length-oldest w [] = refl
-length-oldest w (e ∷ es) = by (is_for w e) refl (length-oldest w es)
+-- none leaves where there is none
+pub oldest-none : (w : Whom) (es : List Entry) → units_for w es ≡ [] → without_oldest w es ≡ es
+oldest-none w [] none = refl
+oldest-none w (e ∷ es) none = by (is_for w e) none (oldest-none w es)
   where
-    by : (r : Bool) → is_for w e ≡ r → length (without_oldest w es) + min (length (units_for w es)) 1 ≡ length es → length (without_oldest w (e ∷ es)) + min (length (units_for w (e ∷ es))) 1 ≡ length (e ∷ es)
-    by true is later = rw is (omega arith)
-    by false is later = rw is (omega (arith, later))
+    by : (r : Bool) → map (λ (entry : Entry). entry.1) (cond r (e ∷ filter (is_for w) es) (filter (is_for w) es)) ≡ [] → (units_for w es ≡ [] → without_oldest w es ≡ es) → cond r es (e ∷ without_oldest w es) ≡ e ∷ es
+    by true some later = absurd (cc)
+    by false rest later = ap (λ fs. e ∷ fs) (later rest)
 
 -- ---- those for the group
 

@@ -1,5 +1,5 @@
 -- Who has units waiting: one station, and the others.
-use Rattle.std.proofs.Common.{◌≡◌, ◌≢◌, ℕ, Bool, true, false, not, ◌||◌, ◌&&◌, List, [], ◌∷◌, ◌++◌, length, Option, Some, None, Result, Ok, Err, OnOk, OnErr, is_some, refl, sym, ap, subst, ◌∙◌}
+use Rattle.std.proofs.Common.{◌≡◌, ◌≢◌, ℕ, Bool, true, false, not, ◌||◌, ◌&&◌, List, [], ◌∷◌, ◌++◌, length, Option, Some, None, Result, Ok, Err, OnOk, OnErr, IfSome, is_some, refl, sym, ap, subst, ◌∙◌}
 use Rattle.std.specs.Prelude.{◌==◌, nat_lt, nat_eq}
 use Rattle.std.specs.FinSet as set
 use Rattle.std.specs.Str.{bytes_eq}
@@ -10,12 +10,13 @@ use Rattle.mac_frame.specs.Address.{broadcast}
 use Rattle.mac_frame.specs.Management.{management_header}
 use Rattle.elements.specs.Rates.{extended_rates}
 use Rattle.aid_pool.specs.LeastFree.{is_among}
-use Rattle.tim.specs.Tim.{SameNumbers, tim_octets}
+use Rattle.tim.specs.Tim.{IsAid, SameNumbers, tim_octets}
 use Rattle.beacon.specs.Advert.{Announced, fixed_fields, network_elements}
 use Rattle.beacon.specs.Beacon.{beacon, beacon_subtype, dtim_count, traffic_indicator}
 use Rattle.powersave.specs.Keep.{Entry, units_for}
 use Rattle.powersave.specs.declared.unit.Whom.{Whom}
 use Rattle.powersave.specs.declared.unit.Whom.TheVariants.{One, Group}
+use Rattle.bss_core.specs.Replies.{aid_for}
 use Rattle.bss_core.specs.Roster.{RosterState, IsRoster, AreWaitedFor, StayBeside, is_number, renumbered}
 use Rattle.bss_core.specs.Sound.{AreApart}
 use Rattle.bss_core.specs.Stations.{Table, StationTable, with_table, IsAllowed, link_of, aid_of, aid_with, identifiers, identifier_of, AreIdentifiers, set_link, forget, disassociate, set_mode, with_mode, changed}
@@ -24,7 +25,7 @@ use Rattle.bss_core.specs.declared.stations.Change.{Change}
 use Rattle.bss_core.specs.declared.stations.Change.TheVariants as changes
 use Rattle.bss_core.specs.declared.stations.Link.{Link}
 use Rattle.bss_core.specs.declared.stations.Link.TheVariants.{Authenticated, Associated}
-use Rattle.bss_core.proofs.StationTables.{Numbers, eqb-flip, neither, numbers-of_associated, without, forget-unknown}
+use Rattle.bss_core.proofs.StationTables.{Numbers, eqb-flip, neither, numbers-of_associated, range-of_associated, without, forget-unknown}
 use Rattle.bss_core.proofs.StationsSound.{not-here, changed-sound}
 use Rattle.bss_core.proofs.UnitsKept.{some-for}
 
@@ -160,6 +161,26 @@ pub followed : (addr : List ℕ) (t : Table) (before after : List Entry) (old ne
     → AreShown (aid_of addr t) (aid_of addr t) waits old new → AreWaitedFor old t before → AreWaitedFor new t after
 followed addr t before after old new waits apart sound stay is now told =
     waited-one addr t t before after old new waits sound (λ n. others-stay addr (forget addr t) before after n (forgotten addr t apart) stay) is now told
+
+-- a unit came for one, and its bit is set
+
+set-is_shown : (a b : Bool) → (a || b) ≡ ((true && a) || (not a && b))
+set-is_shown true b = refl
+set-is_shown false b = refl
+
+pub put-followed : (whom : Whom) (t : Table) (before after : List Entry) (old new : Numbers) (aid : Option ℕ) → AreApart t → AreIdentifiers (identifiers t)
+    → StayBeside whom before after → true ≡ nat_lt 0 (length (units_for whom after)) → aid ≡ aid_for whom t
+    → ((n : ℕ) → set.contains new n ≡ (is_number aid n || set.contains old n)) → AreWaitedFor old t before → AreWaitedFor new t after
+put-followed (One addr) t before after old new aid apart sound stay some is now told =
+    followed addr t before after old new true apart sound stay some
+    (λ n. now n ∙ ap (λ (o : Option ℕ). is_number o n || set.contains old n) is ∙ set-is_shown (is_number (aid_of addr t) n) (set.contains old n)) told
+put-followed Group t before after old new aid apart sound stay some is now told =
+    λ n among. now n ∙ ap (λ (o : Option ℕ). is_number o n || set.contains old n) is ∙ told n among ∙ sym (group-waits_not t before after n stay)
+
+pub identifier-range : (whom : Whom) (t : Table) (o : Option ℕ) → o ≡ aid_for whom t → AreIdentifiers (identifiers t) → IfSome o IsAid
+identifier-range whom t None is sound = tt
+identifier-range (One addr) t (Some aid) is sound = range-of_associated addr t aid (sym is) sound
+identifier-range Group t (Some aid) is sound = absurd (cc)
 
 -- ---- one station changes
 

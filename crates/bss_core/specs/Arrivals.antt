@@ -13,4 +13,4 @@ body_octets (Plain octets) = octets.now
 body_octets (Wired ether) = on_air (shown ether)
 
 abbrev pub unit_shown : Arrival → DataUnit
-unit_shown a = unit a.to a.source (body_octets a.body)
+unit_shown a = unit a.at a.to a.source (body_octets a.body)

@@ -23,8 +23,12 @@ interval_fits = is_between 1 65535
 abbrev pub queue_fits : ℕ → Bool
 queue_fits = is_between 1 4096
 
+-- the most networks of a radio
+abbrev pub most_networks : ℕ
+most_networks = 16
+
 abbrev pub count_fits : ℕ → Bool
-count_fits = is_between 1 8
+count_fits = is_between 1 most_networks
 
 abbrev pub ssid_fits : List ℕ → Bool
 ssid_fits ssid = is_between 1 32 (length ssid)

@@ -5,6 +5,7 @@ pub mod StationsKept
 pub mod Units
 pub mod Arrivals
 pub mod Network
+pub mod FirstVersion
 pub mod Sound
 pub mod Roster
 pub mod Section

@@ -1,7 +1,7 @@
 -- A network alone: what it does with its own events. No other network, no queue, no capacity and no thread
 -- stands in it.
 use Rattle.std.specs.Prelude.{ℕ, ◌+◌, ◌%◌, Bool, true, false, not, ◌||◌, ◌&&◌, ◌==◌, nat_lt, is_some, length, List, []}
-use Rattle.std.specs.Prelude.{◌∷◌, ◌++◌, map, Option, Some, None, unwrap_or, Result, Ok, Err, if◌then◌else◌}
+use Rattle.std.specs.Prelude.{◌∷◌, ◌++◌, map, filter, Option, Some, None, unwrap_or, Result, Ok, Err, if◌then◌else◌}
 use Rattle.std.specs.Str.{bytes_eq}
 use Rattle.mac_frame.specs.declared.frame.Unread.{Unread}
 use Rattle.beacon.specs.ProbeResponse.{Announced, probe_response}
@@ -25,7 +25,7 @@ use Rattle.elements.specs.Elements.{Pair}
 use Rattle.bss_core.specs.Stations.{Table, link_of, standing_with, standing_of, may_associate, next_aid, authenticate}
 use Rattle.bss_core.specs.Stations.{associate, disassociate, forget, set_mode, is_dozing, aid_with, listen_of, dozes}
 use Rattle.bss_core.specs.Units.{unit, unit_of, unit_frame, others_follow, delivery_of, goes_on_wire, may_poll}
-use Rattle.bss_core.specs.Units.{group_is_kept, is_waited_for}
+use Rattle.bss_core.specs.Units.{group_is_kept, is_waited_for, is_too_old}
 use Rattle.bss_core.specs.declared.stations.Link.{Link}
 use Rattle.bss_core.specs.declared.reply.unit.Delivery.{Delivery}
 use Rattle.bss_core.specs.declared.reply.unit.Delivery.TheVariants.{Now, Kept, Nowhere}
@@ -102,6 +102,17 @@ abbrev pub send_each : Setting → Bool → List DataUnit → Network → Networ
 send_each s shows_more [] n = n
 send_each s shows_more (u ∷ us) n = send_each s shows_more us (send_unit s (shows_more && others_follow us) u n)
 
+-- where the network is so configured, the units that are too old leave, and are lost (profile)
+abbrev pub has_aged : Setting → Network → Entry → Bool
+has_aged s n entry = s.network.aging && is_too_old n.clock n.stations entry
+
+abbrev pub drop_lost : (Entry → Bool) → Network → Network
+drop_lost leaves n =
+    record n { kept = filter (λ entry. not (leaves entry)) n.kept; lost = n.lost + length (filter leaves n.kept) }
+
+abbrev pub age_units : Setting → Network → Network
+age_units s n = drop_lost (has_aged s n) n
+
 -- a unit goes on the wire, or is lost where it has no wired form (profile)
 abbrev pub put_on_wire : Option (List ℕ) → Network → Network
 put_on_wire (Some octets) n = record n { wire = n.wire ++ octets ∷ [] }
@@ -167,13 +178,17 @@ deliver_by Nowhere s u n = n
 abbrev pub deliver : Setting → DataUnit → Network → Network
 deliver s u n = deliver_by (delivery_of u.to n.stations n.kept) s u n
 
--- a station's unit is delivered on the air, and goes on the wire but where it is for one associated station (4.5.2)
+-- a station's unit is delivered on the air where the network relays (profile), and nowhere there else
+abbrev pub relay : Setting → DataUnit → Network → Network
+relay s u n = if s.network.relay then deliver s u n else n
+
+-- it goes on the wire too but where it is relayed to one associated station (4.5.2)
 abbrev pub forward_by : Bool → Setting → DataUnit → Network → Network
-forward_by true s u n = put_on_wire (on_wire u.to u.source u.body) (deliver s u n)
-forward_by false s u n = deliver s u n
+forward_by true s u n = put_on_wire (on_wire u.to u.source u.body) (relay s u n)
+forward_by false s u n = relay s u n
 
 abbrev pub forward : Setting → DataUnit → Network → Network
-forward s u n = forward_by (goes_on_wire u.to n.stations) s u n
+forward s u n = forward_by (goes_on_wire s.network.relay u.to n.stations) s u n
 
 -- The mode of a station is set (11.2.3.2). One that dozed and is active now is sent all units that were kept for it.
 abbrev pub set_power_mode : Setting → List ℕ → Bool → Network → Network
@@ -194,7 +209,7 @@ answer_poll s from aid n =
 
 -- a frame of the wire (4.5.2.2), which goes to the group, to an associated station or nowhere (profile)
 abbrev pub answer_wired : Setting → Result Ethernet Unread → Network → Network
-answer_wired s (Ok w) n = deliver s (unit_of w) n
+answer_wired s (Ok w) n = deliver s (unit_of n.clock w) n
 answer_wired s (Err fault) n = count_unread n
 
 -- the request of a station in a state in which its class is taken
@@ -204,7 +219,7 @@ serve s (Auth from algorithm step) n = answer_authentication s from algorithm st
 serve s (Assoc from again listen elements) n = answer_association s from again listen elements n
 serve s (Disassoc from) n = change_state from (disassociate from) n
 serve s (Deauth from) n = change_state from (forget from) n
-serve s (Msdu from doze to body) n = forward s (unit to from body) (set_power_mode s from doze n)
+serve s (Msdu from doze to body) n = forward s (unit n.clock to from body) (set_power_mode s from doze n)
 serve s (Null from doze) n = set_power_mode s from doze n
 serve s (Poll from aid) n = answer_poll s from aid n
 
@@ -236,11 +251,11 @@ tick s n =
 
 -- ---- events
 
--- the network after an event
+-- the network after an event; units age before a beacon interval begins
 abbrev pub step : Setting → Network → Event → Network
 step s n (Air x) = answer s (request_of s.network.bssid x) n
 step s n (Wire y) = answer_wired s (ethernet_of y) n
-step s n Tick = tick s n
+step s n Tick = tick s (age_units s n)
 
 -- the network after events, the first of them first
 abbrev pub after : Setting → Network → List Event → Network

@@ -1,12 +1,13 @@
 -- What contracts see of a network that runs without its history (profile).
-use Rattle.std.specs.Prelude.{ℕ, ◌≡◌, ◌+◌, ◌*◌, ◌<◌, ◌≤◌, ◌^◌, List, [], ◌++◌, None}
+use Rattle.std.specs.Prelude.{ℕ, ◌≡◌, ◌+◌, ◌*◌, ◌<◌, ◌≤◌, ◌^◌, List, [], ◌++◌, Option, None}
 use Rattle.bss_core.specs.Configuration.{network_fault}
 use Rattle.bss_core.specs.Network.{Setting, Network, empty_network, step}
-use Rattle.bss_core.specs.Replies.{after_reply, IsFitting}
+use Rattle.bss_core.specs.Replies.{after_reply, before_reply, served, IsFitting}
 use Rattle.bss_core.specs.Roster.{RosterState}
 use Rattle.bss_core.specs.Sound.{IsSoundNetwork}
 use Rattle.bss_core.specs.declared.event.Event.{Event}
 use Rattle.bss_core.specs.declared.reply.Reply.{Reply}
+use Rattle.bss_core.specs.declared.stations.Change.TheVariants as changes
 
 -- its setting, how many events it took, and what these made of it but for the frames that it sent
 pub record NetworkState : Type 0 where
@@ -30,14 +31,25 @@ new_network s = record { setting = s; events = 0; network = empty_network }
 abbrev pub took_event : Event → NetworkState → NetworkState
 took_event e n = record n { events = n.events + 1; network = unsent (step n.setting n.network e) }
 
--- one that did what a reply says
-abbrev pub carried_out : Reply → NetworkState → NetworkState
-carried_out r n = record n { events = n.events + 1; network = unsent (after_reply r n.network) }
+-- one that did what a reply says, and served the poll of a station besides, if there is one, while no unit aged
+abbrev pub replied : (polled : Option (List ℕ)) → Reply → NetworkState → NetworkState
+replied polled r n = record n { events = n.events + 1; network = unsent (after_reply r (served polled n.network)) }
+
+-- one that did so where units age
+abbrev pub carried_out : (polled : Option (List ℕ)) → Reply → NetworkState → NetworkState
+carried_out polled r n =
+    record n { events = n.events + 1; network = unsent (after_reply r (before_reply n.setting polled r n.network)) }
+
+-- a reply with which a beacon interval begins changes no station, and no unit comes with it
+abbrev pub IsStill : Reply → Type 0
+IsStill r = 0 < r.clock → (r.change ≡ changes.Nothing) × (r.keeping.arriving ≡ None)
 
 -- the reply can be carried out, and leaves a network within its bounds
-pub record MayFollow (n : NetworkState) (r : Reply) : Type 0 where
-  pub fitting : IsFitting n.setting r n.network
-  pub sound : IsSoundNetwork n.setting (n.events + 1) (2 * (n.events + 1)) (unsent (after_reply r n.network))
+pub record MayFollow (n : NetworkState) (polled : Option (List ℕ)) (r : Reply) : Type 0 where
+  pub still : IsStill r
+  pub fitting : IsFitting n.setting r (before_reply n.setting polled r n.network)
+  pub sound : IsSoundNetwork n.setting (n.events + 1) (2 * (n.events + 1))
+      (unsent (after_reply r (before_reply n.setting polled r n.network)))
   pub clock : n.network.clock + r.clock < 2 ^ 32
 
 -- ---- what is kept of it

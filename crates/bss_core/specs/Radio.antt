@@ -1,6 +1,6 @@
 -- A radio and its networks (profile): what a list of steps makes of them, in whatever order the steps come. What a
 -- network does is said by `alone`, of its own setting and its own events, and by nothing else.
-use Rattle.std.specs.Prelude.{ℕ, ◌+◌, ◌==◌, nat_lt, Bool, List, [], ◌∷◌, ◌++◌, length, take, drop, map, filter}
+use Rattle.std.specs.Prelude.{false, ℕ, ◌+◌, ◌==◌, nat_lt, Bool, List, [], ◌∷◌, ◌++◌, length, take, drop, map, filter}
 use Rattle.std.specs.Prelude.{slice_get, slice_set, Option, Some, None, if◌then◌else◌}
 use Rattle.std.specs.List.{slice_index_or, filter_map, range_with_len}
 use Rattle.bss_core.specs.Network.{Setting, alone}
@@ -29,6 +29,8 @@ no_network = record {
   max_known = 0;
   quota = 0;
   max_events = 0;
+  relay = false;
+  aging = false;
 }
 
 abbrev pub network_at : RadioConfig → ℕ → NetConfig

@@ -1,17 +1,20 @@
 -- What a reply makes of a network (profile).
-use Rattle.std.specs.Prelude.{ℕ, ◌+◌, ◌<◌, ◌≡◌, Bool, false, List, [], ◌∷◌, ◌++◌, length, Option, Some, None}
-use Rattle.std.specs.Prelude.{option_to_list}
+use Rattle.std.specs.Prelude.{ℕ, ◌+◌, ◌<◌, ◌≡◌, nat_lt, Bool, false, ◌&&◌, List, [], ◌∷◌, ◌++◌, length, Option, Some, None}
+use Rattle.std.specs.Prelude.{option_map, option_to_list}
 use Rattle.powersave.specs.declared.unit.Unit.{Unit as DataUnit}
-use Rattle.bss_core.specs.Units.{unit_frame, others_follow}
-use Rattle.powersave.specs.Keep.{Entry, Kept, units_for, is_same, room_beside, without_all, without_oldest}
+use Rattle.bss_core.specs.Units.{unit_frame, others_follow, is_too_old}
+use Rattle.powersave.specs.Keep.{Entry, units_for, is_same, room_beside, without_all, without_oldest}
 use Rattle.powersave.specs.declared.unit.Whom.{Whom}
 use Rattle.powersave.specs.declared.unit.Whom.TheVariants.{One, Group}
-use Rattle.bss_core.specs.Network.{Setting, Network, next_sequence}
-use Rattle.bss_core.specs.Stations.{Table, changed, is_dozing, IsAllowed, IsModeAlone}
+use Rattle.bss_core.specs.Network.{Setting, Network, next_sequence, drop_lost}
+use Rattle.bss_core.specs.Stations.{Table, changed, is_dozing, aid_of, aid_with, IsAllowed, IsModeAlone}
+use Rattle.bss_core.specs.declared.reply.keeping.Arriving.{Arriving}
 use Rattle.bss_core.specs.declared.reply.keeping.Leaving.{Leaving}
 use Rattle.bss_core.specs.declared.reply.keeping.Leaving.TheVariants as leavings
 use Rattle.bss_core.specs.declared.reply.keeping.Keeping.{Keeping}
+use Rattle.bss_core.specs.declared.stations.Change.{Change}
 use Rattle.bss_core.specs.declared.stations.Change.TheVariants as changes
+use Rattle.bss_core.specs.declared.stations.Link.{Link}
 use Rattle.bss_core.specs.declared.reply.Reply.{Reply}
 
 -- ---- the units that are kept
@@ -20,34 +23,42 @@ use Rattle.bss_core.specs.declared.reply.Reply.{Reply}
 abbrev pub without : Leaving → List Entry → List Entry
 without leavings.Nothing kept = kept
 without (leavings.All whom) kept = without_all whom kept
-without (leavings.Oldest whom) kept = without_oldest whom kept
+
+-- one that comes, with whom it is kept for
+abbrev pub entry_of : Arriving → Entry
+entry_of a = (a.whom, a.unit)
 
 -- and one comes last
 abbrev pub kept_after : Keeping → List Entry → List Entry
-kept_after k kept = without k.leaving kept ++ option_to_list k.arriving
+kept_after k kept = without k.leaving kept ++ option_to_list (option_map entry_of k.arriving)
 
 -- units for one leave
 abbrev pub is_leaving : Leaving → Whom → Bool
 is_leaving leavings.Nothing whom = false
 is_leaving (leavings.All other) whom = is_same whom other
-is_leaving (leavings.Oldest other) whom = is_same whom other
 
--- one that comes is within the quota once those that leave are gone, which were for others
-abbrev pub IsWithin : ℕ → Leaving → List Entry → Option Entry → Type 0
-IsWithin quota leaving kept None = Unit {0}
-IsWithin quota leaving kept (Some entry) =
-    (length (without leaving kept) < quota) × (is_leaving leaving entry.0 ≡ false)
+-- the association identifier of whom a unit is kept for, a station with this link; the group has none
+abbrev pub aid_at : Whom → Option Link → Option ℕ
+aid_at (One addr) link = aid_with link
+aid_at Group link = None
 
--- room was made for the one that comes
-abbrev pub IsRoomFor : Option Entry → Kept → Type 0
-IsRoomFor None k = Unit {0}
-IsRoomFor (Some entry) k = k.reserved ≡ Some entry.0
+-- and the one that a station has, if it is associated
+abbrev pub aid_for : Whom → Table → Option ℕ
+aid_for (One addr) table = aid_of addr table
+aid_for Group table = None
+
+-- one that comes is within the quota once those that leave are gone, which were for others; it comes with the identifier
+-- of its station, and the mode of one station is set at most
+abbrev pub IsWithin : ℕ → Change → Leaving → Table → List Entry → Option Arriving → Type 0
+IsWithin quota change leaving table kept None = Unit {0}
+IsWithin quota change leaving table kept (Some a) =
+    (length (without leaving kept) < quota) × (is_leaving leaving a.whom ≡ false)
+    × IsModeAlone change × (a.aid ≡ aid_for a.whom table)
 
 -- the room that was made stays but for those whose units leave
 abbrev pub room_after : Leaving → Option Whom → Option Whom
 room_after leavings.Nothing room = room
 room_after (leavings.All whom) room = room_beside whom room
-room_after (leavings.Oldest whom) room = room_beside whom room
 
 -- ---- the reply
 
@@ -63,6 +74,21 @@ no_reply sequence = record {
   unread = 0;
   clock = 0;
 }
+
+-- the units that stay where the poll of a station is served besides, if one is: the first for it leaves (11.2.3.6)
+abbrev pub kept_beside : Option (List ℕ) → List Entry → List Entry
+kept_beside None kept = kept
+kept_beside (Some from) kept = without_oldest (One from) kept
+
+-- the network once it left
+abbrev pub served : Option (List ℕ) → Network → Network
+served polled n = record n { kept = kept_beside polled n.kept }
+
+-- the network that a reply is carried out on: the unit that a poll brings left, and where a beacon interval begins,
+-- units age first
+abbrev pub before_reply : Setting → (polled : Option (List ℕ)) → Reply → Network → Network
+before_reply s polled r n =
+    drop_lost (λ entry. (nat_lt 0 r.clock && s.network.aging) && is_too_old n.clock n.stations entry) (served polled n)
 
 -- the network after a reply, effect by effect
 abbrev pub after_reply : Reply → Network → Network
@@ -80,7 +106,7 @@ after_reply r n = record {
 -- the reply can be carried out
 pub record IsFitting (s : Setting) (r : Reply) (n : Network) : Type 0 where
   pub change : IsAllowed s.network.max_stations r.change n.stations
-  pub keeping : IsWithin s.network.quota r.keeping.leaving n.kept r.keeping.arriving
+  pub keeping : IsWithin s.network.quota r.change r.keeping.leaving n.stations n.kept r.keeping.arriving
 
 -- the reply that sends a frame too
 abbrev pub sending : Reply → (ℕ → List ℕ) → Reply
@@ -88,17 +114,15 @@ sending r frame = record r { frames = r.frames ++ frame r.sequence ∷ []; seque
 
 -- ---- polls (11.2.3.6)
 
--- the first unit for a station, where there is one, is sent and leaves
-abbrev pub serving : Setting → List ℕ → List DataUnit → Reply → Reply
-serving s from [] r = r
-serving s from (u ∷ us) r =
-    sending (record r { keeping = record { leaving = leavings.Oldest (One from); arriving = r.keeping.arriving } })
-    (unit_frame s.network.bssid (others_follow us) u)
+-- the first of these units, which are kept for a station, is sent
+abbrev pub serving : Setting → List DataUnit → Reply → Reply
+serving s [] r = r
+serving s (u ∷ us) r = sending r (unit_frame s.network.bssid (others_follow us) u)
 
 -- the whole reply, where a station's poll may have to be served besides
 abbrev pub done : Setting → Network → Option (List ℕ) → Reply → Reply
 done s n None r = r
-done s n (Some from) r = serving s from (units_for (One from) n.kept) r
+done s n (Some from) r = serving s (units_for (One from) n.kept) r
 
 -- ---- a reply that sets a mode, to which something is added
 
@@ -107,7 +131,6 @@ abbrev pub IsAwake : Leaving → Table → Type 0
 IsAwake leavings.Nothing table = Unit {0}
 IsAwake (leavings.All (One addr)) table = is_dozing addr table ≡ false
 IsAwake (leavings.All Group) table = ⊥
-IsAwake (leavings.Oldest whom) table = ⊥
 
 -- a reply to which the delivery of a unit can be added: it sets the mode of one station at most, units leave for one
 -- that is active then, and no unit comes, is lost or goes on the wire

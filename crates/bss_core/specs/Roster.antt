@@ -1,14 +1,16 @@
 -- The stations of a network with the units that are kept for them (IEEE Std 802.11-2016, 11.2.3), and the association
 -- identifiers of those that units are kept for.
-use Rattle.std.specs.Prelude.{ℕ, ◌≤◌, ◌≡◌, ◌≢◌, ◌==◌, Bool, false, List, [], Option, Some, None}
+use Rattle.std.specs.Prelude.{ℕ, ◌-◌, ◌≤◌, ◌≡◌, ◌≢◌, ◌==◌, ◌&&◌, nat_lt, Bool, false, not, List, [], length, Option, Some, None}
 use Rattle.std.specs.FinSet as set
 use Rattle.std.specs.Ordering.{nat_cmp}
 use Rattle.powersave.specs.Keep.{Entry, Kept, units_for}
 use Rattle.powersave.specs.declared.unit.Whom.{Whom}
+use Rattle.powersave.specs.declared.unit.Whom.TheVariants.{One, Group}
+use Rattle.powersave.specs.declared.unit.Unit.{Unit as DataUnit}
 use Rattle.tim.specs.Tim.{SameNumbers}
 use Rattle.bss_core.specs.Sound.{AreSound}
-use Rattle.bss_core.specs.Stations.{Table, StationTable}
-use Rattle.bss_core.specs.Units.{is_waited_for}
+use Rattle.bss_core.specs.Stations.{Table, StationTable, link_of, listen_with}
+use Rattle.bss_core.specs.Units.{is_waited_for, is_too_old}
 use Rattle.bss_core.specs.declared.stations.Change.{Change}
 use Rattle.bss_core.specs.declared.stations.Change.TheVariants as changes
 
@@ -52,3 +54,25 @@ renumbered (changes.SetMode addr doze) = None
 -- the units for any other stayed
 abbrev pub StayBeside : Whom → List Entry → List Entry → Type 0
 StayBeside whom before after = (other : Whom) → whom ≢ other → units_for other after ≡ units_for other before
+
+-- Where numbers are the identifiers of the stations that units were kept for, and those for one alone changed, the new
+-- numbers are the identifiers of those that units are kept for then.
+abbrev pub Follows : StationTable → Whom → (waits : Bool) → (old new : set.FinSet nat_cmp) → Type 0
+Follows stations whom waits old new =
+    (before after : List Entry) → StayBeside whom before after → waits ≡ nat_lt 0 (length (units_for whom after))
+    → AreWaitedFor old stations.table before → AreWaitedFor new stations.table after
+
+-- ---- units that are too old
+
+-- where units age, one that is too old
+abbrev pub is_aged : Bool → ℕ → Table → Entry → Bool
+is_aged ages clock table entry = ages && is_too_old clock table entry
+
+-- those for one that came before this clock
+abbrev pub limit_for : ℕ → Table → Whom → ℕ
+limit_for clock table (One addr) = clock - listen_with (link_of addr table)
+limit_for clock table Group = 0
+
+-- one of its units isn't too old
+abbrev pub stays : ℕ → Table → Whom → DataUnit → Bool
+stays clock table whom unit = not (nat_lt unit.at (limit_for clock table whom))

@@ -66,6 +66,11 @@ abbrev pub listen_of : Link → ℕ
 listen_of Authenticated = 0
 listen_of (Associated aid listen doze) = listen
 
+-- and of one that is not known 0 too
+abbrev pub listen_with : Option Link → ℕ
+listen_with None = 0
+listen_with (Some link) = listen_of link
+
 abbrev pub dozes : Link → Bool
 dozes Authenticated = false
 dozes (Associated aid listen doze) = doze

@@ -1,6 +1,6 @@
 -- Units and where they go (IEEE Std 802.11-2016, 4.5.2 and 11.2.3): the frame that carries one, and how it is
 -- delivered.
-use Rattle.std.specs.Prelude.{ℕ, ◌==◌, Bool, true, false, not, ◌||◌, ◌&&◌, List, [], ◌∷◌, ◌++◌, Option, Some, None}
+use Rattle.std.specs.Prelude.{ℕ, ◌+◌, ◌==◌, nat_lt, Bool, true, false, not, ◌||◌, ◌&&◌, List, [], ◌∷◌, ◌++◌, Option, Some, None}
 use Rattle.std.specs.Prelude.{if◌then◌else◌}
 use Rattle.std.specs.List.{list_any}
 use Rattle.mac_frame.specs.Address.{is_group}
@@ -8,9 +8,10 @@ use Rattle.mac_frame.specs.Data.{data_header}
 use Rattle.bridge.specs.Ethernet.{Ethernet}
 use Rattle.bridge.specs.Encapsulation.{on_air}
 use Rattle.powersave.specs.Keep.{Entry, is_for}
+use Rattle.powersave.specs.declared.unit.Whom.{Whom}
 use Rattle.powersave.specs.declared.unit.Whom.TheVariants.{One, Group}
 use Rattle.powersave.specs.declared.unit.Unit.{Unit as DataUnit}
-use Rattle.bss_core.specs.Stations.{Table, link_of, is_associated, some_station_dozes}
+use Rattle.bss_core.specs.Stations.{Table, link_of, listen_with, is_associated, some_station_dozes}
 use Rattle.bss_core.specs.declared.stations.Link.{Link}
 use Rattle.bss_core.specs.declared.stations.Link.TheVariants.{Authenticated, Associated}
 use Rattle.bss_core.specs.declared.reply.unit.Delivery.{Delivery}
@@ -18,12 +19,13 @@ use Rattle.bss_core.specs.declared.reply.unit.Delivery.TheVariants.{Now, Kept, N
 
 -- ---- a unit and its frame
 
-abbrev pub unit : (to source body : List ℕ) → DataUnit
-unit to source body = record { to = to; source = source; body = body }
+-- it holds the clock at which it came
+abbrev pub unit : (at : ℕ) → (to source body : List ℕ) → DataUnit
+unit at to source body = record { to = to; source = source; body = body; at = at }
 
 -- the unit that an Ethernet frame carries
-abbrev pub unit_of : Ethernet → DataUnit
-unit_of w = unit w.to w.source (on_air w)
+abbrev pub unit_of : (at : ℕ) → Ethernet → DataUnit
+unit_of at w = unit at w.to w.source (on_air w)
 
 -- the frame that carries a unit from the network (9.3.2.1), with More Data (9.2.4.1.8) or without
 abbrev pub unit_frame : (bss : List ℕ) → Bool → DataUnit → (sequence : ℕ) → List ℕ
@@ -58,9 +60,23 @@ delivery_of to table kept =
 
 -- ---- where a station's unit goes besides (4.5.2)
 
--- to the wire, but for a unit to one associated station
-abbrev pub goes_on_wire : List ℕ → Table → Bool
-goes_on_wire to table = is_group to || not (is_associated (link_of to table))
+-- to the wire, but for a unit to one associated station; where the network doesn't relay (profile), always to the wire
+abbrev pub goes_on_wire : (relay : Bool) → List ℕ → Table → Bool
+goes_on_wire relay to table = not relay || (is_group to || not (is_associated (link_of to table)))
+
+-- ---- units that are too old (profile)
+
+-- for a station with this link more beacon intervals began since a clock than its listen interval (9.4.1.6)
+abbrev pub is_late : Option Link → (at clock : ℕ) → Bool
+is_late link at clock = nat_lt (at + listen_with link) clock
+
+-- one that is kept for a station; those for the group don't age
+abbrev pub is_too_old_for : ℕ → Table → Whom → (at : ℕ) → Bool
+is_too_old_for clock table (One addr) at = is_late (link_of addr table) at clock
+is_too_old_for clock table Group at = false
+
+abbrev pub is_too_old : ℕ → Table → Entry → Bool
+is_too_old clock table entry = is_too_old_for clock table entry.0 entry.1.at
 
 -- ---- polls (11.2.3.6)
 

@@ -26,6 +26,10 @@ pub struct NetConfig {
     pub quota: u32,
     /// The most events that it takes, within [`crate::EVENT_LIMITS`].
     pub max_events: u32,
+    /// Whether a station's unit may go to another station or to the group on the air; where not, it goes on the wire.
+    pub relay: bool,
+    /// Whether a unit is dropped that was kept for a station for more beacon intervals than its listen interval (9.4.1.6).
+    pub aging: bool,
 }
 
 /// What a radio and its networks are configured to be.
@@ -44,7 +48,7 @@ pub struct RadioConfig {
 /// The first fault of a configuration (*profile*).
 #[derive(Clone, Copy, Debug, PartialEq, Eq)]
 pub struct ConfigFault {
-    /// Which fault, 1 to 12: `C1` to `C12`.
+    /// Which fault, 1 to 13: `C1` to `C13`.
     pub code: u8,
     /// The network's place, for a fault of one network: 8 and above.
     pub place: Option<usize>,
@@ -59,7 +63,7 @@ impl ConfigFault {
         ConfigFault { code, place: None }
     }
 
-    /// The fault with this code, 8 to 12, of the network at a place, counted from 0 (*profile*).
+    /// The fault with this code, 8 to 13, of the network at a place, counted from 0 (*profile*).
     pub fn of_network(code: u8, place: usize) -> ConfigFault
         ensures { result ≡ of_network code place }
     {

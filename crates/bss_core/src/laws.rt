@@ -1,9 +1,10 @@
 //! What follows from the definitions, for whoever stands on them.
 
-ghost use Rattle.std.specs.Prelude.{◌≡◌, ◌*◌, ◌++◌, ℕ, List, [], ◌∷◌, slice_get, length, None};
+ghost use Rattle.std.specs.Prelude.{◌≡◌, ◌*◌, ◌++◌, true, false, ℕ, List, [], ◌∷◌, slice_get, length, None};
 ghost use Rattle.std.specs.List.{AllByRecursion};
 ghost use Rattle.bss_core.specs.Configuration.{fault_of, setting_fault, network_fault};
-ghost use Rattle.bss_core.specs.Network.{Setting, Network, alone, empty_network, step};
+ghost use Rattle.bss_core.specs.Network.{Setting, Network, alone, empty_network, step, table_of, counts_of};
+ghost use Rattle.bss_core.specs.FirstVersion.{alone_in_first_version};
 ghost use Rattle.bss_core.specs.NetworkView.{sent_before};
 ghost use Rattle.bss_core.specs.Sound.{IsSoundNetwork};
 ghost use Rattle.bss_core.specs.declared.config.RadioConfig.{RadioConfig};
@@ -44,6 +45,19 @@ pub fn sent_frames()
 pub fn steps_append()
     ensures { (s : Setting) (n : Network) (e : Event) (air wire : List (List ℕ))
         → step s (sent_before air wire n) e ≡ sent_before air wire (step s n e) }
+{}
+
+/// Where a network relays and no unit ages, its frames on the air and on the wire, its table and its counts are those of
+/// a network of the first version, whose definition knows neither option (*profile*).
+pub fn first_version()
+    ensures air { (s : Setting) (es : List Event) → s.network.relay ≡ true → s.network.aging ≡ false
+        → (alone s es).air ≡ (alone_in_first_version s es).air }
+    ensures wire { (s : Setting) (es : List Event) → s.network.relay ≡ true → s.network.aging ≡ false
+        → (alone s es).wire ≡ (alone_in_first_version s es).wire }
+    ensures table { (s : Setting) (es : List Event) → s.network.relay ≡ true → s.network.aging ≡ false
+        → table_of (alone s es) ≡ table_of (alone_in_first_version s es) }
+    ensures counts { (s : Setting) (es : List Event) → s.network.relay ≡ true → s.network.aging ≡ false
+        → counts_of (length es) (alone s es) ≡ counts_of (length es) (alone_in_first_version s es) }
 {}
 
 /// No network of a radio can touch another. Whatever two radios are and whatever happens to them: where a network of

@@ -36,7 +36,9 @@ pub use bss::{Bss, Refusal};
 pub use checking::{is_taken, rates_fit, stations_fit};
 pub use config::{ConfigFault, NetConfig, RadioConfig};
 pub use event::{Event, hears};
-pub use laws::{checked_networks, one_step, reachable, sent_frames, steps_append, two_worlds};
+pub use laws::{
+    checked_networks, first_version, one_step, reachable, sent_frames, steps_append, two_worlds,
+};
 pub use limits::{
     CHANNEL_LIMITS, DTIM_LIMITS, EVENT_LIMITS, INTERVAL_LIMITS, KNOWN_LIMITS, Limits, MAX_EVENTS,
     MAX_NETWORKS, MAX_QUEUE, MAX_RATE, MAX_RATES, MAX_SSID_LEN, MAX_STATIONS, QUEUE_LIMITS,

@@ -28,7 +28,7 @@ impl Limits {
 pub const MAX_QUEUE: u16 = 4096;
 
 /// The most networks of a radio.
-pub const MAX_NETWORKS: usize = 8;
+pub const MAX_NETWORKS: usize = 16;
 
 /// The most octets of an SSID (IEEE Std 802.11-2016, 9.4.2.2).
 pub const MAX_SSID_LEN: usize = 32;

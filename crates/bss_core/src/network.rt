@@ -1,11 +1,12 @@
 //! A network as it runs, without its history.
 
-ghost use Rattle.std.specs.Prelude.{◌≡◌, ◌<◌, ◌≤◌, ◌^◌, ℕ, IfSome, ◌↔◌, None, Some, Err, IfOk, OnOk, OnErr};
+ghost use Rattle.std.specs.Prelude.{◌≡◌, ◌+◌, ◌*◌, ◌<◌, ◌≤◌, ◌^◌, ◌&&◌, nat_lt, ℕ, true, IfSome, ◌↔◌, None, Some, Err, IfOk, OnOk, OnErr};
 ghost use Rattle.std.specs.Prelude.{length, slice_get, option_to_list};
 ghost use Rattle.bss_core.specs.Configuration.{setting_fault, network_fault};
-ghost use Rattle.bss_core.specs.Network.{step, table_of};
-ghost use Rattle.bss_core.specs.NetworkView.{new_network, took_event, carried_out, MayFollow};
-ghost use Rattle.bss_core.specs.Replies.{no_reply, done, serving, after_reply};
+ghost use Rattle.bss_core.specs.Network.{step, table_of, age_units};
+ghost use Rattle.bss_core.specs.NetworkView.{new_network, took_event, replied, carried_out, MayFollow};
+ghost use Rattle.bss_core.specs.Sound.{IsSoundNetwork};
+ghost use Rattle.bss_core.specs.Replies.{no_reply, done, serving, before_reply, after_reply};
 ghost use Rattle.bss_core.specs.Roster.{AreWaitedFor};
 ghost use Rattle.bss_core.specs.declared.event.Event.TheVariants as events;
 ghost use Rattle.bss_core.specs.declared.network.NetworkRefusal.TheVariants as refusals;
@@ -204,9 +205,10 @@ impl Network {
         requires sequence { reply.old.sequence < 4096 }
         requires ticks { event.now ≡ events.Tick → self.now.network.clock < 4294967295 }
         ensures follows { IfOk result (λ polled.
-            MayFollow self.now (done self.now.setting self.now.network polled reply.new)) }
+            MayFollow self.now polled (done self.now.setting self.now.network polled reply.new)) }
         ensures step { IfOk result (λ polled. step self.now.setting self.now.network event.now
-            ≡ after_reply (done self.now.setting self.now.network polled reply.new) self.now.network) }
+            ≡ after_reply (done self.now.setting self.now.network polled reply.new) (before_reply self.now.setting
+            polled (done self.now.setting self.now.network polled reply.new) self.now.network)) }
         ensures alone { IfOk result (λ polled. IfSome polled (λ _. reply.new ≡ no_reply self.now.network.sequence)) }
     {
         // The prover opens what the network keeps, which bounds its counts, where a field is read.
@@ -226,12 +228,13 @@ impl Network {
 
     /// Does what a reply to an event says, or serves a poll, and hands out what is sent. After `NoMemory` nothing has
     /// changed.
+    #[inline(always)]
     pub(crate) fn finish(&mut self, reply: Reply, polled: Option<MacAddr>) -> Result<Sent, NoMemory>
-        requires follows { MayFollow self.old (done self.old.setting self.old.network polled reply) }
+        requires follows { MayFollow self.old polled (done self.old.setting self.old.network polled reply) }
         requires countable { self.old.events < 2 ^ 62 }
         requires alone { IfSome polled (λ _. reply ≡ no_reply self.old.network.sequence) }
         ensures after { OnOk result
-            (self.new ≡ carried_out (done self.old.setting self.old.network polled reply) self.old) }
+            (self.new ≡ carried_out polled (done self.old.setting self.old.network polled reply) self.old) }
         ensures air { IfOk result (λ sent.
             sent.air ≡ (done self.old.setting self.old.network polled reply).frames) }
         ensures wire { IfOk result (λ sent.
@@ -249,12 +252,13 @@ impl Network {
     /// Serves the poll of a station: sends the unit that was kept first for it, if there is one. After `NoMemory` nothing
     /// has changed.
     fn serve_poll(&mut self, from: MacAddr) -> Result<Sent, NoMemory>
-        requires follows { MayFollow self.old (serving self.old.setting from
-            (units_for (whoms.One from) self.old.network.kept) (no_reply self.old.network.sequence)) }
+        requires sound { IsSoundNetwork self.old.setting (self.old.events + 1) (2 * (self.old.events + 1))
+            (replied (Some from) (serving self.old.setting (units_for (whoms.One from) self.old.network.kept)
+            (no_reply self.old.network.sequence)) self.old).network }
         requires countable { self.old.events < 2 ^ 62 }
-        ensures after { OnOk result (self.new ≡ carried_out (serving self.old.setting from
+        ensures after { OnOk result (self.new ≡ replied (Some from) (serving self.old.setting
             (units_for (whoms.One from) self.old.network.kept) (no_reply self.old.network.sequence)) self.old) }
-        ensures air { IfOk result (λ sent. sent.air ≡ (serving self.old.setting from
+        ensures air { IfOk result (λ sent. sent.air ≡ (serving self.old.setting
             (units_for (whoms.One from) self.old.network.kept) (no_reply self.old.network.sequence)).frames) }
         ensures wire { IfOk result (λ sent. sent.wire ≡ None) }
         ensures few { IfOk result (λ sent. length sent.air ≤ 1) }
@@ -277,17 +281,20 @@ impl Network {
     }
 
     /// Does what a reply to an event says, and hands out what is sent. After `NoMemory` nothing has changed.
+    #[inline(always)]
     pub(crate) fn carry_out(&mut self, reply: Reply) -> Result<Sent, NoMemory>
-        requires follows { MayFollow self.old reply }
+        requires follows { MayFollow self.old None reply }
         requires countable { self.old.events < 2 ^ 62 }
-        ensures after { OnOk result (self.new ≡ carried_out reply self.old) }
+        ensures after { OnOk result (self.new ≡ carried_out None reply self.old) }
         ensures sent { IfOk result (λ sent. sent ≡ record { air = reply.frames; wire = reply.wired }) }
         ensures err { OnErr result (self.new ≡ self.old) }
     {
-        self.roster.reserve(&reply.keeping)?;
-        self.roster.change(reply.change)?;
+        let ages = units_age(reply.clock, self.setting.network.aging);
+        let aged = self
+            .roster
+            .carry_out(reply.change, reply.keeping, ages, self.clock)?;
         // All that may be refused is done.
-        self.roster.keep(reply.keeping);
+        self.lost += u64::from(aged);
         self.events += 1;
         self.clock += reply.clock;
         self.sequence = reply.sequence;
@@ -322,6 +329,15 @@ impl Network {
         self.roster.traffic()
     }
 
+    /// The same once the units that are kept have aged (*profile*), in a network that lets them.
+    pub(crate) fn traffic_after_aging(&self) -> Bitmap
+        requires { self.now.setting.network.aging ≡ true }
+        ensures { AreWaitedFor result self.now.network.stations
+            (age_units self.now.setting self.now.network).kept }
+    {
+        self.roster.traffic_after_aging(self.clock)
+    }
+
     /// The sequence number of its next frame.
     pub(crate) fn sequence(&self) -> u16
         ensures sequence { result ≡ self.now.network.sequence }
@@ -341,4 +357,11 @@ impl Network {
     {
         self.setting
     }
+}
+
+/// Whether units age where so many beacon intervals begin: where one does, in a network that lets them.
+fn units_age(begin: u32, aging: bool) -> bool
+    ensures { result ≡ (nat_lt 0 begin && aging) }
+{
+    begin > 0 && aging
 }

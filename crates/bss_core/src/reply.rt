@@ -13,7 +13,7 @@ mod unit;
 
 use crate::stations::Change;
 pub use frames::Frames;
-pub use keeping::{Keeping, Leaving};
+pub use keeping::{Arriving, Keeping, Leaving};
 use mac_frame::{HEADER_LEN, MacAddr, NoMemory, Octets, write_msdu};
 use powersave::{Unit, Whom};
 use std::alloc::Global;
@@ -73,6 +73,7 @@ impl Reply {
 
     /// Sends a frame too, which carries the sequence number that the reply has now. After `NoMemory` the reply is as
     /// it was.
+    #[inline(always)]
     pub fn send(&mut self, frame: Octets) -> Result<(), NoMemory>
         requires { self.old.sequence < 4096 }
         ensures ok { OnOk result (self.new ≡ record self.old {
@@ -128,6 +129,7 @@ impl Reply {
             to: unit.to,
             source: unit.source,
             body: Body::Plain(unit.body.as_slice()),
+            at: unit.at,
         };
         self.send_unit(alloc, bssid, more, &unit)
     }

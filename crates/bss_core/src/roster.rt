@@ -1,20 +1,22 @@
 //! The stations of a network with the units that are kept for them (IEEE Std 802.11-2016, 11.2.3).
 
 ghost use Rattle.std.specs.Prelude.{◌≡◌, ◌<◌, ◌≤◌, ◌+◌, ◌^◌, ◌++◌, ◌∷◌, ◌&&◌, ◌||◌, ℕ, List, [], not, None, Some};
-ghost use Rattle.std.specs.Prelude.{IfSome, IfNone, IfOk, OnOk, OnErr, length, nat_lt, option_map};
+ghost use Rattle.std.specs.Prelude.{IfSome, IfOk, IsOk, OnOk, OnErr, true, filter, length, nat_lt, option_map};
 ghost use Rattle.std.specs.FinSet as set;
 ghost use Rattle.powersave.specs.Keep.{Entry, units_for, without_all, without_oldest, room_beside, first_frame};
 ghost use Rattle.powersave.specs.declared.unit.Whom.TheVariants as whoms;
 ghost use Rattle.tim.specs.Tim.{IsAid};
-ghost use Rattle.bss_core.specs.Replies.{without, room_after, kept_after, IsWithin, IsRoomFor};
-ghost use Rattle.bss_core.specs.Roster.{empty_roster, is_number, renumbered, AreWaitedFor, StayBeside};
-ghost use Rattle.bss_core.specs.Sound.{AreSound};
-ghost use Rattle.bss_core.specs.Stations.{with_table, changed, IsAllowed};
+ghost use Rattle.bss_core.specs.Replies.{without, room_after, kept_after, entry_of, aid_for, IsWithin};
+ghost use Rattle.bss_core.specs.Roster.{empty_roster, is_aged, is_number, renumbered, AreWaitedFor, Follows};
+ghost use Rattle.bss_core.specs.Sound.{AreSound, CameBy};
+ghost use Rattle.bss_core.specs.Stations.{with_table, changed, IsAllowed, IsModeAlone};
 
-use crate::reply::{Keeping, Leaving};
+mod aging;
+
+use crate::reply::{Arriving, Keeping, Leaving};
 use crate::stations::{Change, Stations};
 use mac_frame::{MAX_AID, MacAddr, NoMemory, Octets};
-use powersave::{Keep, Unit, Whom, parts_stay};
+use powersave::{Keep, Whom, parts_stay};
 use std::alloc::Global;
 use std::marker::Model;
 use tim::Bitmap;
@@ -76,12 +78,13 @@ impl Roster {
     }
 
     /// Changes one station; the units stay. `NoMemory`, and no change, can come where an unknown one is authenticated.
-    pub fn change(&mut self, change: Change) -> Result<(), NoMemory>
+    fn change(&mut self, change: Change) -> Result<(), NoMemory>
         requires { IsAllowed self.old.stations.most change self.old.stations.table }
         ensures ok { OnOk result (self.new ≡ record self.old {
           stations = with_table self.old.stations (changed change self.old.stations.table);
         }) }
         ensures err { OnErr result (self.new ≡ self.old) }
+        ensures mode { IsModeAlone change → IsOk result }
     {
         let Some(addr) = renumbered(&change) else {
             return self.stations.change(change);
@@ -94,33 +97,88 @@ impl Roster {
         Ok(())
     }
 
-    /// Makes room for the unit that comes. The stations and the units stay as they are. `NoMemory` where the growth was
-    /// refused.
-    pub fn reserve(&mut self, keeping: &Keeping) -> Result<(), NoMemory>
-        ensures stations { self.new.stations ≡ self.old.stations }
-        ensures entries { self.new.kept.entries ≡ self.old.kept.entries }
-        ensures quota { self.new.kept.quota ≡ self.old.kept.quota }
-        ensures puts { self.new.kept.puts ≡ self.old.kept.puts }
-        ensures room { OnOk result (IsRoomFor keeping.now.arriving self.new.kept) }
-    {
-        keeping.reserve_in(&mut self.kept)
-    }
-
-    /// Changes the units that are kept; the stations stay. Takes no memory, since room was made.
-    pub fn keep(&mut self, keeping: Keeping)
-        requires room { IsRoomFor keeping.arriving self.old.kept }
-        requires within { IsWithin self.old.kept.quota keeping.leaving self.old.kept.entries keeping.arriving }
+    /// Does with its stations and units what a reply says: changes one station, takes out the units that leave, and keeps
+    /// one. Where units age, first those that are too old at this clock leave, and it answers how many these were. After
+    /// `NoMemory` nothing has changed.
+    pub fn carry_out(
+        &mut self,
+        change: Change,
+        keeping: Keeping,
+        ages: bool,
+        clock: u32,
+    ) -> Result<u32, NoMemory>
+        requires allowed { IsAllowed self.old.stations.most change self.old.stations.table }
+        requires still { ages ≡ true → (change ≡ Change.Nothing) × (keeping.arriving ≡ None) }
+        requires within { IsWithin self.old.kept.quota change keeping.leaving self.old.stations.table
+            self.old.kept.entries keeping.arriving }
+        requires came { CameBy clock self.old.kept.entries }
+        requires few { length self.old.kept.entries < 2 ^ 32 }
         requires countable { self.old.kept.puts < 2 ^ 62 }
-        ensures stations { self.new.stations ≡ self.old.stations }
-        ensures entries { self.new.kept.entries ≡ kept_after keeping self.old.kept.entries }
+        ensures count { IfOk result (λ dropped. dropped
+            ≡ length (filter (is_aged ages clock self.old.stations.table) self.old.kept.entries)) }
+        ensures entries { OnOk result (self.new.kept.entries ≡ kept_after keeping
+            (filter (λ entry. not (is_aged ages clock self.old.stations.table entry)) self.old.kept.entries)) }
+        ensures stations { OnOk result
+            (self.new.stations ≡ with_table self.old.stations (changed change self.old.stations.table)) }
         ensures quota { self.new.kept.quota ≡ self.old.kept.quota }
         ensures puts { self.new.kept.puts ≤ self.old.kept.puts + 1 }
+        ensures err { OnErr result (self.new ≡ self.old) }
     {
         let Keeping { leaving, arriving } = keeping;
-        self.leave(&leaving);
-        if let Some((whom, unit)) = arriving {
-            self.put(whom, unit);
+        let Some(arriving) = arriving else {
+            self.change(change)?;
+            let dropped = self.age_if(ages, clock);
+            self.leave(&leaving);
+            return Ok(dropped);
+        };
+        self.keep(change, &leaving, arriving)?;
+        Ok(0)
+    }
+
+    /// Sets the mode of one station at most, takes out the units that leave, and keeps one. After `NoMemory` nothing has
+    /// changed.
+    fn keep(
+        &mut self,
+        change: Change,
+        leaving: &Leaving,
+        arriving: Arriving,
+    ) -> Result<(), NoMemory>
+        requires allowed { IsAllowed self.old.stations.most change self.old.stations.table }
+        requires within { IsWithin self.old.kept.quota change leaving.now self.old.stations.table
+            self.old.kept.entries (Some arriving) }
+        requires countable { self.old.kept.puts < 2 ^ 62 }
+        ensures ok { OnOk result (self.new ≡ record {
+          stations = with_table self.old.stations (changed change self.old.stations.table);
+          kept = record self.old.kept {
+            entries = without leaving.now self.old.kept.entries ++ entry_of arriving ∷ [];
+            reserved = None;
+            puts = self.old.kept.puts + 1;
+          };
+        }) }
+        ensures err { OnErr result (self.new ≡ self.old) }
+    {
+        if matches!(leaving, Leaving::Nothing) {
+            self.put(arriving)?;
+            // A mode is set without memory.
+            self.change(change).unwrap();
+            return Ok(());
         }
+        self.reserve(arriving.whom)?;
+        // All that may be refused is done.
+        self.change(change).unwrap();
+        self.leave(leaving);
+        self.put(arriving).unwrap();
+        Ok(())
+    }
+
+    /// Makes room for a unit for one, so that it can be put without memory. After `NoMemory` nothing has changed.
+    fn reserve(&mut self, whom: Whom) -> Result<(), NoMemory>
+        ensures ok { OnOk result (self.new ≡ record self.old {
+          kept = record self.old.kept { reserved = Some whom };
+        }) }
+        ensures err { OnErr result (self.new ≡ self.old) }
+    {
+        self.kept.reserve(whom)
     }
 
     /// Takes out the units that leave.
@@ -135,7 +193,6 @@ impl Roster {
         match leaving {
             Leaving::Nothing => {}
             Leaving::All(whom) => self.drop_for(whom),
-            Leaving::Oldest(whom) => self.drop_oldest(whom),
         }
     }
 
@@ -154,22 +211,6 @@ impl Roster {
         follow(&mut self.traffic, &self.stations, whom, false);
     }
 
-    /// Takes out the unit for one that was kept first.
-    fn drop_oldest(&mut self, whom: &Whom)
-        ensures { self.new ≡ record self.old {
-          kept = record self.old.kept {
-            entries = without_oldest whom.now self.old.kept.entries;
-            reserved = room_beside whom.now self.old.kept.reserved;
-          };
-        } }
-    {
-        // the units for the others stay
-        parts_stay();
-        self.kept.oldest(*whom);
-        let waits = self.kept.count_for(*whom) > 0;
-        follow(&mut self.traffic, &self.stations, whom, waits);
-    }
-
     /// Takes out the unit that was kept first for a station as the Data frame that carries it from the network `bss` with
     /// this sequence number; `None`, and no unit leaves, where none is kept for it. After `NoMemory` all is as it was.
     pub fn send_oldest(
@@ -184,9 +225,8 @@ impl Roster {
         ensures stations { self.new.stations ≡ self.old.stations }
         ensures quota { self.new.kept.quota ≡ self.old.kept.quota }
         ensures puts { self.new.kept.puts ≡ self.old.kept.puts }
-        ensures entries { IfOk result (λ sent. IfSome sent (λ _.
-            self.new.kept.entries ≡ without_oldest (whoms.One addr) self.old.kept.entries)) }
-        ensures none { IfOk result (λ sent. IfNone sent (self.new.kept.entries ≡ self.old.kept.entries)) }
+        ensures entries { OnOk result
+            (self.new.kept.entries ≡ without_oldest (whoms.One addr) self.old.kept.entries) }
         ensures err { OnErr result (self.new ≡ self.old) }
     {
         // the units for the others stay
@@ -200,23 +240,28 @@ impl Roster {
         Ok(Some(frame))
     }
 
-    /// Keeps a unit for one, for which room was made.
-    fn put(&mut self, whom: Whom, unit: Unit)
+    /// Keeps a unit, which comes with the association identifier of its station, so that none is looked up. After
+    /// `NoMemory` nothing has changed.
+    fn put(&mut self, arriving: Arriving) -> Result<(), NoMemory>
         requires not_full { length self.old.kept.entries < self.old.kept.quota }
         requires countable { self.old.kept.puts < 2 ^ 62 }
-        requires room { self.old.kept.reserved ≡ Some whom }
-        ensures { self.new ≡ record self.old {
+        requires aid { arriving.aid ≡ aid_for arriving.whom self.old.stations.table }
+        ensures ok { OnOk result (self.new ≡ record self.old {
           kept = record self.old.kept {
-            entries = self.old.kept.entries ++ (whom, unit) ∷ [];
+            entries = self.old.kept.entries ++ entry_of arriving ∷ [];
             reserved = None;
             puts = self.old.kept.puts + 1;
           };
-        } }
+        }) }
+        ensures err { OnErr result (self.new ≡ self.old) }
+        ensures room { self.old.kept.reserved ≡ Some arriving.whom → IsOk result }
     {
         // the units for the others stay
         parts_stay();
-        follow(&mut self.traffic, &self.stations, &whom, true);
-        self.kept.put(whom, unit).unwrap();
+        let Arriving { whom, aid, unit } = arriving;
+        self.kept.put(whom, unit)?;
+        set_bit(&mut self.traffic, aid);
+        Ok(())
     }
 }
 
@@ -236,9 +281,8 @@ fn renumbered(change: &Change) -> Option<MacAddr>
 /// Shows in a bitmap whether units are kept for one, once those for it alone changed. The bitmap has the stations that
 /// units were kept for before.
 fn follow(traffic: &mut Bitmap, stations: &Stations, whom: &Whom, waits: bool)
-    ensures { (before after : List Entry) → AreSound stations.now.most stations.now.table
-        → StayBeside whom.now before after → waits ≡ nat_lt 0 (length (units_for whom.now after))
-        → AreWaitedFor traffic.old stations.now.table before → AreWaitedFor traffic.new stations.now.table after }
+    ensures { AreSound stations.now.most stations.now.table
+        → Follows stations.now whom.now waits traffic.old traffic.new }
 {
     let Whom::One(addr) = whom else {
         return;

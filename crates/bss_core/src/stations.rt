@@ -1,10 +1,10 @@
 //! The stations that a network knows (IEEE Std 802.11-2016, 11.3.1).
 
-ghost use Rattle.std.specs.Prelude.{◌≡◌, ◌<◌, ◌≤◌, [], IsTrue, OnOk, OnErr, IfSome, Some, None, option_map};
+ghost use Rattle.std.specs.Prelude.{◌≡◌, ◌<◌, ◌≤◌, [], IsTrue, IsOk, OnOk, OnErr, IfSome, Some, None, option_map};
 ghost use Rattle.std.specs.Prelude.{length, slice_get, is_some, if◌then◌else◌};
 ghost use Rattle.tim.specs.Tim.{IsAid};
 ghost use Rattle.bss_core.specs.Stations.{with_table, link_of, standing_with, aid_of, aid_with, dozes_with};
-ghost use Rattle.bss_core.specs.Stations.{some_station_dozes};
+ghost use Rattle.bss_core.specs.Stations.{some_station_dozes, listen_with};
 ghost use Rattle.bss_core.specs.Stations.{may_associate, next_aid, is_associated, set_link, authenticate, associate};
 ghost use Rattle.bss_core.specs.Stations.{disassociate, forget, set_mode, with_mode, changed, IsAllowed, IsModeAlone};
 
@@ -174,6 +174,7 @@ impl Stations {
         requires { IsAllowed self.old.most change self.old.table }
         ensures ok { OnOk result (self.new ≡ with_table self.old (changed change self.old.table)) }
         ensures err { OnErr result (self.new ≡ self.old) }
+        ensures mode { IsModeAlone change → IsOk result }
     {
         match change {
             Change::Nothing => {}
@@ -280,6 +281,16 @@ pub fn dozes_with(link: Option<Link>) -> bool
     matches!(link, Some(Link::Associated { doze: true, .. }))
 }
 
+/// The listen interval of a station with this link in beacon intervals (9.4.1.6), or 0 where it is not associated.
+pub fn listen_with(link: Option<Link>) -> u16
+    ensures { result ≡ listen_with link }
+{
+    match link {
+        Some(Link::Associated { listen, .. }) => listen,
+        _ => 0,
+    }
+}
+
 /// Whether a station with this link is associated.
 pub fn is_associated(link: Option<Link>) -> bool
     ensures { result ≡ is_associated link }
@@ -308,7 +319,7 @@ fn with_mode(link: Link, doze: bool) -> Link
 }
 
 /// The association identifier of a station with this link, if it is associated.
-fn aid_with(link: Option<Link>) -> Option<u16>
+pub fn aid_with(link: Option<Link>) -> Option<u16>
     ensures { result ≡ aid_with link }
 {
     match link {

@@ -13,6 +13,7 @@ use std::test::Fail;
 
 mod events;
 mod network;
+mod options;
 mod radio;
 mod runs;
 mod unrecorded;

@@ -4,9 +4,10 @@ ghost use Rattle.std.specs.Prelude.{◌≡◌, ◌≤◌, ◌<◌, false, None, 
 ghost use Rattle.bridge.specs.Encapsulation.{on_wire};
 ghost use Rattle.powersave.specs.Keep.{units_for};
 ghost use Rattle.powersave.specs.declared.unit.Whom.TheVariants as whoms;
-ghost use Rattle.bss_core.specs.Network.{forward, set_power_mode, put_on_wire, send_each, change_state};
-ghost use Rattle.bss_core.specs.Replies.{no_reply, after_reply, IsFitting, IsModeReply};
-ghost use Rattle.bss_core.specs.Stations.{Table, link_of, set_mode};
+ghost use Rattle.bss_core.specs.Arrivals.{unit_shown};
+ghost use Rattle.bss_core.specs.Network.{forward, relay, set_power_mode, put_on_wire, send_each, change_state};
+ghost use Rattle.bss_core.specs.Replies.{no_reply, after_reply, IsFitting, IsModeReply, IsWithin};
+ghost use Rattle.bss_core.specs.Stations.{Table, link_of, changed, set_mode};
 ghost use Rattle.bss_core.specs.Units.{unit, goes_on_wire};
 
 use crate::network::Network;
@@ -18,7 +19,7 @@ use powersave::Whom;
 
 impl Network {
     /// The reply to a unit of an associated station: its mode is set, and then the unit is delivered on the air, put on
-    /// the wire, or both.
+    /// the wire, or both. A network that doesn't relay puts it on the wire alone.
     pub(crate) fn answer_unit(
         &self,
         reply: &mut Reply,
@@ -33,19 +34,21 @@ impl Network {
         requires link { link ≡ link_of from self.now.network.stations }
         ensures fitting { OnOk result (IsFitting self.now.setting reply.new self.now.network) }
         ensures answer { OnOk result (
-            forward self.now.setting (unit to from body.now)
+            forward self.now.setting (unit self.now.network.clock to from body.now)
             (set_power_mode self.now.setting from doze self.now.network)
             ≡ after_reply reply.new self.now.network) }
     {
         self.set_power_mode(reply, from, link, doze)?;
         let there = self.stations().link_after(reply.change, to);
-        let goes_on_wire = goes_on_wire(to, there);
+        let relay = self.setting().network.relay;
+        let goes_on_wire = goes_on_wire(relay, to, there);
         let unit = Arrival {
             to,
             source: from,
             body: Body::Plain(body),
+            at: self.clock(),
         };
-        self.deliver(reply, &unit, there)?;
+        self.relay(reply, &unit, there)?;
         if goes_on_wire {
             self.put_on_wire(reply, to, from, body)?;
         }
@@ -100,6 +103,33 @@ impl Network {
         Ok(())
     }
 
+    /// Goes on with a reply, which sets the mode of one station at most: delivers a station's unit on the air, to a
+    /// station that has this link then, where the network relays. After `NoMemory` the reply is of no use.
+    fn relay(
+        &self,
+        reply: &mut Reply,
+        unit: &Arrival<'_>,
+        link: Option<Link>,
+    ) -> Result<(), NoMemory>
+        requires mode { IsModeReply reply.old self.now.network }
+        requires fitting { IsFitting self.now.setting reply.old self.now.network }
+        requires link { link ≡ link_of unit.now.to (changed reply.old.change self.now.network.stations) }
+        ensures ok { OnOk result (
+            relay self.now.setting (unit_shown unit.now) (after_reply reply.old self.now.network)
+            ≡ after_reply reply.new self.now.network) }
+        ensures within { OnOk result (IsWithin self.now.setting.network.quota reply.new.change
+            reply.new.keeping.leaving self.now.network.stations self.now.network.kept reply.new.keeping.arriving) }
+        ensures change { reply.new.change ≡ reply.old.change }
+        ensures wired { reply.new.wired ≡ reply.old.wired }
+        ensures lost { reply.new.lost ≤ 1 }
+    {
+        if self.setting().network.relay {
+            self.deliver(reply, unit, link)
+        } else {
+            Ok(())
+        }
+    }
+
     /// Goes on with a reply: puts a unit on the wire, or counts it as lost where it has no wired form.
     fn put_on_wire(
         &self,
@@ -126,9 +156,10 @@ impl Network {
     }
 }
 
-/// Whether a unit of a station goes on the wire: but for a unit to one associated station, by the link that it has.
-fn goes_on_wire(to: MacAddr, link: Option<Link>) -> bool
-    ensures { (stations : Table) → link ≡ link_of to stations → result ≡ goes_on_wire to stations }
+/// Whether a unit of a station goes on the wire: but where it is relayed to one associated station, by the link that it
+/// has.
+fn goes_on_wire(relay: bool, to: MacAddr, link: Option<Link>) -> bool
+    ensures { (stations : Table) → link ≡ link_of to stations → result ≡ goes_on_wire relay to stations }
 {
-    to.is_group() || !is_associated(link)
+    !relay || to.is_group() || !is_associated(link)
 }

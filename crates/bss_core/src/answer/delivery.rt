@@ -5,14 +5,14 @@ ghost use Rattle.std.specs.Prelude.{slice_get};
 ghost use Rattle.powersave.specs.Keep.{units_for};
 ghost use Rattle.powersave.specs.declared.unit.Unit.{Unit as DataUnit};
 ghost use Rattle.bss_core.specs.Arrivals.{unit_shown};
-ghost use Rattle.bss_core.specs.Network.{deliver, keep_or_lose, send_each};
-ghost use Rattle.bss_core.specs.Replies.{after_reply, sending, is_leaving, IsModeReply, IsWithin};
+ghost use Rattle.bss_core.specs.Network.{Network as NetworkAlone, deliver, keep_or_lose, send_each};
+ghost use Rattle.bss_core.specs.Replies.{after_reply, sending, aid_at, aid_for, is_leaving, IsModeReply, IsWithin};
 ghost use Rattle.bss_core.specs.Stations.{IsModeAlone, changed, link_of};
 ghost use Rattle.bss_core.specs.Units.{delivery_of, delivery_with, group_is_kept, group_waits, unit_frame};
 
 use crate::network::Network;
-use crate::reply::{Arrival, Delivery, Reply};
-use crate::stations::{Change, Link};
+use crate::reply::{Arrival, Arriving, Delivery, Reply};
+use crate::stations::{Change, Link, aid_with};
 use mac_frame::{MacAddr, NoMemory};
 use powersave::Whom;
 
@@ -30,8 +30,8 @@ impl Network {
         ensures ok { OnOk result (
             deliver self.now.setting (unit_shown unit.now) (after_reply reply.old self.now.network)
             ≡ after_reply reply.new self.now.network) }
-        ensures within { OnOk result (IsWithin self.now.setting.network.quota
-            reply.new.keeping.leaving self.now.network.kept reply.new.keeping.arriving) }
+        ensures within { OnOk result (IsWithin self.now.setting.network.quota reply.new.change
+            reply.new.keeping.leaving self.now.network.stations self.now.network.kept reply.new.keeping.arriving) }
         ensures change { reply.new.change ≡ reply.old.change }
         ensures wired { reply.new.wired ≡ reply.old.wired }
         ensures lost { reply.new.lost ≤ 1 }
@@ -41,7 +41,10 @@ impl Network {
                 let bssid = self.setting().network.bssid;
                 reply.send_unit(self.alloc(), bssid, false, unit)
             }
-            Delivery::Kept(whom) => self.keep_or_lose(reply, whom, unit),
+            Delivery::Kept(whom) => {
+                let aid = aid_at(&whom, link);
+                self.keep_or_lose(reply, whom, aid, unit)
+            }
             Delivery::Nowhere => Ok(()),
         }
     }
@@ -77,28 +80,32 @@ impl Network {
         self.kept().count_for(Whom::Group) > 0
     }
 
-    /// Goes on with a reply: keeps a unit for one, or counts it as lost.
+    /// Goes on with a reply: keeps a unit for one that has this association identifier, or counts it as lost.
     fn keep_or_lose(
         &self,
         reply: &mut Reply,
         whom: Whom,
+        aid: Option<u16>,
         unit: &Arrival<'_>,
     ) -> Result<(), NoMemory>
+        requires mode { IsModeAlone reply.old.change }
+        requires aid { aid ≡ aid_for whom self.now.network.stations }
         requires apart { is_leaving reply.old.keeping.leaving whom ≡ false }
         requires none_arrives { reply.old.keeping.arriving ≡ None }
         requires lost { reply.old.lost ≡ 0 }
         ensures ok { OnOk result (
             keep_or_lose self.now.setting whom (unit_shown unit.now) (after_reply reply.old self.now.network)
             ≡ after_reply reply.new self.now.network) }
-        ensures within { OnOk result (IsWithin self.now.setting.network.quota
-            reply.new.keeping.leaving self.now.network.kept reply.new.keeping.arriving) }
+        ensures within { OnOk result (IsWithin self.now.setting.network.quota reply.new.change
+            reply.new.keeping.leaving self.now.network.stations self.now.network.kept reply.new.keeping.arriving) }
         ensures change { reply.new.change ≡ reply.old.change }
         ensures wired { reply.new.wired ≡ reply.old.wired }
         ensures lost { reply.new.lost ≤ 1 }
     {
         let quota = self.setting().network.quota as usize;
         if reply.keeping.leaving.len_after(self.kept()) < quota {
-            reply.keeping.arriving = Some((whom, unit.copy(self.alloc())?));
+            let unit = unit.copy(self.alloc())?;
+            reply.keeping.arriving = Some(Arriving { whom, aid, unit });
         } else {
             reply.lost += 1;
         }
@@ -114,10 +121,9 @@ impl Network {
         shows_more: bool,
     ) -> Result<(), NoMemory>
         requires { reply.old.sequence < 4096 }
-        ensures ok { OnOk result (
-            send_each self.now.setting shows_more (units_for whom.now self.now.network.kept)
-            (after_reply reply.old self.now.network)
-            ≡ after_reply reply.new self.now.network) }
+        ensures ok { OnOk result ((n : NetworkAlone) →
+            send_each self.now.setting shows_more (units_for whom.now self.now.network.kept) (after_reply reply.old n)
+            ≡ after_reply reply.new n) }
         ensures same { reply.new ≡ record reply.old { frames = reply.new.frames; sequence = reply.new.sequence } }
         ensures sequence { reply.new.sequence < 4096 }
     {
@@ -156,6 +162,16 @@ fn more_data(shows_more: bool, place: usize, count: usize) -> bool
     ensures { result ≡ (shows_more && nat_lt (place + 1) count) }
 {
     shows_more && place + 1 < count
+}
+
+/// The association identifier of whom a unit is kept for, a station with this link; the group has none.
+fn aid_at(whom: &Whom, link: Option<Link>) -> Option<u16>
+    ensures { result ≡ aid_at whom.now link }
+{
+    match whom {
+        Whom::One(_) => aid_with(link),
+        Whom::Group => None,
+    }
 }
 
 /// How a unit is delivered to the station with this link.

@@ -2,7 +2,7 @@
 
 ghost use Rattle.std.specs.Prelude.{◌≡◌};
 ghost use Rattle.bss_core.specs.Network.{answer_poll};
-ghost use Rattle.bss_core.specs.Replies.{no_reply, done, after_reply, IsFitting};
+ghost use Rattle.bss_core.specs.Replies.{no_reply, done, served, after_reply, IsFitting};
 ghost use Rattle.bss_core.specs.Stations.{link_of};
 ghost use Rattle.bss_core.specs.Units.{may_poll};
 
@@ -24,9 +24,10 @@ impl Network {
         requires nothing { reply.now ≡ no_reply self.now.network.sequence }
         requires link { link ≡ link_of from self.now.network.stations }
         ensures fitting { IsFitting self.now.setting
-            (done self.now.setting self.now.network result reply.now) self.now.network }
+            (done self.now.setting self.now.network result reply.now) (served result self.now.network) }
         ensures answer { answer_poll self.now.setting from aid self.now.network
-            ≡ after_reply (done self.now.setting self.now.network result reply.now) self.now.network }
+            ≡ after_reply (done self.now.setting self.now.network result reply.now)
+            (served result self.now.network) }
     {
         if may_poll(aid, link) {
             Some(from)

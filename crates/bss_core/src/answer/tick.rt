@@ -1,26 +1,31 @@
 //! Beacon intervals (IEEE Std 802.11-2016, 11.1.3.2 and 11.2.3.3).
 
 ghost use Rattle.std.specs.Prelude.{◌≡◌, ◌<◌, ◌≤◌, OnOk, OnErr};
-ghost use Rattle.bss_core.specs.Network.{tick, beacon_frame};
+ghost use Rattle.bss_core.specs.Network.{tick, beacon_frame, age_units};
+ghost use Rattle.bss_core.specs.NetworkView.{IsStill};
 ghost use Rattle.bss_core.specs.Replies.{no_reply, after_reply, sending, IsFitting};
+ghost use Rattle.bss_core.specs.Roster.{AreWaitedFor};
 
 use crate::network::Network;
 use crate::reply::{Leaving, Reply};
 use beacon::{dtim_count, write_beacon};
 use mac_frame::{NoMemory, Octets};
 use powersave::Whom;
-use tim::one_tim;
+use tim::{Bitmap, one_tim};
 
 impl Network {
-    /// The reply to a beacon interval that begins: a beacon, and at a DTIM after it all units that are kept for the
-    /// group.
+    /// The reply to a beacon interval that begins, once units have aged: a beacon, and at a DTIM after it all units that
+    /// are kept for the group.
     pub(crate) fn tick(&self, reply: &mut Reply) -> Result<(), NoMemory>
         requires clock { self.now.network.clock < 4294967295 }
         requires nothing { reply.old ≡ no_reply self.now.network.sequence }
         requires sequence { reply.old.sequence < 4096 }
-        ensures fitting { OnOk result (IsFitting self.now.setting reply.new self.now.network) }
-        ensures answer { OnOk result (tick self.now.setting self.now.network
-            ≡ after_reply reply.new self.now.network) }
+        ensures fitting { OnOk result (
+            IsFitting self.now.setting reply.new (age_units self.now.setting self.now.network)) }
+        ensures answer { OnOk result (tick self.now.setting (age_units self.now.setting self.now.network)
+            ≡ after_reply reply.new (age_units self.now.setting self.now.network)) }
+        ensures begins { OnOk result (reply.new.clock ≡ 1) }
+        ensures still { OnOk result (IsStill reply.new) }
     {
         let clock = self.clock() + 1;
         reply.clock = 1;
@@ -32,18 +37,36 @@ impl Network {
         Ok(())
     }
 
-    /// Goes on with a reply: sends the beacon at this clock.
+    /// Goes on with a reply: sends the beacon at this clock, which tells of the units that are kept once they have aged.
     fn announce(&self, reply: &mut Reply, clock: u32) -> Result<(), NoMemory>
         requires clock { 1 ≤ clock }
         requires sequence { reply.old.sequence < 4096 }
         ensures ok { OnOk result (reply.new ≡ sending reply.old
-            (beacon_frame self.now.setting clock self.now.network.stations self.now.network.kept)) }
+            (beacon_frame self.now.setting clock self.now.network.stations
+            (age_units self.now.setting self.now.network).kept)) }
+        ensures err { OnErr result (reply.new ≡ reply.old) }
+    {
+        if self.setting().network.aging {
+            self.announce_for(reply, clock, &self.traffic_after_aging())
+        } else {
+            self.announce_for(reply, clock, self.traffic())
+        }
+    }
+
+    /// Goes on with a reply: sends the beacon at this clock, for the stations with these association identifiers.
+    fn announce_for(&self, reply: &mut Reply, clock: u32, bits: &Bitmap) -> Result<(), NoMemory>
+        requires clock { 1 ≤ clock }
+        requires sequence { reply.old.sequence < 4096 }
+        requires waited_for { AreWaitedFor bits.now self.now.network.stations
+            (age_units self.now.setting self.now.network).kept }
+        ensures ok { OnOk result (reply.new ≡ sending reply.old
+            (beacon_frame self.now.setting clock self.now.network.stations
+            (age_units self.now.setting self.now.network).kept)) }
         ensures err { OnErr result (reply.new ≡ reply.old) }
     {
         // a beacon is the same for sets with the same identifiers
         one_tim();
         let setting = self.setting();
-        let bits = self.traffic();
         let group = self.group_is_kept();
         let advert = setting.advert(clock, reply.sequence);
         let mut frame = Octets::new(self.alloc());

@@ -29,6 +29,7 @@ impl Network {
             to: ether.to,
             source: ether.source,
             body: Body::Wired(ether),
+            at: self.clock(),
         };
         self.deliver(reply, &unit, link)
     }

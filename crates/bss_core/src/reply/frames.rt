@@ -50,6 +50,7 @@ impl Frames {
     }
 
     /// Appends a frame; the first one takes no memory. After `NoMemory` the frames are as they were.
+    #[inline(always)]
     pub fn push(&mut self, frame: Octets) -> Result<(), NoMemory>
         ensures ok { OnOk result (self.new ≡ self.old ++ frame ∷ []) }
         ensures err { OnErr result (self.new ≡ self.old) }
@@ -72,6 +73,7 @@ impl Frames {
 
     /// Makes room for the frames, and for one at least, after those that wait, which stay as they are. `NoMemory` where
     /// the growth was refused.
+    #[inline(always)]
     pub fn reserve_in(&self, waiting: &mut VecDeque<Octets>) -> Result<(), NoMemory>
         ensures items { waiting.new.items ≡ waiting.old.items }
         ensures len { deque_len waiting.new ≡ deque_len waiting.old }
@@ -85,6 +87,7 @@ impl Frames {
     }
 
     /// Puts the frames after those that wait, for which there is room.
+    #[inline(always)]
     pub fn append_to(self, waiting: &mut VecDeque<Octets>)
         requires { deque_len waiting.old + length self ≤ deque_capacity waiting.old }
         ensures { waiting.new.items ≡ waiting.old.items ++ self }

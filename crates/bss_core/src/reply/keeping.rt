@@ -1,9 +1,8 @@
 //! What becomes of the units that a network keeps.
 
-ghost use Rattle.std.specs.Prelude.{◌≡◌, length, None, OnOk};
-ghost use Rattle.bss_core.specs.Replies.{without, IsRoomFor};
+ghost use Rattle.std.specs.Prelude.{◌≡◌, length, None};
+ghost use Rattle.bss_core.specs.Replies.{without};
 
-use mac_frame::NoMemory;
 use powersave::{Keep, Unit, Whom};
 
 /// Which units leave.
@@ -13,8 +12,17 @@ pub enum Leaving {
     Nothing,
     /// All for one do.
     All(Whom),
-    /// The one that was kept first for one does.
-    Oldest(Whom),
+}
+
+/// A unit that comes to those that are kept.
+#[derive(Debug, Drop)]
+pub struct Arriving {
+    /// Whom it is kept for.
+    pub whom: Whom,
+    /// The association identifier of that station (IEEE Std 802.11-2016, 9.4.1.8); the group has none.
+    pub aid: Option<u16>,
+    /// The unit.
+    pub unit: Unit,
 }
 
 /// What becomes of the units that are kept: first some leave, then one may come.
@@ -22,8 +30,8 @@ pub enum Leaving {
 pub struct Keeping {
     /// Which leave.
     pub leaving: Leaving,
-    /// Which one comes, and whom it is kept for.
-    pub arriving: Option<(Whom, Unit)>,
+    /// Which one comes.
+    pub arriving: Option<Arriving>,
 }
 
 impl Leaving {
@@ -34,7 +42,6 @@ impl Leaving {
         match self {
             Leaving::Nothing => keep.len(),
             Leaving::All(whom) => keep.len() - keep.count_for(*whom),
-            Leaving::Oldest(whom) => keep.len() - keep.count_for(*whom).min(1),
         }
     }
 }
@@ -48,18 +55,5 @@ impl Keeping {
             leaving: Leaving::Nothing,
             arriving: None,
         }
-    }
-
-    /// Makes room for the unit that comes. The units stay as they are. `NoMemory` where the growth was refused.
-    pub fn reserve_in(&self, keep: &mut Keep) -> Result<(), NoMemory>
-        ensures entries { keep.new.entries ≡ keep.old.entries }
-        ensures quota { keep.new.quota ≡ keep.old.quota }
-        ensures puts { keep.new.puts ≡ keep.old.puts }
-        ensures room { OnOk result (IsRoomFor self.now.arriving keep.new) }
-    {
-        if let Some((whom, _)) = &self.arriving {
-            keep.reserve(*whom)?;
-        }
-        Ok(())
     }
 }

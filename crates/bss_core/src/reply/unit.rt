@@ -37,6 +37,8 @@ pub struct Arrival<'a> {
     pub source: MacAddr,
     /// Its body.
     pub body: Body<'a>,
+    /// The clock at which it came.
+    pub at: u32,
 }
 
 impl Arrival<'_> {
@@ -50,6 +52,7 @@ impl Arrival<'_> {
             to: self.to,
             source: self.source,
             body,
+            at: self.at,
         })
     }
 }

@@ -13,12 +13,12 @@ group-of (One addr) other = absurd (other addr refl)
 group-of Group other = refl
 
 pub returns-in_default : goal.returns-in_default
-returns-in_default c before after sound stay waits told n aid =
+returns-in_default c sound before after stay waits told n aid =
     let group : c.args.whom.now ≡ Group = group-of c.args.whom.now c.in_default.not-One in
     told n aid ∙ sym (group-waits_not c.args.stations.now.table before after n (subst (λ (w : Whom). StayBeside w before after) group stay))
 
 pub returns : goal.returns
-returns c before after sound stay waits told =
+returns c sound before after stay waits told =
     let addr : List ℕ = c.in-One.addr in
     let t : Table = c.args.stations.now.table in
     let shown = subst (λ (o : Option ℕ). AreShown o o c.args.waits c.args.traffic.now c.show.new.traffic) c.aid_of-aid.ensures.aid c.show.ensures in

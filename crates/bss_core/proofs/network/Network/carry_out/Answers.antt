@@ -1,55 +1,92 @@
-use Rattle.std.proofs.Common.{◌≡◌, sym, ap, subst, ◌∙◌, arith}
-use Rattle.bss_core.specs.NetworkView.{NetworkState, MayFollow, carried_out}
-use Rattle.bss_core.specs.Replies.{kept_after}
-use Rattle.bss_core.specs.Roster.{RosterState}
+use Rattle.std.proofs.Common.{◌≡◌, ℕ, ◌+◌, ◌*◌, ◌&&◌, Bool, true, false, not, [], length, Option, Some, None, refl, sym, ap, subst, ◌∙◌, arith}
+use Rattle.std.specs.Prelude.{filter, nat_lt}
+use Rattle.std.proofs.lemmas.Bool.{ltb-true, ltb-false}
+use Rattle.std.proofs.lemmas.Option.{none-some}
+use Rattle.bss_core.specs.Network.{Setting, Network}
+use Rattle.bss_core.specs.NetworkView.{NetworkState, IsStill, MayFollow, carried_out, network_with, unsent}
+use Rattle.bss_core.specs.Replies.{after_reply, before_reply, kept_after, IsWithin}
+use Rattle.bss_core.specs.Roster.{RosterState, is_aged}
+use Rattle.bss_core.specs.Sound.{IsSoundNetwork}
 use Rattle.bss_core.specs.Stations.{StationTable, changed}
 use Rattle.bss_core.specs.declared.reply.Reply.{Reply}
+use Rattle.bss_core.specs.declared.reply.keeping.Arriving.{Arriving}
+use Rattle.bss_core.proofs.Aging.{before-none}
+use Rattle.bss_core.proofs.Checked.{numbers_bounded}
 use Rattle.bss_core.proofs.network.Network.carry_out.Goals as goal
 
-pub overflow_add-self : goal.overflow_add-self
-overflow_add-self c = omega (arith, c.requires.countable, ap (λ (n : NetworkState). n.events) c.self.view_is)
+-- where a unit comes, no beacon interval begins
+not-begun : (r : Reply) (a : Arriving) → IsStill r → r.keeping.arriving ≡ Some a → r.clock ≡ 0
+not-begun r a still comes = by (nat_lt 0 r.clock) refl
+  where
+    by : (b : Bool) → nat_lt 0 r.clock ≡ b → r.clock ≡ 0
+    by true begins = absurd (none-some a (sym (still (ltb-true 0 r.clock begins)).1 ∙ comes))
+    by false none = let most = ltb-false 0 r.clock none in omega (arith, most)
 
-pub overflow_add-self-2 : goal.overflow_add-self-2
-overflow_add-self-2 c = omega (arith, c.requires.follows.clock, ap (λ (n : NetworkState). n.network.clock) c.self.view_is)
+-- one that comes after units aged comes while none did
+within-now : (quota : ℕ) (s : Setting) (r : Reply) (n : Network) → IsStill r → IsWithin quota r.change r.keeping.leaving (before_reply s None r n).stations (before_reply s None r n).kept r.keeping.arriving
+    → IsWithin quota r.change r.keeping.leaving n.stations n.kept r.keeping.arriving
+within-now quota s r n still = by r.keeping.arriving refl
+  where
+    by : (o : Option Arriving) → r.keeping.arriving ≡ o → IsWithin quota r.change r.keeping.leaving (before_reply s None r n).stations (before_reply s None r n).kept o → IsWithin quota r.change r.keeping.leaving n.stations n.kept o
+    by None is within = tt
+    by (Some a) is within =
+        subst (λ (m : Network). IsWithin quota r.change r.keeping.leaving m.stations m.kept (Some a)) (before-none s None r n (not-begun r a still is)) within
 
-pub overflow_add-self-3 : goal.overflow_add-self-3
-overflow_add-self-3 c =
-    let follows = subst (λ (n : NetworkState). MayFollow n c.args.reply) (sym c.self.view_is) c.requires.follows in
-    omega (arith, follows.sound.lost, c.from.ensures, c.requires.countable, ap (λ (n : NetworkState). n.events) c.self.view_is)
+-- the network in the end
+ended : (n : NetworkState) (r : Reply) (last : RosterState) (ages : Bool) (aged lost unread : ℕ) → ages ≡ (nat_lt 0 r.clock && n.setting.network.aging)
+    → last.stations.table ≡ changed r.change n.network.stations → last.kept.entries ≡ kept_after r.keeping (filter (λ e. not (is_aged ages n.network.clock n.network.stations e)) n.network.kept)
+    → aged ≡ length (filter (is_aged ages n.network.clock n.network.stations) n.network.kept) → lost ≡ r.lost → unread ≡ r.unread
+    → network_with last (n.network.clock + r.clock) r.sequence (n.network.lost + aged + lost) (n.network.unread + unread) ≡ unsent (after_reply r (before_reply n.setting None r n.network))
+ended n r last ages aged lost unread is table entries count lost_is unread_is =
+    let kept : last.kept.entries ≡ kept_after r.keeping (before_reply n.setting None r n.network).kept =
+    entries ∙ ap (λ (b : Bool). kept_after r.keeping (filter (λ e. not (is_aged b n.network.clock n.network.stations e)) n.network.kept)) is in
+    let gone : n.network.lost + aged ≡ (before_reply n.setting None r n.network).lost =
+    ap (λ (k : ℕ). n.network.lost + k) (count ∙ ap (λ (b : Bool). length (filter (is_aged b n.network.clock n.network.stations) n.network.kept)) is) in
+    let all : n.network.lost + aged + lost ≡ (before_reply n.setting None r n.network).lost + r.lost = ap (λ (k : ℕ). k + lost) gone ∙ ap (λ (k : ℕ). (before_reply n.setting None r n.network).lost + k) lost_is in
+    λ i. record {
+      stations = table i;
+      kept = kept i;
+      clock = n.network.clock + r.clock;
+      sequence = r.sequence;
+      lost = all i;
+      unread = n.network.unread + unread_is i;
+      air = [];
+      wire = [];
+    }
 
-pub overflow_add-self-4 : goal.overflow_add-self-4
-overflow_add-self-4 c =
-    let follows = subst (λ (n : NetworkState). MayFollow n c.args.reply) (sym c.self.view_is) c.requires.follows in
-    omega (arith, follows.sound.unread, c.from-2.ensures, c.requires.countable, ap (λ (n : NetworkState). n.events) c.self.view_is)
+pub carry_out-requires-clause-within : goal.carry_out-requires-clause-within
+carry_out-requires-clause-within c =
+    let r : Reply = c.args.reply in
+    let n : NetworkState = record { setting = c.self.inside.setting; events = c.self.inside.events; network = network_with c.self.inside.roster c.self.inside.clock c.self.inside.sequence c.self.inside.lost c.self.inside.unread } in
+    let follows = subst (λ (k : NetworkState). MayFollow k None r) (sym c.self.view_is) c.requires.follows in
+    subst (λ (quota : ℕ). IsWithin quota r.change r.keeping.leaving n.network.stations n.network.kept r.keeping.arriving) (sym c.self.invariant.quota)
+    (within-now n.setting.network.quota n.setting r n.network follows.still follows.fitting.keeping)
+
+pub carry_out-requires-clause-few : goal.carry_out-requires-clause-few
+carry_out-requires-clause-few c =
+    let most = (numbers_bounded c.self.inside.setting.network c.self.invariant.accepted).quota in
+    omega (arith, c.self.invariant.sound.quota, most)
 
 pub invariant_of-self-2 : goal.invariant_of-self-2
 invariant_of-self-2 c =
     let r : Reply = c.args.reply in
-    let follows = subst (λ (n : NetworkState). MayFollow n r) (sym c.self.view_is) c.requires.follows in
-    let was = c.in_ok-change.ensures.ok in
-    let table : c.keep.new.self.stations.table ≡ changed r.change c.self.inside.roster.stations.table =
-    ap (λ (k : StationTable). k.table) c.keep.ensures.stations ∙ ap (λ (q : RosterState). q.stations.table) was ∙ ap (λ (k : StationTable). changed r.change k.table) c.in_ok-reserve.ensures.stations in
-    let units : c.keep.new.self.kept.entries ≡ kept_after r.keeping c.self.inside.roster.kept.entries =
-    c.keep.ensures.entries ∙ ap (λ (q : RosterState). kept_after r.keeping q.kept.entries) was ∙ ap (kept_after r.keeping) c.in_ok-reserve.ensures.entries in
+    let n : NetworkState = record { setting = c.self.inside.setting; events = c.self.inside.events; network = network_with c.self.inside.roster c.self.inside.clock c.self.inside.sequence c.self.inside.lost c.self.inside.unread } in
+    let follows = subst (λ (k : NetworkState). MayFollow k None r) (sym c.self.view_is) c.requires.follows in
+    let told = c.in_ok-aged.ensures in
+    let is = ended n r c.carry_out.new.self c.units_age-ages.result c.from.result c.from-2.result c.from-3.result c.units_age-ages.ensures (ap (λ (k : StationTable). k.table) told.stations) told.entries (c.from.ensures ∙ told.count) c.from-2.ensures c.from-3.ensures in
     record {
       accepted = c.self.invariant.accepted;
-      sound = rw (table, units, c.from.ensures, c.from-2.ensures) follows.sound;
-      most = ap (λ (k : StationTable). k.most) c.keep.ensures.stations ∙ ap (λ (q : RosterState). q.stations.most) was ∙ ap (λ (k : StationTable). k.most) c.in_ok-reserve.ensures.stations ∙ c.self.invariant.most;
-      quota = c.keep.ensures.quota ∙ ap (λ (q : RosterState). q.kept.quota) was ∙ c.in_ok-reserve.ensures.quota ∙ c.self.invariant.quota;
-      puts = omega (arith, c.keep.ensures.puts, ap (λ (q : RosterState). q.kept.puts) was, c.in_ok-reserve.ensures.puts, c.self.invariant.puts);
+      sound = subst (IsSoundNetwork n.setting (n.events + 1) (2 * (n.events + 1))) (sym is) follows.sound;
+      most = ap (λ (k : StationTable). k.most) told.stations ∙ c.self.invariant.most;
+      quota = told.quota ∙ c.self.invariant.quota;
+      puts = omega (arith, told.puts, c.self.invariant.puts);
       clock = follows.clock;
     }
-
-pub keep-requires-clause-countable : goal.keep-requires-clause-countable
-keep-requires-clause-countable c =
-    omega (arith, ap (λ (q : RosterState). q.kept.puts) c.in_ok-change.ensures.ok, c.in_ok-reserve.ensures.puts, c.self.invariant.puts, c.requires.countable, ap (λ (n : NetworkState). n.events) c.self.view_is)
 
 pub returns-clause-after : goal.returns-clause-after
 returns-clause-after c =
     let r : Reply = c.args.reply in
-    let was = c.in_ok-change.ensures.ok in
-    let table : c.keep.new.self.stations.table ≡ changed r.change c.self.inside.roster.stations.table =
-    ap (λ (k : StationTable). k.table) c.keep.ensures.stations ∙ ap (λ (q : RosterState). q.stations.table) was ∙ ap (λ (k : StationTable). changed r.change k.table) c.in_ok-reserve.ensures.stations in
-    let units : c.keep.new.self.kept.entries ≡ kept_after r.keeping c.self.inside.roster.kept.entries =
-    c.keep.ensures.entries ∙ ap (λ (q : RosterState). kept_after r.keeping q.kept.entries) was ∙ ap (kept_after r.keeping) c.in_ok-reserve.ensures.entries in
-    rw (table, units, c.from.ensures, c.from-2.ensures) (ap (carried_out r) c.self.view_is)
+    let n : NetworkState = record { setting = c.self.inside.setting; events = c.self.inside.events; network = network_with c.self.inside.roster c.self.inside.clock c.self.inside.sequence c.self.inside.lost c.self.inside.unread } in
+    let told = c.in_ok-aged.ensures in
+    let is = ended n r c.carry_out.new.self c.units_age-ages.result c.from.result c.from-2.result c.from-3.result c.units_age-ages.ensures (ap (λ (k : StationTable). k.table) told.stations) told.entries (c.from.ensures ∙ told.count) c.from-2.ensures c.from-3.ensures in
+    ap (λ (m : Network). record n { events = n.events + 1; network = m }) is ∙ ap (carried_out None r) c.self.view_is

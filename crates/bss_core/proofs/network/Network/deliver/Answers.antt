@@ -7,7 +7,7 @@ use Rattle.bss_core.specs.Stations.{changed}
 use Rattle.bss_core.specs.Units.{unit_frame}
 use Rattle.bss_core.specs.declared.reply.Reply.{Reply}
 use Rattle.bss_core.proofs.AloneLaws.{delivery-for}
-use Rattle.bss_core.proofs.UnitDelivery.{after-sent, left-apart, delivered}
+use Rattle.bss_core.proofs.UnitDelivery.{after-sent, left-apart, delivered, identifier-told}
 use Rattle.bss_core.proofs.network.Network.deliver.Goals as goal
 
 -- where a call ends well, what follows from its clause
@@ -44,3 +44,10 @@ returns-in-Kept-clause-ok c =
     where-ok c.keep_or_lose.result
     (λ is. delivered s (unit_shown c.args.unit.now) r n (Kept c.in-Kept.whom) c.requires.mode.awake c.requires.mode.none_arrives (sym c.in-Kept.is ∙ c.delivery_of.ensures) ∙ is)
     c.keep_or_lose.ensures.ok
+
+pub keep_or_lose-requires-clause-aid : goal.keep_or_lose-requires-clause-aid
+keep_or_lose-requires-clause-aid c =
+    let n = c.args.self.now.network in
+    let r : Reply = c.args.reply.now in
+    c.aid_at-aid.ensures
+    ∙ identifier-told r.change c.args.unit.now.to n.stations n.kept c.in-Kept.whom c.args.link c.requires.mode.change c.requires.link (sym c.delivery_of.ensures ∙ c.in-Kept.is)

@@ -1,13 +1,13 @@
-use Rattle.std.proofs.Common.{◌≡◌, ◌∙◌, ◌+◌, Result, Ok, Err, sym, ap, subst, arith}
+use Rattle.std.proofs.Common.{◌∙◌, Result, Ok, Err, None, sym, ap, subst}
 use Rattle.std.specs.Prelude.{IfOk}
 use Rattle.bridge.specs.Ethernet.{ethernet_of}
 use Rattle.association.specs.Request.{request_of}
-use Rattle.bss_core.specs.Network.{Network}
+use Rattle.bss_core.specs.Network.{step}
 use Rattle.bss_core.specs.Replies.{done}
 use Rattle.bss_core.specs.NetworkView.{NetworkState, IsNetwork}
-use Rattle.bss_core.specs.declared.event.Event.TheVariants.{Air, Wire, Tick}
-use Rattle.bss_core.proofs.Clocks.{answered, wired, ticked}
-use Rattle.bss_core.proofs.Histories.{may-follow}
+use Rattle.bss_core.specs.declared.event.Event.TheVariants.{Air, Wire}
+use Rattle.bss_core.proofs.Clocks.{answered, wired}
+use Rattle.bss_core.proofs.Histories.{still-follows, tick-follows}
 use Rattle.bss_core.proofs.network.Network.reply.Goals as goal
 
 -- what follows of a reply from two clauses
@@ -22,25 +22,49 @@ returns-in-Air-clause-follows c =
     let asked = request_of n.setting.network.bssid c.as_slice.result.now in
     of_all c.answer.result
     (λ polled fits is.
-    let r = done n.setting n.network polled c.answer.new.reply in
-    let same : n.network.clock ≡ n.network.clock + r.clock = sym (answered n.setting asked n.network) ∙ ap (λ (m : Network). m.clock) is in
-    may-follow n (Air c.as_slice.result.now) r kept.accepted kept.sound fits is (omega (arith, same, kept.clock)))
+    (still-follows n (Air c.as_slice.result.now) polled (done n.setting n.network polled c.answer.new.reply) kept.accepted kept.sound fits is (answered n.setting asked n.network) kept.clock).0)
+    c.answer.ensures.fitting c.answer.ensures.answer
+
+pub returns-in-Air-clause-step : goal.returns-in-Air-clause-step
+returns-in-Air-clause-step c =
+    let n : NetworkState = c.args.self.now in
+    let kept : IsNetwork c.self.inside.roster n = subst (IsNetwork c.self.inside.roster) c.self.view_is c.self.invariant in
+    let event = c.in-Air.is ∙ ap Air (sym c.as_slice.ensures) in
+    let asked = request_of n.setting.network.bssid c.as_slice.result.now in
+    of_all c.answer.result
+    (λ polled fits is.
+    ap (step n.setting n.network) event
+    ∙ (still-follows n (Air c.as_slice.result.now) polled (done n.setting n.network polled c.answer.new.reply) kept.accepted kept.sound fits is (answered n.setting asked n.network) kept.clock).1)
     c.answer.ensures.fitting c.answer.ensures.answer
 
 pub returns-in_ok-answer_wired-in-Wire-clause-follows : goal.returns-in_ok-answer_wired-in-Wire-clause-follows
 returns-in_ok-answer_wired-in-Wire-clause-follows c =
     let n : NetworkState = c.args.self.now in
     let kept : IsNetwork c.self.inside.roster n = subst (IsNetwork c.self.inside.roster) c.self.view_is c.self.invariant in
-    let r = c.answer_wired.new.reply in
-    let is = c.in_ok-answer_wired-in-Wire.ensures.answer in
-    let same : n.network.clock ≡ n.network.clock + r.clock = sym (wired n.setting (ethernet_of c.as_slice-in-Wire.result.now) n.network) ∙ ap (λ (m : Network). m.clock) is in
-    may-follow n (Wire c.as_slice-in-Wire.result.now) r kept.accepted kept.sound c.in_ok-answer_wired-in-Wire.ensures.fitting is (omega (arith, same, kept.clock))
+    let read = ethernet_of c.as_slice-in-Wire.result.now in
+    let said = c.in_ok-answer_wired-in-Wire.ensures in
+    (still-follows n (Wire c.as_slice-in-Wire.result.now) None c.answer_wired.new.reply kept.accepted kept.sound said.fitting said.answer (wired n.setting read n.network) kept.clock).0
+
+pub returns-in_ok-answer_wired-in-Wire-clause-step : goal.returns-in_ok-answer_wired-in-Wire-clause-step
+returns-in_ok-answer_wired-in-Wire-clause-step c =
+    let n : NetworkState = c.args.self.now in
+    let kept : IsNetwork c.self.inside.roster n = subst (IsNetwork c.self.inside.roster) c.self.view_is c.self.invariant in
+    let read = ethernet_of c.as_slice-in-Wire.result.now in
+    let said = c.in_ok-answer_wired-in-Wire.ensures in
+    ap (step n.setting n.network) (c.in-Wire.is ∙ ap Wire (sym c.as_slice-in-Wire.ensures))
+    ∙ (still-follows n (Wire c.as_slice-in-Wire.result.now) None c.answer_wired.new.reply kept.accepted kept.sound said.fitting said.answer (wired n.setting read n.network) kept.clock).1
 
 pub returns-in_ok-tick-in-Tick-clause-follows : goal.returns-in_ok-tick-in-Tick-clause-follows
 returns-in_ok-tick-in-Tick-clause-follows c =
     let n : NetworkState = c.args.self.now in
     let kept : IsNetwork c.self.inside.roster n = subst (IsNetwork c.self.inside.roster) c.self.view_is c.self.invariant in
-    let r = c.tick.new.reply in
-    let is = c.in_ok-tick-in-Tick.ensures.answer in
-    let more : n.network.clock + 1 ≡ n.network.clock + r.clock = sym (ticked n.setting n.network) ∙ ap (λ (m : Network). m.clock) is in
-    may-follow n Tick r kept.accepted kept.sound c.in_ok-tick-in-Tick.ensures.fitting is (omega (arith, more, c.requires.ticks c.in-Tick.is))
+    let said = c.in_ok-tick-in-Tick.ensures in
+    (tick-follows n c.tick.new.reply kept.accepted kept.sound said.still said.fitting said.answer said.begins (c.requires.ticks c.in-Tick.is)).0
+
+pub returns-in_ok-tick-in-Tick-clause-step : goal.returns-in_ok-tick-in-Tick-clause-step
+returns-in_ok-tick-in-Tick-clause-step c =
+    let n : NetworkState = c.args.self.now in
+    let kept : IsNetwork c.self.inside.roster n = subst (IsNetwork c.self.inside.roster) c.self.view_is c.self.invariant in
+    let said = c.in_ok-tick-in-Tick.ensures in
+    ap (step n.setting n.network) c.in-Tick.is
+    ∙ (tick-follows n c.tick.new.reply kept.accepted kept.sound said.still said.fitting said.answer said.begins (c.requires.ticks c.in-Tick.is)).1

@@ -21,8 +21,8 @@ loop-n-preserved c =
     let now : c.send_nth.new.reply ≡ sending c.loop-n.reply (unit_frame s.network.bssid (c.args.shows_more && nat_lt (k + 1) (length us)) here.0) =
     c.in_ok-send_nth.ensures.ok here.0 here.1 ∙ ap (λ (b : Bool). sending c.loop-n.reply (unit_frame s.network.bssid b here.0)) told in
     record {
-      sent = c.loop-n.invariant.sent ∙ one-more s c.args.shows_more us k here.0 c.loop-n.reply n here.1
-          ∙ ap (λ (q : Reply). send_each s c.args.shows_more (drop (k + 1) us) (after_reply q n)) (sym now);
+      sent = λ m. c.loop-n.invariant.sent m ∙ one-more s c.args.shows_more us k here.0 c.loop-n.reply m here.1
+          ∙ ap (λ (q : Reply). send_each s c.args.shows_more (drop (k + 1) us) (after_reply q m)) (sym now);
       same = rw now (ap (λ (q : Reply). sending q (unit_frame s.network.bssid (c.args.shows_more && nat_lt (k + 1) (length us)) here.0)) c.loop-n.invariant.same);
       sequence = rw now (omega arith);
     }

@@ -1,12 +1,16 @@
-use Rattle.std.proofs.Common.{◌≡◌, ◌∙◌, false, sym, ap, subst}
+use Rattle.std.proofs.Common.{◌≡◌, ◌∙◌, false, List, sym, ap, subst}
 use Rattle.powersave.specs.declared.unit.Whom.TheVariants.{One}
-use Rattle.bss_core.specs.Replies.{IsAwake, no_reply}
+use Rattle.powersave.specs.Keep.{units_for}
+use Rattle.powersave.specs.declared.unit.Unit.{Unit as DataUnit}
+use Rattle.bss_core.specs.Network.{Setting, Network, send_each}
+use Rattle.bss_core.specs.Replies.{IsAwake, no_reply, after_reply}
 use Rattle.bss_core.specs.Stations.{Table, changed}
 use Rattle.bss_core.specs.declared.reply.keeping.Leaving.{Leaving}
 use Rattle.bss_core.specs.declared.reply.keeping.Leaving.TheVariants.{All}
 use Rattle.bss_core.specs.declared.reply.Reply.{Reply}
 use Rattle.bss_core.specs.declared.stations.Change.{Change}
 use Rattle.bss_core.specs.declared.stations.Change.TheVariants.{SetMode}
+use Rattle.bss_core.proofs.UnitDelivery.{woken-replied}
 use Rattle.bss_core.proofs.UnitsKept.{active-moded}
 use Rattle.bss_core.proofs.network.Network.wake.Goals as goal
 
@@ -25,3 +29,11 @@ returns-clause-mode c =
       lost = ap (λ (r : Reply). r.lost) c.send_kept.ensures.same ∙ ap (λ (r : Reply). r.lost) c.change_state.ensures ∙ ap (λ (r : Reply). r.lost) none;
       wired = ap (λ (r : Reply). r.wired) c.send_kept.ensures.same ∙ ap (λ (r : Reply). r.wired) c.change_state.ensures ∙ ap (λ (r : Reply). r.wired) none;
     }
+
+pub returns-clause-answer : goal.returns-clause-answer
+returns-clause-answer c =
+    let s : Setting = c.args.self.now.setting in
+    let n : Network = c.args.self.now.network in
+    let us : List DataUnit = units_for (One c.args.from) n.kept in
+    let is = c.change_state.ensures ∙ ap (λ (r : Reply). record r { change = SetMode c.args.from false; keeping = record r.keeping { leaving = All (One c.args.from) } }) c.requires.nothing in
+    ap (send_each s false us) (sym (ap (λ (q : Reply). after_reply q n) is ∙ woken-replied c.args.from n)) ∙ c.in_ok-send_kept.ensures.ok n

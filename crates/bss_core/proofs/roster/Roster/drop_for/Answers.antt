@@ -10,6 +10,6 @@ invariant_of-self c =
       limit = c.self.invariant.limit;
       sound = c.self.invariant.sound;
       traffic =
-          c.follow.ensures es (without_all c.args.whom.now es) c.self.invariant.sound (λ other apart. c.parts_stay.ensures.others_dropped c.args.whom.now other es apart)
+          c.follow.ensures c.self.invariant.sound es (without_all c.args.whom.now es) (λ other apart. c.parts_stay.ensures.others_dropped c.args.whom.now other es apart)
           (sym (ap (λ us. nat_lt 0 (length us)) (c.parts_stay.ensures.dropped c.args.whom.now es))) c.self.invariant.traffic;
     })

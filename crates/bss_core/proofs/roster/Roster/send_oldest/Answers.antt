@@ -36,6 +36,6 @@ invariant_of-self-2 c =
       limit = c.self.invariant.limit;
       sound = c.self.invariant.sound;
       traffic =
-          c.follow.ensures es (without_oldest whom es) c.self.invariant.sound (λ other apart. c.parts_stay.ensures.others_oldest whom other es apart)
+          c.follow.ensures c.self.invariant.sound es (without_oldest whom es) (λ other apart. c.parts_stay.ensures.others_oldest whom other es apart)
           (ap told first ∙ left_of c.args.bss c.args.seq (units_for whom es) ∙ sym (ap (λ us. nat_lt 0 (length us)) (c.parts_stay.ensures.oldest whom es))) c.self.invariant.traffic;
     })

@@ -1,9 +1,8 @@
-use Rattle.std.proofs.Common.{◌≡◌, ℕ, List, length, ap, ◌∙◌, arith}
-use Rattle.std.specs.Prelude.{min}
-use Rattle.powersave.specs.Keep.{Entry, units_for, without_all, without_oldest}
+use Rattle.std.proofs.Common.{◌≡◌, List, length, ap, arith}
+use Rattle.powersave.specs.Keep.{Entry, without_all}
 use Rattle.bss_core.specs.Replies.{without}
 use Rattle.bss_core.specs.declared.reply.keeping.Leaving.{Leaving}
-use Rattle.bss_core.proofs.UnitsKept.{length-parted, length-oldest}
+use Rattle.bss_core.proofs.UnitsKept.{length-parted}
 use Rattle.bss_core.proofs.reply.keeping.Leaving.len_after.Goals as goal
 
 pub overflow_sub-result : goal.overflow_sub-result
@@ -14,10 +13,3 @@ returns-in-All c =
     let es : List Entry = c.args.keep.now.entries in
     let gone : length (without c.args.self.now es) ≡ length (without_all c.in-All.whom es) = ap (λ (l : Leaving). length (without l es)) c.in-All.is in
     omega (arith, gone, c.count_for.ensures, c.len-in-All.ensures, length-parted c.in-All.whom es)
-
-pub returns-in-Oldest : goal.returns-in-Oldest
-returns-in-Oldest c =
-    let es : List Entry = c.args.keep.now.entries in
-    let gone : length (without c.args.self.now es) ≡ length (without_oldest c.in-Oldest.whom es) = ap (λ (l : Leaving). length (without l es)) c.in-Oldest.is in
-    let taken : c.min.result ≡ min (length (units_for c.in-Oldest.whom es)) 1 = c.min.ensures ∙ ap (λ (n : ℕ). min n 1) c.count_for-in-Oldest.ensures in
-    omega (arith, gone, taken, c.len-in-Oldest.ensures, length-oldest c.in-Oldest.whom es)
