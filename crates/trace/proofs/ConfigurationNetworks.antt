@@ -11,11 +11,12 @@ use Rattle.bss_core.specs.declared.config.NetConfig.{NetConfig}
 use Rattle.bss_core.specs.declared.config.ConfigFault.{ConfigFault}
 use Rattle.trace.specs.Endings.{Ending, Well, Refused, WriteFailed, OutOfMemory, IsFaultOf}
 use Rattle.trace.specs.Faults.{◌>>=◌}
-use Rattle.trace.specs.ConfigurationText.{tables_in, network_of_table, networks_of}
+use Rattle.trace.specs.ConfigurationText.{tables_in, network_of, networks_of}
+use Rattle.trace.specs.declared.configuration.version.Version.{Version}
 
 -- the networks so far, and those that are still to be read after them
-unfoldable pub so_far : List NetConfig → Items → Result (List NetConfig) ConfigFault
-so_far done ds = networks_of done (tables_in ds) >>= (λ more. Ok (done ++ more))
+unfoldable pub so_far : Version → List NetConfig → Items → Result (List NetConfig) ConfigFault
+so_far version done ds = networks_of version done (tables_in ds) >>= (λ more. Ok (done ++ more))
 
 -- the first item is a table, or it is left out
 tables_in-table : (d : Data) (ds : Items) (ms : Members) → as_table d ≡ Some ms
@@ -34,39 +35,39 @@ moved : (done : List NetConfig) (network : NetConfig) (read : Result (List NetCo
 moved done network (Ok more) = ap Ok (sym (append_assoc done (network ∷ []) more))
 moved done network (Err fault) = refl
 
-pub so_far-start : (ds : Items) → so_far [] ds ≡ networks_of [] (tables_in ds)
+pub so_far-start : (version : Version) (ds : Items) → so_far version [] ds ≡ networks_of version [] (tables_in ds)
 unfolding so_far
-so_far-start ds =
-    elim (networks_of [] (tables_in ds)) as (λ read. (read >>= (λ more. Ok ([] ++ more))) ≡ read)
+so_far-start version ds =
+    elim (networks_of version [] (tables_in ds)) as (λ read. (read >>= (λ more. Ok ([] ++ more))) ≡ read)
     [ Ok more ↦ refl | Err fault ↦ refl ]
 
 -- at the end there are those so far
-pub so_far-end : (done : List NetConfig) (vs : List Value) (i : ℕ) → length vs ≤ i
-    → so_far done (items_view (drop i vs)) ≡ Ok done
+pub so_far-end : (version : Version) (done : List NetConfig) (vs : List Value) (i : ℕ) → length vs ≤ i
+    → so_far version done (items_view (drop i vs)) ≡ Ok done
 unfolding so_far
-so_far-end done vs i past = at_drop_all (λ xs. so_far done (items_view xs)) vs i past ∙ ap Ok (append-nil done)
+so_far-end version done vs i past = at_drop_all (λ xs. so_far version done (items_view xs)) vs i past ∙ ap Ok (append-nil done)
 
 -- one value of the array
-module _ (vs : List Value) (i : ℕ) (v : Value) (within : i < length vs) (here : v ≡ get_or vs i v) where
+module _ (version : Version) (vs : List Value) (i : ℕ) (v : Value) (within : i < length vs) (here : v ≡ get_or vs i v) where
   from_here : items_view (drop i vs) ≡ item (view v) (items_view (drop (i + 1) vs))
   from_here = items_view-drop vs i v within ∙ ap (λ x. item (view x) (items_view (drop (i + 1) vs))) (sym here)
 
   -- no table
   pub so_far-other : (done : List NetConfig) → None ≡ as_table (view v)
-      → so_far done (items_view (drop i vs)) ≡ so_far done (items_view (drop (i + 1) vs))
+      → so_far version done (items_view (drop i vs)) ≡ so_far version done (items_view (drop (i + 1) vs))
   unfolding so_far
   so_far-other done is = rw (from_here, tables_in-other _ _ (sym is)) refl
 
   -- the table of a network
   pub so_far-network : (done : List NetConfig) (ms : Members) (network : NetConfig) → Some ms ≡ as_table (view v)
-      → network_of_table done ms ≡ Ok network
-      → so_far done (items_view (drop i vs)) ≡ so_far (done ++ network ∷ []) (items_view (drop (i + 1) vs))
+      → network_of version done ms ≡ Ok network
+      → so_far version done (items_view (drop i vs)) ≡ so_far version (done ++ network ∷ []) (items_view (drop (i + 1) vs))
   unfolding so_far
   so_far-network done ms network is read = rw (from_here, tables_in-table _ _ ms (sym is), read) (moved done network _)
 
   -- a table with a fault
   pub so_far-fault : (done : List NetConfig) (ms : Members) (end : Ending ConfigFault) → Some ms ≡ as_table (view v)
-      → IsFaultOf (network_of_table done ms) end → IsFaultOf (so_far done (items_view (drop i vs))) end
+      → IsFaultOf (network_of version done ms) end → IsFaultOf (so_far version done (items_view (drop i vs))) end
   unfolding so_far
   so_far-fault done ms (Refused fault) is read = rw (from_here, tables_in-table _ _ ms (sym is), read) refl
   so_far-fault done ms Well is read = tt

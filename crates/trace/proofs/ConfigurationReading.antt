@@ -70,7 +70,7 @@ pub network_of_table-read : (earlier : List NetConfig) (ms : Members) (bssid ssi
     → number_at max_events_fits (codes "max_events") ms ≡ Some max_events
     → nat_le max_stations max_known ≡ enough
     → network_of_table earlier ms
-    ≡ (if enough then Ok (record { bssid = bssid; ssid = ssid; rates = rates; dtim = dtim; max_stations = max_stations; max_known = max_known; quota = quota; max_events = max_events }) else Err (fault_after earlier 12))
+    ≡ (if enough then Ok (record { bssid = bssid; ssid = ssid; rates = rates; dtim = dtim; max_stations = max_stations; max_known = max_known; quota = quota; max_events = max_events; relay = true; aging = false }) else Err (fault_after earlier 12))
 unfolding network_of_table
 network_of_table-read earlier ms bssid ssid rates dtim max_stations max_known quota max_events true b s r d stations
     known q events fits =

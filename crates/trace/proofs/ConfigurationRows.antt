@@ -1,17 +1,18 @@
 -- Texts, and the configuration or the fault that reading finds in each.
-use Rattle.std.proofs.Common.{◌≡◌, ℕ, codes, List, [], ◌∷◌, ◌++◌, Ok, Err, refl}
+use Rattle.std.proofs.Common.{◌≡◌, ℕ, codes, true, false, List, [], ◌∷◌, ◌++◌, Ok, Err, refl}
 use Rattle.std.specs.Prelude.{⊤, replicate}
 use Rattle.std.specs.Str.{chars, is_utf8}
 use Rattle.toml.proofs.OnLiterals.{toml_on_literals}
 use Rattle.hex.proofs.OnLiterals.{hex_on_literals}
 use Rattle.bss_core.specs.Configuration.{of_radio, of_network}
-use Rattle.trace.specs.ConfigurationText.{number_at, text_at, array_at, bssid_at, ssid_at, rates_at, network_of_table}
-use Rattle.trace.specs.ConfigurationText.{is_listed, networks_at, radio_of, document_of, configuration_of}
+use Rattle.trace.specs.ConfigurationText.{number_at, text_at, array_at, truth_at, version_at, bssid_at, ssid_at, rates_at}
+use Rattle.trace.specs.ConfigurationText.{network_of_table, with_options, is_listed, networks_at, radio_of, document_of}
+use Rattle.trace.specs.ConfigurationText.{configuration_of}
 
 -- what is opened to compute the configuration of a text
 unfoldable pub configuration_on_literals : ⊤
-unfolding toml_on_literals hex_on_literals chars is_utf8 number_at text_at array_at bssid_at ssid_at rates_at
-    network_of_table is_listed networks_at radio_of document_of configuration_of
+unfolding toml_on_literals hex_on_literals chars is_utf8 number_at text_at array_at truth_at version_at bssid_at
+    ssid_at rates_at network_of_table with_options is_listed networks_at radio_of document_of configuration_of
 configuration_on_literals = tt
 
 -- ---- the texts
@@ -52,6 +53,8 @@ base_is_read : configuration_of (sound_radio ++ entry ++ sound_keys)
         max_known = 16;
         quota = 8;
         max_events = 100;
+        relay = true;
+        aging = false;
       } ∷ [];
     })
 unfolding configuration_on_literals
@@ -65,9 +68,13 @@ key_without_value_is_no_toml : configuration_of (codes "version =") ≡ Err (of_
 unfolding configuration_on_literals
 key_without_value_is_no_toml = refl
 
-version_2_is_refused : configuration_of (radio_text (codes "2") (codes "6") ++ entry ++ sound_keys) ≡ Err (of_radio 2)
+version_3_is_refused : configuration_of (radio_text (codes "3") (codes "6") ++ entry ++ sound_keys) ≡ Err (of_radio 2)
 unfolding configuration_on_literals
-version_2_is_refused = refl
+version_3_is_refused = refl
+
+version_0_is_refused : configuration_of (radio_text (codes "0") (codes "6") ++ entry ++ sound_keys) ≡ Err (of_radio 2)
+unfolding configuration_on_literals
+version_0_is_refused = refl
 
 colour_at_the_top_is_unlisted : configuration_of (sound_radio ++ codes "colour = 1\n" ++ entry ++ sound_keys) ≡ Err
     (of_radio 3)
@@ -143,7 +150,7 @@ unfolding configuration_on_literals
 version_as_a_text_is_refused = refl
 
 version_comes_before_unlisted_keys : configuration_of
-    (radio_text (codes "2") (codes "6") ++ codes "colour = 1\n" ++ entry ++ sound_keys) ≡ Err (of_radio 2)
+    (radio_text (codes "3") (codes "6") ++ codes "colour = 1\n" ++ entry ++ sound_keys) ≡ Err (of_radio 2)
 unfolding configuration_on_literals
 version_comes_before_unlisted_keys = refl
 
@@ -356,3 +363,89 @@ order_of_keys_is_free :
     ≡ configuration_of (sound_radio ++ entry ++ sound_keys)
 unfolding configuration_on_literals
 order_of_keys_is_free = refl
+
+-- ---- version 2
+
+abbrev second_radio : List ℕ
+second_radio = radio_text (codes "2") (codes "6")
+
+-- a network's keys, with these options after them
+abbrev options_text : List ℕ → List ℕ → List ℕ
+options_text relay aging = codes "relay = " ++ relay ++ codes "\naging = " ++ aging ++ codes "\n"
+
+options_are_read : configuration_of
+    (second_radio ++ entry ++ sound_keys ++ options_text (codes "false") (codes "true"))
+    ≡ Ok (record {
+      channel = 6;
+      interval = 100;
+      queue = 64;
+      networks = record {
+        bssid = 2 ∷ 0 ∷ 0 ∷ 0 ∷ 0 ∷ 1 ∷ [];
+        ssid = codes "lab";
+        rates = 130 ∷ 132 ∷ 11 ∷ 22 ∷ [];
+        dtim = 1;
+        max_stations = 8;
+        max_known = 16;
+        quota = 8;
+        max_events = 100;
+        relay = false;
+        aging = true;
+      } ∷ [];
+    })
+unfolding configuration_on_literals
+options_are_read = refl
+
+-- version 1 stands for these
+version_1_relays_and_does_not_age :
+    configuration_of (second_radio ++ entry ++ sound_keys ++ options_text (codes "true") (codes "false"))
+    ≡ configuration_of (sound_radio ++ entry ++ sound_keys)
+unfolding configuration_on_literals
+version_1_relays_and_does_not_age = refl
+
+version_1_has_no_options : configuration_of
+    (sound_radio ++ entry ++ sound_keys ++ options_text (codes "true") (codes "false")) ≡ Err (of_radio 3)
+unfolding configuration_on_literals
+version_1_has_no_options = refl
+
+missing_options_are_refused : configuration_of (second_radio ++ entry ++ sound_keys) ≡ Err (of_network 13 0)
+unfolding configuration_on_literals
+missing_options_are_refused = refl
+
+missing_aging_is_refused : configuration_of (second_radio ++ entry ++ sound_keys ++ codes "relay = true\n")
+    ≡ Err (of_network 13 0)
+unfolding configuration_on_literals
+missing_aging_is_refused = refl
+
+relay_as_a_number_is_refused : configuration_of
+    (second_radio ++ entry ++ sound_keys ++ options_text (codes "1") (codes "false")) ≡ Err (of_network 13 0)
+unfolding configuration_on_literals
+relay_as_a_number_is_refused = refl
+
+aging_as_a_text_is_refused : configuration_of
+    (second_radio ++ entry ++ sound_keys ++ options_text (codes "true") (codes "\"false\"")) ≡ Err (of_network 13 0)
+unfolding configuration_on_literals
+aging_as_a_text_is_refused = refl
+
+options_come_after_too_few_known : configuration_of
+    (second_radio ++ entry ++ keys_text (codes "02:00:00:00:00:01") (codes "82840b16") (codes "4"))
+    ≡ Err (of_network 12 0)
+unfolding configuration_on_literals
+options_come_after_too_few_known = refl
+
+-- the networks are tried one after the other
+options_come_before_the_next_network : configuration_of (second_radio ++ entry ++ sound_keys ++ entry)
+    ≡ Err (of_network 13 0)
+unfolding configuration_on_literals
+options_come_before_the_next_network = refl
+
+seventeen_networks_are_too_many : configuration_of
+    (second_radio ++ codes "network = [{}, {}, {}, {}, {}, {}, {}, {}, {}, {}, {}, {}, {}, {}, {}, {}, {}]\n")
+    ≡ Err (of_radio 7)
+unfolding configuration_on_literals
+seventeen_networks_are_too_many = refl
+
+sixteen_networks_are_as_many_as_there_may_be : configuration_of
+    (second_radio ++ codes "network = [{}, {}, {}, {}, {}, {}, {}, {}, {}, {}, {}, {}, {}, {}, {}, {}]\n")
+    ≡ Err (of_network 8 0)
+unfolding configuration_on_literals
+sixteen_networks_are_as_many_as_there_may_be = refl

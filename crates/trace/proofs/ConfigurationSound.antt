@@ -1,13 +1,13 @@
 -- A configuration that was read has no fault.
 use Rattle.std.proofs.Common.{◌≡◌, ℕ, ◌==◌, Bool, true, false, not, ◌&&◌, ◌||◌, if◌then◌else◌, nat_le, length, List, []}
 use Rattle.std.proofs.Common.{◌∷◌, ◌++◌, Option, Some, None, IfSome, option_and_then, Result, Ok, Err, IfOk, codes}
-use Rattle.std.proofs.Common.{refl, arith}
+use Rattle.std.proofs.Common.{refl, arith, ◌≤◌}
 use Rattle.std.specs.Option.{ok_or}
-use Rattle.std.proofs.lemmas.Bool.{and_parts, or_parts, not-true, le-ltb, leb-true}
+use Rattle.std.proofs.lemmas.Bool.{and_parts, or_parts, not-true, le-leb, le-ltb, leb-true}
 use Rattle.std.proofs.lemmas.Result.{IfOk-at_ok}
 use Rattle.toml.specs.Data.{Members, get_member, as_integer}
 use Rattle.mac_frame.specs.Address.{is_group, address_of}
-use Rattle.bss_core.specs.Configuration.{channel_fits, interval_fits, queue_fits, count_fits, ssid_fits, rates_fit}
+use Rattle.bss_core.specs.Configuration.{is_between, most_networks, channel_fits, interval_fits, queue_fits, count_fits, ssid_fits, rates_fit}
 use Rattle.bss_core.specs.Configuration.{dtim_fits, max_stations_fits, max_known_fits, quota_fits, max_events_fits}
 use Rattle.bss_core.specs.Configuration.{numbers_fit, is_taken, of_radio, fault_among, networks_fault, fault_of}
 use Rattle.bss_core.specs.declared.config.NetConfig.{NetConfig}
@@ -19,6 +19,9 @@ use Rattle.trace.specs.declared.read_fault.ReadFault.{ReadFault}
 use Rattle.trace.specs.ConfigurationText.{demand, passing, natural, octets_of_digits, text_at, array_at, number_at}
 use Rattle.trace.specs.ConfigurationText.{bssid_at, ssid_at, rates_at, network_of_table, networks_of, are_tables}
 use Rattle.trace.specs.ConfigurationText.{tables_in, networks_at, is_listed, document_of, radio_of, configuration_of}
+use Rattle.trace.specs.ConfigurationText.{version_at, most_networks_in, truth_at, fault_after, with_options, network_of}
+use Rattle.trace.specs.declared.configuration.version.Version.{Version}
+use Rattle.trace.specs.declared.configuration.version.Version.TheVariants.{One, Two}
 
 -- ---- what holds of what was read
 
@@ -85,11 +88,21 @@ rates_finds : (ms : Members) → Finds (rates_at ms) (λ rates. rates_fit rates 
 unfolding rates_at
 rates_finds ms = passing_finds rates_fit (option_and_then octets_of_digits (text_at (codes "rates") ms))
 
-networks_finds : (top : Members)
-    → Finds (networks_at top) (λ ds. (are_tables ds && count_fits (length (tables_in ds))) ≡ true)
+networks_finds : (version : Version) (top : Members)
+    → Finds (networks_at version top)
+    (λ ds. (are_tables ds && is_between 1 (most_networks_in version) (length (tables_in ds))) ≡ true)
 unfolding networks_at
-networks_finds top =
-    passing_finds (λ ds. are_tables ds && count_fits (length (tables_in ds))) (array_at (codes "network") top)
+networks_finds version top =
+    passing_finds (λ ds. are_tables ds && is_between 1 (most_networks_in version) (length (tables_in ds)))
+    (array_at (codes "network") top)
+
+-- as many networks as a version may have are as many as a radio may have
+fitting_count : (version : Version) (n : ℕ) → is_between 1 (most_networks_in version) n ≡ true → count_fits n ≡ true
+fitting_count One n fits =
+    let (least, most) = and_parts (nat_le 1 n) (nat_le n 8) fits in
+    let below : n ≤ 8 = leb-true _ _ most in
+    rw (least, le-leb n most_networks (omega (arith, below))) refl
+fitting_count Two n fits = fits
 
 -- ---- the networks, one after the other
 
@@ -117,17 +130,31 @@ network_reads earlier ms =
     then_reads _ _ (demand_reads (nat_le max_stations max_known) _) λ _ enough.
     let network : NetConfig =
     record
-    { bssid = bssid; ssid = ssid; rates = rates; dtim = dtim; max_stations = max_stations; max_known = max_known; quota = quota; max_events = max_events }
+    { bssid = bssid; ssid = ssid; rates = rates; dtim = dtim; max_stations = max_stations; max_known = max_known; quota = quota; max_events = max_events; relay = true; aging = false }
     in
     record { reads = sound_network earlier network b s r (rw (d, stations, known, q, events) refl) enough }
 
-networks_reads : (earlier : List NetConfig) (tables : List Members)
-    → Reads (networks_of earlier tables)
+-- the options bring no fault
+options_reads : (earlier : List NetConfig) (ms : Members) (network : NetConfig) → fault_among earlier network ≡ None
+    → Reads (with_options earlier ms network) (λ n. fault_among earlier n ≡ None)
+unfolding with_options
+options_reads earlier ms network sound =
+    then_reads _ _ (anything (ok_or (truth_at (codes "relay") ms) (fault_after earlier 13))) λ relay _.
+    then_reads _ _ (anything (ok_or (truth_at (codes "aging") ms) (fault_after earlier 13))) λ aging _.
+    record { reads = sound }
+
+version_reads : (version : Version) (earlier : List NetConfig) (ms : Members)
+    → Reads (network_of version earlier ms) (λ network. fault_among earlier network ≡ None)
+version_reads One earlier ms = network_reads earlier ms
+version_reads Two earlier ms = then_reads _ _ (network_reads earlier ms) (options_reads earlier ms)
+
+networks_reads : (version : Version) (earlier : List NetConfig) (tables : List Members)
+    → Reads (networks_of version earlier tables)
     (λ networks. (networks_fault earlier networks ≡ None) × (length networks ≡ length tables))
-networks_reads earlier [] = record { reads = (refl, refl) }
-networks_reads earlier (ms ∷ rest) =
-    then_reads _ _ (network_reads earlier ms) λ network here.
-    then_reads _ _ (networks_reads (earlier ++ network ∷ []) rest) λ networks more.
+networks_reads version earlier [] = record { reads = (refl, refl) }
+networks_reads version earlier (ms ∷ rest) =
+    then_reads _ _ (version_reads version earlier ms) λ network here.
+    then_reads _ _ (networks_reads version (earlier ++ network ∷ []) rest) λ networks more.
     record { reads = (rw (here, more.0) refl, omega (arith, more.1)) }
 
 -- ---- the configuration
@@ -135,14 +162,17 @@ networks_reads earlier (ms ∷ rest) =
 radio_reads : (top : Members) → Reads (radio_of top) (λ c. fault_of c ≡ None)
 unfolding radio_of
 radio_reads top =
-    then_reads _ _ (number_reads (λ version. version == 1) (codes "version") top _) λ _ _.
-    then_reads _ _ (demand_reads (is_listed top) _) λ _ _.
+    then_reads _ _ (anything (ok_or (version_at top) (of_radio 2))) λ version _.
+    then_reads _ _ (demand_reads (is_listed version top) _) λ _ _.
     then_reads _ _ (number_reads channel_fits (codes "channel") top _) λ channel c.
     then_reads _ _ (number_reads interval_fits (codes "interval") top _) λ interval i.
     then_reads _ _ (number_reads queue_fits (codes "queue") top _) λ queue q.
-    then_reads _ _ (found_reads _ (networks_finds top)) λ values v.
-    then_reads _ _ (networks_reads [] (tables_in values)) λ networks n.
-    let count : count_fits (length networks) ≡ true = rw n.1 ((and_parts _ _ v).1) in
+    then_reads _ _ (found_reads _ (networks_finds version top)) λ values v.
+    then_reads _ _ (networks_reads version [] (tables_in values)) λ networks n.
+    let count : count_fits (length networks) ≡ true =
+    rw n.1
+    (fitting_count version (length (tables_in values))
+    (and_parts (are_tables values) (is_between 1 (most_networks_in version) (length (tables_in values))) v).1) in
     let sound : fault_of (record { channel = channel; interval = interval; queue = queue; networks = networks }) ≡ None
     =
     rw (c, i, q, count) n.0 in

@@ -24,6 +24,8 @@ lab = record {
   max_known = 16;
   quota = 8;
   max_events = 100;
+  relay = true;
+  aging = false;
 }
 
 abbrev no_counts : Counts

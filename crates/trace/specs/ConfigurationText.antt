@@ -1,22 +1,26 @@
 -- The configuration that a text writes, or its first fault.
-use Rattle.std.specs.Prelude.{ℕ, ℤ, pos, negsuc, ◌==◌, nat_le, Bool, true, not, ◌&&◌, ◌||◌, if◌then◌else◌, ⊤, List, []}
-use Rattle.std.specs.Prelude.{◌∷◌, ◌++◌, length, codes, Option, Some, None, is_some, option_and_then, Result, Ok, Err}
+use Rattle.std.specs.Prelude.{ℕ, ℤ, pos, negsuc, ◌==◌, nat_le, Bool, true, false, not, ◌&&◌, ◌||◌, if◌then◌else◌, ⊤}
+use Rattle.std.specs.Prelude.{List, [], ◌∷◌, ◌++◌, length, codes, Option, Some, None, is_some, option_and_then, Result}
+use Rattle.std.specs.Prelude.{Ok, Err}
 use Rattle.std.specs.List.{list_any, list_all}
 use Rattle.std.specs.Option.{ok_or, option_map_or}
 use Rattle.std.specs.Result.{result_ok}
 use Rattle.std.specs.Str.{bytes_eq, is_utf8}
 use Rattle.toml.specs.Data.{table, Items, no_items, item, Members, no_members, member, get_member, as_str, as_integer}
-use Rattle.toml.specs.Data.{as_array, as_table}
+use Rattle.toml.specs.Data.{as_array, as_table, as_bool}
 use Rattle.toml.specs.Parse.{parse_document}
 use Rattle.hex.specs.Hex.{decode_of}
 use Rattle.mac_frame.specs.Address.{address_of, is_group}
-use Rattle.bss_core.specs.Configuration.{channel_fits, interval_fits, queue_fits, count_fits, ssid_fits, rates_fit}
+use Rattle.bss_core.specs.Configuration.{is_between, most_networks, channel_fits, interval_fits, queue_fits}
+use Rattle.bss_core.specs.Configuration.{ssid_fits, rates_fit}
 use Rattle.bss_core.specs.Configuration.{dtim_fits, max_stations_fits, max_known_fits, quota_fits, max_events_fits}
 use Rattle.bss_core.specs.Configuration.{is_taken, of_radio, of_network}
 use Rattle.bss_core.specs.declared.config.NetConfig.{NetConfig}
 use Rattle.bss_core.specs.declared.config.RadioConfig.{RadioConfig}
 use Rattle.bss_core.specs.declared.config.ConfigFault.{ConfigFault}
 use Rattle.trace.specs.Faults.{◌>>=◌}
+use Rattle.trace.specs.declared.configuration.version.Version.{Version}
+use Rattle.trace.specs.declared.configuration.version.Version.TheVariants.{One, Two}
 
 -- ---- tests
 
@@ -48,16 +52,38 @@ text_at key ms = option_and_then as_str (get_member key ms)
 unfoldable pub array_at : List ℕ → Members → Option Items
 array_at key ms = option_and_then as_array (get_member key ms)
 
+-- the truth value at a key
+unfoldable pub truth_at : List ℕ → Members → Option Bool
+truth_at key ms = option_and_then as_bool (get_member key ms)
+
+-- ---- the versions of a text
+
+abbrev pub version_of : ℕ → Option Version
+version_of number = if number == 1 then Some One else if number == 2 then Some Two else None
+
+unfoldable pub version_at : Members → Option Version
+version_at top = option_and_then version_of (number_at (is_between 1 2) (codes "version") top)
+
+-- how many networks there may be
+abbrev pub most_networks_in : Version → ℕ
+most_networks_in One = 8
+most_networks_in Two = most_networks
+
 -- ---- the keys that there are
 
 abbrev pub radio_keys : List (List ℕ)
 radio_keys = codes "version" ∷ codes "channel" ∷ codes "interval" ∷ codes "queue" ∷ codes "network" ∷ []
 
-abbrev pub network_keys : List (List ℕ)
-network_keys =
+abbrev pub first_keys : List (List ℕ)
+first_keys =
     codes "bssid" ∷ codes "ssid" ∷ codes "rates" ∷ codes "dtim"
     ∷ codes "max_stations" ∷ codes "max_known" ∷ codes "quota" ∷ codes "max_events"
     ∷ []
+
+-- those of a network; version 2 has two more
+abbrev pub network_keys : Version → List (List ℕ)
+network_keys One = first_keys
+network_keys Two = first_keys ++ codes "relay" ∷ codes "aging" ∷ []
 
 -- each key of a table is one of these
 abbrev pub has_only : List (List ℕ) → Members → Bool
@@ -71,10 +97,11 @@ tables_in (item (table ms) ds) = ms ∷ tables_in ds
 tables_in (item d ds) = tables_in ds
 
 -- each key is listed, at the top and in the tables of the array of networks
-unfoldable pub is_listed : Members → Bool
-is_listed top =
+unfoldable pub is_listed : Version → Members → Bool
+is_listed version top =
     has_only radio_keys top
-    && option_map_or (λ ds. list_all (has_only network_keys) (tables_in ds)) (array_at (codes "network") top) true
+    && option_map_or (λ ds. list_all (has_only (network_keys version)) (tables_in ds))
+    (array_at (codes "network") top) true
 
 -- ---- one network
 
@@ -98,7 +125,7 @@ octets_of_digits digits = result_ok (decode_of digits)
 unfoldable pub rates_at : Members → Option (List ℕ)
 rates_at ms = option_and_then (passing rates_fit) (option_and_then octets_of_digits (text_at (codes "rates") ms))
 
--- the network of a table after earlier networks
+-- the network of a table after earlier networks, as version 1 says it: it relays, and its units don't age
 unfoldable pub network_of_table : List NetConfig → Members → Result NetConfig ConfigFault
 network_of_table earlier ms = do
   bssid ← ok_or (bssid_at earlier ms) (fault_after earlier 8)
@@ -119,14 +146,28 @@ network_of_table earlier ms = do
     max_known = max_known;
     quota = quota;
     max_events = max_events;
+    relay = true;
+    aging = false;
   })
 
+-- version 2 says of each network whether it relays, and whether its units age
+unfoldable pub with_options : List NetConfig → Members → NetConfig → Result NetConfig ConfigFault
+with_options earlier ms network = do
+  relay ← ok_or (truth_at (codes "relay") ms) (fault_after earlier 13)
+  aging ← ok_or (truth_at (codes "aging") ms) (fault_after earlier 13)
+  Ok (record network { relay = relay; aging = aging })
+
+-- the network of a table of a version after earlier networks
+abbrev pub network_of : Version → List NetConfig → Members → Result NetConfig ConfigFault
+network_of One earlier ms = network_of_table earlier ms
+network_of Two earlier ms = network_of_table earlier ms >>= with_options earlier ms
+
 -- the networks of the tables from one on, after earlier networks
-abbrev pub networks_of : List NetConfig → List Members → Result (List NetConfig) ConfigFault
-networks_of earlier [] = Ok []
-networks_of earlier (ms ∷ rest) = do
-  network ← network_of_table earlier ms
-  networks ← networks_of (earlier ++ network ∷ []) rest
+abbrev pub networks_of : Version → List NetConfig → List Members → Result (List NetConfig) ConfigFault
+networks_of version earlier [] = Ok []
+networks_of version earlier (ms ∷ rest) = do
+  network ← network_of version earlier ms
+  networks ← networks_of version (earlier ++ network ∷ []) rest
   Ok (network ∷ networks)
 
 -- ---- the radio and its networks
@@ -137,21 +178,21 @@ are_tables no_items = true
 are_tables (item d ds) = is_some (as_table d) && are_tables ds
 
 -- the array of networks: tables alone, as many as there may be
-unfoldable pub networks_at : Members → Option Items
-networks_at top =
-    option_and_then (passing (λ ds. are_tables ds && count_fits (length (tables_in ds))))
+unfoldable pub networks_at : Version → Members → Option Items
+networks_at version top =
+    option_and_then (passing (λ ds. are_tables ds && is_between 1 (most_networks_in version) (length (tables_in ds))))
     (array_at (codes "network") top)
 
 -- the configuration of a document
 unfoldable pub radio_of : Members → Result RadioConfig ConfigFault
 radio_of top = do
-  _ ← ok_or (number_at (λ version. version == 1) (codes "version") top) (of_radio 2)
-  _ ← demand (is_listed top) (of_radio 3)
+  version ← ok_or (version_at top) (of_radio 2)
+  _ ← demand (is_listed version top) (of_radio 3)
   channel ← ok_or (number_at channel_fits (codes "channel") top) (of_radio 4)
   interval ← ok_or (number_at interval_fits (codes "interval") top) (of_radio 5)
   queue ← ok_or (number_at queue_fits (codes "queue") top) (of_radio 6)
-  values ← ok_or (networks_at top) (of_radio 7)
-  networks ← networks_of [] (tables_in values)
+  values ← ok_or (networks_at version top) (of_radio 7)
+  networks ← networks_of version [] (tables_in values)
   Ok (record { channel = channel; interval = interval; queue = queue; networks = networks })
 
 -- the document that a text is: UTF-8, and TOML

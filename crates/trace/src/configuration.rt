@@ -1,7 +1,7 @@
 //! The configuration that a TOML text writes.
 //!
-//! [`read_config`] promises the configuration of a text, or its first fault in the order C1 to C12. `values` reads
-//! the value at one key, and `network` the table of one network.
+//! [`read_config`] promises the configuration of a text, or its first fault in the order C1 to C13. `values` reads
+//! the value at one key, `network` the table of one network, and `version` says what a text of each version may have.
 
 ghost use Rattle.std.specs.Prelude.{◌≡◌, None, IfOk};
 ghost use Rattle.std.specs.Option.{ok_or};
@@ -15,9 +15,10 @@ mod fault;
 mod keys;
 mod network;
 mod values;
+mod version;
 
 use crate::read_fault::ReadFault;
-use bss_core::{CHANNEL_LIMITS, INTERVAL_LIMITS, Limits, QUEUE_LIMITS, RadioConfig};
+use bss_core::{CHANNEL_LIMITS, INTERVAL_LIMITS, QUEUE_LIMITS, RadioConfig};
 pub use fault::ConfigTextFault;
 use fault::at_radio;
 use keys::is_listed;
@@ -26,13 +27,11 @@ use network::{networks_at, read_networks};
 use std::alloc::Global;
 use toml::Table;
 use values::number_at;
-
-/// The versions of configurations that are read.
-const VERSIONS: Limits = Limits { least: 1, most: 1 };
+use version::version_at;
 
 /// The configuration that a text writes in TOML: all its keys are there, and no others.
 ///
-/// `At` names the first fault, in the order C1 to C12, where C8 to C12 are tried network by network. `NoMemory`
+/// `At` names the first fault, in the order C1 to C13, where C8 to C13 are tried network by network. `NoMemory`
 /// says nothing of the text.
 #[tactic(auto, unfolding(crate::specs::ConfigurationText::configuration_of))]
 pub fn read_config(alloc: Global, text: &[u8]) -> Result<RadioConfig, ConfigTextFault>
@@ -60,15 +59,15 @@ fn read_document(alloc: Global, text: &[u8]) -> Result<Table, ConfigTextFault>
 fn read_radio(alloc: Global, top: &Table) -> Result<RadioConfig, ConfigTextFault>
     ensures { Gives (λ configuration. configuration) read_ending result (radio_of (table_view top.now)) }
 {
-    number_at(top, "version", VERSIONS).ok_or(at_radio(2))?;
-    if !is_listed(top) {
+    let version = version_at(top).ok_or(at_radio(2))?;
+    if !is_listed(version, top) {
         return Err(at_radio(3));
     }
     let channel = number_at(top, "channel", CHANNEL_LIMITS).ok_or(at_radio(4))?;
     let interval = number_at(top, "interval", INTERVAL_LIMITS).ok_or(at_radio(5))?;
     let queue = number_at(top, "queue", QUEUE_LIMITS).ok_or(at_radio(6))?;
-    let values = networks_at(top).ok_or(at_radio(7))?;
-    let networks = read_networks(alloc, values)?;
+    let values = networks_at(version, top).ok_or(at_radio(7))?;
+    let networks = read_networks(alloc, version, values)?;
     Ok(RadioConfig {
         channel: channel as u8,
         interval: interval as u16,

@@ -1,17 +1,16 @@
 //! One line of a trace text.
 
-ghost use Rattle.std.specs.Prelude.{◌≡◌, IfOk};
+ghost use Rattle.std.specs.Prelude.{◌≡◌, IfOk, position};
 ghost use Rattle.trace.specs.Endings.{Gives};
 ghost use Rattle.trace.specs.Faults.{read_ending};
 ghost use Rattle.mac_frame.specs.Address.{address_of};
-ghost use Rattle.trace.specs.TraceText.{is_skipped, without_spaces_at_end, without_spaces_at_start, first_word};
+ghost use Rattle.trace.specs.TraceText.{is_skipped, is_space, without_spaces_at_end, without_spaces_at_start, first_word};
 ghost use Rattle.trace.specs.TraceText.{after_first_word, digits_of, octets_of, within_limit, place_with, place_named};
 ghost use Rattle.trace.specs.TraceText.{wired_line, line_with, content_of, said_by};
 ghost use Rattle.hex.specs.Hex.{decode_of};
 
 use crate::fault::LineFault;
 use crate::read_fault::ReadFault;
-use crate::text::place_of;
 use bss_core::Line;
 use mac_frame::{MacAddr, Octets};
 use std::alloc::{AllocError, Global};
@@ -70,6 +69,7 @@ fn read_content(
 }
 
 /// The line of a first word and the text after it.
+#[inline(always)]
 fn line_with(
     alloc: Global,
     bssids: &[MacAddr],
@@ -149,14 +149,23 @@ fn split_word(line: &[u8]) -> (&[u8], &[u8])
     ensures word { result.0.now ≡ first_word line.now }
     ensures after { result.1.now ≡ after_first_word line.now }
 {
-    match place_of(b' ', line) {
+    match first_space(line) {
         Some(end) => (&line[..end], &line[end + 1..]),
         None => (line, &[]),
     }
 }
 
+/// The place of the first space of a line. It stands near the start, where `memchr` would cost more than it saves.
+#[inline]
+fn first_space(line: &[u8]) -> Option<usize>
+    ensures { result ≡ position is_space line.now }
+{
+    line.iter().position(|character| *character == b' ')
+}
+
 /// The octets that a text spells in hexadecimal digits with spaces among them.
 #[tactic(auto, using(crate::proofs::TraceSteps::digits_of_none))]
+#[inline(always)]
 fn read_octets(alloc: Global, text: &[u8]) -> Result<Octets, ReadFault<LineFault>>
     ensures { Gives (λ octets. octets) read_ending result (octets_of text.now) }
 {

@@ -7,7 +7,7 @@ ghost use Rattle.std.specs.Option.{option_to_list};
 ghost use Rattle.std.specs.Str.Lines.{strip_carriage_return};
 ghost use Rattle.trace.specs.Endings.{Gives};
 ghost use Rattle.trace.specs.Faults.{read_ending};
-ghost use Rattle.trace.specs.Texts.{LacksLineFeed};
+ghost use Rattle.trace.specs.Texts.{LacksLineFeed, ended};
 ghost use Rattle.trace.specs.TraceText.{bssids_of, line_of, lines_from};
 ghost use Rattle.trace.specs.Pieces.{whole_lines, unfinished_line, new_reader, before_line, said_in, said_last};
 ghost use Rattle.trace.specs.Pieces.{said_by_next, past_next};
@@ -92,6 +92,22 @@ impl LineReader {
         read
     }
 
+    /// Ends the unfinished line with these octets and an LF, and gives what it says, or nothing where it is skipped: what
+    /// [`LineReader::feed`] gives of these octets and an LF as a piece, and leaves after it.
+    #[inline(always)]
+    pub fn end_line(&mut self, octets: &[u8]) -> Result<Option<Line>, TraceTextFault>
+        requires { LacksLineFeed octets.now }
+        ensures exact { Gives option_to_list read_ending result (answer_to self.old (ended octets.now)) }
+        ensures after { Leaves result self.old (after_piece self.old (ended octets.now)) self.new }
+    {
+        if let Some(fault) = self.fault {
+            return Err(ReadFault::At(fault));
+        }
+        let read = self.read_next(octets);
+        self.keep_fault(&read);
+        read
+    }
+
     /// Ends the text, and gives what the unfinished line says, of which no CR is dropped; nothing where it is empty or
     /// skipped. It is empty then, and where it was not it counts as one more that ended.
     ///
@@ -110,6 +126,7 @@ impl LineReader {
     }
 
     /// Keeps the fault that a call met.
+    #[inline(always)]
     fn keep_fault<T>(&mut self, read: &Result<T, TraceTextFault>)
         ensures { self.new ≡ keeping read.now self.old }
     {
@@ -149,6 +166,21 @@ impl LineReader {
         Ok(lines)
     }
 
+    /// What the unfinished line says, which ends with these octets and an LF. The reader goes on to the line after it,
+    /// unless it has a fault.
+    #[inline(always)]
+    fn read_next(&mut self, octets: &[u8]) -> Result<Option<Line>, TraceTextFault>
+        requires unfinished { LacksLineFeed self.old.unfinished }
+        requires lacks { LacksLineFeed octets.now }
+        ensures exact { Gives option_to_list read_ending result (said_in self.old (self.old.unfinished ++ ended octets.now)) }
+        ensures ok { OnOk result (self.new ≡ past self.old (self.old.unfinished ++ ended octets.now)) }
+        ensures err { OnErr result (self.new ≡ self.old) }
+    {
+        let said = self.read_ended(octets)?;
+        self.go_on();
+        Ok(said)
+    }
+
     /// What the unfinished line says, which ends with these octets and an LF, as a list.
     fn read_first(&self, end: &[u8]) -> Result<Vec<Line>, TraceTextFault>
         ensures exact { Gives (λ lines. lines.items) read_ending result
@@ -163,6 +195,7 @@ impl LineReader {
     }
 
     /// What the unfinished line says, which ends with these octets and an LF.
+    #[inline(always)]
     fn read_ended(&self, end: &[u8]) -> Result<Option<Line>, TraceTextFault>
         ensures exact { Gives (λ said. said) read_ending result
             (line_of self.now.bssids (self.now.ended_lines + 1)
@@ -244,12 +277,22 @@ impl LineReader {
             return Ok(None);
         }
         let said = self.read_numbered(self.ended_lines + 1, self.unfinished.as_slice())?;
-        self.ended_lines += 1;
-        self.unfinished.clear();
+        self.go_on();
         Ok(said)
     }
 
+    /// Goes on to the line after the unfinished one, which has ended.
+    #[inline]
+    fn go_on(&mut self)
+        requires { self.old.ended_lines < MAX_LINES }
+        ensures { self.new ≡ record self.old { ended_lines = self.old.ended_lines + 1; unfinished = [] } }
+    {
+        self.ended_lines += 1;
+        self.unfinished.clear();
+    }
+
     /// What the line of a number says.
+    #[inline(always)]
     fn read_numbered(&self, number: u32, line: &[u8]) -> Result<Option<Line>, TraceTextFault>
         ensures exact { Gives (λ said. said) read_ending result (line_of self.now.bssids number line.now) }
         ensures within { OnOk result (number ≤ MAX_LINES) }

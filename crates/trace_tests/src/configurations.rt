@@ -6,7 +6,7 @@ use trace::{ConfigTextFault, read_config};
 
 /// A part of the base, what stands in its place, and the fault of the radio that comes of it.
 const RADIO_FAULTS: [(&str, &str, u8); 7] = [
-    ("version = 1", "version = 2", 2),
+    ("version = 1", "version = 3", 2),
     ("version = 1", "version = 1\ncolour = 1", 3),
     ("dtim = 1", "dtim = 1\ncolour = 1", 3),
     ("channel = 6", "channel = 15", 4),

@@ -17,7 +17,7 @@ pub(super) fn at_radio(code: u8) -> ConfigTextFault
     ReadFault::At(ConfigFault::of_radio(code))
 }
 
-/// A fault of the network at a place: 8 to 12.
+/// A fault of the network at a place: 8 to 13.
 pub(super) fn at_network(code: u8, place: usize) -> ConfigTextFault
     ensures { result ≡ faults.At (of_network code place) }
 {

@@ -4,46 +4,35 @@ ghost use Rattle.std.specs.Prelude.{◌≡◌, map};
 ghost use Rattle.std.specs.List.{list_any, list_all};
 ghost use Rattle.std.specs.Str.{bytes_eq};
 ghost use Rattle.toml.specs.View.{table_view, items_view};
-ghost use Rattle.trace.specs.ConfigurationText.{network_keys, has_only, tables_in, is_listed};
+ghost use Rattle.trace.specs.ConfigurationText.{has_only, tables_in, is_listed};
 
 use crate::configuration::values::array_at;
+use crate::configuration::version::Version;
 use toml::{Table, Value};
 
 /// The keys at the top.
 const RADIO_KEYS: &[&str] = &["version", "channel", "interval", "queue", "network"];
 
-/// The keys of a network.
-const NETWORK_KEYS: &[&str] = &[
-    "bssid",
-    "ssid",
-    "rates",
-    "dtim",
-    "max_stations",
-    "max_known",
-    "quota",
-    "max_events",
-];
-
 /// Whether each key is listed, at the top and in the tables of the array of networks.
 #[tactic(auto, unfolding(crate::specs::ConfigurationText::is_listed))]
-pub(super) fn is_listed(top: &Table) -> bool
-    ensures { result ≡ is_listed (table_view top.now) }
+pub(super) fn is_listed(version: Version, top: &Table) -> bool
+    ensures { result ≡ is_listed version (table_view top.now) }
 {
     has_only(RADIO_KEYS, top)
         && match array_at(top, "network") {
-            Some(values) => have_network_keys(values),
+            Some(values) => have_only(version.network_keys(), values),
             None => true,
         }
 }
 
-/// Whether each key of the tables among the values is one of a network.
+/// Whether each key of the tables among the values is one of these.
 #[tactic(auto, using(crate::proofs::ConfigurationReading::value_lists))]
-fn have_network_keys(values: &[Value]) -> bool
-    ensures { result ≡ list_all (has_only network_keys) (tables_in (items_view values.now)) }
+fn have_only(keys: &[&str], values: &[Value]) -> bool
+    ensures { result ≡ list_all (has_only (map (λ listed. listed.now) keys.now)) (tables_in (items_view values.now)) }
 {
     for value in values {
         if let Some(network) = value.as_table()
-            && !has_only(NETWORK_KEYS, network)
+            && !has_only(keys, network)
         {
             return false;
         }

@@ -4,27 +4,28 @@ ghost use Rattle.std.specs.Prelude.{◌≡◌, [], IfOk, option_map, option_copi
 ghost use Rattle.toml.specs.View.{array_view, table_view, items_view};
 ghost use Rattle.trace.specs.Endings.{Gives};
 ghost use Rattle.trace.specs.Faults.{read_ending};
-ghost use Rattle.trace.specs.ConfigurationText.{bssid_at, ssid_at, rates_at, network_of_table, networks_of};
+ghost use Rattle.trace.specs.ConfigurationText.{bssid_at, ssid_at, rates_at, network_of_table, network_of, networks_of};
 ghost use Rattle.trace.specs.ConfigurationText.{networks_at, are_tables, tables_in};
 
 use crate::configuration::fault::{ConfigTextFault, at_network};
-use crate::configuration::values::{array_at, number_at, text_at};
+use crate::configuration::values::{array_at, number_at, text_at, truth_at};
+use crate::configuration::version::Version;
 use bss_core::{
-    DTIM_LIMITS, EVENT_LIMITS, KNOWN_LIMITS, NetConfig, QUOTA_LIMITS, STATION_LIMITS, count_fits,
-    is_taken, rates_fit, ssid_fits, stations_fit,
+    DTIM_LIMITS, EVENT_LIMITS, KNOWN_LIMITS, NetConfig, QUOTA_LIMITS, STATION_LIMITS, is_taken,
+    rates_fit, ssid_fits, stations_fit,
 };
 use mac_frame::{MacAddr, NoMemory, Octets};
 use std::alloc::Global;
 use toml::value::Array;
 use toml::{Table, Value};
 
-/// The array of networks, where it has tables alone, as many as there may be.
+/// The array of networks, where it has tables alone, as many as there may be in a version.
 #[tactic(auto, using(crate::proofs::ConfigurationReading::counts), unfolding(crate::specs::ConfigurationText::networks_at))]
-pub(super) fn networks_at(top: &Table) -> Option<&Array>
-    ensures { option_map (λ values. array_view values.now) result ≡ networks_at (table_view top.now) }
+pub(super) fn networks_at(version: Version, top: &Table) -> Option<&Array>
+    ensures { option_map (λ values. array_view values.now) result ≡ networks_at version (table_view top.now) }
 {
     let values = array_at(top, "network")?;
-    if are_tables(values) && count_fits(values.len()) {
+    if are_tables(values) && (1..=version.most_networks()).contains(&values.len()) {
         Some(values)
     } else {
         None
@@ -47,24 +48,44 @@ fn are_tables(values: &[Value]) -> bool
 /// The networks of the tables among the values, each after those before it.
 pub(super) fn read_networks(
     alloc: Global,
+    version: Version,
     values: &[Value],
 ) -> Result<Vec<NetConfig>, ConfigTextFault>
     ensures { Gives (λ networks. networks.items) read_ending result
-        (networks_of [] (tables_in (items_view values.now))) }
+        (networks_of version [] (tables_in (items_view values.now))) }
 {
     let mut networks = Vec::new(alloc);
     for value in values {
         if let Some(table) = value.as_table() {
-            let network = read_network(alloc, &networks, table)?;
+            let network = read_network(alloc, version, &networks, table)?;
             networks.push(network)?;
         }
     }
     Ok(networks)
 }
 
-/// The network of a table, after earlier networks.
-#[tactic(auto, unfolding(crate::specs::ConfigurationText::network_of_table))]
+/// The network of a table of a version, after earlier networks.
+#[tactic(auto, unfolding(crate::specs::ConfigurationText::with_options))]
 fn read_network(
+    alloc: Global,
+    version: Version,
+    earlier: &[NetConfig],
+    table: &Table,
+) -> Result<NetConfig, ConfigTextFault>
+    ensures { Gives (λ network. network) read_ending result (network_of version earlier.now (table_view table.now)) }
+{
+    let mut network = read_table(alloc, earlier, table)?;
+    if version == Version::Two {
+        let fault = at_network(13, earlier.len());
+        network.relay = truth_at(table, "relay").ok_or(fault)?;
+        network.aging = truth_at(table, "aging").ok_or(fault)?;
+    }
+    Ok(network)
+}
+
+/// The network of a table, after earlier networks, as version 1 says it: it relays, and its units don't age.
+#[tactic(auto, unfolding(crate::specs::ConfigurationText::network_of_table))]
+fn read_table(
     alloc: Global,
     earlier: &[NetConfig],
     table: &Table,
@@ -93,6 +114,8 @@ fn read_network(
         max_known: max_known as u16,
         quota,
         max_events,
+        relay: true,
+        aging: false,
     })
 }
 

@@ -4,7 +4,7 @@ ghost use Rattle.std.specs.Prelude.{◌≡◌, ◌≤◌, IfSome, option_map, op
 ghost use Rattle.bss_core.specs.Configuration.{is_between};
 ghost use Rattle.toml.specs.Data.{get_member};
 ghost use Rattle.toml.specs.View.{view, array_view, table_view};
-ghost use Rattle.trace.specs.ConfigurationText.{number_at, text_at, array_at};
+ghost use Rattle.trace.specs.ConfigurationText.{number_at, text_at, array_at, truth_at};
 
 use bss_core::Limits;
 use toml::value::Array;
@@ -46,4 +46,12 @@ pub(super) fn array_at<'a>(table: &'a Table, key: &str) -> Option<&'a Array>
     ensures { option_map (λ array. array_view array.now) result ≡ array_at key.now (table_view table.now) }
 {
     value_at(table, key)?.as_array()
+}
+
+/// The truth value at a key.
+#[tactic(auto, unfolding(crate::specs::ConfigurationText::truth_at))]
+pub(super) fn truth_at(table: &Table, key: &str) -> Option<bool>
+    ensures { result ≡ truth_at key.now (table_view table.now) }
+{
+    value_at(table, key)?.as_bool()
 }

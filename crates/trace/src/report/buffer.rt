@@ -43,7 +43,7 @@ impl<W: Sink> Buffered<'_, W> {
     /// Puts a text after what the piece holds, which goes to the sink first where both would be more than the piece
     /// has room for; a text longer than the piece goes there directly. It takes no memory. `Failed` comes exactly where
     /// a write to the sink failed; the sink has then taken a prefix of what was held and of the text.
-    #[inline]
+    #[inline(always)]
     pub fn put(&mut self, text: &[u8]) -> Result<(), Failed>
         requires { MayFail (W.failed (sink_of self.old)) }
         ensures { Puts W.taken W.failed result self.old self.new text.now }
@@ -56,6 +56,7 @@ impl<W: Sink> Buffered<'_, W> {
     }
 
     /// Puts texts, one after the other, as [`Buffered::put`] puts one.
+    #[inline(always)]
     pub fn put_parts(&mut self, parts: &[&[u8]]) -> Result<(), Failed>
         requires { MayFail (W.failed (sink_of self.old)) }
         ensures { Puts W.taken W.failed result self.old self.new (flat_map (λ part. part.now) parts.now) }
@@ -89,7 +90,7 @@ impl<W: Sink> Buffered<'_, W> {
     }
 
     /// Puts a text for which the piece has room.
-    #[inline]
+    #[inline(always)]
     fn hold(&mut self, text: &[u8])
         requires { self.old.len + length text.now ≤ length self.old.piece.now }
         ensures same_sink { self.new.sink.ghost_name ≡ self.old.sink.ghost_name }

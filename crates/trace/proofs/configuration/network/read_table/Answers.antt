@@ -2,7 +2,7 @@ use Rattle.std.proofs.Common.{rules, true, false, Some, sym, ap, ◌∙◌}
 use Rattle.std.specs.Option.{option_copied}
 use Rattle.toml.specs.View.{table_view}
 use Rattle.trace.proofs.ConfigurationReading.{network_of_table-read}
-use Rattle.trace.proofs.configuration.network.read_network.Goals as goal
+use Rattle.trace.proofs.configuration.network.read_table.Goals as goal
 
 pub returns : goal.returns
 returns c =
