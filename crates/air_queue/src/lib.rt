@@ -1,6 +1,6 @@
 //! The air queue: each network's frames, once and in order, on their way to the transmitter.
 //!
-//! Up to eight threads push, one for each network's pass, and one pops, all at the same time: a frame goes in by the
+//! Up to sixteen threads push, one for each network's pass, and one pops, all at the same time: a frame goes in by the
 //! network's own [`NetPass`] and leaves by the one [`RadioPass`] (*profile*; a frame is one of IEEE Std 802.11-2016,
 //! 9.2). However their steps fall, what left of a network and then what is queued of it is what its pass pushed, each
 //! frame once and in its order, and nothing else is there (`specs/Rule.antt`); [`AirQueue::take_in`] shows it, once

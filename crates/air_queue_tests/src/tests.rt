@@ -1,11 +1,11 @@
-//! Frames through a queue, of eight networks, and on one thread and on three.
+//! Frames through a queue, of as many networks as there may be, and on one thread and on three.
 
 ghost use Rattle.std.specs.Prelude.{◌≡◌, ◌≤◌, IfOk};
 ghost use Rattle.std.specs.FinMap as finite;
 ghost use Rattle.air_queue.specs.Passes.{AllThere, fresh_pass};
 
 use air_queue::{AirQueue, Left, NetPass, RadioPass};
-use bss_core::AirItem;
+use bss_core::{AirItem, MAX_NETWORKS};
 use fixtures::{guest, lab, octets};
 use hex::FromHexError;
 use mac_frame::{NoMemory, Octets};
@@ -151,7 +151,7 @@ fn a_full_queue_gives_the_frame_back(rt: HostRuntime) -> Result<(), Fail> {
 
 #[test]
 fn an_empty_queue_gives_nothing(rt: HostRuntime) -> Result<(), Fail> {
-    let (queue, _nets, mut radio) = AirQueue::open(rt.alloc(), 1, 8)?;
+    let (queue, _nets, mut radio) = AirQueue::open(rt.alloc(), 1, MAX_NETWORKS)?;
     radio.reserve(1)?;
     assert!(rt; !queue.pop(&rt, &mut radio));
     assert!(rt; radio.left().is_empty());
@@ -174,15 +174,15 @@ fn push_place<R: Wait>(
     Ok(pass)
 }
 
-/// Does so by the pass of each of eight networks.
+/// Does so by the pass of each network.
 fn push_each<R: Wait>(
     rt: &R,
     alloc: Global,
     queue: &AirQueue,
     nets: Vec<NetPass>,
 ) -> Result<Vec<NetPass>, NoMemory>
-    requires { AllThere queue.now.name 8 nets.items }
-    ensures { IfOk result (λ back. AllThere queue.now.name 8 back.items) }
+    requires { AllThere queue.now.name MAX_NETWORKS nets.items }
+    ensures { IfOk result (λ back. AllThere queue.now.name MAX_NETWORKS back.items) }
 {
     let mut back = Vec::new(alloc);
     for pass in nets {
@@ -192,13 +192,13 @@ fn push_each<R: Wait>(
 }
 
 #[test]
-fn eight_networks_push(rt: HostRuntime) -> Result<(), Fail> {
-    let (queue, nets, radio) = AirQueue::open(rt.alloc(), 4096, 8)?;
+fn most_networks_push(rt: HostRuntime) -> Result<(), Fail> {
+    let (queue, nets, radio) = AirQueue::open(rt.alloc(), 4096, MAX_NETWORKS)?;
     let nets = push_each(&rt, rt.alloc(), &queue, nets)?;
     let left = queue.take_in(&rt, radio, nets).map_err(|_fault| NoMemory)?;
     let items = left.items.as_slice();
-    assert_eq!(rt; items.len(), 8);
-    for (item, octet) in items.iter().zip(0..8u8) {
+    assert_eq!(rt; items.len(), MAX_NETWORKS);
+    for (item, octet) in items.iter().zip(0..MAX_NETWORKS as u8) {
         assert_eq!(rt; item.place, usize::from(octet));
         assert_eq!(rt; item.octets.as_slice(), [octet].as_slice());
     }

@@ -7,7 +7,7 @@ use Rattle.std.proofs.lemmas.Grind.{flat_map-append}
 use Rattle.std.proofs.lemmas.List.Elements.{All-head, All-tail, filter-append}
 use Rattle.std.proofs.lemmas.Option.{slice_get_within, slice_get-get_or}
 use Rattle.mac_frame.specs.Hearing.{is_heard}
-use Rattle.bss_core.specs.Configuration.{fault_of}
+use Rattle.bss_core.specs.Configuration.{fault_of, most_networks}
 use Rattle.bss_core.specs.Lines.{heard_of, heard}
 use Rattle.bss_core.specs.Lists.{IsPrefix}
 use Rattle.bss_core.specs.Radio.{names_network, network_at}
@@ -127,7 +127,7 @@ all-at P [] i d all lt = absurd (omega (arith, lt))
 all-at P (o ∷ os) zero d all lt = All-head P o os all
 all-at P (o ∷ os) (suc i) d all lt = all-at P os i d (All-tail P o os all) (omega (arith, lt))
 
-pub answers-line : (config : RadioConfig) (line : Line) (outcomes : List Outcome) → length outcomes ≡ 8 → AreHeard config line outcomes → All (λ o. o ≢ NoMemory) outcomes → AreAnswers config (line ∷ []) (entries_of (event_of line) outcomes)
+pub answers-line : (config : RadioConfig) (line : Line) (outcomes : List Outcome) → length outcomes ≡ most_networks → AreHeard config line outcomes → All (λ o. o ≢ NoMemory) outcomes → AreAnswers config (line ∷ []) (entries_of (event_of line) outcomes)
 answers-line config line outcomes count heard fine place within =
     let inside : place < length outcomes = omega (arith, count, within) in
     let o : Outcome = get_or outcomes place NotHeard in
@@ -219,11 +219,11 @@ pub answered-more : (config : RadioConfig) (sources : List (List Line)) (callers
 answered-more config sources callers lines entries old new =
     zip-append (AreAnswers config) sources (lines ∷ []) callers (entries ∷ []) old (new, tt)
 
-pub played : (config : RadioConfig) (sources : List (List Line)) (sections : List Section) (givers : List (List ℕ)) (callers : List (List Entry)) → length config.networks ≤ 8 → length sections ≡ length config.networks → AreAnswered config sources callers → AreReceipts callers (histories_of sections) givers → AreFullLast (limits_of sections) (histories_of sections) callers → ArePlayed config sources sections givers
+pub played : (config : RadioConfig) (sources : List (List Line)) (sections : List Section) (givers : List (List ℕ)) (callers : List (List Entry)) → length config.networks ≤ most_networks → length sections ≡ length config.networks → AreAnswered config sources callers → AreReceipts callers (histories_of sections) givers → AreFullLast (limits_of sections) (histories_of sections) callers → ArePlayed config sources sections givers
 played config sources sections givers callers few count answered receipts full place section at i =
     let within = slice_get_within sections place section at in
     let there : place < length config.networks = omega (arith, within, count) in
-    let eight : place < 8 = omega (arith, there, few) in
+    let below : place < most_networks = omega (arith, there, few) in
     let lines : List Line = get_or sources i [] in
     let entries : List Entry = get_or callers i [] in
     let P : Type 0 = IsFullAt (limits_of sections) (histories_of sections) place in
@@ -234,7 +234,7 @@ played config sources sections givers callers few count answered receipts full p
     ∙ dealt-events (get_or givers place []) (get_or (histories_of sections) place []) 0 i
     ∙ ap (λ (es : List Event). dealt (get_or givers place []) es i) history in
     let hears = heard-there config place lines there in
-    let h = first-taken P place (events_at config place lines) entries (λ k told. full i k place told) (zip-at config sources callers answered i place eight) in
+    let h = first-taken P place (events_at config place lines) entries (λ k told. full i k place told) (zip-at config sources callers answered i place below) in
     record {
       first = (h.0.0, (λ k. sym is k ++ h.0.0) ∙ h.0.1 ∙ hears);
       whole = λ less. sym is ∙ h.1 (λ p. (let same = p.1 in let size = ap length history in absurd (omega (arith, less, same, size, limit)))) ∙ hears;

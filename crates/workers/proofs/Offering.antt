@@ -7,6 +7,7 @@ use Rattle.std.proofs.lemmas.Bool.{lt-ltb, ltb-true, ltb-false, le-ltb, cases_lt
 use Rattle.std.proofs.lemmas.List.{append-nil, get_or-replicate, length-replicate, get_or-set_other, get_or-set_same, take_more, take_more_set, length-take-le}
 use Rattle.std.proofs.lemmas.List.FromFn.{get_or-map-range_with_len, length-map-range_with_len}
 use Rattle.std.proofs.lemmas.Option.{slice_get-get_or}
+use Rattle.bss_core.specs.Configuration.{most_networks}
 use Rattle.bss_core.specs.Lines.{heard_of}
 use Rattle.bss_core.specs.Radio.{network_at}
 use Rattle.bss_core.specs.declared.config.RadioConfig.{RadioConfig}
@@ -73,20 +74,20 @@ if-some-second None P Q h = tt
 if-some-second (Some x) P Q h = h.1
 
 -- the copies of a line at a place, and none past the last
-at-place : (config : RadioConfig) (line : Line) (copies : List (Option Copies)) (place : ℕ) → copies ≡ map (copies_at config line) (range_with_len 0 8) → place < 8 → get_or copies place None ≡ copies_at config line place
+at-place : (config : RadioConfig) (line : Line) (copies : List (Option Copies)) (place : ℕ) → copies ≡ map (copies_at config line) (range_with_len 0 most_networks) → place < most_networks → get_or copies place None ≡ copies_at config line place
 at-place config line copies place is within =
     let at : 0 + place ≡ place = omega arith in
     ap (λ xs. get_or xs place None) is
-    ∙ get_or-map-range_with_len (copies_at config line) 0 8 place place None within at
+    ∙ get_or-map-range_with_len (copies_at config line) 0 most_networks place place None within at
 
-past-last : (config : RadioConfig) (line : Line) (copies : List (Option Copies)) (place : ℕ) → copies ≡ map (copies_at config line) (range_with_len 0 8) → 8 ≤ place → get_or copies place None ≡ None
+past-last : (config : RadioConfig) (line : Line) (copies : List (Option Copies)) (place : ℕ) → copies ≡ map (copies_at config line) (range_with_len 0 most_networks) → most_networks ≤ place → get_or copies place None ≡ None
 past-last config line copies place is past =
-    let count : length copies ≤ place = omega (arith, ap length is, length-map-range_with_len (copies_at config line) 0 8, past) in
+    let count : length copies ≤ place = omega (arith, ap length is, length-map-range_with_len (copies_at config line) 0 most_networks, past) in
     get_or-eq_default copies None count
 
-kept-from : (config : RadioConfig) (line : Line) (copies : List (Option Copies)) → copies ≡ map (copies_at config line) (range_with_len 0 8) → (place : ℕ) → IfSome (get_or copies place None) (λ pair. (place < length config.networks) × (pair.kept ≡ event_of line))
+kept-from : (config : RadioConfig) (line : Line) (copies : List (Option Copies)) → copies ≡ map (copies_at config line) (range_with_len 0 most_networks) → (place : ℕ) → IfSome (get_or copies place None) (λ pair. (place < length config.networks) × (pair.kept ≡ event_of line))
 kept-from config line copies is place =
-    elim (cases_lt place 8) [
+    elim (cases_lt place most_networks) [
       | inl within ↦
           subst (λ (o : Option Copies). IfSome o (λ (pair : Copies). (place < length config.networks) × (pair.kept ≡ event_of line))) (sym (at-place config line copies place is within))
           (kept-at config line place (nat_lt place (length config.networks)) refl (hears_line place (network_at config place).bssid line) refl)
@@ -94,13 +95,13 @@ kept-from config line copies is place =
           subst (λ (o : Option Copies). IfSome o (λ (pair : Copies). (place < length config.networks) × (pair.kept ≡ event_of line))) (sym (past-last config line copies place is past)) tt
     ]
 
-pub networks-from : (config : RadioConfig) (line : Line) (copies : List (Option Copies)) → copies ≡ map (copies_at config line) (range_with_len 0 8) → HaveNetworks config copies
+pub networks-from : (config : RadioConfig) (line : Line) (copies : List (Option Copies)) → copies ≡ map (copies_at config line) (range_with_len 0 most_networks) → HaveNetworks config copies
 networks-from config line copies is place = if-some-first _ _ _ (kept-from config line copies is place)
 
-pub events-from : (config : RadioConfig) (line : Line) (copies : List (Option Copies)) → copies ≡ map (copies_at config line) (range_with_len 0 8) → AreOf (event_of line) copies
+pub events-from : (config : RadioConfig) (line : Line) (copies : List (Option Copies)) → copies ≡ map (copies_at config line) (range_with_len 0 most_networks) → AreOf (event_of line) copies
 events-from config line copies is place = if-some-second _ _ _ (kept-from config line copies is place)
 
-pub heard-from : (config : RadioConfig) (line : Line) (copies : List (Option Copies)) (outcomes : List Outcome) → copies ≡ map (copies_at config line) (range_with_len 0 8) → length outcomes ≡ 8 → AreOffered copies outcomes → AreHeard config line outcomes
+pub heard-from : (config : RadioConfig) (line : Line) (copies : List (Option Copies)) (outcomes : List Outcome) → copies ≡ map (copies_at config line) (range_with_len 0 most_networks) → length outcomes ≡ most_networks → AreOffered copies outcomes → AreHeard config line outcomes
 heard-from config line copies outcomes is count offered place within =
     let at = at-place config line copies place is within in
     let inside : place < length outcomes = omega (arith, count, within) in
@@ -143,7 +144,7 @@ pub record Offered (initial copies : List (Option Copies)) (outcomes : List Outc
   pub heard : (k : ℕ) → k < place → IsOffered (get_or initial k None) (get_or outcomes k NotHeard)
   pub kept : (e : Event) → AreOf e initial → entries ≡ before ++ entries_of e (take place outcomes)
 
-pub none-offered : (initial : List (Option Copies)) (outcomes : List Outcome) (before : List Entry) → outcomes ≡ replicate 8 NotHeard → Offered initial initial outcomes before before 0
+pub none-offered : (initial : List (Option Copies)) (outcomes : List Outcome) (before : List Entry) → outcomes ≡ replicate most_networks NotHeard → Offered initial initial outcomes before before 0
 none-offered initial outcomes before is = record {
   rest = λ k le. refl;
   unheard = λ k le. ap (λ os. get_or os k NotHeard) is ∙ unheard-at k;
@@ -151,13 +152,13 @@ none-offered initial outcomes before is = record {
   kept = λ e all. sym (append-nil before);
 }
   where
-    unheard-at : (k : ℕ) → get_or (replicate 8 NotHeard) k NotHeard ≡ NotHeard
+    unheard-at : (k : ℕ) → get_or (replicate most_networks NotHeard) k NotHeard ≡ NotHeard
     unheard-at k =
-        elim (cases_lt k 8) [
-          | inl lt ↦ get_or-replicate 8 k NotHeard NotHeard lt
+        elim (cases_lt k most_networks) [
+          | inl lt ↦ get_or-replicate most_networks k NotHeard NotHeard lt
           | inr le ↦
-              let past : length (replicate 8 NotHeard) ≤ k = omega (arith, length-replicate 8 NotHeard, le) in
-              get_or-eq_default (replicate 8 NotHeard) NotHeard past
+              let past : length (replicate most_networks NotHeard) ≤ k = omega (arith, length-replicate most_networks NotHeard, le) in
+              get_or-eq_default (replicate most_networks NotHeard) NotHeard past
         ]
 
 rest-next : (copies copies' initial : List (Option Copies)) (place : ℕ) → copies' ≡ set copies place None → ((k : ℕ) → place ≤ k → get_or copies k None ≡ get_or initial k None) → (k : ℕ) → place + 1 ≤ k → get_or copies' k None ≡ get_or initial k None

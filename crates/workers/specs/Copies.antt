@@ -1,6 +1,7 @@
 -- Copies of an event, one pair for each place (profile).
 use Rattle.std.specs.Prelude.{ℕ, ◌≡◌, ◌<◌, ◌↔◌, List, [], ◌∷◌, length, map, Option, Some, None, IfSome}
 use Rattle.std.specs.List.{slice_index_or, range_with_len}
+use Rattle.bss_core.specs.Configuration.{most_networks}
 use Rattle.bss_core.specs.declared.config.RadioConfig.{RadioConfig}
 use Rattle.bss_core.specs.declared.event.Event.{Event}
 use Rattle.bss_core.specs.declared.line.Line.{Line}
@@ -22,7 +23,7 @@ copies_at config line place = copies_of (heard_at config line place)
 
 -- those of all places
 abbrev pub AreCopies : RadioConfig → Line → List (Option Copies) → Type 0
-AreCopies config line copies = copies ≡ map (copies_at config line) (range_with_len 0 8)
+AreCopies config line copies = copies ≡ map (copies_at config line) (range_with_len 0 most_networks)
 
 -- copies are for places that have a network
 abbrev pub HaveNetworks : RadioConfig → List (Option Copies) → Type 0
@@ -39,4 +40,5 @@ IsOffered copies outcome = (outcome ≡ NotHeard) ↔ (copies ≡ None)
 
 abbrev pub AreOffered : List (Option Copies) → List Outcome → Type 0
 AreOffered copies outcomes =
-    (place : ℕ) → place < 8 → IsOffered (slice_index_or copies place None) (slice_index_or outcomes place NotHeard)
+    (place : ℕ) → place < most_networks
+    → IsOffered (slice_index_or copies place None) (slice_index_or outcomes place NotHeard)

@@ -1,6 +1,7 @@
 -- What a caller gives to the networks of an access point, and what it keeps of their answers (profile).
 use Rattle.std.specs.Prelude.{ℕ, ◌≡◌, ◌<◌, ◌↔◌, ◌==◌, Bool, true, List, [], ◌∷◌, ◌++◌, Some, slice_get, if◌then◌else◌}
 use Rattle.std.specs.List.{flat_map, enumerate_from}
+use Rattle.bss_core.specs.Configuration.{most_networks}
 use Rattle.mac_frame.specs.Hearing.{is_heard}
 use Rattle.bss_core.specs.Lines.{heard_of}
 use Rattle.bss_core.specs.Radio.{names_network, network_at}
@@ -28,7 +29,7 @@ heard_at config line place =
 -- hear the line.
 abbrev pub AreHeard : RadioConfig → Line → List Outcome → Type 0
 AreHeard config line outcomes =
-    (place : ℕ) → place < 8 → (slice_get outcomes place ≡ Some NotHeard) ↔ (heard_at config line place ≡ [])
+    (place : ℕ) → place < most_networks → (slice_get outcomes place ≡ Some NotHeard) ↔ (heard_at config line place ≡ [])
 
 -- ---- what a caller keeps
 

@@ -1,6 +1,7 @@
 -- What sources give to an access point, and what is dealt to each of them (profile).
 use Rattle.std.specs.Prelude.{ℕ, ◌≡◌, ◌<◌, ◌==◌, ◌++◌, ◌∷◌, Bool, List, [], length, Some, slice_get, slice_index_or, ⊤}
 use Rattle.std.specs.List.{AllZip, filter, flat_map}
+use Rattle.bss_core.specs.Configuration.{most_networks}
 use Rattle.bss_core.specs.Lines.{heard}
 use Rattle.bss_core.specs.Lists.{IsPrefix}
 use Rattle.bss_core.specs.Radio.{network_at}
@@ -62,7 +63,7 @@ events_at config place lines = flat_map (λ line. heard_at config line place) li
 -- of each network the entries are, in order, the answers to the events that it hears of the lines
 abbrev pub AreAnswers : RadioConfig → List Line → List Entry → Type 0
 AreAnswers config lines entries =
-    (place : ℕ) → place < 8 → AllZip Answers (events_at config place lines) (filter (is_from place) entries)
+    (place : ℕ) → place < most_networks → AllZip Answers (events_at config place lines) (filter (is_from place) entries)
 
 -- those of one line, after the old entries
 pub record AddsAnswers (config : RadioConfig) (line : Line) (old new : List Entry) : Type 0 where

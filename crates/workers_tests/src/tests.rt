@@ -3,7 +3,7 @@
 
 ghost use Rattle.std.specs.Prelude.{◌<◌, OnOk, length};
 
-use bss_core::{AirItem, NetConfig, RadioConfig, Section};
+use bss_core::{AirItem, MAX_NETWORKS, NetConfig, RadioConfig, Section};
 use mac_frame::{List, MacAddr, NoMemory, Octets};
 use std::alloc::Global;
 use std::fmt::Debug;
@@ -13,6 +13,7 @@ use workers::{Ap, ApName, Outcome};
 
 mod answers;
 mod ending;
+mod most;
 mod opening;
 mod overlap;
 mod playing;
@@ -38,7 +39,7 @@ const ASSOCIATION: &str = "00000000 020000000001 02aa00000001 020000000001 0000 
     00036c6162 010402040b16";
 
 /// No network heard it.
-const NOBODY: [Outcome; 8] = [Outcome::NotHeard; 8];
+const NOBODY: [Outcome; MAX_NETWORKS] = [Outcome::NotHeard; MAX_NETWORKS];
 
 /// Fails the test where this isn't what came out.
 fn expect<R: Abort, T: PartialEq + Debug + Drop>(
@@ -78,6 +79,8 @@ fn network(alloc: Global, bssid: [u8; 6], max_events: u32) -> Result<NetConfig, 
         max_known: 16,
         quota: 8,
         max_events,
+        relay: true,
+        aging: false,
     })
 }
 
@@ -107,7 +110,7 @@ fn two_networks(alloc: Global) -> Result<RadioConfig, NoMemory> {
 }
 
 /// What every network but the first made of an event that only the first hears.
-fn first(outcome: Outcome) -> [Outcome; 8] {
+fn first(outcome: Outcome) -> [Outcome; MAX_NETWORKS] {
     let mut outcomes = NOBODY;
     outcomes[0] = outcome;
     outcomes

@@ -2,7 +2,7 @@
 
 use super::running::{Job, run};
 use super::{AUTHENTICATION, NOBODY, expect, first, has_first, octets};
-use bss_core::Bss;
+use bss_core::{Bss, MAX_NETWORKS};
 use std::alloc::Global;
 use std::process::Abort;
 use std::sync::Wait;
@@ -28,7 +28,11 @@ fn shown_first<N: ApName, R: Wait>(rt: &R, ap: &Ap<N>) -> Result<[usize; 4], Fai
 }
 
 /// What an access point answers to a tick.
-fn tick<N: ApName, R: Wait>(rt: &R, ap: &Ap<N>, caller: &mut Caller) -> Result<[Outcome; 8], Fail> {
+pub(super) fn tick<N: ApName, R: Wait>(
+    rt: &R,
+    ap: &Ap<N>,
+    caller: &mut Caller,
+) -> Result<[Outcome; MAX_NETWORKS], Fail> {
     Ok(ap.tick(rt, caller)?)
 }
 
@@ -38,13 +42,17 @@ fn hear<N: ApName, R: Wait>(
     alloc: Global,
     ap: &Ap<N>,
     caller: &mut Caller,
-) -> Result<[Outcome; 8], Fail> {
+) -> Result<[Outcome; MAX_NETWORKS], Fail> {
     let frame = octets(alloc, AUTHENTICATION)?;
     Ok(ap.air(rt, caller, frame.as_slice())?)
 }
 
 /// What it answers to a frame that is too short to be heard.
-fn miss<N: ApName, R: Wait>(rt: &R, ap: &Ap<N>, caller: &mut Caller) -> Result<[Outcome; 8], Fail> {
+fn miss<N: ApName, R: Wait>(
+    rt: &R,
+    ap: &Ap<N>,
+    caller: &mut Caller,
+) -> Result<[Outcome; MAX_NETWORKS], Fail> {
     Ok(ap.air(rt, caller, &[0xff; 9])?)
 }
 
@@ -54,7 +62,7 @@ fn wire<N: ApName, R: Wait>(
     ap: &Ap<N>,
     caller: &mut Caller,
     place: usize,
-) -> Result<[Outcome; 8], Fail> {
+) -> Result<[Outcome; MAX_NETWORKS], Fail> {
     Ok(ap.wire(rt, caller, place, &[0; 13])?)
 }
 

@@ -4,7 +4,7 @@ ghost use Rattle.std.specs.Prelude.{◌<◌, length};
 ghost use Rattle.workers.specs.Names.{AreNamed};
 
 use super::{BSSIDS, NOBODY, expect, has_first, two_networks};
-use bss_core::Bss;
+use bss_core::{Bss, MAX_NETWORKS};
 use mac_frame::{MacAddr, NoMemory};
 use std::alloc::Global;
 use std::marker::Brand;
@@ -48,7 +48,7 @@ fn answer<N: ApName, R: Wait>(
     ap: &Ap<N>,
     caller: &mut Caller,
     signs: &Signs,
-) -> (bool, Result<[Outcome; 8], NoMemory>) {
+) -> (bool, Result<[Outcome; MAX_NETWORKS], NoMemory>) {
     let looking = comes(&signs.looking);
     let outcomes = ap.wire(rt, caller, 1, &[0; 13]);
     signs.answered.store(1, Ordering::SeqCst);
@@ -60,7 +60,7 @@ fn both<N: ApName + Send + Sync, R: Threads + Wait + Sync>(
     rt: &R,
     ap: &Ap<N>,
     caller: &mut Caller,
-) -> (bool, (bool, Result<[Outcome; 8], NoMemory>))
+) -> (bool, (bool, Result<[Outcome; MAX_NETWORKS], NoMemory>))
     requires { 0 < length N.config.networks }
 {
     let signs = Signs {
@@ -79,7 +79,7 @@ fn both<N: ApName + Send + Sync, R: Threads + Wait + Sync>(
 
 /// Whether each thread saw the other's sign in time, the one that looks and the one that gives a frame, and what that
 /// frame was answered.
-type Overlap = (bool, bool, [Outcome; 8]);
+type Overlap = (bool, bool, [Outcome; MAX_NETWORKS]);
 
 /// What came of it, where there is a network.
 fn overlap<N: ApName + Send + Sync, R: Threads + Wait + Sync>(
@@ -111,7 +111,7 @@ fn overlap_of_two<R: Threads + Wait + Sync>(rt: &R, alloc: Global) -> Result<Ove
 }
 
 /// The second network took its first event.
-fn second_took() -> [Outcome; 8] {
+fn second_took() -> [Outcome; MAX_NETWORKS] {
     let mut outcomes = NOBODY;
     outcomes[1] = Outcome::Took(0);
     outcomes

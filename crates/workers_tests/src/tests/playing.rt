@@ -7,7 +7,7 @@ use super::{
     ASSOCIATION, AUTHENTICATION, are_frames, count_of, expect, network, octets, one_network, radio,
     section_at,
 };
-use bss_core::{ConfigFault, RadioConfig, Section};
+use bss_core::{ConfigFault, MAX_NETWORKS, RadioConfig, Section};
 use mac_frame::{NoMemory, Octets};
 use std::alloc::Global;
 use std::sync::Wait;
@@ -281,10 +281,10 @@ fn a_full_network_takes_one_of_two_ticks(rt: HostRuntime) -> Result<(), Fail> {
     expect(&rt, full(&rt, rt.alloc()), (1, [1, 1]))
 }
 
-/// A radio of eight networks whose queue holds one frame.
-fn eight_networks(alloc: Global) -> Result<RadioConfig, NoMemory> {
+/// A radio of as many networks as there may be, whose queue holds one frame.
+pub(super) fn most_networks(alloc: Global) -> Result<RadioConfig, NoMemory> {
     let mut networks = Vec::new(alloc);
-    for last in 1..=8u8 {
+    for last in 1..=MAX_NETWORKS as u8 {
         networks.push(network(alloc, [2, 0, 0, 0, 0, last], 100)?)?;
     }
     let mut config = radio(networks);
@@ -292,16 +292,16 @@ fn eight_networks(alloc: Global) -> Result<RadioConfig, NoMemory> {
     Ok(config)
 }
 
-/// How many frames left of eight networks that were told of one tick, and whether there is one of each.
-fn eight_beacons<R: Threads + Wait + Sync>(rt: &R, alloc: Global) -> Result<(usize, bool), Fail> {
-    let end = played(rt, alloc, eight_networks(alloc)?, alike(alloc, 1, 1)?)?;
-    let is_one_of_each = (0..8).all(|place| count_of(&end.left, place) == 1);
+/// How many frames left of as many networks, which were told of one tick, and whether there is one of each.
+fn most_beacons<R: Threads + Wait + Sync>(rt: &R, alloc: Global) -> Result<(usize, bool), Fail> {
+    let end = played(rt, alloc, most_networks(alloc)?, alike(alloc, 1, 1)?)?;
+    let is_one_of_each = (0..MAX_NETWORKS).all(|place| count_of(&end.left, place) == 1);
     Ok((end.left.as_slice().len(), is_one_of_each))
 }
 
 #[test]
-fn frames_of_eight_networks_pass_a_queue_of_one(rt: HostRuntime) -> Result<(), Fail> {
-    expect(&rt, eight_beacons(&rt, rt.alloc()), (8, true))
+fn frames_of_most_networks_pass_a_queue_of_one(rt: HostRuntime) -> Result<(), Fail> {
+    expect(&rt, most_beacons(&rt, rt.alloc()), (MAX_NETWORKS, true))
 }
 
 /// Two frames for everybody from the wire.

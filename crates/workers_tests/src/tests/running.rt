@@ -1,8 +1,9 @@
-//! One access point of one network with one caller, from its opening to its end.
+//! One access point with one caller, from its opening to its end.
 
 ghost use Rattle.workers.specs.Names.{AreNamed};
 
-use super::{answers, ending, one_network, units};
+use super::{answers, ending, most, one_network, units};
+use bss_core::RadioConfig;
 use std::alloc::Global;
 use std::marker::Brand;
 use std::process::Abort;
@@ -21,6 +22,8 @@ pub(super) enum Job {
     ThreeBeacons,
     /// It lets a station join and poll its units.
     Units,
+    /// It ticks and lets a station probe, in each of as many networks as there may be.
+    TickAndProbe,
 }
 
 /// The caller does so.
@@ -37,6 +40,7 @@ fn work<N: ApName, R: Wait + Abort>(
         Job::TwoTicks => answers::tick_twice(rt, alloc, ap, caller),
         Job::ThreeBeacons => ending::three_beacons(rt, ap, caller, transmitter),
         Job::Units => units::give_all(rt, alloc, ap, caller),
+        Job::TickAndProbe => most::tick_and_probe(rt, alloc, ap, caller),
     }
 }
 
@@ -81,6 +85,17 @@ fn run_of<N: ApName, R: Wait + Abort>(
     end(rt, alloc, job, ap, callers, transmitter)
 }
 
+/// What a new access point of this configuration ends with.
+pub(super) fn run_with<R: Wait + Abort>(
+    rt: &R,
+    alloc: Global,
+    job: Job,
+    config: RadioConfig,
+) -> Result<Finished, Fail> {
+    let parts = Parts::open(alloc, config, 1)?;
+    run_of::<Brand, R>(rt, alloc, job, parts)
+}
+
 /// What a new access point whose network takes so many events ends with.
 pub(super) fn run<R: Wait + Abort>(
     rt: &R,
@@ -88,6 +103,5 @@ pub(super) fn run<R: Wait + Abort>(
     job: Job,
     max_events: u32,
 ) -> Result<Finished, Fail> {
-    let parts = Parts::open(alloc, one_network(alloc, max_events)?, 1)?;
-    run_of::<Brand, R>(rt, alloc, job, parts)
+    run_with(rt, alloc, job, one_network(alloc, max_events)?)
 }

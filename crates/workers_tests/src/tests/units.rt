@@ -2,6 +2,7 @@
 
 use super::running::{Job, run};
 use super::{ASSOCIATION, AUTHENTICATION, are_frames, expect, first, octets, section_at};
+use bss_core::MAX_NETWORKS;
 use mac_frame::Octets;
 use std::alloc::Global;
 use std::process::Abort;
@@ -59,7 +60,7 @@ fn give<N: ApName, R: Wait>(
     ap: &Ap<N>,
     caller: &mut Caller,
     happens: Move,
-) -> Result<[Outcome; 8], Fail> {
+) -> Result<[Outcome; MAX_NETWORKS], Fail> {
     let outcomes = match happens {
         Move::Hear(frame) => ap.air(rt, caller, octets(alloc, frame)?.as_slice())?,
         Move::Wire(frame) => ap.wire(rt, caller, 0, octets(alloc, frame)?.as_slice())?,

@@ -1,5 +1,6 @@
 use Rattle.std.proofs.Common.{◌≡◌, ◌≤◌, map, vec_len, vec_capacity}
 use Rattle.std.specs.List.{range_with_len}
+use Rattle.bss_core.specs.Configuration.{most_networks}
 use Rattle.workers.specs.Copies.{copies_at}
 use Rattle.workers.specs.Giving.{line_of}
 use Rattle.workers.proofs.ap.Ap.copies.Given as goal
@@ -8,5 +9,5 @@ abbrev pub invariant-loop-place : goal.invariant-loop-place
 invariant-loop-place g l = record {
   made : l.copies.items ≡ map (copies_at g.N.ApName.config (line_of l.given)) (range_with_len 0 l.place);
   count : vec_len l.copies ≡ l.place;
-  room : 8 ≤ vec_capacity l.copies;
+  room : most_networks ≤ vec_capacity l.copies;
 }

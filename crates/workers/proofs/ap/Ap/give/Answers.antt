@@ -1,4 +1,5 @@
 use Rattle.std.proofs.Common.{◌≡◌, ◌++◌, List, ap, ◌∙◌, arith, length}
+use Rattle.bss_core.specs.Configuration.{most_networks}
 use Rattle.workers.specs.Giving.{line_of, event_of, entries_of}
 use Rattle.workers.specs.declared.caller.Entry.{Entry}
 use Rattle.workers.proofs.Offering.{networks-from, events-from, heard-from}
@@ -10,7 +11,7 @@ offer_each-requires-clause-places g c =
 
 pub returns-clause-heard : goal.returns-clause-heard
 returns-clause-heard g c =
-    let count : length c.offer_each.result ≡ 8 = omega arith in
+    let count : length c.offer_each.result ≡ most_networks = omega arith in
     heard-from g.N.ApName.config (line_of c.args.given) c.in_ok-copies.copies.items c.offer_each.result c.in_ok-copies.ensures count c.offer_each.ensures.heard
 
 pub returns-clause-entries : goal.returns-clause-entries

@@ -1,5 +1,6 @@
 use Rattle.std.proofs.Common.{◌≡◌, ◌<◌, ◌≤◌, ◌++◌, ℕ, List, length, get_or, set, Option, None, refl, sym, ap, ◌∙◌, arith, vec_len, vec_capacity}
 use Rattle.std.proofs.lemmas.List.{take_all, length-set}
+use Rattle.bss_core.specs.Configuration.{most_networks}
 use Rattle.workers.specs.Giving.{entries_of}
 use Rattle.workers.specs.declared.copies.Copies.{Copies}
 use Rattle.workers.specs.declared.outcome.Outcome.{Outcome}
@@ -27,7 +28,7 @@ loop-place-preserved g c =
     let count = i.count in
     let long = i.long in
     let ok = c.loop-place.copies.ok.0 in
-    let test : place < 8 = c.loop-place-test.true in
+    let test : place < most_networks = c.loop-place-test.true in
     let inside : place < length copies = omega (arith, test, count, ok) in
     let within : place < length outcomes = omega (arith, test, long) in
     let old : get_or copies place None ≡ c.take.result = same-default copies place None c.index_mut.result.now inside ∙ sym c.index_mut.ensures.value ∙ sym c.take.ensures.value in
