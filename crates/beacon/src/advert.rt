@@ -36,6 +36,7 @@ pub struct Advert<'a> {
 /// Appends the fields before the elements: Timestamp, Beacon Interval and Capability Information. After `NoMemory` some
 /// may follow what was there.
 #[tactic(auto, unfolding(crate::specs::Advert::fixed_fields))]
+#[inline(always)]
 pub(crate) fn append_fixed_fields(out: &mut Octets, advert: &Advert<'_>) -> Result<(), NoMemory>
     ensures ok { OnOk result (out.new ≡ out.old ++ fixed_fields (announced advert.now)) }
     ensures err { OnErr result (take (length out.old) out.new ≡ out.old) }
@@ -56,6 +57,7 @@ fn timestamp(clock: u32, interval: u16) -> [u8; 8]
 /// Appends the elements that stand first: SSID, Supported Rates and DSSS Parameter Set. After `NoMemory` some may
 /// follow what was there.
 #[tactic(auto, unfolding(crate::specs::Advert::network_elements))]
+#[inline(always)]
 pub(crate) fn append_network_elements(out: &mut Octets, advert: &Advert<'_>) -> Result<(), NoMemory>
     requires { length advert.now.ssid.now ≤ 32 }
     ensures ok { OnOk result (out.new ≡ out.old ++ network_elements (announced advert.now)) }

@@ -126,6 +126,7 @@ fn split_element(body: &[u8]) -> Option<(Element<'_>, &[u8])>
 
 /// Appends an element with this element ID and Information field, of at most 255 octets (9.4.2.1). After `NoMemory`
 /// `out` is as it was.
+#[inline(always)]
 pub fn write_element(out: &mut Octets, id: u8, body: &[u8]) -> Result<(), NoMemory>
     requires { length body.now ≤ 255 }
     ensures ok { OnOk result (out.new ≡ out.old ++ element id body.now) }

@@ -47,6 +47,7 @@ pub fn units_of(rate: u8) -> u8
 
 /// Appends the first eight rates in Supported Rates, or all where there are fewer (9.4.2.3). After `NoMemory` `out` is
 /// as it was.
+#[inline(always)]
 pub fn write_supported_rates(out: &mut Octets, rates: &[u8]) -> Result<(), NoMemory>
     ensures ok { OnOk result (out.new ≡ out.old ++ supported_rates rates.now) }
     ensures err { OnErr result (out.new ≡ out.old) }
@@ -57,6 +58,7 @@ pub fn write_supported_rates(out: &mut Octets, rates: &[u8]) -> Result<(), NoMem
 
 /// Appends the rates after the eighth, if there are any, in Extended Supported Rates (9.4.2.13), of at most 16 rates in
 /// all (*profile*). After `NoMemory` `out` is as it was.
+#[inline(always)]
 pub fn write_extended_rates(out: &mut Octets, rates: &[u8]) -> Result<(), NoMemory>
     requires { length rates.now ≤ 16 }
     ensures ok { OnOk result (out.new ≡ out.old ++ extended_rates rates.now) }

@@ -151,6 +151,7 @@ pub fn addressed(frame: &[u8]) -> Option<MacAddr>
 
 /// Appends a header (9.2.3): Frame Control, the three addresses, fragment number 0 and a sequence number.
 /// After `NoMemory` `out` is as it was.
+#[inline(always)]
 pub fn append_header(
     out: &mut Octets,
     control: FrameControl,
@@ -175,6 +176,7 @@ pub fn append_header(
 }
 
 /// Writes a field of a header at its place.
+#[inline(always)]
 fn put(header: &mut [u8; HEADER_LEN], place: usize, field: &[u8])
     requires { place + length field.now ≤ HEADER_LEN }
     ensures { header.new ≡ take place header.old ++ field.now ++ drop (place + length field.now) header.old }

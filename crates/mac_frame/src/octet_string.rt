@@ -46,6 +46,7 @@ impl Octets {
 
     /// Makes room for so many octets more, so that a writer grows the string once. `NoMemory` where the growth was
     /// refused; the string is as it was either way.
+    #[inline(always)]
     pub fn reserve(&mut self, count: usize) -> Result<(), NoMemory>
         ensures { self.new ≡ self.old }
     {
@@ -54,6 +55,7 @@ impl Octets {
     }
 
     /// Appends the octets. After `NoMemory` the string is as it was.
+    #[inline(always)]
     pub fn append(&mut self, octets: &[u8]) -> Result<(), NoMemory>
         ensures ok { OnOk result (self.new ≡ self.old ++ octets.now) }
         ensures err { OnErr result (self.new ≡ self.old) }
@@ -63,6 +65,7 @@ impl Octets {
     }
 
     /// Appends two parts, one after the other, or neither of them. After `NoMemory` the string is as it was.
+    #[inline(always)]
     pub fn append_both(&mut self, first: &[u8], second: &[u8]) -> Result<(), NoMemory>
         ensures ok { OnOk result (self.new ≡ self.old ++ first.now ++ second.now) }
         ensures err { OnErr result (self.new ≡ self.old) }
@@ -82,6 +85,7 @@ impl Octets {
     }
 
     /// What a writer answers that began at `len` octets: on `NoMemory` it takes back what it appended.
+    #[inline(always)]
     pub fn roll_back(&mut self, len: usize, written: Result<(), NoMemory>) -> Result<(), NoMemory>
         ensures answer { result ≡ written }
         ensures ok { OnOk result (self.new ≡ self.old) }

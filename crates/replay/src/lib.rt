@@ -28,5 +28,5 @@ pub use fault::{PlayTextFault, StreamFault, TextFault};
 pub use joined::split_joined;
 pub use line_by_line::Replay;
 pub use playing::play_text;
-pub use stream::run_stream;
+pub use stream::{report_stream, run_stream};
 pub use text::run_text;

@@ -52,10 +52,14 @@ impl Replay {
         ensures taken { OnOk result (IsSomeAnd self.old (λ old. IsSomeAnd self.new (λ new. TakesLine line old new))) }
         ensures err { OnErr result (self.new ≡ None) }
     {
-        let mut radio = self.radio.take().ok_or(NoMemory)?;
-        radio.take_line(line)?;
-        self.radio = Some(radio);
-        Ok(())
+        let taken = match &mut self.radio {
+            Some(radio) => radio.take_line(line),
+            None => Err(NoMemory),
+        };
+        if taken.is_err() {
+            self.radio = None;
+        }
+        taken
     }
 
     /// The section of each network, in order of place, with what it took and the frames that left. `NoMemory` where a

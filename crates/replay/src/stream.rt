@@ -1,21 +1,25 @@
 //! A trace that is read as it comes, and the report of it.
 
-ghost use Rattle.std.specs.Prelude.{◌≡◌, ◌+◌, ◌++◌, List, [], ℕ, None, MatchResult};
+ghost use Rattle.std.specs.Prelude.{◌≡◌, ◌+◌, ◌++◌, List, [], ℕ, None, Ok, IfOk, MatchResult};
 ghost use Rattle.bss_core.specs.Configuration.{fault_of};
 ghost use Rattle.bss_core.specs.declared.config.RadioConfig.{RadioConfig};
+ghost use Rattle.trace.specs.ConfigurationText.{configuration_of};
 ghost use Rattle.trace.specs.Endings.{IsFaultOf, failures_of};
 ghost use Rattle.trace.specs.Faults.{read_ending};
 ghost use Rattle.trace.specs.Sinks.{MayFail};
+ghost use Rattle.trace.specs.Texts.{LacksLineFeed, ended};
 ghost use Rattle.trace.specs.TraceText.{lines_of};
 ghost use Rattle.replay.specs.Stream.{HasReplayed, TakesStream, ReplaysStream, RunsStream, AreSectionsOf};
-ghost use Rattle.replay.specs.Stream.{stream_ending};
+ghost use Rattle.replay.specs.Stream.{stream_ending, outcome_of};
 
 use crate::fault::StreamFault;
 use crate::line_by_line::Replay;
 use crate::taking::{take_all, take_last};
 use bss_core::{RadioConfig, Section};
 use std::alloc::Global;
-use trace::{LineReader, Sink, Source, TraceTextFault, piece_by_piece, read_config, write_report};
+use trace::{
+    LineReader, Sink, Source, TraceTextFault, piece_by_piece, place_of, read_config, write_report,
+};
 
 /// How many octets are read at a time.
 const PIECE_LEN: usize = 4096;
@@ -43,10 +47,31 @@ pub fn run_stream<R: Source, W: Sink>(
         (R.failed source.old) (R.failed source.new) (W.taken out.old) (W.taken out.new) }
     ensures failures { W.failed out.new ≡ W.failed out.old + failures_of stream_ending result }
 {
+    report_stream(alloc, config, source, out)?;
+    Ok(())
+}
+
+/// Does what [`run_stream`] does, and hands out the sections that it reported, so that a program that ends then need not
+/// give back their memory, one event after another.
+pub fn report_stream<R: Source, W: Sink>(
+    alloc: Global,
+    config: &[u8],
+    source: &mut R,
+    out: &mut W,
+) -> Result<Vec<Section>, StreamFault>
+    requires source { MayFail (R.failed source.old) }
+    requires sink { MayFail (W.failed out.old) }
+    ensures ends { RunsStream (outcome_of result) config.now (R.left source.old) (R.left source.new)
+        (R.failed source.old) (R.failed source.new) (W.taken out.old) (W.taken out.new) }
+    ensures sections { IfOk result (λ _. (c : RadioConfig) × (configuration_of config.now ≡ Ok c)
+        × ReplaysStream (λ sections. sections.items) result c (R.left source.old) (R.left source.new)
+        (R.failed source.old) (R.failed source.new)) }
+    ensures failures { W.failed out.new ≡ W.failed out.old + failures_of stream_ending result }
+{
     let config = read_config(alloc, config)?;
     let sections = replay_stream(alloc, config, source)?;
     write_report(alloc, sections.as_slice(), out)?;
-    Ok(())
+    Ok(sections)
 }
 
 /// The section of each network, in order of place: each takes what it hears of the lines of a source.
@@ -92,6 +117,41 @@ fn take_stream<R: Source>(
 
 /// Lets the networks take the lines that end in a piece.
 fn take_piece(
+    lines: &mut LineReader,
+    replay: &mut Replay,
+    piece: &[u8],
+) -> Result<(), TraceTextFault>
+    ensures { (c : RadioConfig) (text : List ℕ) → HasReplayed c text lines.old replay.old → MatchResult result
+        (λ _. HasReplayed c (text ++ piece.now) lines.new replay.new)
+        (λ fault. IsFaultOf (lines_of c (text ++ piece.now)) (read_ending fault)) }
+{
+    let mut rest = piece;
+    while let Some(end) = place_of(b'\n', rest) {
+        take_line(lines, replay, &rest[..end])?;
+        rest = &rest[end + 1..];
+    }
+    take_rest(lines, replay, rest)
+}
+
+/// Lets the networks take the line that ends with these octets and an LF.
+fn take_line(
+    lines: &mut LineReader,
+    replay: &mut Replay,
+    octets: &[u8],
+) -> Result<(), TraceTextFault>
+    requires { LacksLineFeed octets.now }
+    ensures { (c : RadioConfig) (text later : List ℕ) → HasReplayed c text lines.old replay.old → MatchResult result
+        (λ _. HasReplayed c (text ++ ended octets.now) lines.new replay.new)
+        (λ fault. IsFaultOf (lines_of c (text ++ ended octets.now ++ later)) (read_ending fault)) }
+{
+    piece_by_piece();
+    let said = lines.end_line(octets)?;
+    take_last(replay, said)?;
+    Ok(())
+}
+
+/// Lets the networks take the lines that end in a piece. The reader gives them as a list.
+fn take_rest(
     lines: &mut LineReader,
     replay: &mut Replay,
     piece: &[u8],

@@ -1,6 +1,6 @@
 use Rattle.std.proofs.lemmas.Result.{err_from_is_err_and}
 use Rattle.replay.proofs.StreamEnds.{config_runs, fault_runs, report_runs, whole_runs}
-use Rattle.replay.proofs.stream.run_stream.Goals as goal
+use Rattle.replay.proofs.stream.report_stream.Goals as goal
 
 pub returns-in_err-config-clause-ends : goal.returns-in_err-config-clause-ends
 returns-in_err-config-clause-ends g c =
@@ -29,3 +29,6 @@ returns-clause-ends g c =
     whole_runs _ c.in_ok-sections.sections _ c.in_ok-config.config c.args.config.now _ _ _ _ _ _
     c.in_ok-config.ensures.exact c.in_ok-sections.ensures
     (rw c.as_slice.ensures.value at c.in_ok-write_report.ensures.ends)
+
+pub returns-clause-sections : goal.returns-clause-sections
+returns-clause-sections g c = (c.in_ok-config.config, c.in_ok-config.ensures.exact, c.in_ok-sections.ensures)
