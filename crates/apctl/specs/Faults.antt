@@ -5,6 +5,8 @@ use Rattle.replay.specs.declared.fault.TextFault.{TextFault}
 use Rattle.replay.specs.declared.fault.TextFault.TheVariants as replay
 use Rattle.replay.specs.declared.fault.StreamFault.{StreamFault}
 use Rattle.replay.specs.declared.fault.StreamFault.TheVariants as streams
+use Rattle.live.specs.declared.fault.LiveFault.{LiveFault}
+use Rattle.live.specs.declared.fault.LiveFault.TheVariants as lives
 use Rattle.replay.specs.declared.fault.PlayTextFault.{PlayTextFault}
 use Rattle.replay.specs.declared.fault.PlayTextFault.TheVariants as plays
 use Rattle.apctl.specs.declared.fault.Fault.{Fault}
@@ -57,6 +59,13 @@ IsOfStream (streams.Trace found) wanted fault = fault ≡ Trace found
 IsOfStream streams.NoMemory wanted fault = fault ≡ Memory
 IsOfStream streams.Read wanted fault = IsOfFile wanted fault
 IsOfStream streams.Write wanted fault = fault ≡ Output
+
+-- the fault of an access point that answered lines from a stream of this name
+abbrev pub IsOfLive : LiveFault → List ℕ → Fault → Type 0
+IsOfLive (lives.Config found) wanted fault = fault ≡ Config found
+IsOfLive lives.NoMemory wanted fault = fault ≡ Memory
+IsOfLive lives.Read wanted fault = IsOfFile wanted fault
+IsOfLive lives.Write wanted fault = fault ≡ Output
 
 -- how a run of the program ends
 abbrev pub run_ending : Fault → Ending Fault

@@ -3,10 +3,11 @@
 ghost use Rattle.std.specs.Prelude.{◌≡◌, ◌≢◌, ◌+◌, IfOk, Ok, Err};
 ghost use Rattle.trace.specs.Endings.{Ends, failures_of};
 ghost use Rattle.trace.specs.Sinks.{MayFail, report_ending};
-ghost use Rattle.apctl.specs.Faults.{of_texts, of_play, status_of, memory_line, IsOfFile, IsOfStream};
+ghost use Rattle.apctl.specs.Faults.{of_texts, of_play, status_of, memory_line, IsOfFile, IsOfStream, IsOfLive};
 ghost use Rattle.apctl.specs.declared.fault.Fault.TheVariants as faults;
 
 use bss_core::ConfigFault;
+use live::LiveFault;
 use replay::{PlayTextFault, StreamFault, TextFault};
 use std::alloc::{AllocError, AllocFailed, Global};
 use std::fmt;
@@ -101,6 +102,19 @@ impl Fault {
             StreamFault::NoMemory => Fault::Memory,
             StreamFault::Read => Fault::of_file(alloc, name),
             StreamFault::Write => Fault::Output,
+        }
+    }
+
+    /// The fault of an access point that answered lines from a stream of this name: where reading it failed, that of
+    /// the stream.
+    pub fn of_live(alloc: Global, fault: LiveFault, name: &str) -> Fault
+        ensures { IsOfLive fault name.now result }
+    {
+        match fault {
+            LiveFault::Config(fault) => Fault::Config(fault),
+            LiveFault::NoMemory => Fault::Memory,
+            LiveFault::Read => Fault::of_file(alloc, name),
+            LiveFault::Write => Fault::Output,
         }
     }
 }

@@ -15,7 +15,7 @@ use std::io::{ErrorKind, Read};
 use trace::Sink;
 
 /// The name of standard input in the line of a fault.
-const STANDARD_INPUT: &str = "-";
+pub const STANDARD_INPUT: &str = "-";
 
 /// Reads a configuration and a trace in one text, to the end of the reader, and appends the report of them to what
 /// `out` has taken, as [`run_text`] does of the two parts of the text.

@@ -1,4 +1,5 @@
-//! The program `apctl` (*profile*): words, files, streams and the lines of faults, around the library `replay`.
+//! The program `apctl` (*profile*): words, files, streams and the lines of faults, around the libraries `replay` and
+//! `live`.
 //!
 //! It promises, on [`input::run_input`], of one text that is read and cut in two what [`replay::run_text`] promises of
 //! the two; and on [`fault::show_fault`] the exit status of a fault, and that `fault memory` is written without taking
@@ -15,13 +16,13 @@ mod words;
 
 use fault::{Fault, show_fault};
 use files::{open_file, read_file, read_traces};
-use input::run_input;
-use replay::{check_text, play_text, run_stream};
-use std::env;
+use input::{STANDARD_INPUT, run_input};
+use replay::{check_text, play_text, report_stream};
 use std::io::ErrorKind;
 use std::process::ExitCode;
 use std::sync::Wait;
 use std::thread::Threads;
+use std::{env, mem};
 use trace::{Counted, ReportFault};
 use words::{Task, task_of};
 
@@ -50,7 +51,8 @@ fn tell(rt: &HostRuntime, fault: &Fault) -> u8 {
 }
 
 /// Does what the words ask for. Files are opened in the order of the words, and a configuration is read whole, before
-/// anything is done with them, and so are the traces of `play`. The trace of `run` is read as it comes.
+/// anything is done with them, and so are the traces of `play`. The trace of `run` is read as it comes, and so are the
+/// lines of `live`.
 /// `threads` starts the threads of `play`.
 fn run<T: Threads + Wait + Sync>(rt: &HostRuntime, threads: &T) -> Result<(), Fault> {
     let alloc = rt.alloc();
@@ -76,8 +78,18 @@ fn run<T: Threads + Wait + Sync>(rt: &HostRuntime, threads: &T) -> Result<(), Fa
         Task::Run { config, trace } => {
             let config = read_file(rt, config)?;
             let mut source = Counted::new(open_file(rt, trace)?);
-            run_stream(alloc, config.as_slice(), &mut source, &mut out).map_err(
+            let sections = report_stream(alloc, config.as_slice(), &mut source, &mut out).map_err(
                 |fault| Fault::of_stream(alloc, fault, trace),
+            )?;
+            // The process ends now, and its memory goes back as a whole.
+            mem::forget(sections);
+            Ok(())
+        }
+        Task::Live { config } => {
+            let config = read_file(rt, config)?;
+            let mut source = Counted::new(rt.stdin());
+            live::live(alloc, config.as_slice(), &mut source, &mut out).map_err(
+                |fault| Fault::of_live(alloc, fault, STANDARD_INPUT),
             )
         }
     }

@@ -2,6 +2,7 @@ use crate::fault::{Fault, FaultInTrace, show_fault};
 use crate::input::run_input;
 use crate::words::task_of;
 use bss_core::ConfigFault;
+use live::LiveFault;
 use replay::{PlayTextFault, StreamFault};
 use std::alloc::{AllocError, Global};
 use std::io::{self, ErrorKind, Read};
@@ -77,6 +78,21 @@ fn faults_of_a_stream_are_those_of_the_program(rt: HostRuntime) {
     assert!(rt; matches!(of(StreamFault::Trace(found)), Fault::Trace(fault) if fault == found));
     assert!(rt; matches!(of(StreamFault::NoMemory), Fault::Memory));
     assert!(rt; matches!(of(StreamFault::Write), Fault::Output));
+}
+
+#[test]
+fn faults_of_lines_that_come_are_those_of_the_program(rt: HostRuntime) {
+    let alloc = rt.alloc();
+    let of = |fault: LiveFault| Fault::of_live(alloc, fault, "-");
+    let read = of(LiveFault::Read);
+    assert!(rt; matches!(&read, Fault::File(name) if name.as_str() == "-"));
+    let found = ConfigFault {
+        code: 4,
+        place: None,
+    };
+    assert!(rt; matches!(of(LiveFault::Config(found)), Fault::Config(fault) if fault == found));
+    assert!(rt; matches!(of(LiveFault::NoMemory), Fault::Memory));
+    assert!(rt; matches!(of(LiveFault::Write), Fault::Output));
 }
 
 #[test]
@@ -184,6 +200,7 @@ fn words_ask_for_a_task(rt: HostRuntime) -> Result<(), Fail> {
             "apctl play a b c",
             "Some(Play { config: \"a\", traces: [\"b\", \"c\"] })",
         ),
+        ("apctl live a.toml", "Some(Live { config: \"a.toml\" })"),
     ] {
         let found = asked(rt.alloc(), line)?;
         assert_eq!(rt; found.as_str(), task);
@@ -207,6 +224,9 @@ fn other_words_are_refused(rt: HostRuntime) -> Result<(), Fail> {
         "apctl run a b c",
         "apctl play",
         "apctl play a",
+        "apctl live",
+        "apctl live a b",
+        "apctl live --help",
         "apctl ",
     ] {
         let words = words_of(alloc, line)?;

@@ -14,6 +14,9 @@ const RUN: &str = "run";
 /// The subcommand that plays several traces at once.
 const PLAY: &str = "play";
 
+/// The subcommand that answers lines as they come.
+const LIVE: &str = "live";
+
 /// What stands for the name of a configuration's file.
 const CONFIG: &str = "CONFIG";
 
@@ -44,6 +47,11 @@ pub enum Task<'a> {
         /// The traces' files, in order.
         traces: Vec<&'a str>,
     },
+    /// `live CONFIG`: answer the lines of standard input as they come, on the configuration of a file.
+    Live {
+        /// The configuration's file.
+        config: &'a str,
+    },
 }
 
 /// The task that the words ask for, of which the first is the program's own name. `Words` for any others, also where
@@ -68,11 +76,13 @@ fn command<'a>(alloc: Global) -> Result<Command<'a>, AllocError> {
     let play = Command::new(alloc, PLAY)
         .arg(file(alloc, CONFIG))?
         .arg(file(alloc, TRACE).num_args(1..))?;
+    let live = Command::new(alloc, LIVE).arg(file(alloc, CONFIG))?;
     Command::new(alloc, "apctl")
         .subcommand_required(true)
         .subcommand(check)?
         .subcommand(run)?
-        .subcommand(play)
+        .subcommand(play)?
+        .subcommand(live)
 }
 
 /// The name of a file, which must be there.
@@ -102,6 +112,7 @@ fn matched<'a>(alloc: Global, matches: &ArgMatches<'a>) -> Result<Option<Task<'a
         (CHECK, _) => Ok(Some(Task::Check { config })),
         (RUN, Some(trace)) => Ok(Some(Task::Run { config, trace })),
         (PLAY, _) => played(alloc, config, files.get_strs(TRACE)),
+        (LIVE, _) => Ok(Some(Task::Live { config })),
         _ => Ok(None),
     }
 }

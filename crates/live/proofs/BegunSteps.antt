@@ -1,6 +1,6 @@
 -- A line that has begun, and more octets of it.
 use Rattle.std.proofs.Common.{◌≡◌, ℕ, ◌+◌, ◌<◌, ◌≤◌, List, [], ◌∷◌, ◌++◌, length, map, take, drop, Some}
-use Rattle.std.proofs.Common.{Bool, true, false, refl, sym, ap, ◌∙◌, arith, length-append}
+use Rattle.std.proofs.Common.{Bool, true, false, refl, sym, ap, subst, ◌∙◌, arith, length-append}
 use Rattle.std.specs.Prelude.{nat_lt, if◌then◌else◌}
 use Rattle.std.specs.List.{position}
 use Rattle.std.proofs.lemmas.Bool.{ltb-true, lt-ltb}
@@ -89,3 +89,11 @@ pub add-on : (too_long : Bool) (some octets new : List ℕ) (begun : TextLine) �
 add-on too_long some octets new begun view is h k few grown =
     ap (λ b. kept b new) is ∙ ap (λ (xs : List ℕ). Octets xs) grown ∙ sym (begun-on some octets h k few)
     ∙ ap (λ (b : TextLine). begun_after b octets) (kept-octets too_long some begun view is)
+
+pub kept-unended : (too_long : Bool) (octets : List ℕ) (begun : TextLine) → kept too_long octets ≡ begun
+    → LacksLineFeed octets → IsUnended begun
+kept-unended too_long octets begun view lacks = subst IsUnended view (by too_long)
+  where
+    by : (b : Bool) → IsUnended (kept b octets)
+    by true = tt
+    by false = lacks

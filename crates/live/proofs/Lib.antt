@@ -9,3 +9,8 @@ pub mod Rows
 pub mod BegunSteps
 pub mod WriterSteps
 pub mod ReplySteps
+pub mod HearingSteps
+pub mod AnswerSteps
+pub mod FeedSteps
+pub mod RunSteps
+pub mod RunEnds

@@ -18,11 +18,11 @@ use Rattle.live.specs.TextLines.{begun_with, begun_in, with_first_too_long, line
 
 -- ---- octets that are too many
 
-over : (most : ℕ) (octets : List ℕ) → most < length octets → at_most most octets ≡ TooLong
+pub over : (most : ℕ) (octets : List ℕ) → most < length octets → at_most most octets ≡ TooLong
 over most octets more = rw (lt-ltb most (length octets) more) refl
 
 -- one CR less is one octet less
-stripped : (line : List ℕ) → length line ≤ length (strip_carriage_return line) + 1
+pub stripped : (line : List ℕ) → length line ≤ length (strip_carriage_return line) + 1
 stripped line = by (slice_index line (length line - 1) == 13)
   where
     by : (b : Bool) → length line ≤ length (if b then take (length line - 1) line else line) + 1

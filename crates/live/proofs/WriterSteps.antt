@@ -6,12 +6,14 @@ use Rattle.std.proofs.lemmas.List.{take_more}
 use Rattle.std.proofs.lemmas.List.Concat.{flat_map-append}
 use Rattle.std.proofs.lemmas.Option.{slice_get_within, get_or_from_slice_get}
 use Rattle.std.proofs.Common.{Result, Ok, Err}
+use Rattle.std.specs.Result.{OnOk}
 use Rattle.trace.specs.Buffers.{Stops, Puts}
+use Rattle.trace.specs.Endings.{Ends, failures_of}
 use Rattle.trace.specs.declared.sink.Failed.{Failed}
 use Rattle.trace.proofs.SinkSteps.{Delivers-nothing, Delivers-then, Stops-second, Stops-first}
-use Rattle.trace.specs.Sinks.{MayFail}
-use Rattle.live.specs.declared.writer.Writer.{Writer}
-use Rattle.live.specs.Writing.{sink_of, held, CanWrite, AddsBy, Adds}
+use Rattle.trace.proofs.SinkSteps.{Appends-delivered, AppendsPrefix-stopped}
+use Rattle.trace.specs.Sinks.{MayFail, write_ending}
+use Rattle.live.specs.Writing.{Writer, sink_of, held, CanWrite, AddsBy, Adds}
 
 -- by whether it had failed before the first, between, and after the second
 adds-both : {W : Type 0} (taken : W → Option (List ℕ)) (failed : W → ℕ) (p q r : Bool) (a b c : Writer W) (t u : List ℕ)
@@ -82,7 +84,8 @@ module _ {W : Type 0} {taken : W → Option (List ℕ)} {failed : W → ℕ} whe
 
   -- it goes on, and the text was put, or put in part
   pub Adds-put : (r : Result Unit Failed) (a b : Writer W) (t : List ℕ) → CanWrite failed a → a.has_failed ≡ false
-      → b.has_failed ≡ is_err r → Puts taken failed r a.out b.out t → Adds taken failed a b t
+      → b.has_failed ≡ is_err r → Puts taken failed r a.out b.out t
+      → Adds taken failed a b t
   Adds-put r a b t can going is d = record {
     same_sink = d.same_sink;
     effect = put-by taken failed a.has_failed b.has_failed r a b t going is d;
@@ -98,3 +101,31 @@ module _ {W : Type 0} {taken : W → Option (List ℕ)} {failed : W → ℕ} whe
       → {a b c : Writer W} → Adds taken failed a b (flat_map f (take i xs)) → Adds taken failed b c (f x)
       → Adds taken failed a c (flat_map f (take (i + 1) xs))
   Adds-item f xs i x e d then = Adds-same (one-more f xs i x e) (Adds-then d then)
+
+-- ---- from an empty piece to its end
+
+ends-by : {W : Type 0} (taken : W → Option (List ℕ)) (failed : W → ℕ) (p q : Bool) (r : Result Unit Failed) (a b : Writer W)
+    (t : List ℕ) → p ≡ false → q ≡ is_err r → held a ≡ [] → OnOk r (held b ≡ []) → AddsBy taken failed p q a b t
+    → Ends write_ending r (Ok t) (taken (sink_of a)) (taken (sink_of b))
+    × (failed (sink_of b) ≡ failed (sink_of a) + failures_of write_ending r)
+ends-by taken failed true q r a b t going is none empty d = absurd cc
+ends-by taken failed false false (Ok x) a b t going is none empty d = (Appends-delivered d.0 none empty, omega (arith, d.1))
+ends-by taken failed false false (Err x) a b t going is none empty d = absurd cc
+ends-by taken failed false true (Ok x) a b t going is none empty d = absurd cc
+ends-by taken failed false true (Err x) a b t going is none empty d = (AppendsPrefix-stopped d.0 none, omega (arith, d.1))
+
+module _ {W : Type 0} {taken : W → Option (List ℕ)} {failed : W → ℕ} where
+  -- what the sink took of a text, and how often it failed
+  pub Adds-ends : (r : Result Unit Failed) (sink : W) (a b c : Writer W) (t : List ℕ) → sink_of a ≡ sink
+      → a.has_failed ≡ false → held a ≡ [] → Adds taken failed a b t → Adds taken failed b c []
+      → OnOk r (held c ≡ []) → c.has_failed ≡ is_err r
+      → Ends write_ending r (Ok t) (taken sink) (taken (sink_of c))
+      × (failed (sink_of c) ≡ failed sink + failures_of write_ending r)
+  Adds-ends r sink a b c t same going none put end empty is =
+      let d : Adds taken failed a c t = Adds-same (append-nil t) (Adds-then put end) in
+      subst
+      (λ (s : W).
+      Ends write_ending r (Ok t) (taken s) (taken (sink_of c))
+      × (failed (sink_of c) ≡ failed s + failures_of write_ending r))
+      same
+      (ends-by taken failed a.has_failed c.has_failed r a c t going is none empty d.effect)

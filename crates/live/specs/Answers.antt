@@ -72,8 +72,8 @@ answer_of m (Says (Ok None)) = Nothing
 answer_of m (Says (Ok (Some line))) = Replies (replies_from 0 m.networks line)
 answer_of m (Says (Err fault)) = Faulty fault
 
--- A line of a trace may stay unread where memory runs out; and where it is read, each network may refuse it so. Tables and
--- lines that are too long ask for no memory.
+-- A line of a trace may stay unread where memory runs out; and where it is read, each network may refuse it so. Tables
+-- and lines that are too long ask for no memory.
 abbrev pub MayAnswer : Moment → Asked → Answer → Type 0
 MayAnswer m (Says said) Unread = Unit {0}
 MayAnswer m (Says (Ok (Some line))) (Replies replies) = MayReplyFrom 0 m.networks line replies

@@ -6,3 +6,7 @@ pub mod Own
 pub mod Feeding
 pub mod Writing
 pub mod Replying
+pub mod Hearing
+pub mod Answering
+pub mod LiveView
+pub mod Running

@@ -2,7 +2,15 @@
 use Rattle.std.specs.Prelude.{◌≡◌, ℕ, ◌+◌, Bool, true, false, List, Option}
 use Rattle.trace.specs.Buffers.{Delivers, Stops, sink_of as sink_behind, held as held_before}
 use Rattle.trace.specs.Sinks.{MayFail}
-use Rattle.live.specs.declared.writer.Writer.{Writer}
+use Rattle.trace.specs.declared.report.buffer.Buffered.{Buffered}
+
+-- a sink with a piece of memory before it, and whether it failed
+pub record Writer (W : Type 0) : Type 0 where
+  pub out : Buffered W
+  pub has_failed : Bool
+
+abbrev pub writer : {W : Type 0} → Buffered W → Bool → Writer W
+writer out failed = record { out = out; has_failed = failed }
 
 -- the sink
 abbrev pub sink_of : {W : Type 0} → Writer W → W

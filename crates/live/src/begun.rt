@@ -1,10 +1,10 @@
 //! A line that has begun, of which more is to come.
 
-ghost use Rattle.std.specs.Prelude.{◌≡◌, ◌++◌, [], length, IfOk, if◌then◌else◌};
+ghost use Rattle.std.specs.Prelude.{◌≡◌, ◌↔◌, [], IfOk, IsTrue, option_map};
 ghost use Rattle.std.specs.Str.Lines.{strip_carriage_return};
 ghost use Rattle.trace.specs.Texts.{LacksLineFeed};
-ghost use Rattle.live.specs.Feeding.{IsUnended, ended_with};
-ghost use Rattle.live.specs.TextLines.{TextLine, Octets, TooLong, line_with, begun_after};
+ghost use Rattle.live.specs.Feeding.{IsUnended, ended_with, line_in, whole_with};
+ghost use Rattle.live.specs.TextLines.{Octets, line_with, begun_after};
 
 use mac_frame::NoMemory;
 use std::alloc::Global;
@@ -48,10 +48,11 @@ impl Begun {
         })
     }
 
-    /// More octets came of it. It takes no memory.
+    /// More octets came of it, none of which is an LF. It takes no memory, and keeps none of a line that is too long.
     pub fn add(&mut self, octets: &[u8])
         requires { LacksLineFeed octets.now }
-        ensures { self.new ≡ begun_after self.old octets.now }
+        ensures after { self.new ≡ begun_after self.old octets.now }
+        ensures unended { IsUnended self.old }
     {
         if self.too_long {
             return;
@@ -71,4 +72,48 @@ impl Begun {
         self.octets.clear();
         self.too_long = false;
     }
+
+    /// Whether nothing came of it.
+    pub fn is_empty(&self) -> bool
+        ensures { IsTrue result ↔ (self.now ≡ Octets []) }
+    {
+        !self.too_long && self.octets.is_empty()
+    }
+
+    /// The line, where an LF ends it: less a CR at its end. `None` where it is too long.
+    pub fn ended(&self) -> Option<&[u8]>
+        ensures { line_in (option_map (λ octets. octets.now) result) ≡ ended_with self.now [] }
+    {
+        if self.too_long {
+            return None;
+        }
+        line_of(without_carriage_return(self.octets.as_slice()))
+    }
+
+    /// The line, where the text ends it. `None` where it is too long.
+    pub fn whole(&self) -> Option<&[u8]>
+        ensures { line_in (option_map (λ octets. octets.now) result) ≡ whole_with self.now }
+    {
+        if self.too_long {
+            return None;
+        }
+        line_of(self.octets.as_slice())
+    }
+}
+
+/// A line less the CR at its end, if it has one.
+fn without_carriage_return(line: &[u8]) -> &[u8]
+    ensures { result.now ≡ strip_carriage_return line.now }
+{
+    match line {
+        [prefix @ .., b'\r'] => prefix,
+        _ => line,
+    }
+}
+
+/// A line of these octets. `None` where they are too many.
+fn line_of(octets: &[u8]) -> Option<&[u8]>
+    ensures { line_in (option_map (λ octets. octets.now) result) ≡ line_with octets.now }
+{
+    (octets.len() <= MAX_LINE).then_some(octets)
 }

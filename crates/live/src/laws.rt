@@ -27,8 +27,9 @@ pub fn lines_come_in_pieces()
     ensures last { (text : List ℕ) → lines_of_text text ≡ ended_lines text ++ last_line (begun_in text) }
 {}
 
-/// No network reaches another: what is written of one, line by line, is what it does alone with its own events, the
-/// lines that it hears less those that it refused. So are the tables that `I` asks for, and those of the last moment.
+/// No network reaches another: what is written of one, line by line, is what it does alone with its own events, what it
+/// hears of the lines that were read, less what it refused. So are the tables that `I` asks for, and those of the last
+/// moment.
 pub fn isolation()
     ensures alone { (c : RadioConfig) (lines : List TextLine) (answers : List Answer) (next : Moment) (place : ℕ)
         → place < length c.networks → Answers (first_moment c) lines answers next
@@ -73,9 +74,9 @@ pub fn enough_memory()
         → (next : Moment) × Answers m lines (answers_of m lines) next }
 {}
 
-/// Where a text is a trace, so that no line of it has a fault, is `I` or is one of more than 1,000,000, and no line is
-/// too long, a network that hears no more than its history may have is told as its report tells it: the same frames,
-/// table and counts.
+/// Where a text is a trace, so that no line of it has a fault, is `I` or is one of more than 1,000,000, no line is too
+/// long, and nothing is refused for memory, a network that hears no more than its history may have is told as its
+/// report tells it: the same frames, table and counts.
 pub fn as_replayed()
     ensures { (c : RadioConfig) (text : List ℕ) (said : List Line) (place : ℕ) (answers : List Answer)
         (next : Moment) (section : Section) → IsLikeTrace c text said place answers next

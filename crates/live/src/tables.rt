@@ -4,21 +4,21 @@ ghost use Rattle.std.specs.Prelude.{◌≡◌, ◌++◌, codes, flat_map};
 ghost use Rattle.bss_core.specs.Network.{table_of, counts_of};
 ghost use Rattle.trace.specs.Report.{station_line, counts_in};
 ghost use Rattle.live.specs.AnswerText.{table_text};
-ghost use Rattle.live.specs.Writing.{Adds, CanWrite};
+ghost use Rattle.live.specs.Writing.{Adds, CanWrite, writer};
 
-use crate::writer::Writer;
+use crate::writer::{put, put_counts_line, put_network_line, put_station_line};
 use bss_core::Network;
-use trace::{Sink, Totals};
+use trace::{Buffered, Sink, Totals};
 
 /// Puts a network's table: its name, its counts, its stations, and `end`.
-pub fn put_table<W: Sink>(out: &mut Writer<'_, W>, network: &Network)
-    requires { CanWrite W.failed out.old }
-    ensures { Adds W.taken W.failed out.old out.new (table_text network.now) }
+pub fn put_table<W: Sink>(out: &mut Buffered<'_, W>, failed: &mut bool, network: &Network)
+    requires { CanWrite W.failed (writer out.old failed.old) }
+    ensures { Adds W.taken W.failed (writer out.old failed.old) (writer out.new failed.new) (table_text network.now) }
 {
-    out.put_network_line(&network.setting().network);
-    out.put_counts_line(&totals_of(network));
-    put_stations(out, network);
-    out.put(b"end\n");
+    put_network_line(out, failed, &network.setting().network);
+    put_counts_line(out, failed, &totals_of(network));
+    put_stations(out, failed, network);
+    put(out, failed, b"end\n");
 }
 
 /// The counts of a network, after the events that it took.
@@ -35,11 +35,12 @@ fn totals_of(network: &Network) -> Totals
 }
 
 /// Puts a line for each station of a network.
-fn put_stations<W: Sink>(out: &mut Writer<'_, W>, network: &Network)
-    requires { CanWrite W.failed out.old }
-    ensures { Adds W.taken W.failed out.old out.new (flat_map station_line (table_of network.now.network)) }
+fn put_stations<W: Sink>(out: &mut Buffered<'_, W>, failed: &mut bool, network: &Network)
+    requires { CanWrite W.failed (writer out.old failed.old) }
+    ensures { Adds W.taken W.failed (writer out.old failed.old) (writer out.new failed.new)
+        (flat_map station_line (table_of network.now.network)) }
 {
     for place in 0..network.table_len() {
-        out.put_station_line(&network.row(place));
+        put_station_line(out, failed, &network.row(place));
     }
 }

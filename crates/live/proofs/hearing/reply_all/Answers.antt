@@ -1,0 +1,28 @@
+use Rattle.std.proofs.Common.{arith, sym, subst}
+use Rattle.bss_core.specs.NetworkView.{NetworkState}
+use Rattle.live.specs.Hearing.{line_as, HasReplied}
+use Rattle.live.specs.Writing.{writer}
+use Rattle.live.proofs.HearingSteps.{replies-none, replies-more, replies-all}
+use Rattle.live.proofs.hearing.reply_all.Goals as goal
+
+pub loop-place-init : goal.loop-place-init
+loop-place-init g c = replies-none _ _ c.args.number _ c.args.networks.now _ c.requires.can_write
+
+pub loop-place-preserved : goal.loop-place-preserved
+loop-place-preserved g c =
+    replies-more _ _ c.loop-place.place c.args.number _ c.args.networks.now c.loop-place.networks _ _ _
+    c.index-networks-place.result
+    c.reply_at.new.network
+    c.loop-place.invariant
+    (omega arith)
+    c.index-networks-place.is
+    (subst
+    (λ (n : NetworkState).
+    HasReplied g.W.Sink.taken g.W.Sink.failed c.loop-place.place c.args.number
+    (line_as c.args.heard.now.place c.args.heard.now.event) n c.reply_at.new.network (writer c.loop-place.out c.loop-place.failed)
+    (writer c.reply_at.new.out c.reply_at.new.failed))
+    (sym c.index-networks-place.is)
+    c.reply_at.ensures)
+
+pub returns : goal.returns
+returns g c = replies-all _ _ c.loop-place.place _ _ c.args.networks.now _ _ _ c.loop-place.invariant (omega arith)

@@ -1,0 +1,49 @@
+//! Why the access point stopped.
+
+ghost use Rattle.std.specs.Prelude.{◌≡◌};
+ghost use Rattle.live.specs.Running.{of_config};
+ghost use Rattle.live.specs.declared.fault.LiveFault.TheVariants as faults;
+
+use bss_core::ConfigFault;
+use mac_frame::NoMemory;
+use trace::{ConfigTextFault, Failed};
+
+/// Why an access point stopped before the end of its input.
+#[derive(Clone, Copy, Debug, PartialEq, Eq)]
+pub enum LiveFault {
+    /// The first fault of the configuration. Nothing was read or written.
+    Config(ConfigFault),
+    /// A growth was refused before the first read. Nothing was read or written.
+    NoMemory,
+    /// A read failed, or 2^46 were made.
+    Read,
+    /// A write failed.
+    Write,
+}
+
+impl From<ConfigTextFault> for LiveFault {
+    ghost from_gives = { λ fault given. given ≡ of_config fault };
+
+    fn from(fault: ConfigTextFault) -> LiveFault {
+        match fault {
+            ConfigTextFault::At(fault) => LiveFault::Config(fault),
+            ConfigTextFault::NoMemory => LiveFault::NoMemory,
+        }
+    }
+}
+
+impl From<NoMemory> for LiveFault {
+    ghost from_gives = { λ _ given. given ≡ faults.NoMemory };
+
+    fn from(_e: NoMemory) -> LiveFault {
+        LiveFault::NoMemory
+    }
+}
+
+impl From<Failed> for LiveFault {
+    ghost from_gives = { λ _ given. given ≡ faults.Write };
+
+    fn from(_e: Failed) -> LiveFault {
+        LiveFault::Write
+    }
+}
