@@ -204,7 +204,7 @@ fn judged(outcomes: &[Outcome], line: &Line, bssids: &[MacAddr]) -> Result<bool,
 }
 
 /// Whether the network at a place hears a line; none does where no network is.
-fn is_heard_at(place: usize, line: &Line, bssids: &[MacAddr]) -> bool {
+pub fn is_heard_at(place: usize, line: &Line, bssids: &[MacAddr]) -> bool {
     let Some(bssid) = bssids.get(place) else {
         return false;
     };
@@ -216,7 +216,7 @@ fn is_heard_at(place: usize, line: &Line, bssids: &[MacAddr]) -> bool {
 }
 
 /// The address of each network, in order of place.
-fn bssids_of(alloc: Global, config: &RadioConfig) -> Result<Vec<MacAddr>, AllocError> {
+pub fn bssids_of(alloc: Global, config: &RadioConfig) -> Result<Vec<MacAddr>, AllocError> {
     let networks = config.networks.as_slice();
     networks.iter().map(|network| network.bssid).collect(alloc)
 }

@@ -22,6 +22,8 @@ pub enum Trial {
     Stream,
     /// `play`: `play_text` of the trace as the only one.
     Play,
+    /// `live`: `Live::feed` for each line, none of which is offered again, and `end`.
+    Live,
 }
 
 /// A trial, how many growths come before the calls that it tries, and its texts.
@@ -68,6 +70,7 @@ fn trial_of(name: &str) -> Option<Trial> {
         "text" => Some(Trial::Text),
         "stream" => Some(Trial::Stream),
         "play" => Some(Trial::Play),
+        "live" => Some(Trial::Live),
         _ => None,
     }
 }

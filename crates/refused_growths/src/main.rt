@@ -12,6 +12,7 @@
 ghost use Rattle.trace.specs.Sinks.{MayFail};
 
 mod access_point;
+mod answered;
 mod asked;
 mod growths;
 mod lines;
@@ -94,5 +95,6 @@ fn trial<R: Threads + Wait + Sync>(
         Trial::Text => texts::run_twice(alloc, asked),
         Trial::Stream => texts::stream_twice(alloc, asked),
         Trial::Play => texts::play_twice(rt, alloc, asked),
+        Trial::Live => answered::feed_lines(alloc, asked),
     }
 }

@@ -3,7 +3,7 @@
 use bss_core::{OpenFault, Section};
 use mac_frame::NoMemory;
 use std::alloc::{AllocError, AllocFailed, Global};
-use trace::{ConfigTextFault, Counted, TraceTextFault, write_report};
+use trace::{ConfigTextFault, Counted, LineFault, ReadFault, TraceTextFault, write_report};
 
 /// Whose growth a run refused.
 #[derive(Clone, Copy, Debug, PartialEq, Eq)]
@@ -107,6 +107,15 @@ impl From<TraceTextFault> for Flaw {
         match fault {
             TraceTextFault::At(_) => Flaw::Texts,
             TraceTextFault::NoMemory => Flaw::NoMemory,
+        }
+    }
+}
+
+impl From<ReadFault<LineFault>> for Flaw {
+    fn from(fault: ReadFault<LineFault>) -> Flaw {
+        match fault {
+            ReadFault::At(_) => Flaw::Texts,
+            ReadFault::NoMemory => Flaw::NoMemory,
         }
     }
 }
