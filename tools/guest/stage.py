@@ -1,0 +1,326 @@
+"""One start of the bridge among simulated stations: what is recorded beside it, and what has to agree in the end."""
+import os
+import re
+import signal
+import struct
+import subprocess
+import time
+from collections import defaultdict
+from dataclasses import dataclass, field
+
+from frames import MANAGEMENT, PROBE_RESPONSE, Frame, address_of, address_text, is_group
+from live.radiotap import captured
+from stations import Failed, Radio, run, wait_for
+
+PCAP_HEADER, PCAP_RECORD = 24, struct.Struct("<IIII")
+RADIO_TEXT = "version = {version}\nchannel = 6\ninterval = 100\nqueue = 64\n"
+NETWORK_TEXT = """
+[[network]]
+bssid = "{bssid}"
+ssid = "{ssid}"
+rates = "82840b16"
+dtim = {dtim}
+max_stations = 64
+max_known = 128
+quota = 200
+max_events = 1000000
+{more}"""
+# Between the bridge and the program: what the program writes while it is live is kept, as it comes.
+KEEPING = """#!/bin/bash
+set -o pipefail
+[ "$1" = live ] || exec {program} "$@"
+{program} "$@" | tee {answers}
+"""
+READY, TIMEOUT = "networks are on channel", 30
+DURATION, RETRY, TIMESTAMP = slice(2, 4), 0x08, slice(24, 32)
+
+
+@dataclass(frozen=True)
+class Net:
+    """A network of the configuration, with the interface of its wire."""
+
+    bssid: str
+    ssid: str
+    port: str
+    dtim: int = 1
+    more: str = ""
+
+
+@dataclass
+class Section:
+    """What was written of one network."""
+
+    air: list[str] = field(default_factory=list)
+    wire: list[str] = field(default_factory=list)
+    table: list[str] = field(default_factory=list)
+
+
+def read_answers(text: str) -> dict[str, Section]:
+    """What the program wrote while it was live, by network, each with its last table; a last line that was cut, as
+    where it was killed, is left out."""
+    sections: dict[str, Section] = defaultdict(Section)
+    network = ""
+    for line in text[:text.rfind("\n") + 1].splitlines():
+        word, _, rest = line.partition(" ")
+        if word in ("air", "wire"):
+            bssid, octets = rest.split(" ")
+            getattr(sections[bssid], word).append(octets)
+        elif word == "network":
+            network = rest.split(" ")[0]
+            sections[network].table = [line]
+        elif word in ("events", "station"):
+            sections[network].table.append(line)
+    return sections
+
+
+def read_report(text: str) -> dict[str, Section]:
+    """A report, by network."""
+    sections: dict[str, Section] = defaultdict(Section)
+    network = ""
+    for line in text.splitlines():
+        word, _, rest = line.partition(" ")
+        if word == "network":
+            network = rest.split(" ")[0]
+        if word in ("air", "wire"):
+            getattr(sections[network], word).append(rest)
+        elif word != "end":
+            sections[network].table.append(line)
+    return sections
+
+
+def read_pcap(path: str) -> list[bytes]:
+    """The packets of a capture that tcpdump wrote on this machine."""
+    with open(path, "rb") as file:
+        octets = file.read()
+    packets, place = [], PCAP_HEADER
+    while place + PCAP_RECORD.size <= len(octets):
+        _, _, length, _ = PCAP_RECORD.unpack_from(octets, place)
+        place += PCAP_RECORD.size
+        packets.append(octets[place:place + length])
+        place += length
+    return packets
+
+
+def comparable(octets: bytes) -> bytes:
+    """A frame without what the kernel or the radio writes into it: Duration, Retry, a probe response's timestamp."""
+    text = bytearray(octets)
+    text[1] &= ~RETRY
+    text[DURATION] = bytes(2)
+    if Frame(octets).is_management(PROBE_RESPONSE):
+        text[TIMESTAMP] = bytes(8)
+    return bytes(text)
+
+
+def same(what: str, found: list, wanted: list) -> None:
+    """Failed where two lists differ, with where they begin to."""
+    if found != wanted:
+        place = next((n for n, (a, b) in enumerate(zip(found, wanted)) if a != b), min(len(found), len(wanted)))
+        raise Failed(f"{what}: {len(found)} and {len(wanted)}, of which number {place} differs: "
+                     f"{str(found[place:place + 1])[:200]} and {str(wanted[place:place + 1])[:200]}")
+
+
+class Tcpdump:
+    """A capture of an interface."""
+
+    def __init__(self, interface: str, path: str, words: tuple[str, ...] = ()) -> None:
+        self.path = path
+        self.log = open(path + ".log", "wb")
+        self.process = subprocess.Popen([*words, "tcpdump", "-i", interface, "-w", path, "-s", "0", "-B", "8192",
+                                         "-U", "-Z", "root", "--immediate-mode"], stdin=subprocess.DEVNULL,
+                                        stdout=self.log, stderr=self.log)
+        wait_for(f"tcpdump of {interface}", 20, lambda: os.path.exists(path) and os.path.getsize(path) >= PCAP_HEADER)
+
+    def end(self) -> None:
+        """Ends it, where it hasn't ended."""
+        if self.process.poll() is None:
+            time.sleep(0.5)
+            self.process.send_signal(signal.SIGINT)
+            self.process.wait()
+            self.log.close()
+
+    def packets(self) -> list[bytes]:
+        """Ends it, and gives what it captured."""
+        self.end()
+        with open(self.path + ".log", encoding="utf-8") as file:
+            dropped = re.search(r"(\d+) packets? dropped by kernel", file.read())
+        if dropped and dropped.group(1) != "0":
+            raise Failed(f"{self.path}: {dropped.group(0)}")
+        return read_pcap(self.path)
+
+
+class Observer:
+    """A radio of its own that only hears."""
+
+    def __init__(self, radio: Radio, frequency: int) -> None:
+        run("iw", "dev", radio.interface, "del")
+        run("iw", "phy", radio.phy, "interface", "add", "obs0", "type", "monitor", "flags", "control")
+        run("ip", "link", "set", "obs0", "up")
+        run("iw", "dev", "obs0", "set", "freq", str(frequency))
+
+
+class Start:
+    """One start of the bridge."""
+
+    def __init__(self, name: str, folder: str, bridge: str, program: str, phy: str, networks: tuple[Net, ...],
+                 version: int = 1) -> None:
+        self.name = name
+        self.networks = networks
+        self.program = program
+        self.bridge = bridge
+        self.phy = phy
+        self.folder = os.path.join(folder, name)
+        os.makedirs(self.folder)
+        self.config, self.record, self.answers, self.log, keeping = (
+            os.path.join(self.folder, file) for file in ("config", "record", "answers", "log", "keeping"))
+        with open(self.config, "w", encoding="utf-8") as file:
+            file.write(RADIO_TEXT.format(version=version))
+            file.writelines(NETWORK_TEXT.format(bssid=net.bssid, ssid=net.ssid, dtim=net.dtim,
+                                                more=net.more) for net in networks)
+        with open(keeping, "w", encoding="utf-8") as file:
+            file.write(KEEPING.format(program=program, answers=self.answers))
+        os.chmod(keeping, 0o755)
+        self.keeping = keeping
+        self.observed: Tcpdump | None = None
+        self.process: subprocess.Popen | None = None
+        self.was_killed = False
+
+    def begin(self) -> None:
+        """Starts the bridge, with the radio that hears beside it."""
+        self.observed = Tcpdump("obs0", os.path.join(self.folder, "observed.pcap"))
+        words = [self.bridge, self.config, "--phy", self.phy, "--program", self.keeping, "--record", self.record]
+        for net in self.networks:
+            words += ["--wire", f"{net.bssid}={net.port}"]
+        with open(self.log, "wb") as log:
+            self.process = subprocess.Popen(words, stdin=subprocess.DEVNULL, stdout=log, stderr=log)
+        wait_for(f"the bridge of {self.name} begins", TIMEOUT, lambda: READY in self.told() or self.process.poll())
+        if self.process.poll() is not None:
+            raise Failed(f"the bridge of {self.name} didn't begin: {self.told()}")
+
+    def told(self) -> str:
+        """What the bridge has told so far."""
+        with open(self.log, encoding="utf-8") as file:
+            return file.read()
+
+    def answered(self) -> str:
+        """What the program has written so far."""
+        with open(self.answers, encoding="ascii") as file:
+            return file.read()
+
+    def recorded(self) -> list[str]:
+        """The lines that the program was given so far, but for the last moments."""
+        with open(self.record, encoding="ascii") as file:
+            return file.read().splitlines()
+
+    def tables(self) -> dict[str, list[str]]:
+        """The networks' tables of now, by their BSSIDs."""
+        before = self.told().count("\nend\n")
+        self.process.send_signal(signal.SIGUSR1)
+        wait_for("the tables", 20, lambda: self.told().count("\nend\n") >= before + len(self.networks), 0.1)
+        return {bssid: section.table for bssid, section in read_answers(self.told()).items()}
+
+    def station(self, bssid: str, address: str) -> str:
+        """The line of a station in the tables of now, or nothing."""
+        return next((line for line in self.tables()[bssid] if line.startswith(f"station {address} ")), "")
+
+    def end(self) -> None:
+        """Ends the bridge by a signal: it has to end well."""
+        self.process.send_signal(signal.SIGINT)
+        self.ended(0)
+
+    def ended(self, status: int) -> None:
+        """The bridge has to end with a status, and to have taken down what it set up."""
+        found = self.process.wait(60)
+        if found != status:
+            raise Failed(f"the bridge ended with status {found}: {self.told()[-500:]}")
+        left = [name for name in os.listdir("/sys/class/net") if name.startswith("mon0")]
+        if left:
+            raise Failed(f"the bridge left {left}")
+        self.observed.end()
+
+    def kill_program(self) -> None:
+        """Kills the program itself: the bridge has to say so, and to end with another status than 0."""
+        self.was_killed = True
+        wanted = os.path.realpath(self.program)
+        found = [int(pid) for pid in os.listdir("/proc") if pid.isdigit() and executable_of(pid) == wanted]
+        for pid in found:
+            os.kill(pid, signal.SIGKILL)
+        if len(found) != 1:
+            raise Failed(f"{len(found)} programs ran")
+        self.ended(1)
+        if "the program ended by itself" not in self.told():
+            raise Failed(f"the bridge didn't say that the program ended: {self.told()[-500:]}")
+
+    def rerun(self, lines: list[str]) -> dict[str, Section]:
+        """What `run` reports of these lines."""
+        trace = os.path.join(self.folder, "trace")
+        with open(trace, "w", encoding="ascii") as file:
+            file.writelines(f"{line}\n" for line in lines)
+        return read_report(run(self.program, "run", self.config, trace))
+
+    def agrees_with_run(self) -> str:
+        """What the program wrote has to be what `run` reports of the record; where it was killed, to begin it."""
+        wrote, report = read_answers(self.answered()), self.rerun(self.recorded())
+        for net in self.networks:
+            live, ran = wrote[net.bssid], report[net.bssid]
+            if self.was_killed:
+                ran = Section(ran.air[:len(live.air)], ran.wire[:len(live.wire)], live.table)
+            same(f"{self.name}: air of {net.ssid}", live.air, ran.air)
+            same(f"{self.name}: wire of {net.ssid}", live.wire, ran.wire)
+            same(f"{self.name}: table of {net.ssid}", live.table, ran.table)
+        air, wire = (sum(len(getattr(wrote[net.bssid], kind)) for net in self.networks) for kind in ("air", "wire"))
+        return f"{len(self.recorded())} lines, {air} frames on the air, {wire} on wires"
+
+    def agrees_without(self, guests: str) -> str:
+        """With all that only the guests' network hears taken out, the others' frames have to be the same."""
+        bssid = address_of(guests)
+        kept = [line for line in self.recorded() if not heard_only_by(line, bssid)]
+        wrote, report = read_answers(self.answered()), self.rerun(kept)
+        for net in self.networks:
+            if net.bssid != guests:
+                same(f"air of {net.ssid}", wrote[net.bssid].air, report[net.bssid].air)
+                same(f"wire of {net.ssid}", wrote[net.bssid].wire, report[net.bssid].wire)
+        taken_out = len(self.recorded()) - len(kept)
+        if not taken_out:
+            raise Failed("the guests' network heard nothing of its own")
+        return f"{taken_out} of {len(self.recorded())} lines taken out"
+
+    def agrees_with_observed(self) -> str:
+        """What another radio heard of each network has to be what the program wrote for it."""
+        bssids = {address_of(net.bssid): net for net in self.networks}
+        heard: dict[str, list[bytes]] = defaultdict(list)
+        for packet in self.observed.packets():
+            found = captured(packet)
+            frame = Frame(found.frame) if found else None
+            if frame and frame.transmitter in bssids:
+                heard[bssids[frame.transmitter].bssid].append(comparable(frame.octets))
+        wrote = read_answers(self.answered())
+        for net in self.networks:
+            same(f"{self.name}: heard of {net.ssid}", heard[net.bssid],
+                 [comparable(bytes.fromhex(octets)) for octets in wrote[net.bssid].air])
+        return f"{sum(map(len, heard.values()))} frames heard"
+
+
+def executable_of(pid: str) -> str | None:
+    """The file that a process runs, or None of one that has ended, or is the kernel's."""
+    try:
+        return os.readlink(f"/proc/{pid}/exe")
+    except OSError:
+        return None
+
+
+def heard_only_by(line: str, bssid: bytes) -> bool:
+    """Whether no network but this one hears a line."""
+    word, _, rest = line.partition(" ")
+    if word == "A":
+        return bytes.fromhex(rest)[4:10] == bssid
+    return word == "W" and rest.split(" ")[0] == address_text(bssid)
+
+
+def sent_units(text: str, bssid: str) -> list[Frame]:
+    """The frames that a network sent, of what the program wrote."""
+    return [Frame(bytes.fromhex(octets)) for octets in read_answers(text)[bssid].air]
+
+
+def is_group_unit(frame: Frame) -> bool:
+    """Whether it is a unit for several stations, or for all."""
+    return frame.type != MANAGEMENT and is_group(frame.receiver)

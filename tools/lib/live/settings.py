@@ -1,0 +1,54 @@
+"""What the bridge needs of a configuration, once the program has found no fault in it."""
+import tomllib
+from dataclasses import dataclass
+
+from frames import address_of
+from live.faults import Fault
+
+BASIC = 0x80
+JAPANESE_CHANNEL, JAPANESE_FREQUENCY = 14, 2484
+
+
+@dataclass(frozen=True)
+class Network:
+    """One network: its BSSID, and its rates as the octets of its elements."""
+
+    bssid: bytes
+    rates: bytes
+
+    @property
+    def sending_rate(self) -> int:
+        """The rate of what is sent, in units of 500 kb/s: the lowest basic one, or the lowest where none is basic."""
+        basic = [rate for rate in self.rates if rate & BASIC]
+        return min(rate & ~BASIC for rate in basic or self.rates)
+
+
+@dataclass(frozen=True)
+class Settings:
+    """The channel, the beacon interval in time units, and the networks in order."""
+
+    channel: int
+    interval: int
+    networks: tuple[Network, ...]
+
+    @property
+    def frequency(self) -> int:
+        """The channel's centre in MHz (IEEE Std 802.11-2016, 17.4.6.3 and annex E)."""
+        return JAPANESE_FREQUENCY if self.channel == JAPANESE_CHANNEL else 2407 + 5 * self.channel
+
+    @property
+    def bssids(self) -> tuple[bytes, ...]:
+        """The networks' BSSIDs in order."""
+        return tuple(network.bssid for network in self.networks)
+
+
+def read_settings(path: str) -> Settings:
+    """Reads a configuration in which the program found no fault."""
+    try:
+        with open(path, "rb") as file:
+            text = tomllib.load(file)
+        networks = tuple(Network(address_of(table["bssid"]), bytes.fromhex(table["rates"]))
+                         for table in text["network"])
+        return Settings(text["channel"], text["interval"], networks)
+    except (OSError, ValueError, KeyError, TypeError) as fault:
+        raise Fault(f"{path}: not read as a configuration: {fault}") from None
