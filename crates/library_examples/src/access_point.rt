@@ -4,7 +4,7 @@ ghost use Rattle.std.specs.Prelude.{IfOk};
 ghost use Rattle.workers.specs.Ending.{AreSections, HaveLeft};
 ghost use Rattle.workers.specs.Names.{AreNamed};
 
-use bss_core::{Line, OpenFault, RadioConfig};
+use bss_core::{Line, MAX_NETWORKS, OpenFault, RadioConfig};
 use mac_frame::NoMemory;
 use std::alloc::Global;
 use std::marker::Brand;
@@ -12,7 +12,7 @@ use std::sync::Wait;
 use std::sync::atomic::{AtomicU64, Ordering};
 use std::thread;
 use std::thread::Threads;
-use workers::{Ap, ApName, Caller, FinishFault, Finished, Parts, Transmitter};
+use workers::{Ap, ApName, Caller, FinishFault, Finished, Outcome, Parts, Transmitter};
 
 /// Why an access point came to no end.
 #[derive(Clone, Copy, Debug, PartialEq, Eq)]
@@ -72,22 +72,34 @@ fn run_parts<N: ApName + Send + Sync, R: Threads + Wait + Sync>(
     ensures left { IfOk result (λ end. HaveLeft end.sections end.left) }
 {
     let (ap, mut callers, mut transmitter) = Ap::<N>::start(alloc, parts)?;
-    let mut two = callers.pop().ok_or(OpenFault::Callers)?;
-    let mut one = callers.pop().ok_or(OpenFault::Callers)?;
-    run_threads(rt, &ap, &mut one, first, &mut two, second, &mut transmitter)?;
-    Ok(ap.finish(rt, in_order(alloc, one, two)?, transmitter)?)
+    run_threads(
+        rt,
+        &ap,
+        callers.as_mut_slice(),
+        first,
+        second,
+        &mut transmitter,
+    )?;
+    Ok(ap.finish(rt, callers, transmitter)?)
 }
 
-/// Two callers, in this order. `finish` takes all of them.
-fn in_order(alloc: Global, one: Caller, two: Caller) -> Result<Vec<Caller>, NoMemory> {
-    let mut callers = Vec::new(alloc);
-    callers.push(one)?;
-    callers.push(two)?;
-    Ok(callers)
+/// Two callers give the sources' lines.
+fn run_threads<N: ApName + Send + Sync, R: Threads + Wait + Sync>(
+    rt: &R,
+    ap: &Ap<N>,
+    callers: &mut [Caller],
+    first: &[Line],
+    second: &[Line],
+    transmitter: &mut Transmitter<N>,
+) -> Result<(), RunFault> {
+    let [one, two] = callers else {
+        return Err(RunFault::Open(OpenFault::Callers));
+    };
+    Ok(join_threads(rt, ap, one, first, two, second, transmitter)?)
 }
 
 /// One thread lets frames leave until the sources have ended.
-fn run_threads<N: ApName + Send + Sync, R: Threads + Wait + Sync>(
+fn join_threads<N: ApName + Send + Sync, R: Threads + Wait + Sync>(
     rt: &R,
     ap: &Ap<N>,
     one: &mut Caller,
@@ -143,19 +155,18 @@ fn feed<N: ApName, R: Wait>(
     Ok(())
 }
 
-/// Gives one line. What each network made of it is kept by the caller too, and isn't looked at here.
+/// Gives one line. What each network made of it is answered, and kept by the caller too.
 fn give<N: ApName, R: Wait>(
     rt: &R,
     ap: &Ap<N>,
     caller: &mut Caller,
     line: &Line,
-) -> Result<(), NoMemory> {
+) -> Result<[Outcome; MAX_NETWORKS], NoMemory> {
     match line {
-        Line::Air(frame) => ap.air(rt, caller, frame.as_slice())?,
-        Line::Wire { place, octets } => ap.wire(rt, caller, *place, octets.as_slice())?,
-        Line::Tick => ap.tick(rt, caller)?,
-    };
-    Ok(())
+        Line::Air(frame) => ap.air(rt, caller, frame.as_slice()),
+        Line::Wire { place, octets } => ap.wire(rt, caller, *place, octets.as_slice()),
+        Line::Tick => ap.tick(rt, caller),
+    }
 }
 
 /// Lets frames leave until the sources have ended and the queue is empty. A program gives each to its radio here.

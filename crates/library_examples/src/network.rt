@@ -1,7 +1,8 @@
 //! A network alone.
 
-ghost use Rattle.std.specs.Prelude.{◌≡◌, ◌++◌, [], None, IfOk, OnOk};
+ghost use Rattle.std.specs.Prelude.{◌≡◌, ◌++◌, [], ◌∷◌, None, IfOk, OnOk};
 ghost use Rattle.bss_core.specs.Configuration.{setting_fault, network_fault};
+ghost use Rattle.bss_core.specs.BssView.{network_of};
 ghost use Rattle.bss_core.specs.Section.{section_of};
 ghost use Rattle.library_examples.specs.Settings.{setting};
 
@@ -26,10 +27,22 @@ pub fn take_all(
     let mut network = Bss::new(alloc, channel, interval, config)?;
     let mut sent = Vec::new(alloc);
     for event in events {
-        network.take(event)?;
-        send_waiting(&mut network, &mut sent)?;
+        take_one(&mut network, &mut sent, event)?;
     }
     Ok(network.into_section(List::from_vec(sent))?)
+}
+
+/// The network takes an event, and all that it sends is taken out.
+fn take_one(network: &mut Bss, sent: &mut Vec<Octets>, event: Event) -> Result<(), Refusal>
+    requires waiting { network.old.waiting ≡ [] }
+    requires sent { sent.old.items ≡ (network_of network.old).air }
+    ensures history { OnOk result (network.new.history ≡ network.old.history ++ event ∷ []) }
+    ensures setting { network.new.setting ≡ network.old.setting }
+    ensures waiting { OnOk result (network.new.waiting ≡ []) }
+    ensures sent { OnOk result (sent.new.items ≡ (network_of network.new).air) }
+{
+    network.take(event)?;
+    Ok(send_waiting(network, sent)?)
 }
 
 /// Takes out the frames that wait, the first of them first. A program gives each to its radio here.

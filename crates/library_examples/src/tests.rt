@@ -26,10 +26,16 @@ fn heard(alloc: Global, text: &str) -> Result<Event, FromHexError> {
     Ok(Event::Air(octets(alloc, text)?))
 }
 
+/// Whether a frame is the one that a text spells.
+fn is_frame(alloc: Global, frame: &Octets, text: &str) -> Result<bool, FromHexError> {
+    let octets = octets(alloc, text)?;
+    Ok(frame.as_slice() == octets.as_slice())
+}
+
 /// Whether frames are those that texts spell, in their order.
 fn are_frames(alloc: Global, frames: &[Octets], texts: &[&str]) -> Result<bool, FromHexError> {
     for (frame, text) in frames.iter().zip(texts) {
-        if frame.as_slice() != octets(alloc, *text)?.as_slice() {
+        if !is_frame(alloc, frame, *text)? {
             return Ok(false);
         }
     }
@@ -51,10 +57,9 @@ fn sent_at(
 
 /// The station joins the network `lab`.
 fn joining(alloc: Global) -> Result<Vec<Event>, Fail> {
-    let mut events = Vec::new(alloc);
-    events.push(heard(alloc, lab::AUTHENTICATION_REQUEST)?)?;
-    events.push(heard(alloc, lab::ASSOCIATION_REQUEST)?)?;
-    Ok(events)
+    let first = heard(alloc, lab::AUTHENTICATION_REQUEST)?;
+    let second = heard(alloc, lab::ASSOCIATION_REQUEST)?;
+    Ok(vec![in alloc; first, second]?)
 }
 
 /// What the network makes of it.
@@ -86,10 +91,7 @@ fn serve_second(alloc: Global, radio: &mut Radio) -> Result<Vec<AirItem>, Fail> 
 /// Whether that is its answer alone.
 fn is_answer(alloc: Global, left: &[AirItem]) -> Result<bool, FromHexError> {
     match left {
-        [item] => Ok(
-            item.place == 1
-                && item.octets.as_slice() == octets(alloc, guest::PROBE_RESPONSE)?.as_slice(),
-        ),
+        [item] => Ok(item.place == 1 && is_frame(alloc, &item.octets, guest::PROBE_RESPONSE)?),
         _ => Ok(false),
     }
 }
@@ -106,16 +108,17 @@ fn a_radio_serves_one_network(rt: HostRuntime) -> Result<(), Fail> {
     expect(&rt, serves(rt.alloc()))
 }
 
-/// Both networks take the probe request, and the second's answer leaves.
+/// The network at a place takes the probe request.
+fn ask(alloc: Global, place: usize) -> Result<Step, FromHexError> {
+    let event = heard(alloc, PROBE_REQUEST)?;
+    Ok(Step::Take { place, event })
+}
+
+/// Both networks take it, and the second's answer leaves.
 fn asking(alloc: Global) -> Result<Vec<Step>, Fail> {
-    let mut steps = Vec::new(alloc);
-    for place in 0..2 {
-        let event = heard(alloc, PROBE_REQUEST)?;
-        steps.push(Step::Take { place, event })?;
-    }
-    steps.push(Step::Hand { place: 1 })?;
-    steps.push(Step::Leave)?;
-    Ok(steps)
+    let first = ask(alloc, 0)?;
+    let second = ask(alloc, 1)?;
+    Ok(vec![in alloc; first, second, Step::Hand { place: 1 }, Step::Leave]?)
 }
 
 /// The sections of a radio of two networks then.
@@ -140,9 +143,8 @@ fn a_radio_has_a_section_for_each_network(rt: HostRuntime) -> Result<(), Fail> {
 
 /// A source of one line, which is heard on the air.
 fn source(alloc: Global, text: &str) -> Result<Vec<Line>, Fail> {
-    let mut lines = Vec::new(alloc);
-    lines.push(Line::Air(octets(alloc, text)?))?;
-    Ok(lines)
+    let line = Line::Air(octets(alloc, text)?);
+    Ok(vec![in alloc; line]?)
 }
 
 /// The end of an access point of two networks, with each of which the station authenticates itself by another source.
