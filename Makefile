@@ -1,7 +1,7 @@
 # The targets of this repository. All need the Rattle toolchain's command `rt` on the path, GNU make, bash, coreutils,
 # diffutils, grep and sed; `wrong`, `bench`, `bench-limits`, `stress` and `fuzz` need python3 too.
 
-.PHONY: run try try-check test wrong refused bench bench-limits stress fuzz apctl test-tools picture captures
+.PHONY: run try try-check test wrong refused bench bench-limits stress fuzz apctl test-tools test-live picture captures
 
 # What `run` and `try` give to the program, a configuration and a trace: a file, named from the folder in which make
 # runs.
@@ -21,9 +21,9 @@ try-check:
 	@.ci/try "$(CONFIG)"
 
 # The gate. Proves every crate from nothing, tries each edit of crates/*/must-fail, runs each test, runs the program
-# that was built of what was proved over the examples, with more and more memory and over files and streams that fail,
-# refuses each growth of some calls in turn, and finds edits of wrong/ that can't be applied. The last line is
-# 'N passed, M failed'.
+# that was built of what was proved over the examples, with more and more memory, over files and streams that fail and
+# over lines that it answers as they come, refuses each growth of some calls in turn, and finds edits of wrong/ that
+# can't be applied. The last line is 'N passed, M failed'.
 test:
 	@.ci/gate
 
@@ -32,17 +32,19 @@ test:
 wrong:
 	@JOBS="$(JOBS)" wrong/try $(NAME)
 
-# Refuses each growth of some calls in turn, one in each run: those of which the gate does so, and those of a reader of
-# lines and of whole runs. The last line is 'N passed, M failed'.
+# Refuses each growth of some calls in turn, one in each run: those of which the gate does so, and those of lines that
+# are answered as they come. The last line is 'N passed, M failed'.
 refused: apctl
 	@.ci/refused build/apctl
 
 # Measures the program on long traces: of probes, of stations that join, doze, poll and wake, of units between air and
-# wire, of beacons, and of all these in four networks; then on several traces that are played at once.
+# wire, of beacons, and of all these in four networks; then on several traces that are played at once, and on lines that
+# it answers as they come.
 bench: apctl
 	@bench/measure
 	@bench/stations
 	@bench/playing
+	@bench/living
 
 # Runs the program where its tables are as large as a configuration and a trace allow, and compares each report with
 # that of the model of the rules, bench/model.py; prints the seconds and the peak memory.
@@ -69,6 +71,13 @@ apctl:
 test-tools:
 	@tools/install
 	@tools/test
+
+# Tests tools/live beside the gate: first its parts, then, in a guest, unmodified Linux stations that join the networks
+# of the built program. Takes root and Debian's packages debootstrap, e2fsprogs, qemu-system-x86 and python3. The last
+# line is 'N passed, M failed'.
+test-live: apctl
+	@tools/test live
+	@tools/test-live
 
 # Draws the example of three networks: the picture of README.md.
 picture:
