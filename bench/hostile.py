@@ -161,7 +161,7 @@ def drawn_config(draw):
     shared = draw.choice(("lab", "Caf\u00e9"))
     names = (shared, "x", "y" * 32, "\u4e2d" * 10, 'a"b\\c\n', shared)
     networks = []
-    for number in range(draw.choice((1, 1, 1, 1, 1, 2, 2, 3, 8))):
+    for number in range(draw.choice((1, 1, 1, 1, 1, 2, 2, 3, 8, 16))):
         most = draw.choice((1, 2, 8, 8, 2007))
         rates = draw.sample(range(1, 109), draw.choice((1, 4, 8, 9, 16)))
         basic = draw.sample(range(len(rates)), min(draw.choice((0, 1, 2)), len(rates)))
@@ -169,7 +169,8 @@ def drawn_config(draw):
             bytes([2, 0, 0, 0, draw.choice((0, 1, 2)), number + 1]), draw.choice(names),
             bytes(rate | (0x80 if place in basic else 0) for place, rate in enumerate(rates)),
             draw.choice((1, 1, 2, 3, 255)), most, max(most, draw.choice((2, 4, 10_000, 10_000))),
-            draw.choice((0, 1, 2, 8, 8, 100_000)), draw.choice((1, 10, 30, *[1_000_000] * 9))))
+            draw.choice((0, 1, 2, 8, 8, 100_000)), draw.choice((1, 10, 30, *[1_000_000] * 9)),
+            draw.random() < 0.8, draw.random() < 0.3))
     return RadioConfig(networks, draw.choice((1, 6, 14)), draw.choice((1, 100, 65535)), draw.choice((1, 2, 64, 4096)))
 
 

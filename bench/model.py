@@ -21,6 +21,7 @@ from frames import (ASSOCIATION_REQUEST, AUTHENTICATION, BROADCAST, DEAUTHENTICA
 from reading import FIXED_LEN, MODE, POLL, hears, request_of, unit_from_wire, wired_form  # noqa: E402
 
 MOST_LINES, MOST_OCTETS, MOST_AID = 1_000_000, 4096, 2007
+MOST_NETWORKS_OF_VERSION_1 = 8
 CLASS_TWO = {ASSOCIATION_REQUEST, REASSOCIATION_REQUEST, DISASSOCIATION}
 CLASS_THREE = {POLL, MODE}
 GROUP = None
@@ -42,13 +43,21 @@ class NetworkConfig:
     max_known: int = 16
     quota: int = 8
     max_events: int = 1_000_000
+    relay: bool = True
+    aging: bool = False
 
-    def text(self):
+    def text(self, version):
         """Its table in the configuration's text. `ssid` has no U+007F, which JSON leaves as it is and TOML doesn't."""
         numbers = ("dtim", "max_stations", "max_known", "quota", "max_events")
+        options = ("relay", "aging") if version == 2 else ()
         return "\n".join(["[[network]]", f'bssid = "{address_text(self.bssid)}"',
                           f"ssid = {json.dumps(self.ssid, ensure_ascii=False)}", f'rates = "{self.rates.hex()}"',
-                          *(f"{name} = {getattr(self, name)}" for name in numbers)]) + "\n"
+                          *(f"{name} = {getattr(self, name)}" for name in numbers),
+                          *(f"{name} = {json.dumps(getattr(self, name))}" for name in options)]) + "\n"
+
+    def needs_version_2(self):
+        """Whether version 1 can't say what it is."""
+        return not self.relay or self.aging
 
 
 @dataclass
@@ -61,9 +70,18 @@ class RadioConfig:
     queue: int = 64
 
     def text(self):
-        """The configuration's text."""
-        head = f"version = 1\nchannel = {self.channel}\ninterval = {self.interval}\nqueue = {self.queue}\n"
-        return head + "".join(network.text() for network in self.networks)
+        """The configuration's text, of version 1 where that can say it."""
+        many = len(self.networks) > MOST_NETWORKS_OF_VERSION_1
+        version = 2 if many or any(network.needs_version_2() for network in self.networks) else 1
+        head = f"version = {version}\nchannel = {self.channel}\ninterval = {self.interval}\nqueue = {self.queue}\n"
+        return head + "".join(network.text(version) for network in self.networks)
+
+
+class Kept(NamedTuple):
+    """A unit that is kept, and the clock at which it came."""
+
+    unit: object
+    clock: int
 
 
 @dataclass
@@ -186,7 +204,7 @@ class Network:
 
     def drop(self, whom):
         """Takes out all units that are kept for a station or the group, and answers them in order."""
-        units = self.kept.pop(whom, ())
+        units = [kept.unit for kept in self.kept.pop(whom, ())]
         self.kept_len -= len(units)
         return units
 
@@ -232,7 +250,7 @@ class Network:
             for unit in self.drop(asked.station):
                 self.send_unit(unit, False)
         if asked.unit is not None:
-            to_the_air = self.deliver(asked.unit)
+            to_the_air = self.config.relay and self.deliver(asked.unit)
             if not to_the_air or is_group(asked.unit.destination):
                 self.send_wired(asked.unit)
 
@@ -263,7 +281,7 @@ class Network:
         elif self.kept_len == self.config.quota:
             self.lost += 1
         else:
-            self.kept.setdefault(whom, deque()).append(unit)
+            self.kept.setdefault(whom, deque()).append(Kept(unit, self.clock))
             self.kept_len += 1
         return True
 
@@ -271,7 +289,7 @@ class Network:
         """A station that dozes and names its own identifier gets its oldest unit."""
         units = self.kept.get(asked.station)
         if units and station.doze and asked.aid == station.aid:
-            unit = units.popleft()
+            unit = units.popleft().unit
             self.kept_len -= 1
             if not units:
                 del self.kept[asked.station]
@@ -285,8 +303,21 @@ class Network:
         else:
             self.deliver(unit)
 
+    def age(self):
+        """Each unit is lost that is kept for a station for more beacon intervals than its listen interval."""
+        for whom in [whom for whom in self.kept if whom is not GROUP]:
+            units = self.kept[whom]
+            while units and self.clock - units[0].clock > self.stations[whom].listen:
+                units.popleft()
+                self.kept_len -= 1
+                self.lost += 1
+            if not units:
+                del self.kept[whom]
+
     def tick(self):
         """A beacon, and after a DTIM's the units for the group."""
+        if self.config.aging:
+            self.age()
         self.clock += 1
         period = self.config.dtim
         count = (period - (self.clock - 1) % period) % period

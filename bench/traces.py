@@ -86,6 +86,16 @@ def ticking(_networks, count):
     yield from (TICK for _ in range(count))
 
 
+def aging(networks, count):
+    """So many lines: stations that doze and never poll, and units that come for them in turn; each 100th begins a beacon
+    interval, so that units age where the network is so configured."""
+    [network] = networks
+    yield from joining(networks, SENDERS)
+    yield from (sets_mode(network, station, True) for station in range(SENDERS))
+    for number in range(3 * SENDERS, count):
+        yield TICK if number % 100 == 0 else comes(network, address(network, number % SENDERS))
+
+
 def passing(networks, count):
     """Units while nobody dozes, in turn: from the wire to a station and to all; of a station to the wire, to another
     and to all."""
