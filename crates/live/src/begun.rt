@@ -87,7 +87,7 @@ impl Begun {
         if self.too_long {
             return None;
         }
-        line_of(without_carriage_return(self.octets.as_slice()))
+        ended_line(self.octets.as_slice())
     }
 
     /// The line, where the text ends it. `None` where it is too long.
@@ -99,6 +99,13 @@ impl Begun {
         }
         line_of(self.octets.as_slice())
     }
+}
+
+/// The line that these octets and an LF are: less a CR at its end. `None` where it is too long.
+pub fn ended_line(octets: &[u8]) -> Option<&[u8]>
+    ensures { line_in (option_map (λ octets. octets.now) result) ≡ ended_with (Octets []) octets.now }
+{
+    line_of(without_carriage_return(octets))
 }
 
 /// A line less the CR at its end, if it has one.

@@ -1,16 +1,18 @@
 //! Lines that come in pieces, and their answers.
 
-ghost use Rattle.std.specs.Prelude.{◌≡◌, ◌<◌, ◌≤◌, ◌+◌, ◌^◌, [], None, IfOk, length};
+ghost use Rattle.std.specs.Prelude.{◌≡◌, ◌<◌, ◌≤◌, ◌+◌, ◌^◌, ◌∷◌, [], None, IfOk, length};
 ghost use Rattle.bss_core.specs.Configuration.{fault_of};
 ghost use Rattle.trace.specs.Endings.{failures_of};
 ghost use Rattle.trace.specs.Sinks.{MayFail, write_ending};
+ghost use Rattle.trace.specs.Texts.{LacksLineFeed};
 ghost use Rattle.live.specs.Answering.{AreAnswered};
+ghost use Rattle.live.specs.Feeding.{IsUnended, ended_with};
 ghost use Rattle.live.specs.LiveView.{TakesPiece, TakesEnd};
 ghost use Rattle.live.specs.Moments.{first_moment};
 ghost use Rattle.live.specs.TextLines.{Octets, begun_after, last_line, lines_in};
 ghost use Rattle.live.specs.Writing.{CanWrite, writer};
 
-use crate::begun::Begun;
+use crate::begun::{Begun, ended_line};
 use crate::networks::Networks;
 use crate::writer::end_writing;
 use bss_core::RadioConfig;
@@ -159,12 +161,35 @@ fn answer_lines<W: Sink>(
 {
     let mut rest = piece;
     while let Some(end) = place_of(b'\n', rest) {
-        begun.add(&rest[..end]);
-        networks.answer(begun.ended(), out, failed);
-        begun.begin();
+        answer_ended(networks, begun, &rest[..end], out, failed);
         rest = &rest[end + 1..];
     }
     begun.add(rest);
+}
+
+/// Answers the line that these octets and an LF end; where nothing came of it before them, without a copy.
+fn answer_ended<W: Sink>(
+    networks: &mut Networks,
+    begun: &mut Begun,
+    octets: &[u8],
+    out: &mut Buffered<'_, W>,
+    failed: &mut bool,
+)
+    requires lacks { LacksLineFeed octets.now }
+    requires countable { networks.old.lines < 2 ^ 62 }
+    requires can_write { CanWrite W.failed (writer out.old failed.old) }
+    ensures answered { AreAnswered W.taken W.failed networks.old networks.new (writer out.old failed.old)
+        (writer out.new failed.new) (ended_with begun.old octets.now ∷ []) }
+    ensures unended { IsUnended begun.old }
+    ensures begun { begun.new ≡ Octets [] }
+{
+    if begun.is_empty() {
+        networks.answer(ended_line(octets), out, failed);
+        return;
+    }
+    begun.add(octets);
+    networks.answer(begun.ended(), out, failed);
+    begun.begin();
 }
 
 /// Answers the last line, if one has begun.

@@ -1,48 +1,44 @@
-use Rattle.std.proofs.Common.{◌≡◌, ◌∙◌, ℕ, List, [], ◌+◌, ◌<◌, Some, take, drop, length, length-take, length-drop, ap, sym, subst, arith}
+use Rattle.std.proofs.Common.{◌≡◌, ℕ, List, ◌+◌, ◌<◌, Some, drop, length, length-take, length-drop, refl, sym, subst, arith}
 use Rattle.std.proofs.lemmas.List.Quantifiers.{position-Some}
 use Rattle.std.proofs.lemmas.List.{take_rest}
 use Rattle.std.specs.List.{position}
 use Rattle.trace.specs.Texts.{is_line_feed}
 use Rattle.trace.proofs.TextLemmas.{lacks_from_none}
-use Rattle.live.specs.Feeding.{ended_with}
 use Rattle.live.specs.TextLines.{TextLine}
 use Rattle.live.specs.Writing.{writer}
-use Rattle.live.proofs.FeedSteps.{FeedSoFar, ended-after, line-lacks, feed-none, feed-more, feed-all}
+use Rattle.live.proofs.FeedSteps.{FeedSoFar, line-lacks, feed-none, feed-more, feed-all}
 use Rattle.live.proofs.engine.answer_lines.Goals as goal
 
 pub loop-end-init : goal.loop-end-init
 loop-end-init g c = feed-none _ _ c.args.networks.now _ c.args.begun.now c.args.piece.now c.requires.can_write
 
-pub add-requires : goal.add-requires
-add-requires g c = line-lacks c.loop-end.rest.now c.in-Some.end (sym c.in-Some.ensures)
+pub answer_ended-requires-clause-lacks : goal.answer_ended-requires-clause-lacks
+answer_ended-requires-clause-lacks g c = line-lacks c.loop-end.rest.now c.in-Some.end (sym c.in-Some.ensures)
 
 pub loop-end-preserved : goal.loop-end-preserved
 loop-end-preserved g c =
     let rest : List ℕ = c.loop-end.rest.now in
     let found : position is_line_feed rest ≡ Some c.in-Some.end = sym c.in-Some.ensures in
-    let lacks = line-lacks rest c.in-Some.end found in
     rw take_rest
     (subst
     (λ (b : TextLine).
-    FeedSoFar g.W.Sink.taken g.W.Sink.failed c.args.networks.now c.answer.new.self (writer c.args.out.now c.args.failed.now)
-    (writer c.answer.new.out c.answer.new.failed)
+    FeedSoFar g.W.Sink.taken g.W.Sink.failed c.args.networks.now c.answer_ended.new.networks (writer c.args.out.now c.args.failed.now)
+    (writer c.answer_ended.new.out c.answer_ended.new.failed)
     c.args.begun.now b c.args.piece.now (drop (c.in-Some.end + 1) rest))
-    (sym c.begin.ensures)
-    (feed-more _ _ c.args.networks.now c.loop-end.networks c.answer.new.self _ _ _ c.args.begun.now c.loop-end.begun _
-    c.args.piece.now rest c.in-Some.end c.loop-end.invariant c.add.ensures.unended found
-    (c.ended.ensures ∙ ap (λ (b : TextLine). ended_with b []) c.add.ensures.after
-    ∙ ended-after c.loop-end.begun (take c.in-Some.end rest) c.add.ensures.unended lacks)
-    c.answer.ensures))
+    (sym c.answer_ended.ensures.begun)
+    (feed-more _ _ c.args.networks.now c.loop-end.networks c.answer_ended.new.networks _ _ _ c.args.begun.now c.loop-end.begun _
+    c.args.piece.now rest c.in-Some.end c.loop-end.invariant c.answer_ended.ensures.unended found refl
+    c.answer_ended.ensures.answered))
 
-pub add-requires-2 : goal.add-requires-2
-add-requires-2 g c = lacks_from_none c.loop-end.rest.now (sym c.in_default.ensures)
+pub add-requires : goal.add-requires
+add-requires g c = lacks_from_none c.loop-end.rest.now (sym c.in_default.ensures)
 
 pub returns-clause-answered : goal.returns-clause-answered
 returns-clause-answered g c =
     feed-all _ _ c.args.networks.now c.loop-end.networks _ _ c.args.begun.now c.loop-end.begun c.args.piece.now
     c.loop-end.rest.now
     c.loop-end.invariant
-    c.add-2.ensures.unended
+    c.add.ensures.unended
     (lacks_from_none c.loop-end.rest.now (sym c.in_default.ensures))
 
 pub returns-clause-lines : goal.returns-clause-lines
