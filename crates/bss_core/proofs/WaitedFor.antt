@@ -237,6 +237,27 @@ roster-renumbered_not (Ok value) numbers r change s not_renumbered allowed h is 
 })
 roster-renumbered_not (Err fault) numbers r change s not_renumbered allowed h is refused = rw refused (record { limit = h.limit; sound = h.sound; traffic = h.traffic })
 
+-- one that no units are kept for isn't waited for, whatever its identifier becomes
+waited-unkept : (change : Change) (addr : List ℕ) (t : Table) (kept : List Entry) (n : ℕ) → renumbered change ≡ Some addr → AreApart t → has_unit addr kept ≡ false
+    → is_waited_for (changed change t) kept n ≡ is_waited_for t kept n
+waited-unkept change addr t kept n is apart none =
+    waited-parted addr (changed change t) kept n
+    ∙ ap (λ b. (b && is_number (aid_of addr (changed change t)) n) || is_waited_for (forget addr (changed change t)) kept n) none
+    ∙ ap (λ (u : Table). is_waited_for u kept n) (forgotten-changed change addr t is apart)
+    ∙ ap (λ b. (b && is_number (aid_of addr t) n) || is_waited_for (forget addr t) kept n) (sym none)
+    ∙ sym (waited-parted addr t kept n)
+
+pub roster-unkept : {A E : Type 0} (result : Result A E) (numbers : Numbers) (r : RosterState) (change : Change) (addr : List ℕ) (s : StationTable) → renumbered change ≡ Some addr → IsAllowed r.stations.most change r.stations.table → IsRoster numbers r
+    → false ≡ nat_lt 0 (length (units_for (One addr) r.kept.entries)) → OnOk result (s ≡ with_table r.stations (changed change r.stations.table)) → OnErr result (s ≡ r.stations)
+    → IsRoster numbers (record { stations = s; kept = r.kept })
+roster-unkept (Ok value) numbers r change addr s renumbers allowed h none is refused = rw is (record {
+  limit = h.limit;
+  sound = changed-sound r.stations.most change r.stations.table h.limit allowed h.sound;
+  traffic =
+      λ n aid. h.traffic n aid ∙ sym (waited-unkept change addr r.stations.table r.kept.entries n renumbers h.sound.addresses (some-for (One addr) r.kept.entries ∙ sym none));
+})
+roster-unkept (Err fault) numbers r change addr s renumbers allowed h none is refused = rw refused (record { limit = h.limit; sound = h.sound; traffic = h.traffic })
+
 pub roster-renumbered : (numbers new : Numbers) (r : RosterState) (change : Change) (addr : List ℕ) (s : StationTable) (before after : Option ℕ) (waits : Bool) → renumbered change ≡ Some addr → IsAllowed r.stations.most change r.stations.table → IsRoster numbers r
     → s ≡ with_table r.stations (changed change r.stations.table) → before ≡ aid_of addr r.stations.table → after ≡ aid_of addr s.table → waits ≡ nat_lt 0 (length (units_for (One addr) r.kept.entries))
     → AreShown before after waits numbers new → IsRoster new (record { stations = s; kept = r.kept })

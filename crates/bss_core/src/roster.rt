@@ -89,10 +89,14 @@ impl Roster {
         let Some(addr) = renumbered(&change) else {
             return self.stations.change(change);
         };
+        let waits = self.kept.count_for(Whom::One(addr)) > 0;
+        if !waits {
+            // nothing is kept for it, so no bit is its own
+            return self.stations.change(change);
+        }
         let before = self.stations.aid_of(addr);
         self.stations.change(change)?;
         let after = self.stations.aid_of(addr);
-        let waits = self.kept.count_for(Whom::One(addr)) > 0;
         show(&mut self.traffic, before, after, waits);
         Ok(())
     }
