@@ -24,3 +24,8 @@ abbrev pub EndsInput : Result Unit Fault → Option (List ℕ) → Option (List 
 EndsInput (Err (File name)) left old new = IsOfFile (codes "-") (File name) × Keeps old new
 EndsInput (Err Words) left old new = ⊥
 EndsInput end left old new = EndsOn end left old new
+
+-- how a run ended, whatever it hands out
+abbrev pub outcome_of : {A : Type 0} → Result A Fault → Result Unit Fault
+outcome_of (Ok made) = Ok tt
+outcome_of (Err fault) = Err fault

@@ -6,10 +6,11 @@ ghost use Rattle.std.specs.Prelude.{◌≡◌, ◌+◌, IfOk, IfErr, IfSome};
 ghost use Rattle.trace.specs.Endings.{failures_of};
 ghost use Rattle.trace.specs.Sinks.{MayFail};
 ghost use Rattle.apctl.specs.Faults.{IsOfFile, run_ending};
-ghost use Rattle.apctl.specs.Input.{EndsInput};
+ghost use Rattle.apctl.specs.Input.{EndsInput, outcome_of};
 
 use crate::fault::Fault;
-use replay::{run_text, split_joined};
+use bss_core::Section;
+use replay::{report_texts, split_joined};
 use std::alloc::Global;
 use std::io::{ErrorKind, Read};
 use trace::Sink;
@@ -18,19 +19,23 @@ use trace::Sink;
 pub const STANDARD_INPUT: &str = "-";
 
 /// Reads a configuration and a trace in one text, to the end of the reader, and appends the report of them to what
-/// `out` has taken, as [`run_text`] does of the two parts of the text.
+/// `out` has taken, as [`replay::run_text`] does of the two parts of the text. It hands out the sections that it reported,
+/// so that the program, which ends then, need not give back their memory.
 ///
 /// `File` comes where the reader failed, and names standard input; nothing is written then. `Memory` comes where a
 /// growth was refused: nothing is written then, or a prefix of the report. `Words` never comes.
-pub fn run_input<R: Read, W: Sink>(alloc: Global, reader: &mut R, out: &mut W) -> Result<(), Fault>
+pub fn run_input<R: Read, W: Sink>(
+    alloc: Global,
+    reader: &mut R,
+    out: &mut W,
+) -> Result<Vec<Section>, Fault>
     requires { MayFail (W.failed out.old) }
-    ensures ends { EndsInput result (R.remaining reader.old) (W.taken out.old) (W.taken out.new) }
+    ensures ends { EndsInput (outcome_of result) (R.remaining reader.old) (W.taken out.old) (W.taken out.new) }
     ensures failures { W.failed out.new ≡ W.failed out.old + failures_of run_ending result }
 {
     let input = read_all(alloc, reader, STANDARD_INPUT)?;
     let (config, trace) = split_joined(input.as_slice());
-    run_text(alloc, config, trace, out)?;
-    Ok(())
+    Ok(report_texts(alloc, config, trace, out)?)
 }
 
 /// All that a reader gives. An interrupted read is tried again. `File` with this name where the reader failed, and

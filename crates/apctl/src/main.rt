@@ -14,6 +14,7 @@ mod files;
 mod input;
 mod words;
 
+use bss_core::Section;
 use fault::{Fault, show_fault};
 use files::{open_file, read_file, read_traces};
 use input::{STANDARD_INPUT, run_input};
@@ -59,7 +60,10 @@ fn run<T: Threads + Wait + Sync>(rt: &HostRuntime, threads: &T) -> Result<(), Fa
     let words = given_words(rt)?;
     let mut out = Counted::new(rt.stdout());
     match task_of(alloc, words.as_slice())? {
-        Task::Joined => run_input(alloc, &mut rt.stdin(), &mut out),
+        Task::Joined => {
+            end_with(run_input(alloc, &mut rt.stdin(), &mut out)?);
+            Ok(())
+        }
         Task::Check { config } => {
             let config = read_file(rt, config)?;
             Ok(check_text(alloc, config.as_slice(), &mut out)?)
@@ -81,8 +85,7 @@ fn run<T: Threads + Wait + Sync>(rt: &HostRuntime, threads: &T) -> Result<(), Fa
             let sections = report_stream(alloc, config.as_slice(), &mut source, &mut out).map_err(
                 |fault| Fault::of_stream(alloc, fault, trace),
             )?;
-            // The process ends now, and its memory goes back as a whole.
-            mem::forget(sections);
+            end_with(sections);
             Ok(())
         }
         Task::Live { config } => {
@@ -93,6 +96,11 @@ fn run<T: Threads + Wait + Sync>(rt: &HostRuntime, threads: &T) -> Result<(), Fa
             )
         }
     }
+}
+
+/// Ends with what was reported: the process ends now, and its memory goes back as a whole.
+fn end_with(sections: Vec<Section>) {
+    mem::forget(sections);
 }
 
 /// The words that the program was given, its own name first.

@@ -29,4 +29,4 @@ pub use joined::split_joined;
 pub use line_by_line::Replay;
 pub use playing::play_text;
 pub use stream::{report_stream, run_stream};
-pub use text::run_text;
+pub use text::{report_texts, run_text};

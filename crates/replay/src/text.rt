@@ -1,11 +1,14 @@
 //! The two texts, and the report of them.
 
-ghost use Rattle.std.specs.Prelude.{◌≡◌, ◌+◌, None, IfOk};
+ghost use Rattle.std.specs.Prelude.{◌≡◌, ◌+◌, None, Ok, IfOk};
 ghost use Rattle.bss_core.specs.Configuration.{fault_of};
 ghost use Rattle.bss_core.specs.Lines.{sections_of_lines};
+ghost use Rattle.bss_core.specs.declared.config.RadioConfig.{RadioConfig};
+ghost use Rattle.trace.specs.ConfigurationText.{configuration_of};
 ghost use Rattle.trace.specs.Endings.{Ends, failures_of};
 ghost use Rattle.trace.specs.Sinks.{MayFail};
 ghost use Rattle.replay.specs.Answer.{answer_of, text_ending};
+ghost use Rattle.replay.specs.Stream.{AreSectionsOf};
 
 use crate::fault::TextFault;
 use crate::line_by_line::Replay;
@@ -31,11 +34,29 @@ pub fn run_text<W: Sink>(
     ensures ends { Ends text_ending result (answer_of config.now trace.now) (W.taken out.old) (W.taken out.new) }
     ensures failures { W.failed out.new ≡ W.failed out.old + failures_of text_ending result }
 {
+    report_texts(alloc, config, trace, out)?;
+    Ok(())
+}
+
+/// Does what [`run_text`] does, and hands out the sections that it reported, so that a program that ends then need not
+/// give back their memory, one event after another.
+pub fn report_texts<W: Sink>(
+    alloc: Global,
+    config: &[u8],
+    trace: &[u8],
+    out: &mut W,
+) -> Result<Vec<Section>, TextFault>
+    requires { MayFail (W.failed out.old) }
+    ensures ends { Ends text_ending result (answer_of config.now trace.now) (W.taken out.old) (W.taken out.new) }
+    ensures sections { IfOk result (λ sections. (c : RadioConfig) × (configuration_of config.now ≡ Ok c)
+        × AreSectionsOf c trace.now sections.items) }
+    ensures failures { W.failed out.new ≡ W.failed out.old + failures_of text_ending result }
+{
     let config = read_config(alloc, config)?;
     let lines = read_trace(alloc, &config, trace)?;
     let sections = replay_lines(alloc, config, lines)?;
     write_report(alloc, sections.as_slice(), out)?;
-    Ok(())
+    Ok(sections)
 }
 
 /// The section of each network, in order of place: each takes what it hears of the lines.

@@ -3,7 +3,7 @@ use Rattle.std.proofs.lemmas.Result.{err_from_is_err_and}
 use Rattle.bss_core.specs.Lines.{sections_of_lines}
 use Rattle.trace.proofs.EndingLemmas.{nothing_written, whole_written}
 use Rattle.replay.proofs.AnswerLemmas.{config_ends, trace_ends, answer_of-sections, report_ends}
-use Rattle.replay.proofs.text.run_text.Goals as goal
+use Rattle.replay.proofs.text.report_texts.Goals as goal
 
 pub returns-in_err-config-clause-ends : goal.returns-in_err-config-clause-ends
 returns-in_err-config-clause-ends g c =
