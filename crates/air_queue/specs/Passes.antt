@@ -1,5 +1,5 @@
 -- What contracts see of the air queue and of the passes to it (profile).
-use Rattle.std.specs.Prelude.{ℕ, ◌≡◌, refl, List, [], ◌++◌, map}
+use Rattle.std.specs.Prelude.{ℕ, ◌≡◌, refl, List, [], map}
 use Rattle.std.specs.List.{AllByRecursion, range_with_len}
 use Rattle.std.specs.Ordering.{nat_cmp}
 use Rattle.std.specs.FinMap as finite

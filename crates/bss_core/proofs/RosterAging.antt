@@ -1,7 +1,7 @@
 -- Units that are too old, one station after the other.
-use Rattle.std.proofs.Common.{◌≡◌, ◌≢◌, ℕ, zero, suc, ◌+◌, ◌-◌, ◌<◌, ◌≤◌, leb, Bool, true, false, not, ◌&&◌, ◌||◌, cond, List, [], ◌∷◌, length, Option, Some, None, refl, sym, ap, subst, ◌∙◌, arith}
+use Rattle.std.proofs.Common.{◌≡◌, ℕ, zero, suc, ◌+◌, ◌-◌, ◌<◌, ◌≤◌, leb, Bool, true, false, not, ◌&&◌, ◌||◌, cond, List, [], ◌∷◌, length, Option, Some, None, refl, sym, ap, subst, ◌∙◌, arith}
 use Rattle.std.specs.Prelude.{filter, map, nat_lt}
-use Rattle.std.specs.List.{AllByRecursion, list_any, slice_get}
+use Rattle.std.specs.List.{AllByRecursion, slice_get}
 use Rattle.std.proofs.lemmas.Bool.{lt-ltb, le-ltb, ltb-true, ltb-false, le-leb, lt-leb, true≢false}
 use Rattle.std.proofs.lemmas.List.{length-map}
 use Rattle.powersave.specs.Keep.{Entry, is_for, is_same, is_older, is_after, units_for, without_older, CameInOrder, IsNext, NoneComesAfter}
@@ -12,8 +12,7 @@ use Rattle.powersave.proofs.Parts.{same_whom, not_for_other}
 use Rattle.powersave.proofs.Turns.{after-itself}
 use Rattle.bss_core.specs.Roster.{limit_for, stays, StayBeside}
 use Rattle.bss_core.specs.Stations.{Table, link_of, listen_with}
-use Rattle.bss_core.specs.Units.{is_too_old_for, is_too_old, has_aid, has_unit, is_waited_for}
-use Rattle.bss_core.proofs.UnitsKept.{length-filtered}
+use Rattle.bss_core.specs.Units.{is_too_old_for, is_too_old, has_aid, is_waited_for}
 
 -- ---- too old is older than a clock
 

@@ -6,7 +6,7 @@ use Rattle.mac_frame.specs.Address.{is_group}
 use Rattle.bridge.specs.Ethernet.{ethernet_of}
 use Rattle.bridge.specs.Encapsulation.{on_wire}
 use Rattle.powersave.specs.declared.unit.Unit.{Unit as DataUnit}
-use Rattle.association.specs.Request.{Request, Probe, Auth, Assoc, Disassoc, Deauth, Msdu, Null, Poll, sender}
+use Rattle.association.specs.Request.{Request, Msdu, sender}
 use Rattle.association.specs.Request.{request_of}
 use Rattle.association.specs.Asked.{class_of}
 use Rattle.association.specs.Leaving.{notice_frame}

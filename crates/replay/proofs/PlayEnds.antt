@@ -1,9 +1,7 @@
 -- What a play of several traces leaves, by how it ended.
-use Rattle.std.proofs.Common.{◌≡◌, ◌↔◌, ℕ, suc, ◌+◌, ◌++◌, ◌∷◌, [], Bool, true, false, List, Option, Some, None, Result, Ok, Err, length, map, refl, sym, ap, subst, ◌∙◌}
+use Rattle.std.proofs.Common.{◌≡◌, ℕ, suc, ◌++◌, ◌∷◌, [], true, false, List, Option, Ok, Err, length, refl, ap, ◌∙◌}
 use Rattle.std.proofs.KnownBytes.{Keeps-refl}
 use Rattle.std.specs.Io.KnownBytes.{Appends}
-use Rattle.std.specs.List.{AllZip}
-use Rattle.bss_core.specs.Configuration.{fault_of}
 use Rattle.bss_core.specs.declared.config.RadioConfig.{RadioConfig}
 use Rattle.bss_core.specs.declared.config.ConfigFault.{ConfigFault}
 use Rattle.bss_core.specs.declared.line.Line.{Line}
@@ -22,7 +20,7 @@ use Rattle.workers.specs.Names.{callers_fit}
 use Rattle.workers.specs.declared.finish.Finished.{Finished}
 use Rattle.workers.specs.declared.playing.PlayFault.{PlayFault}
 use Rattle.workers.specs.declared.playing.PlayFault.TheVariants as plays
-use Rattle.replay.specs.Playing.{AreLines, IsFirstFault, IsTracesFault, IsPlayOf, ArePlayable, EndsPlay, in_trace}
+use Rattle.replay.specs.Playing.{AreLines, IsTracesFault, IsPlayOf, ArePlayable, EndsPlay, in_trace}
 use Rattle.replay.specs.Playing.{of_config, of_play, of_report}
 use Rattle.replay.specs.declared.fault.PlayTextFault.{PlayTextFault}
 use Rattle.replay.specs.declared.fault.PlayTextFault.TheVariants.{Config, Sources, Trace, NoThread, NoMemory}

@@ -1,10 +1,9 @@
 -- What is answered to the octets of a configuration and of several traces that are played at once.
-use Rattle.std.specs.Prelude.{ℕ, ◌≡◌, ◌++◌, ◌∷◌, Bool, true, false, List, Option, Result, Ok, Err, length}
+use Rattle.std.specs.Prelude.{ℕ, ◌≡◌, ◌++◌, ◌∷◌, true, false, List, Option, Result, Ok, Err, length}
 use Rattle.std.specs.List.{AllZip}
 use Rattle.bss_core.specs.declared.config.RadioConfig.{RadioConfig}
 use Rattle.bss_core.specs.declared.config.ConfigFault.{ConfigFault}
 use Rattle.bss_core.specs.declared.line.Line.{Line}
-use Rattle.bss_core.specs.declared.section.Section.{Section}
 use Rattle.trace.specs.ConfigurationText.{configuration_of}
 use Rattle.trace.specs.Endings.{Ending, Refused, WriteFailed, OutOfMemory, Ends}
 use Rattle.trace.specs.Report.{report_text}

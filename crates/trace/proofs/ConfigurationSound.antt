@@ -1,5 +1,5 @@
 -- A configuration that was read has no fault.
-use Rattle.std.proofs.Common.{◌≡◌, ℕ, ◌==◌, Bool, true, false, not, ◌&&◌, ◌||◌, if◌then◌else◌, nat_le, length, List, []}
+use Rattle.std.proofs.Common.{◌≡◌, ℕ, Bool, true, false, not, ◌&&◌, ◌||◌, if◌then◌else◌, nat_le, length, List, []}
 use Rattle.std.proofs.Common.{◌∷◌, ◌++◌, Option, Some, None, IfSome, option_and_then, Result, Ok, Err, IfOk, codes}
 use Rattle.std.proofs.Common.{refl, arith, ◌≤◌}
 use Rattle.std.specs.Option.{ok_or}

@@ -1,5 +1,5 @@
 use Rattle.std.proofs.Common.{◌≡◌, suc, ◌+◌, ◌++◌, ◌∷◌, [], ℕ, List, length, map, take, drop, sym, ap, subst, ◌∙◌}
-use Rattle.std.proofs.lemmas.List.{take_more, take_all, length-map, map-append}
+use Rattle.std.proofs.lemmas.List.{take_more, length-map, map-append}
 use Rattle.std.proofs.Math.Seq.{split_at}
 use Rattle.bss_core.specs.declared.line.Line.{Line}
 use Rattle.replay.specs.Playing.{AreLines}

@@ -1,4 +1,4 @@
-use Rattle.std.proofs.Common.{◌≡◌, ◌∙◌, ◌+◌, ℕ, not, List, length, Some, sym, ap, subst, arith}
+use Rattle.std.proofs.Common.{◌≡◌, ◌∙◌, ℕ, not, List, length, Some, sym, ap, subst, arith}
 use Rattle.std.specs.Prelude.{filter}
 use Rattle.powersave.specs.Keep.{Entry, is_older, without_older}
 use Rattle.bss_core.specs.Roster.{RosterState, limit_for}

@@ -1,7 +1,6 @@
-use Rattle.std.proofs.Common.{◌∙◌, List, length, sym, ap}
+use Rattle.std.proofs.Common.{◌∙◌, List, length, ap}
 use Rattle.std.specs.Prelude.{nat_lt}
 use Rattle.powersave.specs.Keep.{Entry, Kept, units_for, without_older}
-use Rattle.bss_core.specs.Roster.{limit_for}
 use Rattle.bss_core.proofs.roster.Roster.age_for.Goals as goal
 
 pub invariant_of-self : goal.invariant_of-self

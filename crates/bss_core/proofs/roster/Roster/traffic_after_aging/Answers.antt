@@ -1,4 +1,4 @@
-use Rattle.std.proofs.Common.{◌≡◌, ◌∙◌, ℕ, List, length, Some, None, sym, ap, nat_cmp}
+use Rattle.std.proofs.Common.{◌∙◌, List, length, Some, sym, ap, nat_cmp}
 use Rattle.std.specs.Prelude.{nat_lt}
 use Rattle.std.specs.FinSet as set
 use Rattle.std.specs.FinSet.{contains-empty}

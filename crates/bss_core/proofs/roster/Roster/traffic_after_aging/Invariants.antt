@@ -1,4 +1,3 @@
-use Rattle.std.proofs.Common.{◌≡◌}
 use Rattle.bss_core.specs.Roster.{AreWaitedFor}
 use Rattle.bss_core.proofs.RosterAging.{staying, later_count}
 use Rattle.bss_core.proofs.roster.Roster.traffic_after_aging.Given as goal
