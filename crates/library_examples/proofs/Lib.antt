@@ -1,2 +1,2 @@
-pub mod Sections
+pub mod NetworkSection
 pub mod Turns

@@ -1,7 +1,7 @@
 -- One network's turn leaves the others as they were.
-use Rattle.std.proofs.Common.{◌≡◌, ◌≢◌, ℕ, List, [], ◌∷◌, refl, ap, ◌∙◌}
+use Rattle.std.proofs.Common.{◌≡◌, ℕ, List, [], ◌∷◌, refl, ap, ◌∙◌}
 use Rattle.std.proofs.lemmas.List.{get_or-set_other}
-use Rattle.bss_core.specs.RadioView.{RadioView, NetworkView, unused, view_at, took, moved, after_hand}
+use Rattle.bss_core.specs.RadioView.{RadioView, unused, view_at, took, moved, after_hand}
 use Rattle.bss_core.specs.declared.event.Event.{Event}
 use Rattle.bss_core.specs.declared.radio.step.Handed.{Handed}
 use Rattle.bss_core.specs.declared.radio.step.Handed.TheVariants.{Moved, Nothing, QueueFull}

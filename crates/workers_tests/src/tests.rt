@@ -13,6 +13,7 @@ use workers::{Ap, ApName, Outcome};
 
 mod answers;
 mod ending;
+mod library;
 mod most;
 mod opening;
 mod overlap;

@@ -1,4 +1,4 @@
-use Rattle.std.proofs.Common.{◌≡◌, IfOk, subst}
+use Rattle.std.proofs.Common.{IfOk, subst}
 use Rattle.bss_core.specs.declared.config.RadioConfig.{RadioConfig}
 use Rattle.workers.specs.Ending.{AreSections}
 use Rattle.library_examples.proofs.access_point.run_two.Goals as goal

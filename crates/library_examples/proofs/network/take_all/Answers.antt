@@ -1,5 +1,4 @@
-use Rattle.std.proofs.Common.{◌≡◌, ◌++◌, [], ℕ, List, length, refl, sym, ap, ◌∙◌, arith, append-nil}
-use Rattle.std.proofs.lemmas.Grind.{common_steps}
+use Rattle.std.proofs.Common.{◌≡◌, ◌++◌, [], ℕ, List, refl, sym, ap, ◌∙◌, arith, append-nil}
 use Rattle.std.specs.Vec.Iter.{into_iter_items}
 use Rattle.bss_core.specs.BssView.{BssView, network_of}
 use Rattle.bss_core.specs.Network.{Network}
@@ -7,7 +6,7 @@ use Rattle.bss_core.specs.Running.{section_with}
 use Rattle.bss_core.specs.declared.event.Event.{Event}
 use Rattle.bss_core.specs.declared.setting.Setting.{Setting}
 use Rattle.library_examples.specs.Settings.{setting}
-use Rattle.library_examples.proofs.Sections.{section_by, no_items}
+use Rattle.library_examples.proofs.NetworkSection.{section_by, no_items}
 use Rattle.library_examples.proofs.network.take_all.Goals as goal
 
 pub loop-event-init : goal.loop-event-init

@@ -1,25 +1,17 @@
-//! Each program on frames from outside: calls succeed where there is memory, and the octets are those of the standard.
+//! The programs of `docs/LIBRARY.md` on frames from outside: calls succeed where there is memory, and the octets are those
+//! of the standard.
 
-use crate::access_point::run_two;
-use crate::network::take_all;
-use crate::radio::{sections, serve};
+use super::expect;
 use bss_core::{AirItem, Event, Line, Radio, Section, Step};
 use fixtures::{PROBE_REQUEST, guest, lab, lab_and_guest, octets};
 use hex::FromHexError;
+use library_examples::{run_two, sections, serve, take_all};
 use mac_frame::{List, Octets};
 use std::alloc::Global;
-use std::process::Abort;
 use std::sync::Wait;
 use std::test::Fail;
 use std::thread::Threads;
 use workers::Finished;
-
-/// Fails the test where this is not so.
-fn expect<R: Abort>(rt: &R, found: Result<bool, Fail>) -> Result<(), Fail> {
-    let found = found?;
-    assert!(rt; found);
-    Ok(())
-}
 
 /// What is heard where a text spells it.
 fn heard(alloc: Global, text: &str) -> Result<Event, FromHexError> {
@@ -77,7 +69,7 @@ fn answers_both(alloc: Global) -> Result<bool, Fail> {
 
 #[test]
 fn a_network_answers_alone(rt: HostRuntime) -> Result<(), Fail> {
-    expect(&rt, answers_both(rt.alloc()))
+    expect(&rt, answers_both(rt.alloc()), true)
 }
 
 /// What leaves of the second network of a radio that takes the probe request.
@@ -105,7 +97,7 @@ fn serves(alloc: Global) -> Result<bool, Fail> {
 
 #[test]
 fn a_radio_serves_one_network(rt: HostRuntime) -> Result<(), Fail> {
-    expect(&rt, serves(rt.alloc()))
+    expect(&rt, serves(rt.alloc()), true)
 }
 
 /// The network at a place takes the probe request.
@@ -138,7 +130,7 @@ fn answer_each(alloc: Global) -> Result<bool, Fail> {
 
 #[test]
 fn a_radio_has_a_section_for_each_network(rt: HostRuntime) -> Result<(), Fail> {
-    expect(&rt, answer_each(rt.alloc()))
+    expect(&rt, answer_each(rt.alloc()), true)
 }
 
 /// A source of one line, which is heard on the air.
@@ -167,5 +159,5 @@ fn both_answer<R: Threads + Wait + Sync>(rt: &R, alloc: Global) -> Result<bool, 
 
 #[test]
 fn an_access_point_has_two_sources(rt: HostRuntime) -> Result<(), Fail> {
-    expect(&rt, both_answer(&rt, rt.alloc()))
+    expect(&rt, both_answer(&rt, rt.alloc()), true)
 }

@@ -5,7 +5,6 @@ use Rattle.bss_core.specs.declared.setting.Setting.{Setting}
 use Rattle.bss_core.specs.Running.{section_with}
 use Rattle.bss_core.specs.Section.{section_of}
 use Rattle.bss_core.specs.declared.event.Event.{Event}
-use Rattle.bss_core.specs.declared.section.Section.{Section}
 
 pub section_by : (b : BssView) (s : Setting) (es : List Event) (sent : List (List ℕ)) → b.setting ≡ s
     → b.history ≡ es → sent ≡ (network_of b).air → section_with sent b ≡ section_of s es
