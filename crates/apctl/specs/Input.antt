@@ -2,9 +2,13 @@
 use Rattle.std.specs.Prelude.{ℕ, ◌≡◌, List, Option, Result, Ok, Err, IfSome, codes}
 use Rattle.std.specs.Io.KnownBytes.{Keeps}
 use Rattle.std.specs.Result.{result_map_both}
+use Rattle.bss_core.specs.declared.config.RadioConfig.{RadioConfig}
+use Rattle.bss_core.specs.declared.section.Section.{Section}
+use Rattle.trace.specs.ConfigurationText.{configuration_of}
 use Rattle.trace.specs.Endings.{Ends}
 use Rattle.replay.specs.Answer.{answer_of}
 use Rattle.replay.specs.Joined.{joined_parts}
+use Rattle.replay.specs.Stream.{AreSectionsOf}
 use Rattle.apctl.specs.Faults.{IsOfFile, of_texts, run_ending}
 use Rattle.apctl.specs.declared.fault.Fault.{Fault}
 use Rattle.apctl.specs.declared.fault.Fault.TheVariants.{Words, File}
@@ -24,6 +28,15 @@ abbrev pub EndsInput : Result Unit Fault → Option (List ℕ) → Option (List 
 EndsInput (Err (File name)) left old new = IsOfFile (codes "-") (File name) × Keeps old new
 EndsInput (Err Words) left old new = ⊥
 EndsInput end left old new = EndsOn end left old new
+
+-- they are the sections of a configuration's text and a trace's
+abbrev pub AreOfParts : List Section → List ℕ × List ℕ → Type 0
+AreOfParts sections parts = (c : RadioConfig) × (configuration_of parts.0 ≡ Ok c) × AreSectionsOf c parts.1 sections
+
+-- The sections that a run hands out are those of the text that the reader gave, all that it had left where that is known.
+abbrev pub AreOfInput : List Section → Option (List ℕ) → Type 0
+AreOfInput sections left =
+    (input : List ℕ) × IfSome left (λ octets. input ≡ octets) × AreOfParts sections (joined_parts input)
 
 -- how a run ended, whatever it hands out
 abbrev pub outcome_of : {A : Type 0} → Result A Fault → Result Unit Fault

@@ -6,7 +6,7 @@ ghost use Rattle.std.specs.Prelude.{◌≡◌, ◌+◌, IfOk, IfErr, IfSome};
 ghost use Rattle.trace.specs.Endings.{failures_of};
 ghost use Rattle.trace.specs.Sinks.{MayFail};
 ghost use Rattle.apctl.specs.Faults.{IsOfFile, run_ending};
-ghost use Rattle.apctl.specs.Input.{EndsInput, outcome_of};
+ghost use Rattle.apctl.specs.Input.{EndsInput, AreOfInput, outcome_of};
 
 use crate::fault::Fault;
 use bss_core::Section;
@@ -31,6 +31,7 @@ pub fn run_input<R: Read, W: Sink>(
 ) -> Result<Vec<Section>, Fault>
     requires { MayFail (W.failed out.old) }
     ensures ends { EndsInput (outcome_of result) (R.remaining reader.old) (W.taken out.old) (W.taken out.new) }
+    ensures sections { IfOk result (λ sections. AreOfInput sections.items (R.remaining reader.old)) }
     ensures failures { W.failed out.new ≡ W.failed out.old + failures_of run_ending result }
 {
     let input = read_all(alloc, reader, STANDARD_INPUT)?;

@@ -30,3 +30,12 @@ returns-clause-ends g c =
     c.split_joined.ensures.after ∙ ap (λ t. (joined_parts t).1) c.as_slice.ensures.value in
     let ends = rw (before, after) at c.in_ok-report_texts.ensures.ends in
     well_ends tt input _ _ _ c.in_ok-input.ensures.ok ends
+
+pub returns-clause-sections : goal.returns-clause-sections
+returns-clause-sections g c =
+    let input : List ℕ = c.in_ok-input.input.items in
+    let before : c.split_joined.result.0.now ≡ (joined_parts input).0 =
+    c.split_joined.ensures.before ∙ ap (λ t. (joined_parts t).0) c.as_slice.ensures.value in
+    let after : c.split_joined.result.1.now ≡ (joined_parts input).1 =
+    c.split_joined.ensures.after ∙ ap (λ t. (joined_parts t).1) c.as_slice.ensures.value in
+    (input, c.in_ok-input.ensures.ok, rw (before, after) at c.in_ok-report_texts.ensures.sections)
