@@ -1,7 +1,7 @@
 use crate::fault::{Fault, FaultInTrace, show_fault};
 use crate::input::run_input;
 use crate::words::task_of;
-use bss_core::ConfigFault;
+use bss_core::{ConfigFault, Section};
 use live::LiveFault;
 use replay::{PlayTextFault, StreamFault};
 use std::alloc::{AllocError, Global};
@@ -99,7 +99,8 @@ fn faults_of_lines_that_come_are_those_of_the_program(rt: HostRuntime) {
 fn a_joined_text_is_read_and_answered(rt: HostRuntime) -> Result<(), Fail> {
     let alloc = rt.alloc();
     let mut out = Counted::new(Vec::new(alloc));
-    run_input(alloc, &mut JOINED.as_bytes(), &mut out)?;
+    let sections = run_input(alloc, &mut JOINED.as_bytes(), &mut out)?;
+    assert_eq!(rt; sections.len(), 1);
     let written = out.into_inner();
     assert_eq!(rt; written.as_slice(), ANSWERED.as_bytes());
     Ok(())
@@ -151,7 +152,7 @@ fn an_interrupted_read_is_tried_again(rt: HostRuntime) -> Result<(), Fail> {
 }
 
 /// Whether the fault is that of standard input.
-fn names_standard_input(answer: &Result<(), Fault>) -> bool {
+fn names_standard_input(answer: &Result<Vec<Section>, Fault>) -> bool {
     match answer {
         Err(Fault::File(name)) => name.as_str() == "-",
         _ => false,
