@@ -1,6 +1,6 @@
 //! An access point: a thread for each of two sources, and one that lets frames leave.
 
-ghost use Rattle.std.specs.Prelude.{IfOk};
+ghost use Rattle.std.specs.Prelude.{◌≡◌, IfOk, length};
 ghost use Rattle.workers.specs.Ending.{AreSections, HaveLeft};
 ghost use Rattle.workers.specs.Names.{AreNamed};
 
@@ -52,6 +52,7 @@ pub fn run_two<R: Threads + Wait + Sync>(
     first: &[Line],
     second: &[Line],
 ) -> Result<Finished, RunFault>
+    ensures networks { IfOk result (λ end. length end.sections ≡ length config.networks) }
     ensures sections { IfOk result (λ end. AreSections config end.sections) }
     ensures left { IfOk result (λ end. HaveLeft end.sections end.left) }
 {
@@ -68,6 +69,7 @@ fn run_parts<N: ApName + Send + Sync, R: Threads + Wait + Sync>(
     second: &[Line],
 ) -> Result<Finished, RunFault>
     requires { AreNamed N.config N.queue parts }
+    ensures networks { IfOk result (λ end. length end.sections ≡ length N.config.networks) }
     ensures sections { IfOk result (λ end. AreSections N.config end.sections) }
     ensures left { IfOk result (λ end. HaveLeft end.sections end.left) }
 {
