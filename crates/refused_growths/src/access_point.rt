@@ -5,7 +5,7 @@ ghost use Rattle.workers.specs.Names.{AreNamed};
 use crate::asked::Asked;
 use crate::growths::{ROOM, grow};
 use crate::outcome::{Flaw, Tried, report_of};
-use crate::texts::text_report;
+use crate::texts::reported;
 use bss_core::{Event, Line, MAX_NETWORKS, RadioConfig, Section, Step, hears, run};
 use mac_frame::{MacAddr, NoMemory};
 use std::alloc::{AllocError, Global};
@@ -67,7 +67,7 @@ pub fn finish<R: Wait>(rt: &R, alloc: Global, asked: &Asked<'_>) -> Result<Tried
     if was_refused {
         return Err(Flaw::NoMemory);
     }
-    let report = text_report(alloc, asked.config, asked.trace)?;
+    let (_, report) = reported(alloc, asked)?;
     match end {
         Ok(end) if report_of(alloc, end.sections.as_slice())? != report => Err(Flaw::End),
         Ok(_) => Ok(Tried {

@@ -51,7 +51,9 @@ pub fn feed_lines(alloc: Global, asked: &Asked<'_>) -> Result<Tried, Flaw> {
         networks.push(Told::new(alloc, *bssid)?)?;
     }
     let mut live = Live::new(alloc, config)?;
-    let trace = str::from_utf8(asked.trace).map_err(|_| Flaw::Texts)?;
+    let Ok(trace) = str::from_utf8(asked.trace) else {
+        return Err(Flaw::Texts);
+    };
     let mut steps = Vec::new(alloc);
     let mut was_refused = false;
     grow(alloc, asked.before)?;
@@ -89,8 +91,9 @@ fn fed(alloc: Global, live: &mut Live, piece: &str) -> Result<String, Flaw> {
     }
     let mut device = vec![in alloc; 0; ROOM]?;
     let mut out = Counted::new(device.as_mut_slice());
-    live.feed(piece.as_bytes(), &mut out)
-        .map_err(|_| Flaw::Answer)?;
+    if live.feed(piece.as_bytes(), &mut out).is_err() {
+        return Err(Flaw::Answer);
+    }
     let left = out.into_inner().len();
     text_of(device, left)
 }
@@ -102,7 +105,9 @@ fn ended(alloc: Global, live: Live) -> Result<String, Flaw> {
     }
     let mut device = vec![in alloc; 0; ROOM]?;
     let mut out = Counted::new(device.as_mut_slice());
-    live.end(&mut out).map_err(|_| Flaw::Answer)?;
+    if live.end(&mut out).is_err() {
+        return Err(Flaw::Answer);
+    }
     let left = out.into_inner().len();
     text_of(device, left)
 }
@@ -110,7 +115,10 @@ fn ended(alloc: Global, live: Live) -> Result<String, Flaw> {
 /// The text on a device that has so many octets left.
 fn text_of(mut device: Vec<u8>, left: usize) -> Result<String, Flaw> {
     device.truncate(ROOM.saturating_sub(left));
-    String::from_utf8(device).map_err(|_| Flaw::Answer)
+    match String::from_utf8(device) {
+        Ok(text) => Ok(text),
+        Err(_) => Err(Flaw::Answer),
+    }
 }
 
 /// Adds the answer to the line of a number to what was told of each network. Answers whether the line was refused, by a

@@ -4,7 +4,7 @@ use replay::split_joined;
 use std::str;
 
 /// The calls that are tried.
-#[derive(Clone, Copy, Debug, PartialEq, Eq)]
+#[derive(Clone, Copy)]
 pub enum Trial {
     /// `take`: `Bss::take` for each line; an event that was refused is offered again.
     Take,

@@ -2,22 +2,20 @@
 
 use crate::asked::Asked;
 use crate::growths::grow;
-use crate::outcome::{Flaw, Tried, report_of};
-use bss_core::{Line, Section};
-use mac_frame::NoMemory;
-use replay::Replay;
+use crate::outcome::{Flaw, Tried};
+use crate::texts::reported;
+use bss_core::Line;
 use std::alloc::Global;
-use trace::{LineReader, ReadFault, read_config};
+use trace::{LineReader, ReadFault, read_config, read_trace};
 
 /// The octets of a piece.
 const PIECE_LEN: usize = 7;
 
-/// Offers a trace in small pieces, each once more where it is refused for memory, and its end so too. The report is
-/// that of the lines that they gave.
+/// Offers a trace in small pieces, each once more where it is refused for memory, and its end so too. The lines that
+/// they gave must be those of the trace.
 pub fn feed_pieces(alloc: Global, asked: &Asked<'_>) -> Result<Tried, Flaw> {
     let config = read_config(alloc, asked.config)?;
     let mut reader = LineReader::new(alloc, &config)?;
-    let replay = Replay::new(alloc, config)?;
     let mut lines = Vec::new(alloc);
     grow(alloc, asked.before)?;
     let mut was_refused = false;
@@ -25,18 +23,15 @@ pub fn feed_pieces(alloc: Global, asked: &Asked<'_>) -> Result<Tried, Flaw> {
         was_refused |= feed(&mut reader, piece, &mut lines)?;
     }
     was_refused |= end(&mut reader, &mut lines)?;
+    let whole = read_trace(alloc, &config, asked.trace)?;
+    if format!(in alloc; "{lines:?}")? != format!(in alloc; "{whole:?}")? {
+        return Err(Flaw::End);
+    }
+    let (_, report) = reported(alloc, asked)?;
     Ok(Tried {
         was_refused,
-        report: report_of(alloc, replayed(replay, lines)?.as_slice())?,
+        report,
     })
-}
-
-/// What networks come to that take these lines.
-pub fn replayed(mut replay: Replay, lines: Vec<Line>) -> Result<Vec<Section>, NoMemory> {
-    for line in lines {
-        replay.take(line)?;
-    }
-    replay.into_sections()
 }
 
 /// Offers a piece, and once more where it is refused. Answers whether it was.

@@ -27,6 +27,7 @@ use std::io::Read;
 use std::process::ExitCode;
 use std::sync::Wait;
 use std::thread::Threads;
+use texts::{Call, play_call, report_call, write_twice};
 use trace::{Counted, Failed, Sink, write_all};
 
 fn main(rt: HostRuntime) -> ExitCode {
@@ -91,10 +92,10 @@ fn trial<R: Threads + Wait + Sync>(
         Trial::Neighbour => access_point::give_once(rt, alloc, asked),
         Trial::Finish => access_point::finish(rt, alloc, asked),
         Trial::Lines => lines::feed_pieces(alloc, asked),
-        Trial::Report => texts::write_report_twice(alloc, asked),
-        Trial::Text => texts::run_twice(alloc, asked),
-        Trial::Stream => texts::stream_twice(alloc, asked),
-        Trial::Play => texts::play_twice(rt, alloc, asked),
+        Trial::Report => write_twice(rt, alloc, asked, &report_call(alloc, asked)?),
+        Trial::Text => write_twice(rt, alloc, asked, &Call::Text),
+        Trial::Stream => write_twice(rt, alloc, asked, &Call::Stream),
+        Trial::Play => write_twice(rt, alloc, asked, &play_call(alloc, asked)?),
         Trial::Live => answered::feed_lines(alloc, asked),
     }
 }

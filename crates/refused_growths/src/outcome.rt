@@ -6,7 +6,7 @@ use std::alloc::{AllocError, AllocFailed, Global};
 use trace::{ConfigTextFault, Counted, LineFault, ReadFault, TraceTextFault, write_report};
 
 /// Whose growth a run refused.
-#[derive(Clone, Copy, Debug, PartialEq, Eq)]
+#[derive(Clone, Copy)]
 pub enum Met {
     /// None.
     Nothing,
@@ -33,7 +33,7 @@ impl Met {
 }
 
 /// A trial that found nothing wrong.
-#[derive(Debug, Drop)]
+#[derive(Drop)]
 pub struct Tried {
     /// Whether a call that it tried was refused a growth.
     pub was_refused: bool,
@@ -42,7 +42,7 @@ pub struct Tried {
 }
 
 /// Why a trial has no report.
-#[derive(Clone, Copy, Debug, PartialEq, Eq)]
+#[derive(Clone, Copy)]
 pub enum Flaw {
     /// A growth of its own was refused, or of a call that it doesn't try.
     NoMemory,
