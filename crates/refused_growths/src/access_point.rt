@@ -36,7 +36,7 @@ struct Given {
 /// Gives each line once to an access point, by one caller. Each place that hears the line must answer that it took it
 /// or that memory ran out, each other that it did not hear it; or the call as a whole is refused, and the caller must
 /// have no entry more. The sections in the end must be those of a radio for the events that there are receipts for.
-pub fn give_once<R: Wait>(rt: &R, alloc: Global, asked: &Asked<'_>) -> Result<Tried, Flaw> {
+pub(crate) fn give_once<R: Wait>(rt: &R, alloc: Global, asked: &Asked<'_>) -> Result<Tried, Flaw> {
     let growths = Growths {
         before_calls: asked.before,
         before_end: 0,
@@ -54,7 +54,7 @@ pub fn give_once<R: Wait>(rt: &R, alloc: Global, asked: &Asked<'_>) -> Result<Tr
 
 /// Ends an access point to which two callers in turn gave the lines. It must end with the report of the texts, or
 /// answer that memory ran out.
-pub fn finish<R: Wait>(rt: &R, alloc: Global, asked: &Asked<'_>) -> Result<Tried, Flaw> {
+pub(crate) fn finish<R: Wait>(rt: &R, alloc: Global, asked: &Asked<'_>) -> Result<Tried, Flaw> {
     let growths = Growths {
         before_calls: 0,
         before_end: asked.before,
@@ -204,7 +204,7 @@ fn judged(outcomes: &[Outcome], line: &Line, bssids: &[MacAddr]) -> Result<bool,
 }
 
 /// Whether the network at a place hears a line; none does where no network is.
-pub fn is_heard_at(place: usize, line: &Line, bssids: &[MacAddr]) -> bool {
+pub(crate) fn is_heard_at(place: usize, line: &Line, bssids: &[MacAddr]) -> bool {
     let Some(bssid) = bssids.get(place) else {
         return false;
     };
@@ -216,7 +216,7 @@ pub fn is_heard_at(place: usize, line: &Line, bssids: &[MacAddr]) -> bool {
 }
 
 /// The address of each network, in order of place.
-pub fn bssids_of(alloc: Global, config: &RadioConfig) -> Result<Vec<MacAddr>, AllocError> {
+pub(crate) fn bssids_of(alloc: Global, config: &RadioConfig) -> Result<Vec<MacAddr>, AllocError> {
     let networks = config.networks.as_slice();
     networks.iter().map(|network| network.bssid).collect(alloc)
 }

@@ -43,7 +43,7 @@ impl Told {
 /// Feeds each line of a trace once, and then its end. Each network takes what it hears of a line, or is told to have
 /// refused it. The report, of what was told of each network, must be that of a radio for the events that the networks
 /// took.
-pub fn feed_lines(alloc: Global, asked: &Asked<'_>) -> Result<Tried, Flaw> {
+pub(crate) fn feed_lines(alloc: Global, asked: &Asked<'_>) -> Result<Tried, Flaw> {
     let config = read_config(alloc, asked.config)?;
     let bssids = bssids_of(alloc, &config)?;
     let mut networks = Vec::new(alloc);

@@ -40,7 +40,7 @@ pub struct Asked<'a> {
 }
 
 /// What a text asks for; `None` where it is no such text.
-pub fn asked_of(input: &[u8]) -> Option<Asked<'_>> {
+pub(crate) fn asked_of(input: &[u8]) -> Option<Asked<'_>> {
     let Ok(text) = str::from_utf8(input) else {
         return None;
     };

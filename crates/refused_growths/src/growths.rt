@@ -6,7 +6,7 @@ use std::alloc::{AllocError, Global};
 pub const ROOM: usize = 8192;
 
 /// So many growths, of which nothing is left. It stops at the one that is refused.
-pub fn grow(alloc: Global, count: u32) -> Result<(), AllocError> {
+pub(crate) fn grow(alloc: Global, count: u32) -> Result<(), AllocError> {
     for _ in 0..count {
         let _: Vec<u8> = Vec::with_capacity(alloc, 1)?;
     }

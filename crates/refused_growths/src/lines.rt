@@ -13,7 +13,7 @@ const PIECE_LEN: usize = 7;
 
 /// Offers a trace in small pieces, each once more where it is refused for memory, and its end so too. The lines that
 /// they gave must be those of the trace.
-pub fn feed_pieces(alloc: Global, asked: &Asked<'_>) -> Result<Tried, Flaw> {
+pub(crate) fn feed_pieces(alloc: Global, asked: &Asked<'_>) -> Result<Tried, Flaw> {
     let config = read_config(alloc, asked.config)?;
     let mut reader = LineReader::new(alloc, &config)?;
     let mut lines = Vec::new(alloc);

@@ -11,7 +11,7 @@ use trace::{read_config, read_trace};
 
 /// Offers what the first network hears of each line to that network alone. An event that is refused for memory must
 /// leave it as it was, and is offered again.
-pub fn take_each(alloc: Global, asked: &Asked<'_>) -> Result<Tried, Flaw> {
+pub(crate) fn take_each(alloc: Global, asked: &Asked<'_>) -> Result<Tried, Flaw> {
     let config = read_config(alloc, asked.config)?;
     let lines = read_trace(alloc, &config, asked.trace)?;
     let mut network = first_network(alloc, config)?;
@@ -62,7 +62,7 @@ fn is_heard(network: &Bss, line: &Line) -> bool {
 }
 
 /// What a line brings to a network that hears it.
-pub fn event_of(alloc: Global, line: &Line) -> Result<Event, Flaw> {
+pub(crate) fn event_of(alloc: Global, line: &Line) -> Result<Event, Flaw> {
     match line {
         Line::Air(octets) => Ok(Event::Air(octets.copy(alloc)?)),
         Line::Wire { octets, .. } => Ok(Event::Wire(octets.copy(alloc)?)),

@@ -18,12 +18,12 @@ pub enum Met {
 
 impl Met {
     /// The same, where a call that the trial tries was refused a growth or not.
-    pub fn and(self, was_refused: bool) -> Met {
+    pub(crate) fn and(self, was_refused: bool) -> Met {
         if was_refused { Met::Call } else { self }
     }
 
     /// Its line.
-    pub fn line(self) -> &'static str {
+    pub(crate) fn line(self) -> &'static str {
         match self {
             Met::Nothing => "refused nothing\n",
             Met::OwnGrowth => "refused beside the calls\n",
@@ -62,7 +62,7 @@ pub enum Flaw {
 
 impl Flaw {
     /// Its line.
-    pub fn line(self) -> &'static str {
+    pub(crate) fn line(self) -> &'static str {
         match self {
             Flaw::NoMemory => "wrong: memory ran out twice\n",
             Flaw::Texts => "wrong: the texts are not for this trial\n",
@@ -130,7 +130,7 @@ impl From<OpenFault> for Flaw {
 }
 
 /// The report of sections, where no growth for it is refused.
-pub fn report_of(alloc: Global, sections: &[Section]) -> Result<Vec<u8>, Flaw> {
+pub(crate) fn report_of(alloc: Global, sections: &[Section]) -> Result<Vec<u8>, Flaw> {
     let mut out = Counted::new(Vec::new(alloc));
     match write_report(alloc, sections, &mut out) {
         Ok(()) => Ok(out.into_inner()),

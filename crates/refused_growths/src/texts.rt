@@ -45,20 +45,20 @@ struct Written {
 }
 
 /// `write_report` of the sections that the texts have.
-pub fn report_call(alloc: Global, asked: &Asked<'_>) -> Result<Call, Flaw> {
+pub(crate) fn report_call(alloc: Global, asked: &Asked<'_>) -> Result<Call, Flaw> {
     let (sections, _) = reported(alloc, asked)?;
     Ok(Call::Report(sections))
 }
 
 /// `play_text` of the trace as the only one.
-pub fn play_call(alloc: Global, asked: &Asked<'_>) -> Result<Call, Flaw> {
+pub(crate) fn play_call(alloc: Global, asked: &Asked<'_>) -> Result<Call, Flaw> {
     let mut traces = Vec::new(alloc);
     traces.push(Octets::from_slice(alloc, asked.trace)?)?;
     Ok(Call::Play(traces))
 }
 
 /// The sections and the report that the texts have.
-pub fn reported(alloc: Global, asked: &Asked<'_>) -> Result<(Vec<Section>, Vec<u8>), Flaw> {
+pub(crate) fn reported(alloc: Global, asked: &Asked<'_>) -> Result<(Vec<Section>, Vec<u8>), Flaw> {
     let mut out = Counted::new(Vec::new(alloc));
     match report_texts(alloc, asked.config, asked.trace, &mut out) {
         Ok(sections) => Ok((sections, out.into_inner())),
@@ -69,7 +69,7 @@ pub fn reported(alloc: Global, asked: &Asked<'_>) -> Result<(Vec<Section>, Vec<u
 
 /// Makes a call, and makes it again where it was refused a growth. What it had written by then must be a prefix of
 /// what it writes in the end.
-pub fn write_twice<R: Threads + Wait + Sync>(
+pub(crate) fn write_twice<R: Threads + Wait + Sync>(
     rt: &R,
     alloc: Global,
     asked: &Asked<'_>,

@@ -13,7 +13,7 @@ fn network(alloc: Global, last: u8) -> Result<NetConfig, NoMemory> {
 }
 
 /// A configuration of the networks 02:aa:00:00:00:01 and 02:aa:00:00:00:02.
-pub fn config(alloc: Global) -> Result<RadioConfig, NoMemory> {
+pub(crate) fn config(alloc: Global) -> Result<RadioConfig, NoMemory> {
     let mut networks = Vec::new(alloc);
     networks.push(network(alloc, 1)?)?;
     networks.push(network(alloc, 2)?)?;
@@ -21,7 +21,7 @@ pub fn config(alloc: Global) -> Result<RadioConfig, NoMemory> {
 }
 
 /// What the two networks read in a text.
-pub fn read(alloc: Global, text: &[u8]) -> Result<Vec<Line>, TraceTextFault> {
+pub(crate) fn read(alloc: Global, text: &[u8]) -> Result<Vec<Line>, TraceTextFault> {
     match config(alloc) {
         Ok(config) => read_trace(alloc, &config, text),
         Err(_) => Err(TraceTextFault::NoMemory),
@@ -29,7 +29,7 @@ pub fn read(alloc: Global, text: &[u8]) -> Result<Vec<Line>, TraceTextFault> {
 }
 
 /// The octets of a line, with the place of the network where it names one; `None` for a tick.
-pub fn octets_of(line: &Line) -> Option<(Option<usize>, &[u8])> {
+pub(crate) fn octets_of(line: &Line) -> Option<(Option<usize>, &[u8])> {
     match line {
         Line::Air(octets) => Some((None, octets.as_slice())),
         Line::Wire { place, octets } => Some((Some(*place), octets.as_slice())),
@@ -38,7 +38,7 @@ pub fn octets_of(line: &Line) -> Option<(Option<usize>, &[u8])> {
 }
 
 /// A text of so many copies of a part.
-pub fn repeated(alloc: Global, part: &[u8], count: usize) -> Result<Vec<u8>, AllocError> {
+pub(crate) fn repeated(alloc: Global, part: &[u8], count: usize) -> Result<Vec<u8>, AllocError> {
     let mut text = Vec::new(alloc);
     for _ in 0..count {
         text.extend_from_slice(part)?;
