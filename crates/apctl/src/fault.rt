@@ -16,7 +16,7 @@ use trace::{ReportFault, Sink, TraceFault, write_all};
 use workers::FinishFault;
 
 /// The first fault of one of several traces.
-#[derive(Clone, Copy, Debug, PartialEq, Eq)]
+#[derive(Clone, Copy, Debug)]
 pub struct FaultInTrace {
     /// The trace's place, from 0.
     pub source: usize,

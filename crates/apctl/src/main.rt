@@ -5,8 +5,8 @@
 //! the two; and on [`fault::show_fault`] the exit status of a fault, and that `fault memory` is written without taking
 //! any.
 //!
-//! It promises nothing of words, of the process's streams, or of the lines of other faults. That the program is called
-//! as a user called it is shown by tests.
+//! It promises nothing of words, of the process's streams, or of the lines of other faults. Those are shown by what the
+//! built program does (`examples/`), and so it has no tests of its own: a crate with tests is proved twice.
 #![tactic(auto)]
 
 mod fault;
@@ -26,9 +26,6 @@ use std::thread::Threads;
 use std::{env, mem};
 use trace::{Counted, ReportFault};
 use words::{Task, task_of};
-
-#[cfg(test)]
-mod tests;
 
 /// The exit status where the line of a fault can't be written.
 const UNWRITTEN: u8 = 4;

@@ -24,7 +24,7 @@ const CONFIG: &str = "CONFIG";
 const TRACE: &str = "TRACE";
 
 /// What the program is asked to do.
-#[derive(Debug, Drop, PartialEq, Eq)]
+#[derive(Drop)]
 pub enum Task<'a> {
     /// Without a word: run what standard input holds, a configuration and a trace.
     Joined,
