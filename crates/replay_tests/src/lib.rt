@@ -1,15 +1,17 @@
 //! Tests of the crate `replay`, over its public calls.
 //!
-//! They show what no contract says: that calls succeed where there is memory, on texts from outside. They stand beside
-//! that crate since a crate with tests is proved twice.
+//! They show what neither a contract nor a run of the program shows: that calls succeed where there is memory, and what
+//! they answer where readers and writers fail, texts come in pieces, or histories are full. What the program writes of
+//! a configuration and traces is shown by `examples/`. They stand beside that crate since a crate with tests is proved
+//! twice.
 #![tactic(auto)]
 
+#[cfg(test)]
+mod cut_frames;
 #[cfg(test)]
 mod line_by_line;
 #[cfg(test)]
 mod playing;
-#[cfg(test)]
-mod samples;
 #[cfg(test)]
 mod streams;
 #[cfg(test)]

@@ -1,62 +1,39 @@
-use crate::samples::{config_with, two_networks};
+//! Networks that take one line after another.
+
 use bss_core::{Line, Section};
+use fixtures::lab_and_guest;
 use mac_frame::Octets;
 use replay::Replay;
+use std::alloc::Global;
 use std::test::Fail;
-use trace::read_config;
+use trace::read_trace;
 
-/// An acknowledgement to the first network, which reads no such frame.
-const TO_THE_FIRST: &[u8] = &[0xd4, 0, 0, 0, 2, 0, 0, 0, 0, 1];
+/// Two beacon intervals begin. Between them come an acknowledgement to the first network, which reads no such frame,
+/// and a frame for all on the wire of the second.
+const LINES: &[u8] = b"T\nA d4000000 020000000001\n\
+    W 02:00:00:00:00:02 ffffffffffff 02bb00000001 0800 01\nT\n";
 
-/// A frame on the wire, to the group.
-const TO_THE_GROUP: &[u8] = &[
-    0xff, 0xff, 0xff, 0xff, 0xff, 0xff, 2, 0xbb, 0, 0, 0, 1, 8, 0, 1,
-];
-
-/// How many events a network took, how many frames it sent on the air, and how many on the wire.
-fn counts(section: &Section) -> (usize, usize, usize) {
-    (
-        section.events.as_slice().len(),
-        section.air.as_slice().len(),
-        section.wire.as_slice().len(),
-    )
-}
-
-#[test]
-fn each_network_takes_its_own_lines(rt: HostRuntime) -> Result<(), Fail> {
-    let alloc = rt.alloc();
-    let config = read_config(alloc, two_networks(alloc)?.as_bytes())?;
+/// The sections of `lab`, whose history is full after two events, and `guest`. The last line is for no network.
+fn sections(alloc: Global) -> Result<Vec<Section>, Fail> {
+    let config = lab_and_guest(alloc, 2, 64)?;
+    let lines = read_trace(alloc, &config, LINES).map_err(|_| "a fault of the lines")?;
     let mut replay = Replay::new(alloc, config)?;
-    replay.take(Line::Tick)?;
-    replay.take(Line::Air(Octets::from_slice(alloc, TO_THE_FIRST)?))?;
-    replay.take(Line::Wire {
-        place: 1,
-        octets: Octets::from_slice(alloc, TO_THE_GROUP)?,
-    })?;
-    replay.take(Line::Wire {
-        place: 2,
-        octets: Octets::from_slice(alloc, TO_THE_GROUP)?,
-    })?;
-    let sections = replay.into_sections()?;
-    assert_eq!(rt; sections.len(), 2);
-    assert_eq!(rt; counts(&sections[0]), (2, 1, 0));
-    assert_eq!(rt; counts(&sections[1]), (2, 2, 0));
-    Ok(())
-}
-
-#[test]
-fn a_full_history_takes_no_line(rt: HostRuntime) -> Result<(), Fail> {
-    let alloc = rt.alloc();
-    let config = read_config(
-        alloc,
-        config_with(alloc, "max_events = 100", "max_events = 2")?.as_bytes(),
-    )?;
-    let mut replay = Replay::new(alloc, config)?;
-    for _ in 0..5 {
-        replay.take(Line::Tick)?;
+    for line in lines {
+        replay.take(line)?;
     }
-    let sections = replay.into_sections()?;
-    assert_eq!(rt; sections.len(), 1);
-    assert_eq!(rt; counts(&sections[0]), (2, 2, 0));
+    let octets = Octets::new(alloc);
+    replay.take(Line::Wire { place: 2, octets })?;
+    Ok(replay.into_sections()?)
+}
+
+#[test]
+fn each_network_takes_its_own_lines_until_its_history_is_full(rt: HostRuntime) -> Result<(), Fail> {
+    let mut counts = Vec::new(rt.alloc());
+    let sections = sections(rt.alloc())?;
+    for section in sections.iter() {
+        let (events, air) = (section.events.as_slice(), section.air.as_slice());
+        counts.push((events.len(), air.len(), section.wire.as_slice().len()))?;
+    }
+    assert_eq!(rt; counts.as_slice(), [(2, 1, 0), (3, 3, 0)].as_slice());
     Ok(())
 }

@@ -1,119 +1,107 @@
-use crate::samples::config_with;
+//! Traces that are read as they come.
+
 use bss_core::ConfigFault;
-use fixtures::texts::{ANSWERED_REPORT, CONFIGURATION, PROBE_LINE, TICK_LINE};
+use fixtures::texts::{CONFIGURATION, PROBE_LINE};
 use replay::{StreamFault, run_stream, run_text};
-use std::alloc::{AllocError, Global};
+use std::alloc::Global;
 use std::io::{self, ErrorKind, Read};
 use std::test::Fail;
 use trace::{Counted, Source, TraceFault};
 
-/// A reader that gives a few octets at a time.
+/// A reader that gives a few octets at a time, and may fail where they end.
 #[derive(Drop)]
-struct Slow<'a> {
+struct Pieces<'a> {
     octets: &'a [u8],
     most: usize,
+    fails: bool,
 }
 
-impl Read for Slow<'_> {
+impl Read for Pieces<'_> {
     fn read(&mut self, buf: &mut [u8]) -> io::Result<usize> {
+        if self.fails && self.octets.is_empty() {
+            return Err(io::Error::from(ErrorKind::Other));
+        }
         let most = self.most.min(buf.len());
         self.octets.read(&mut buf[..most])
     }
 }
 
-/// A reader that fails where its octets end.
-#[derive(Drop)]
-struct Broken<'a>(&'a [u8]);
+/// What a configuration and a trace are answered, and what was written; how often the reader failed, and how many octets
+/// it has left.
+type Ended = (Result<(), StreamFault>, Vec<u8>, u64, usize);
 
-impl Read for Broken<'_> {
-    fn read(&mut self, buf: &mut [u8]) -> io::Result<usize> {
-        if self.0.is_empty() {
-            return Err(io::Error::from(ErrorKind::Other));
-        }
-        self.0.read(buf)
-    }
-}
-
-/// What a configuration and a trace are answered that is read as it comes, and what was written.
-fn stream<R: Read>(
-    alloc: Global,
-    config: &str,
-    reader: R,
-) -> Result<(Result<(), StreamFault>, Vec<u8>, Counted<R>), AllocError> {
+fn stream(alloc: Global, config: &[u8], reader: Pieces) -> Ended {
     let mut source = Counted::new(reader);
     let mut out = Counted::new(Vec::new(alloc));
-    let answer = run_stream(alloc, config.as_bytes(), &mut source, &mut out);
-    Ok((answer, out.into_inner(), source))
+    let answer = run_stream(alloc, config, &mut source, &mut out);
+    let failures = source.failures();
+    let left = source.into_inner().octets.len();
+    (answer, out.into_inner(), failures, left)
 }
 
-/// The report of two whole texts.
-fn report(alloc: Global, config: &str, trace: &str) -> Vec<u8> {
-    let mut out = Counted::new(Vec::new(alloc));
-    let _ = run_text(alloc, config.as_bytes(), trace.as_bytes(), &mut out);
-    out.into_inner()
-}
-
-#[test]
-fn a_probe_is_answered(rt: HostRuntime) -> Result<(), Fail> {
-    let (answer, written, source) = stream(rt.alloc(), CONFIGURATION, PROBE_LINE.as_bytes())?;
-    assert_eq!(rt; answer, Ok(()));
-    assert_eq!(rt; written.as_slice(), ANSWERED_REPORT.as_bytes());
-    assert_eq!(rt; source.failures(), 0);
-    assert_eq!(rt; source.into_inner().len(), 0);
-    Ok(())
-}
+/// A station authenticates and associates itself, and a beacon interval begins; then come a line that is skipped, an
+/// empty one, a probe, and a tick without the end of its line.
+const LINES: &str = "A b0000000 020000000001 02aa00000001 020000000001 0000 0000 0100 0000\n\
+    A 00000000 020000000001 02aa00000001 020000000001 0000 0100 0a00 00036c6162 010402040b16\n\
+    T\n# a line\r\n\n\
+    A 40000000 ffffffffffff 02aa00000001 ffffffffffff 0000 0000 010402040b16\nT";
 
 #[test]
 fn pieces_of_any_length_have_one_report(rt: HostRuntime) -> Result<(), Fail> {
     let alloc = rt.alloc();
-    let trace = format!(in alloc; "{TICK_LINE}{PROBE_LINE}# a line\r\n\n{PROBE_LINE}T")?;
-    let whole = report(alloc, CONFIGURATION, trace.as_str());
+    let (config, octets) = (CONFIGURATION.as_bytes(), LINES.as_bytes());
+    let mut out = Counted::new(Vec::new(alloc));
+    assert_eq!(rt; run_text(alloc, config, octets, &mut out), Ok(()));
+    let whole = out.into_inner();
     for most in [1, 7, 4096] {
-        let octets = trace.as_bytes();
-        let (answer, written, source) = stream(alloc, CONFIGURATION, Slow { octets, most })?;
+        let reader = Pieces {
+            octets,
+            most,
+            fails: false,
+        };
+        let (answer, written, failures, left) = stream(alloc, config, reader);
         assert_eq!(rt; answer, Ok(()));
         assert_eq!(rt; written.as_slice(), whole.as_slice());
-        assert_eq!(rt; source.failures(), 0);
+        assert_eq!(rt; (failures, left), (0, 0));
     }
     Ok(())
 }
 
 #[test]
-fn failing_reader(rt: HostRuntime) -> Result<(), Fail> {
-    let alloc = rt.alloc();
-    let octets = PROBE_LINE.as_bytes();
-    for place in 0..octets.len() {
-        let (given, _) = octets.split_at(place);
-        let (answer, written, source) = stream(alloc, CONFIGURATION, Broken(given))?;
+fn failing_reader(rt: HostRuntime) {
+    for place in 0..PROBE_LINE.len() {
+        let (octets, _) = PROBE_LINE.as_bytes().split_at(place);
+        let reader = Pieces {
+            octets,
+            most: 4096,
+            fails: true,
+        };
+        let (answer, written, failures, _) = stream(rt.alloc(), CONFIGURATION.as_bytes(), reader);
         assert_eq!(rt; answer, Err(StreamFault::Read));
-        assert_eq!(rt; written.len(), 0);
-        assert_eq!(rt; source.failures(), 1);
+        assert_eq!(rt; (written.len(), failures), (0, 1));
     }
-    Ok(())
 }
 
+/// One of the configuration comes before any read, one of the trace after the piece in which it is: two octets are left
+/// each time.
 #[test]
-fn a_fault_of_the_configuration_comes_before_any_read(rt: HostRuntime) -> Result<(), Fail> {
-    let alloc = rt.alloc();
-    let config = config_with(alloc, "channel = 6", "channel = 15")?;
-    let (answer, written, source) = stream(alloc, config.as_str(), Broken(b""))?;
-    let fault = ConfigFault {
-        code: 4,
-        place: None,
-    };
-    assert_eq!(rt; answer, Err(StreamFault::Config(fault)));
-    assert_eq!(rt; written.len(), 0);
-    assert_eq!(rt; source.failures(), 0);
-    Ok(())
-}
-
-#[test]
-fn a_fault_of_the_trace_ends_reading(rt: HostRuntime) -> Result<(), Fail> {
-    let octets = b"T\nX\nT\n".as_slice();
-    let (answer, written, source) = stream(rt.alloc(), CONFIGURATION, Slow { octets, most: 4 })?;
-    let fault = TraceFault { code: 1, line: 2 };
-    assert_eq!(rt; answer, Err(StreamFault::Trace(fault)));
-    assert_eq!(rt; written.len(), 0);
-    assert_eq!(rt; source.into_inner().octets, b"T\n".as_slice());
-    Ok(())
+fn a_fault_ends_reading(rt: HostRuntime) {
+    let in_config = StreamFault::Config(ConfigFault::of_radio(4));
+    let no_digits = StreamFault::Trace(TraceFault { code: 2, line: 2 });
+    let no_word = StreamFault::Trace(TraceFault { code: 1, line: 2 });
+    for (config, octets, most, fault) in [
+        ("version = 1\nchannel = 15\n", "X\n", 4096, in_config),
+        (CONFIGURATION, "A 00\nA 4\nT\n", 3, no_digits),
+        (CONFIGURATION, "T\nX\nT\n", 4, no_word),
+    ] {
+        let octets = octets.as_bytes();
+        let reader = Pieces {
+            octets,
+            most,
+            fails: true,
+        };
+        let (answer, written, failures, left) = stream(rt.alloc(), config.as_bytes(), reader);
+        assert_eq!(rt; answer, Err(fault));
+        assert_eq!(rt; (written.len(), failures, left), (0, 0, 2));
+    }
 }
