@@ -5,6 +5,3 @@ pub const NETWORK: [u8; 6] = [0x02, 0, 0, 0, 0, 0x01];
 
 /// A station of it.
 pub const STATION: [u8; 6] = [0x02, 0xaa, 0, 0, 0, 0x01];
-
-/// A host on the wire.
-pub const HOST: [u8; 6] = [0x02, 0xbb, 0, 0, 0, 0x01];

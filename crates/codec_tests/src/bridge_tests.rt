@@ -1,29 +1,54 @@
-//! Frames on the wire and bodies on the air, with ample memory, and frames at the edges of what is read.
+//! Frames on the wire at the edges of what is read, and as they come back from the air.
 
-use crate::addresses::{HOST, STATION};
 use bridge::{Ether, Kind, to_air, to_wire};
-use mac_frame::{MacAddr, NoMemory, Octets, Unread};
+use mac_frame::{NoMemory, Octets, Unread};
 use std::alloc::Global;
 use std::test::Fail;
 
 /// The octets from the destination to the source of a frame from the host to the station.
 const ADDRESSES: [u8; 12] = [0x02, 0xaa, 0, 0, 0, 1, 0x02, 0xbb, 0, 0, 0, 1];
 
-/// Length/Type fields, lengths of what stands behind them, and why such a frame is not read, if it isn't.
-const EDGES: [([u8; 2], usize, Option<Unread>); 5] = [
-    ([0x06, 0x00], 2296, None),
-    ([0x06, 0x00], 2297, Some(Unread::TooLong)),
-    ([0x05, 0xdd], 1501, Some(Unread::Body)),
-    ([0x05, 0xdc], 1499, Some(Unread::Body)),
-    ([0x00, 0x02], 2, Some(Unread::Body)),
+/// Length/Type fields, how many octets stand behind them, and why such a frame is not read.
+const REFUSED: [([u8; 2], usize, Unread); 4] = [
+    ([0x06, 0x00], 2297, Unread::TooLong),
+    ([0x05, 0xdd], 1501, Unread::Body),
+    ([0x05, 0xdc], 1499, Unread::Body),
+    ([0x00, 0x02], 2, Unread::Body),
+];
+
+/// Length/Type fields, how many octets stand behind them, what the field says, how many octets such a frame has on the
+/// air, and how many are back on the wire, without its padding.
+const READ: [([u8; 2], usize, Kind, usize, usize); 2] = [
+    ([0x06, 0x00], 2296, Kind::Typed(0x0600), 2304, 2310),
+    ([0x05, 0xdc], 1502, Kind::Sized, 1500, 1514),
 ];
 
 /// A frame from the host to the station with this Length/Type field and so many octets of 7 after it.
 fn frame(alloc: Global, field: [u8; 2], len: usize) -> Result<Octets, NoMemory> {
     let mut octets = Octets::from_slice(alloc, &ADDRESSES)?;
     octets.append(&field)?;
-    octets.append(vec![in alloc; 7; len]?.as_slice())?;
+    for _ in 0..len {
+        octets.append(&[7])?;
+    }
     Ok(octets)
+}
+
+#[test]
+fn a_frame_comes_back_without_its_padding(rt: HostRuntime) -> Result<(), Fail> {
+    for (field, len, kind, on_air, on_wire) in READ {
+        let octets = frame(rt.alloc(), field, len)?;
+        let Ok(ether) = Ether::decode(octets.as_slice()) else {
+            panic!(rt; "no frame");
+        };
+        assert_eq!(rt; ether.kind, kind);
+        let mut body = Octets::new(rt.alloc());
+        to_air(&mut body, &ether)?;
+        assert_eq!(rt; body.as_slice().len(), on_air);
+        let mut back = Octets::new(rt.alloc());
+        assert!(rt; to_wire(&mut back, ether.to, ether.source, body.as_slice())?);
+        assert_eq!(rt; Some(back.as_slice()), octets.as_slice().get(..on_wire));
+    }
+    Ok(())
 }
 
 /// Why a frame is not read, if it isn't.
@@ -34,104 +59,12 @@ fn fault_of(frame: &[u8]) -> Option<Unread> {
     }
 }
 
-/// The frame's body on the air; nothing where the frame isn't read.
-fn air(alloc: Global, frame: &[u8]) -> Result<Octets, NoMemory> {
-    let mut body = Octets::new(alloc);
-    if let Ok(ether) = Ether::decode(frame) {
-        to_air(&mut body, &ether)?;
-    }
-    Ok(body)
-}
-
-/// The frame on the wire of a body from the host to the station; `None` where it has none.
-fn wired(alloc: Global, body: &[u8]) -> Result<Option<Octets>, NoMemory> {
-    let mut out = Octets::new(alloc);
-    let is_written = to_wire(&mut out, MacAddr::new(STATION), MacAddr::new(HOST), body)?;
-    Ok(is_written.then_some(out))
-}
-
-/// Whether the frame on the wire of a body from the host to the station is this one.
-fn is_wired(alloc: Global, body: &[u8], frame: &[u8]) -> Result<bool, NoMemory> {
-    Ok(wired(alloc, body)?.is_some_and(|octets| octets.as_slice() == frame))
-}
-
 #[test]
-fn the_fields_of_a_frame_are_read(rt: HostRuntime) -> Result<(), Fail> {
-    let octets = frame(rt.alloc(), [0x06, 0x00], 2296)?;
-    let Ok(ether) = Ether::decode(octets.as_slice()) else {
-        panic!(rt; "no frame");
-    };
-    assert_eq!(rt; ether.to, MacAddr::new(STATION));
-    assert_eq!(rt; ether.source, MacAddr::new(HOST));
-    assert_eq!(rt; ether.kind, Kind::Typed(0x0600));
-    Ok(())
-}
-
-#[test]
-fn a_typed_frame_comes_back(rt: HostRuntime) -> Result<(), Fail> {
-    let octets = frame(rt.alloc(), [0x06, 0x00], 2296)?;
-    let body = air(rt.alloc(), octets.as_slice())?;
-    assert_eq!(rt; body.as_slice().len(), 2304);
-    assert!(rt; is_wired(rt.alloc(), body.as_slice(), octets.as_slice())?);
-    Ok(())
-}
-
-#[test]
-fn a_sized_frame_comes_back_without_its_padding(rt: HostRuntime) -> Result<(), Fail> {
-    let padded = frame(rt.alloc(), [0x05, 0xdc], 1502)?;
-    let body = air(rt.alloc(), padded.as_slice())?;
-    assert_eq!(rt; body.as_slice().len(), 1500);
-    let octets = frame(rt.alloc(), [0x05, 0xdc], 1500)?;
-    assert!(rt; is_wired(rt.alloc(), body.as_slice(), octets.as_slice())?);
-    Ok(())
-}
-
-#[test]
-fn a_length_is_no_type(rt: HostRuntime) -> Result<(), Fail> {
-    let octets = frame(rt.alloc(), [0x05, 0xdc], 1502)?;
-    let Ok(ether) = Ether::decode(octets.as_slice()) else {
-        panic!(rt; "no frame");
-    };
-    assert_eq!(rt; ether.kind, Kind::Sized);
-    Ok(())
-}
-
-#[test]
-fn frames_at_the_edges_are_read_or_refused(rt: HostRuntime) -> Result<(), Fail> {
-    for (field, len, fault) in EDGES {
+fn frames_past_the_edges_are_refused(rt: HostRuntime) -> Result<(), Fail> {
+    for (field, len, fault) in REFUSED {
         let octets = frame(rt.alloc(), field, len)?;
-        assert_eq!(rt; fault_of(octets.as_slice()), fault, "{len}");
+        assert!(rt; fault_of(octets.as_slice()) == Some(fault), "{len}");
     }
-    assert_eq!(rt; fault_of(&[0; 13]), Some(Unread::Short));
-    Ok(())
-}
-
-/// A body with a type, and the same unit on the wire.
-const TYPED_BODY: [u8; 9] = [0xaa, 0xaa, 0x03, 0x00, 0x00, 0x00, 0x08, 0x00, 0x01];
-
-const TYPED_FRAME: [u8; 15] = [
-    0x02, 0xaa, 0, 0, 0, 1, 0x02, 0xbb, 0, 0, 0, 1, 0x08, 0x00, 0x01,
-];
-
-#[test]
-fn a_body_with_a_type_names_it_on_both_sides(rt: HostRuntime) -> Result<(), Fail> {
-    let body = air(rt.alloc(), &TYPED_FRAME)?;
-    assert_eq!(rt; body.as_slice(), TYPED_BODY.as_slice());
-    assert!(rt; is_wired(rt.alloc(), &TYPED_BODY, &TYPED_FRAME)?);
-    Ok(())
-}
-
-#[test]
-fn a_body_of_two_octets_has_no_wired_form(rt: HostRuntime) -> Result<(), Fail> {
-    let mut out = Octets::from_slice(rt.alloc(), &[0xff])?;
-    assert!(rt; !to_wire(&mut out, MacAddr::new(STATION), MacAddr::new(HOST), &[7, 7])?);
-    assert_eq!(rt; out.as_slice(), [0xff].as_slice());
-    Ok(())
-}
-
-#[test]
-fn a_body_of_three_octets_has_one(rt: HostRuntime) -> Result<(), Fail> {
-    let octets = frame(rt.alloc(), [0x00, 0x03], 3)?;
-    assert!(rt; is_wired(rt.alloc(), &[7, 7, 7], octets.as_slice())?);
+    assert!(rt; fault_of(&[0; 13]) == Some(Unread::Short));
     Ok(())
 }

@@ -1,244 +1,221 @@
-//! The units that are kept: calls with ample memory, and many calls beside a plain list.
+//! The units that are kept: many calls beside a plain list, those that leave by their clocks, and those for whom units
+//! are kept.
 
-use mac_frame::{MacAddr, Octets};
+ghost use Rattle.std.specs.Prelude.{◌≡◌, ◌∷◌, []};
+ghost use Rattle.powersave.specs.declared.unit.Whom.TheVariants as whoms;
+
+use mac_frame::{MacAddr, NoMemory, Octets};
 use powersave::{Keep, Unit, Whom};
 use std::alloc::Global;
 use std::process::Abort;
 use std::test::Fail;
 
-const STATION: [u8; 6] = [0x02, 0xaa, 0, 0, 0, 1];
-
-const HOST: [u8; 6] = [0x02, 0xbb, 0, 0, 0, 1];
-
-/// A unit from the host with a body of this octet.
-fn unit(alloc: Global, octet: u8) -> Result<Unit, Fail> {
-    Ok(Unit {
-        to: MacAddr::new(STATION),
-        source: MacAddr::new(HOST),
-        body: Octets::from_slice(alloc, &[octet])?,
-        at: 0,
-    })
+/// The station with this last octet.
+fn station(last: u8) -> Whom
+    ensures { result ≡ whoms.One (2 ∷ 170 ∷ 0 ∷ 0 ∷ 0 ∷ last ∷ []) }
+{
+    Whom::One(MacAddr::new([0x02, 0xaa, 0, 0, 0, last]))
 }
 
-/// Puts a unit with a body of this octet into a list that is not full.
-fn put_one(alloc: Global, keep: &mut Keep, whom: Whom, octet: u8) -> Result<(), Fail> {
-    if keep.is_full() || keep.puts() >= 1000 {
-        return Err(Fail::from("full"));
+/// A unit without a body that came at a clock.
+fn unit(alloc: Global, at: u32) -> Unit
+    ensures { result.at ≡ at }
+{
+    Unit {
+        to: MacAddr::new([0x02, 0xaa, 0, 0, 0, 1]),
+        source: MacAddr::new([0x02, 0xbb, 0, 0, 0, 1]),
+        body: Octets::new(alloc),
+        at,
     }
-    Ok(keep.put(whom, unit(alloc, octet)?)?)
 }
 
-/// Whether there is a unit, with a body of this octet.
-fn has_body(unit: Option<&Unit>, octet: u8) -> bool {
-    unit.is_some_and(|unit| unit.body.as_slice() == [octet].as_slice())
+/// Puts a unit that came at a clock into a list, which must not be full.
+fn put(
+    rt: &impl Abort,
+    alloc: Global,
+    keep: &mut Keep,
+    whom: Whom,
+    at: u32,
+) -> Result<(), NoMemory> {
+    assert!(rt; !keep.is_full() && keep.puts() < 1000);
+    keep.put(whom, unit(alloc, at))
 }
 
-/// Puts three units, one of them for the group, into a new list that holds three.
-fn three(rt: &impl Abort, alloc: Global, keep: &mut Keep, station: &Whom) -> Result<(), Fail> {
-    assert!(rt; keep.is_empty());
-    assert_eq!(rt; keep.puts(), 0);
-    for (whom, octet) in [(*station, 1), (Whom::Group, 2), (*station, 3)] {
-        assert!(rt; !keep.is_full());
-        put_one(alloc, keep, whom, octet)?;
-    }
-    assert!(rt; keep.is_full());
-    Ok(())
-}
-
-/// The oldest of the station's two units leaves.
-fn the_oldest_leaves(rt: &impl Abort, keep: &mut Keep, station: &Whom) {
-    assert_eq!(rt; keep.count_for(*station), 2);
-    let oldest = keep.oldest(*station);
-    assert!(rt; has_body(oldest.as_ref(), 1));
-    assert_eq!(rt; keep.count_for(*station), 1);
-}
-
-/// The other is its only one then, beside the unit for the group.
-fn others_stay(rt: &impl Abort, keep: &Keep, station: &Whom) {
-    assert!(rt; has_body(keep.nth(*station, 0), 3));
-    assert!(rt; keep.nth(*station, 1).is_none());
-    assert!(rt; has_body(keep.nth(Whom::Group, 0), 2));
+/// The clock of the unit for one that `n` others for it came before.
+fn clock_at(keep: &Keep, whom: Whom, n: usize) -> Option<u32> {
+    keep.nth(whom, n).map(|unit| unit.at)
 }
 
 #[test]
 fn each_has_its_part_in_order_of_arrival(rt: HostRuntime) -> Result<(), Fail> {
-    let station = Whom::One(MacAddr::new(STATION));
     let mut keep = Keep::new(rt.alloc(), 3);
-    three(&rt, rt.alloc(), &mut keep, &station)?;
-    the_oldest_leaves(&rt, &mut keep, &station);
-    others_stay(&rt, &keep, &station);
-    keep.drop_for(station);
-    assert_eq!(rt; keep.len(), 1);
-    assert_eq!(rt; keep.puts(), 3);
-    Ok(())
-}
-
-/// The room that is reserved for the station is there, and stays where a call is for another.
-fn room_stays(rt: &impl Abort, keep: &mut Keep, station: &Whom, host: &Whom) {
-    assert!(rt; keep.has_room(*station));
-    assert!(rt; !keep.has_room(*host));
-    assert!(rt; keep.oldest(*host).is_none());
-    keep.drop_for(Whom::Group);
-    assert!(rt; keep.has_room(*station));
-}
-
-#[test]
-fn room_is_for_the_one_that_it_was_made_for(rt: HostRuntime) -> Result<(), Fail> {
-    let station = Whom::One(MacAddr::new(STATION));
-    let host = Whom::One(MacAddr::new(HOST));
-    let mut keep = Keep::new(rt.alloc(), 1);
-    assert!(rt; !keep.has_room(station));
-    keep.reserve(station)?;
-    room_stays(&rt, &mut keep, &station, &host);
-    put_one(rt.alloc(), &mut keep, station, 1)?;
-    assert!(rt; !keep.has_room(station));
-    Ok(())
-}
-
-#[test]
-fn a_quota_of_none_is_full_at_once(rt: HostRuntime) {
-    let keep = Keep::new(rt.alloc(), 0);
+    assert!(rt; keep.is_empty() && keep.puts() == 0);
+    for (whom, at) in [(station(1), 11), (Whom::Group, 12), (station(1), 13)] {
+        put(&rt, rt.alloc(), &mut keep, whom, at)?;
+    }
     assert!(rt; keep.is_full());
+    assert_eq!(rt; keep.count_for(station(1)), 2);
+    assert_eq!(rt; keep.oldest(station(1)).map(|unit| unit.at), Some(11));
+    assert_eq!(rt; keep.count_for(station(1)), 1);
+    assert_eq!(rt; clock_at(&keep, station(1), 0), Some(13));
+    assert_eq!(rt; clock_at(&keep, Whom::Group, 0), Some(12));
+    keep.drop_for(station(1));
+    assert!(rt; keep.len() == 1 && keep.puts() == 3);
+    Ok(())
 }
 
-/// The same as a [`Keep`] in the plainest form: one list, walked by every call. A unit is told by its body's octet.
-#[derive(Drop)]
-struct Plain {
-    entries: Vec<(Whom, u8)>,
-    puts: u64,
-    reserved: Option<Whom>,
-}
-
-impl Plain {
-    fn count_for(&self, whom: &Whom) -> usize {
-        self.entries.iter().filter(|e| e.0 == *whom).count()
-    }
-
-    fn nth(&self, whom: &Whom, n: usize) -> Option<u8> {
-        self.entries
-            .iter()
-            .filter(|e| e.0 == *whom)
-            .nth(n)
-            .map(|e| e.1)
-    }
-
-    fn has_room(&self, whom: &Whom) -> bool {
-        self.reserved == Some(*whom)
-    }
-
-    fn oldest(&mut self, whom: &Whom) -> Option<u8> {
-        self.end_reservation(whom);
-        let place = self.entries.iter().position(|e| e.0 == *whom)?;
-        Some(self.entries.remove(place).1)
-    }
-
-    fn drop_for(&mut self, whom: &Whom) {
-        self.end_reservation(whom);
-        self.entries.retain(|e| e.0 != *whom);
-    }
-
-    fn put(&mut self, whom: &Whom, octet: u8) -> Result<(), Fail> {
-        self.entries.push((*whom, octet))?;
-        self.puts = self.puts.wrapping_add(1);
-        self.reserved = None;
-        Ok(())
-    }
-
-    fn end_reservation(&mut self, whom: &Whom) {
-        if self.has_room(whom) {
-            self.reserved = None;
-        }
-    }
-}
-
-fn octet_of(unit: &Unit) -> Option<u8> {
-    unit.body.as_slice().first().copied()
-}
-
-/// The octet of the unit for one that `n` others for it came before.
-fn octet_at(keep: &Keep, whom: &Whom, n: usize) -> Option<u8> {
-    octet_of(keep.nth(*whom, n)?)
-}
-
-/// For whom a number stands: one of three stations, or the group.
+/// For whom a number stands: the group, or the station with this last octet.
 fn whom_of(number: u8) -> Whom {
-    match number % 4 {
+    match number {
         0 => Whom::Group,
-        last => Whom::One(MacAddr::new([0x02, 0xaa, 0, 0, 0, last])),
+        last => station(last),
     }
 }
 
-/// What the readers say of one.
-fn compare_for(rt: &impl Abort, keep: &Keep, plain: &Plain, whom: &Whom) {
-    assert_eq!(rt; keep.count_for(*whom), plain.count_for(whom));
-    assert_eq!(rt; keep.has_room(*whom), plain.has_room(whom));
-    for n in 0..9usize {
-        assert_eq!(rt; octet_at(keep, whom, n), plain.nth(whom, n));
-    }
-}
-
-/// What the readers say of all.
-fn compare(rt: &impl Abort, keep: &Keep, plain: &Plain) {
-    assert_eq!(rt; keep.len(), plain.entries.len());
-    assert_eq!(rt; keep.is_empty(), plain.entries.is_empty());
-    assert_eq!(rt; keep.is_full(), plain.entries.len() >= 8);
-    assert_eq!(rt; keep.puts(), plain.puts);
-    for number in 0..4u8 {
-        compare_for(rt, keep, plain, &whom_of(number));
-    }
-}
-
-/// One call, the same of both. Tells whether the same unit left both, if one did.
-fn call(alloc: Global, keep: &mut Keep, plain: &mut Plain, drawn: u64) -> Result<bool, Fail> {
-    let whom = &whom_of((drawn >> 40 & 0xff) as u8);
-    match drawn >> 60 {
-        0..=8 => put(alloc, keep, plain, whom, (drawn >> 48 & 0xff) as u8)?,
-        9..=10 => {
-            keep.reserve(*whom)?;
-            plain.reserved = Some(*whom);
-        }
-        11..=14 => {
-            let oldest = keep.oldest(*whom);
-            return Ok(oldest.as_ref().and_then(octet_of) == plain.oldest(whom));
-        }
-        _ => {
-            keep.drop_for(*whom);
-            plain.drop_for(whom);
+/// The place in a plain list of the unit for one that `n` others for it came before.
+fn place_of(list: &[(u8, u32)], whom: u8, n: usize) -> Option<usize> {
+    let mut others = n;
+    for (place, (other, _)) in list.iter().enumerate() {
+        if *other == whom {
+            if others == 0 {
+                return Some(place);
+            }
+            others -= 1;
         }
     }
-    Ok(true)
+    None
 }
 
-/// A unit for one, unless they are full.
-fn put(
-    alloc: Global,
-    keep: &mut Keep,
-    plain: &mut Plain,
-    whom: &Whom,
-    octet: u8,
-) -> Result<(), Fail> {
-    if keep.is_full() || keep.puts() >= 1000 {
-        return Ok(());
+/// What the readers say must be what a plain list holds, and for whom room is reserved.
+fn compare(rt: &impl Abort, keep: &Keep, list: &[(u8, u32)], room: Option<u8>) {
+    assert_eq!(rt; keep.len(), list.len());
+    assert_eq!(rt; keep.is_empty(), list.is_empty());
+    assert_eq!(rt; keep.is_full(), list.len() >= 8);
+    for whom in 0..4u8 {
+        assert_eq!(rt; keep.has_room(whom_of(whom)), room == Some(whom));
+        let mut count = 0;
+        for n in 0..9usize {
+            let place = place_of(list, whom, n);
+            let at = match place {
+                Some(place) => list.get(place).map(|it| it.1),
+                None => None,
+            };
+            assert_eq!(rt; clock_at(keep, whom_of(whom), n), at);
+            if place.is_some() {
+                count = n + 1;
+            }
+        }
+        assert_eq!(rt; keep.count_for(whom_of(whom)), count);
     }
-    put_one(alloc, keep, *whom, octet)?;
-    plain.put(whom, octet)
 }
 
+/// Takes the oldest unit for one out of a plain list.
+fn take_from(list: &mut Vec<(u8, u32)>, whom: u8) -> Option<u32> {
+    let place = list.iter().position(|it| it.0 == whom)?;
+    Some(list.remove(place).1)
+}
+
+/// The plain list has units for one of three stations or the group, each told by its clock. Room is for the one that it
+/// was made for, until a unit is put or a call takes out units of that one.
 #[test]
 fn it_answers_what_a_plain_list_does(rt: HostRuntime) -> Result<(), Fail> {
     let mut keep = Keep::new(rt.alloc(), 8);
-    let mut plain = Plain {
-        entries: Vec::new(rt.alloc()),
-        puts: 0,
-        reserved: None,
-    };
+    let mut list = Vec::new(rt.alloc());
+    let mut puts = 0u64;
+    let mut room = None;
     let mut drawn = 1u64;
     for _ in 0..600u32 {
         drawn = drawn
             .wrapping_mul(6_364_136_223_846_793_005)
             .wrapping_add(1_442_695_040_888_963_407);
-        assert!(rt; call(rt.alloc(), &mut keep, &mut plain, drawn)?);
-        compare(&rt, &keep, &plain);
+        let whom = (drawn >> 40 & 3) as u8;
+        match drawn >> 60 {
+            0..=8 => {
+                if list.len() < 8 {
+                    let at = (drawn >> 48 & 0xff) as u32;
+                    put(&rt, rt.alloc(), &mut keep, whom_of(whom), at)?;
+                    list.push((whom, at))?;
+                    puts = puts.wrapping_add(1);
+                    room = None;
+                }
+            }
+            9..=10 => {
+                keep.reserve(whom_of(whom))?;
+                room = Some(whom);
+            }
+            call => {
+                if call < 15 {
+                    let at = take_from(&mut list, whom);
+                    assert_eq!(rt; keep.oldest(whom_of(whom)).map(|unit| unit.at), at);
+                } else {
+                    keep.drop_for(whom_of(whom));
+                    list.retain(|it| it.0 != whom);
+                }
+                if room == Some(whom) {
+                    room = None;
+                }
+            }
+        }
+        assert_eq!(rt; keep.puts(), puts);
+        compare(&rt, &keep, list.as_slice(), room);
     }
+    Ok(())
+}
+
+#[test]
+fn they_are_told_in_the_order_of_their_addresses(rt: HostRuntime) -> Result<(), Fail> {
+    let mut keep = Keep::new(rt.alloc(), 9);
+    assert_eq!(rt; keep.next_whom(None), None);
+    for whom in [Whom::Group, station(2), station(1)] {
+        put(&rt, rt.alloc(), &mut keep, whom, 0)?;
+    }
+    // stations for whom nothing is kept, before the others and after them, come into it too
+    for (last, next) in [
+        (None, Some(station(1))),
+        (Some(station(0)), Some(station(1))),
+        (Some(station(1)), Some(station(2))),
+        (Some(station(2)), Some(Whom::Group)),
+        (Some(station(3)), Some(Whom::Group)),
+        (Some(Whom::Group), None),
+    ] {
+        assert_eq!(rt; keep.next_whom(last), next);
+    }
+    keep.drop_for(station(1));
+    assert_eq!(rt; keep.next_whom(None), Some(station(2)));
+    Ok(())
+}
+
+/// So many units must be kept for the stations 1 and 2 and for the group, of which the first for station 1 came at a clock.
+fn holds(rt: &impl Abort, keep: &Keep, counts: [usize; 3], first: Option<u32>) {
+    let [one, other, group] = counts;
+    assert_eq!(rt; keep.count_for(station(1)), one);
+    assert_eq!(rt; keep.count_for(station(2)), other);
+    assert_eq!(rt; keep.count_for(Whom::Group), group);
+    assert_eq!(rt; clock_at(keep, station(1), 0), first);
+}
+
+/// At first no unit of a station is older than the clock, then the first is, and the unit at the clock itself stays, then
+/// all are, and then none is kept. Those of the group leave where they are asked for. Room for another is left.
+#[test]
+fn those_that_came_before_a_clock_leave(rt: HostRuntime) -> Result<(), Fail> {
+    let mut keep = Keep::new(rt.alloc(), 9);
+    keep.put(station(1), unit(rt.alloc(), 0))?;
+    keep.put(station(2), unit(rt.alloc(), 0))?;
+    keep.put(Whom::Group, unit(rt.alloc(), 0))?;
+    keep.put(station(1), unit(rt.alloc(), 1))?;
+    keep.put(station(1), unit(rt.alloc(), 2))?;
+    keep.reserve(station(2))?;
+    assert!(rt; keep.drop_older(station(1), 0) == 0);
+    holds(&rt, &keep, [3, 1, 1], Some(0));
+    assert!(rt; keep.drop_older(station(1), 1) == 1);
+    holds(&rt, &keep, [2, 1, 1], Some(1));
+    assert!(rt; keep.has_room(station(2)));
+    keep.reserve(station(1))?;
+    assert!(rt; keep.drop_older(station(1), u32::MAX) == 2);
+    holds(&rt, &keep, [0, 1, 1], None);
+    assert!(rt; !keep.has_room(station(1)));
+    assert!(rt; keep.drop_older(station(1), u32::MAX) == 0);
+    assert!(rt; keep.drop_older(Whom::Group, 1) == 1);
+    holds(&rt, &keep, [0, 1, 0], None);
     Ok(())
 }
