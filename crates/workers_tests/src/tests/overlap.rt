@@ -1,29 +1,21 @@
 //! One network answers while another is looked at: each has a lock of its own.
 
 ghost use Rattle.std.specs.Prelude.{◌<◌, length};
-ghost use Rattle.workers.specs.Names.{AreNamed};
 
-use super::{BSSIDS, NOBODY, expect, has_first, two_networks};
+use super::running::{Job, run};
+use super::{has_first, radio};
 use bss_core::{Bss, MAX_NETWORKS};
 use mac_frame::{MacAddr, NoMemory};
-use std::alloc::Global;
-use std::marker::Brand;
+use std::process::Abort;
 use std::sync::Wait;
 use std::sync::atomic::{AtomicU64, Ordering};
 use std::test::Fail;
 use std::thread;
 use std::thread::Threads;
-use workers::{Ap, ApName, Caller, Outcome, Parts};
+use workers::{Ap, ApName, Caller, Outcome};
 
 /// How often a thread looks at most.
 const TURNS: u32 = 1_000_000;
-
-/// What the threads tell each other: that the first network is looked at, and that the second has answered.
-#[derive(Drop)]
-struct Signs {
-    looking: AtomicU64,
-    answered: AtomicU64,
-}
 
 /// Whether a sign is given in time.
 pub(super) fn comes(sign: &AtomicU64) -> bool {
@@ -36,23 +28,25 @@ pub(super) fn comes(sign: &AtomicU64) -> bool {
     false
 }
 
-/// Whether this is the first network, and the other thread was answered while it was looked at.
-fn is_answered_beside(first: &Bss, signs: &Signs) -> bool {
-    signs.looking.store(1, Ordering::SeqCst);
-    first.config().bssid == MacAddr::new(BSSIDS[0]) && comes(&signs.answered)
+/// Tells that a network is looked at. Answers whether it is the first, and the other thread was answered meanwhile.
+fn is_answered_beside(first: &Bss, looking: &AtomicU64, answered: &AtomicU64) -> bool {
+    looking.store(1, Ordering::SeqCst);
+    first.config().bssid == MacAddr::new([2, 0, 0, 0, 0, 1]) && comes(answered)
 }
 
-/// Gives a frame to the second network while the first is looked at, and tells that it was answered.
+/// Gives a frame to the second network while the first is looked at, and tells that it was answered. Answers whether
+/// the first was looked at, and what became of the frame.
 fn answer<N: ApName, R: Wait>(
     rt: &R,
     ap: &Ap<N>,
     caller: &mut Caller,
-    signs: &Signs,
+    looking: &AtomicU64,
+    answered: &AtomicU64,
 ) -> (bool, Result<[Outcome; MAX_NETWORKS], NoMemory>) {
-    let looking = comes(&signs.looking);
+    let is_looked_at = comes(looking);
     let outcomes = ap.wire(rt, caller, 1, &[0; 13]);
-    signs.answered.store(1, Ordering::SeqCst);
-    (looking, outcomes)
+    answered.store(1, Ordering::SeqCst);
+    (is_looked_at, outcomes)
 }
 
 /// One thread looks at the first network until the other's frame for the second was answered.
@@ -63,65 +57,39 @@ fn both<N: ApName + Send + Sync, R: Threads + Wait + Sync>(
 ) -> (bool, (bool, Result<[Outcome; MAX_NETWORKS], NoMemory>))
     requires { 0 < length N.config.networks }
 {
-    let signs = Signs {
-        looking: AtomicU64::new(0),
-        answered: AtomicU64::new(0),
-    };
-    let seen = &signs;
+    let looking = AtomicU64::new(0);
+    let answered = AtomicU64::new(0);
+    let (signs, seen) = (&looking, &answered);
     thread::join(
         rt,
         move ||
             requires { 0 < length N.config.networks }
-        { ap.inspect(rt, 0, |bss| is_answered_beside(bss, seen)) },
-        move || answer(rt, ap, caller, seen),
+        { ap.inspect(rt, 0, |bss| is_answered_beside(bss, signs, seen)) },
+        move || answer(rt, ap, caller, signs, seen),
     )
 }
 
-/// Whether each thread saw the other's sign in time, the one that looks and the one that gives a frame, and what that
-/// frame was answered.
-type Overlap = (bool, bool, [Outcome; MAX_NETWORKS]);
-
-/// What came of it, where there is a network.
-fn overlap<N: ApName + Send + Sync, R: Threads + Wait + Sync>(
+/// Each thread sees the other's sign in time, and the second network took the frame.
+pub(super) fn look_and_answer<N: ApName + Send + Sync, R: Threads + Wait + Abort + Sync>(
     rt: &R,
     ap: &Ap<N>,
-    caller: &mut Caller,
-) -> Result<Overlap, Fail> {
+    callers: &mut [Caller],
+) -> Result<(), Fail> {
     has_first(ap)?;
-    let (answered, (looking, outcomes)) = both(rt, ap, caller);
-    Ok((answered, looking, outcomes?))
-}
-
-fn other_network_answers_of<N: ApName + Send + Sync, R: Threads + Wait + Sync>(
-    rt: &R,
-    alloc: Global,
-    parts: Parts,
-) -> Result<Overlap, Fail>
-    requires { AreNamed N.config N.queue parts }
-{
-    let (ap, mut callers, _transmitter) = Ap::<N>::start(alloc, parts)?;
-    let mut caller = callers.pop().ok_or("no caller")?;
-    overlap(rt, &ap, &mut caller)
-}
-
-/// The same of a new access point of two networks.
-fn overlap_of_two<R: Threads + Wait + Sync>(rt: &R, alloc: Global) -> Result<Overlap, Fail> {
-    let parts = Parts::open(alloc, two_networks(alloc)?, 1)?;
-    other_network_answers_of::<Brand, R>(rt, alloc, parts)
-}
-
-/// The second network took its first event.
-fn second_took() -> [Outcome; MAX_NETWORKS] {
-    let mut outcomes = NOBODY;
-    outcomes[1] = Outcome::Took(0);
-    outcomes
+    let caller = callers.first_mut().ok_or("no caller")?;
+    let (is_answered, (is_looked_at, outcomes)) = both(rt, ap, caller);
+    let mut expected = [Outcome::NotHeard; MAX_NETWORKS];
+    expected[1] = Outcome::Took(0);
+    assert_eq!(rt;
+        (is_answered, is_looked_at, outcomes?),
+        (true, true, expected)
+    );
+    Ok(())
 }
 
 #[test]
 fn other_network_answers(rt: HostRuntime) -> Result<(), Fail> {
-    expect(
-        &rt,
-        overlap_of_two(&rt, rt.alloc()),
-        (true, true, second_took()),
-    )
+    let config = radio(rt.alloc(), 64, &[1000, 1000])?;
+    let _end = run(&rt, rt.alloc(), config, 1, Job::LookAndAnswer)?;
+    Ok(())
 }

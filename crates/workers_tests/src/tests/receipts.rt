@@ -2,15 +2,17 @@
 
 ghost use Rattle.workers.specs.Names.{AreNamed};
 
-use super::{BSSIDS, network, one_network, radio, two_networks};
-use bss_core::RadioConfig;
+use super::radio;
+use super::running::fault;
 use std::alloc::Global;
 use std::marker::Brand;
+use std::process::Abort;
 use std::sync::Wait;
 use std::test::Fail;
-use workers::{Ap, ApName, Caller, FinishFault, Finished, Parts};
+use std::thread::Threads;
+use workers::{Ap, ApName, Caller, FinishFault, Parts};
 
-/// What the one caller of an access point gives it.
+/// What each caller of an access point gives it.
 #[derive(Clone, Copy)]
 enum Gift {
     /// So many ticks.
@@ -19,21 +21,301 @@ enum Gift {
     WiredFrame,
 }
 
-/// Whom an access point is finished with.
-#[derive(Drop)]
+/// Whom it is finished with, beside a stranger if there is one.
+#[derive(Clone, Copy)]
 enum Handed {
-    /// Nobody.
-    Nobody,
-    /// Its own caller.
-    Own,
-    /// A caller of another access point.
-    Stranger(Caller),
-    /// Its own, and a caller of another.
-    Both(Caller),
-    /// Its own, and a caller of another that gives it a tick.
-    Guest(Caller),
+    /// All its own callers.
+    All,
+    /// All of them but the last.
+    AllButTheLast,
+    /// All of them, and the stranger gives it a tick first.
+    AllWithAGuest,
 }
 
+/// How an access point ends that a stranger may visit.
+#[derive(Clone, Copy)]
+pub(super) struct Visit {
+    gift: Gift,
+    handed: Handed,
+}
+
+/// An access point that is finished so.
+#[derive(Clone, Copy)]
+struct Row {
+    what: &'static str,
+    /// Other access points: how many events each of their networks takes, and the ticks of their one caller. The first
+    /// one's caller is the stranger, who goes to each of the others, after these ticks, and gives one more.
+    told: &'static [(&'static [u32], u32)],
+    /// How many events its network takes.
+    most: u32,
+    callers: u32,
+    visit: Visit,
+    expected: Option<FinishFault>,
+}
+
+/// Of several faults the first is told: a bad receipt, then an event that no receipt tells of, then a network that is not
+/// full.
+const ROWS: [Row; 19] = [
+    Row {
+        what: "its own caller, after Took and Full",
+        told: &[],
+        most: 1,
+        callers: 1,
+        visit: Visit {
+            gift: Gift::Ticks(2),
+            handed: Handed::All,
+        },
+        expected: None,
+    },
+    Row {
+        what: "its own caller, after Took",
+        told: &[],
+        most: 100,
+        callers: 1,
+        visit: Visit {
+            gift: Gift::Ticks(1),
+            handed: Handed::All,
+        },
+        expected: None,
+    },
+    Row {
+        what: "its own caller, after nothing",
+        told: &[],
+        most: 100,
+        callers: 1,
+        visit: Visit {
+            gift: Gift::Ticks(0),
+            handed: Handed::All,
+        },
+        expected: None,
+    },
+    Row {
+        what: "both its own callers",
+        told: &[],
+        most: 100,
+        callers: 2,
+        visit: Visit {
+            gift: Gift::Ticks(1),
+            handed: Handed::All,
+        },
+        expected: None,
+    },
+    Row {
+        what: "the first of two callers",
+        told: &[],
+        most: 100,
+        callers: 2,
+        visit: Visit {
+            gift: Gift::Ticks(1),
+            handed: Handed::AllButTheLast,
+        },
+        expected: Some(FinishFault::Uncovered),
+    },
+    Row {
+        what: "nobody",
+        told: &[],
+        most: 100,
+        callers: 1,
+        visit: Visit {
+            gift: Gift::Ticks(1),
+            handed: Handed::AllButTheLast,
+        },
+        expected: Some(FinishFault::Uncovered),
+    },
+    Row {
+        what: "number 0 is not there",
+        told: &[(&[100], 1)],
+        most: 100,
+        callers: 1,
+        visit: Visit {
+            gift: Gift::Ticks(0),
+            handed: Handed::AllButTheLast,
+        },
+        expected: Some(FinishFault::BadReceipt),
+    },
+    Row {
+        what: "number 1 is not there",
+        told: &[(&[100], 2)],
+        most: 100,
+        callers: 1,
+        visit: Visit {
+            gift: Gift::Ticks(1),
+            handed: Handed::AllButTheLast,
+        },
+        expected: Some(FinishFault::BadReceipt),
+    },
+    Row {
+        what: "place 1 is not there",
+        told: &[(&[1000, 1000], 1)],
+        most: 100,
+        callers: 1,
+        visit: Visit {
+            gift: Gift::Ticks(1),
+            handed: Handed::AllButTheLast,
+        },
+        expected: Some(FinishFault::BadReceipt),
+    },
+    Row {
+        what: "place 1 is not there, and event 1 is not told of",
+        told: &[(&[1000, 1000], 1)],
+        most: 100,
+        callers: 1,
+        visit: Visit {
+            gift: Gift::Ticks(2),
+            handed: Handed::AllButTheLast,
+        },
+        expected: Some(FinishFault::BadReceipt),
+    },
+    Row {
+        what: "another event",
+        told: &[(&[100], 1)],
+        most: 100,
+        callers: 1,
+        visit: Visit {
+            gift: Gift::WiredFrame,
+            handed: Handed::AllButTheLast,
+        },
+        expected: Some(FinishFault::BadReceipt),
+    },
+    Row {
+        what: "an event that two receipts tell of",
+        told: &[(&[100], 1)],
+        most: 100,
+        callers: 1,
+        visit: Visit {
+            gift: Gift::Ticks(1),
+            handed: Handed::All,
+        },
+        expected: Some(FinishFault::BadReceipt),
+    },
+    Row {
+        what: "a guest whose first receipt is of another",
+        told: &[(&[100], 1)],
+        most: 100,
+        callers: 1,
+        visit: Visit {
+            gift: Gift::Ticks(1),
+            handed: Handed::AllWithAGuest,
+        },
+        expected: Some(FinishFault::BadReceipt),
+    },
+    Row {
+        what: "each event once, but number 1 before 0",
+        told: &[(&[100], 0), (&[100], 1), (&[100], 0)],
+        most: 100,
+        callers: 1,
+        visit: Visit {
+            gift: Gift::Ticks(2),
+            handed: Handed::AllButTheLast,
+        },
+        expected: Some(FinishFault::BadReceipt),
+    },
+    Row {
+        what: "each event once, in order",
+        told: &[(&[100], 1), (&[100], 1)],
+        most: 100,
+        callers: 1,
+        visit: Visit {
+            gift: Gift::Ticks(2),
+            handed: Handed::AllButTheLast,
+        },
+        expected: None,
+    },
+    Row {
+        what: "full, where one more fits",
+        told: &[(&[1], 2)],
+        most: 100,
+        callers: 1,
+        visit: Visit {
+            gift: Gift::Ticks(1),
+            handed: Handed::AllButTheLast,
+        },
+        expected: Some(FinishFault::FullEarly),
+    },
+    Row {
+        what: "full, where one more fits, and event 1 is not told of",
+        told: &[(&[1], 2)],
+        most: 100,
+        callers: 1,
+        visit: Visit {
+            gift: Gift::Ticks(2),
+            handed: Handed::AllButTheLast,
+        },
+        expected: Some(FinishFault::Uncovered),
+    },
+    Row {
+        what: "full, and then event 1 of a network that is full now",
+        told: &[(&[1], 2), (&[100], 1)],
+        most: 2,
+        callers: 1,
+        visit: Visit {
+            gift: Gift::Ticks(2),
+            handed: Handed::AllButTheLast,
+        },
+        expected: Some(FinishFault::FullEarly),
+    },
+    Row {
+        what: "full at place 1, which is not there",
+        told: &[(&[100], 1), (&[100, 1], 1)],
+        most: 100,
+        callers: 1,
+        visit: Visit {
+            gift: Gift::Ticks(2),
+            handed: Handed::AllButTheLast,
+        },
+        expected: Some(FinishFault::FullEarly),
+    },
+];
+
+/// Its one caller gives so many ticks, and the stranger, if there is one, one more. Answers the stranger, or else the
+/// caller. Of the frames one is queued then.
+fn tell<N: ApName, R: Wait>(
+    rt: &R,
+    ap: &Ap<N>,
+    callers: &mut Vec<Caller>,
+    ticks: u32,
+    stranger: Option<Caller>,
+) -> Result<Caller, Fail> {
+    let mut caller = callers.pop().ok_or("no caller")?;
+    for _ in 0..ticks {
+        ap.tick(rt, &mut caller)?;
+    }
+    for place in 0..ap.networks() {
+        ap.pump(rt, place);
+    }
+    if let Some(stranger) = stranger {
+        caller = stranger;
+        ap.tick(rt, &mut caller)?;
+    }
+    Ok(caller)
+}
+
+fn told_of<N: ApName, R: Wait>(
+    rt: &R,
+    alloc: Global,
+    parts: Parts,
+    ticks: u32,
+    stranger: Option<Caller>,
+) -> Result<Caller, Fail>
+    requires { AreNamed N.config N.queue parts }
+{
+    let (ap, mut callers, _transmitter) = Ap::<N>::start(alloc, parts)?;
+    tell(rt, &ap, &mut callers, ticks, stranger)
+}
+
+/// Who a new access point is told by. It is dropped with the frames that are queued and that wait.
+fn told<R: Wait>(
+    rt: &R,
+    alloc: Global,
+    most: &[u32],
+    ticks: u32,
+    stranger: Option<Caller>,
+) -> Result<Caller, Fail> {
+    let parts = Parts::open(alloc, radio(alloc, 1, most)?, 1)?;
+    told_of::<Brand, R>(rt, alloc, parts, ticks, stranger)
+}
+
+/// A caller gives this.
 fn give<N: ApName, R: Wait>(
     rt: &R,
     ap: &Ap<N>,
@@ -53,276 +335,60 @@ fn give<N: ApName, R: Wait>(
     Ok(())
 }
 
-/// The caller of an access point after so many ticks; or a stranger, after those and one tick of its own.
-fn told_of<N: ApName, R: Wait>(
+/// Each of an access point's callers gives it something, and then they are those that it is finished with.
+pub(super) fn visit_it<N: ApName, R: Wait>(
     rt: &R,
-    alloc: Global,
-    parts: Parts,
-    ticks: u32,
+    ap: &Ap<N>,
+    callers: &mut Vec<Caller>,
+    visit: Visit,
     stranger: Option<Caller>,
-) -> Result<Caller, Fail>
-    requires { AreNamed N.config N.queue parts }
-{
-    let (ap, mut callers, _transmitter) = Ap::<N>::start(alloc, parts)?;
-    let mut own = callers.pop().ok_or("no caller")?;
-    give(rt, &ap, &mut own, Gift::Ticks(ticks))?;
-    match stranger {
-        None => Ok(own),
-        Some(mut caller) => {
-            give(rt, &ap, &mut caller, Gift::Ticks(1))?;
-            Ok(caller)
-        }
+) -> Result<(), Fail> {
+    for caller in callers.iter_mut() {
+        give(rt, ap, caller, visit.gift)?;
     }
-}
-
-/// The same of a new access point.
-fn told<R: Wait>(
-    rt: &R,
-    alloc: Global,
-    config: RadioConfig,
-    ticks: u32,
-    stranger: Option<Caller>,
-) -> Result<Caller, Fail> {
-    let parts = Parts::open(alloc, config, 1)?;
-    told_of::<Brand, R>(rt, alloc, parts, ticks, stranger)
-}
-
-/// How an access point ends to which its own caller gave this.
-fn ended_of<N: ApName, R: Wait>(
-    rt: &R,
-    alloc: Global,
-    parts: Parts,
-    gift: Gift,
-    handed: Handed,
-) -> Result<Result<Finished, FinishFault>, Fail>
-    requires { AreNamed N.config N.queue parts }
-{
-    let (ap, mut callers, transmitter) = Ap::<N>::start(alloc, parts)?;
-    let mut own = callers.pop().ok_or("no caller")?;
-    give(rt, &ap, &mut own, gift)?;
-    match handed {
-        Handed::Nobody => {}
-        Handed::Own => callers.push(own)?,
-        Handed::Stranger(stranger) => callers.push(stranger)?,
-        Handed::Both(stranger) => {
-            callers.push(own)?;
-            callers.push(stranger)?;
-        }
-        Handed::Guest(mut guest) => {
-            give(rt, &ap, &mut guest, Gift::Ticks(1))?;
-            callers.push(own)?;
-            callers.push(guest)?;
-        }
+    if let Handed::AllButTheLast = visit.handed {
+        callers.pop();
     }
-    Ok(ap.finish(rt, callers, transmitter))
+    let Some(mut stranger) = stranger else {
+        return Ok(());
+    };
+    if let Handed::AllWithAGuest = visit.handed {
+        ap.tick(rt, &mut stranger)?;
+    }
+    callers.push(stranger)?;
+    Ok(())
 }
 
-/// Why a new access point can't be finished so, if it can't.
-fn fault<R: Wait>(
+/// Why the access point of a row can't be finished, if it can't.
+fn fault_of<R: Threads + Wait + Abort + Sync>(
     rt: &R,
     alloc: Global,
-    config: RadioConfig,
-    gift: Gift,
-    handed: Handed,
+    row: Row,
 ) -> Result<Option<FinishFault>, Fail> {
-    let parts = Parts::open(alloc, config, 1)?;
-    let ended = ended_of::<Brand, R>(rt, alloc, parts, gift, handed)?;
-    match ended {
-        Ok(_) => Ok(None),
-        Err(fault) => Ok(Some(fault)),
+    let mut stranger = None;
+    for (most, ticks) in row.told {
+        stranger = Some(told(rt, alloc, *most, *ticks, stranger)?);
     }
-}
-
-/// A radio of two networks, the second of which takes one event.
-fn one_event_on_the_second(alloc: Global) -> Result<RadioConfig, Fail> {
-    let networks = vec![in alloc;
-        network(alloc, BSSIDS[0], 100)?,
-        network(alloc, BSSIDS[1], 1)?,
-    ]?;
-    Ok(radio(networks))
+    let config = radio(alloc, 64, &[row.most])?;
+    fault(rt, alloc, config, row.callers, row.visit, stranger)
 }
 
 #[test]
-fn its_own_caller_finishes_an_access_point(rt: HostRuntime) -> Result<(), Fail> {
-    let alloc = rt.alloc();
-    for (most, ticks) in [(1, 2), (100, 1), (100, 0)] {
-        let config = one_network(alloc, most)?;
+fn receipts_are_tested(rt: HostRuntime) -> Result<(), Fail> {
+    for row in ROWS {
         assert_eq!(rt;
-            fault(&rt, alloc, config, Gift::Ticks(ticks), Handed::Own)?,
-            None
+            fault_of(&rt, rt.alloc(), row)?,
+            row.expected,
+            "{}",
+            row.what
         );
     }
     Ok(())
 }
 
 #[test]
-fn a_number_that_is_not_there(rt: HostRuntime) -> Result<(), Fail> {
-    let alloc = rt.alloc();
-    for ticks in [0, 1] {
-        let stranger = told(&rt, alloc, one_network(alloc, 100)?, ticks + 1, None)?;
-        let config = one_network(alloc, 100)?;
-        let handed = Handed::Stranger(stranger);
-        assert_eq!(rt;
-            fault(&rt, alloc, config, Gift::Ticks(ticks), handed)?,
-            Some(FinishFault::BadReceipt)
-        );
-    }
-    Ok(())
-}
-
-#[test]
-fn a_place_that_is_not_there(rt: HostRuntime) -> Result<(), Fail> {
-    let alloc = rt.alloc();
-    let stranger = told(&rt, alloc, two_networks(alloc)?, 1, None)?;
-    let config = one_network(alloc, 100)?;
-    assert_eq!(rt;
-        fault(
-            &rt,
-            alloc,
-            config,
-            Gift::Ticks(1),
-            Handed::Stranger(stranger)
-        )?,
-        Some(FinishFault::BadReceipt)
-    );
-    Ok(())
-}
-
-#[test]
-fn another_event_at_this_number(rt: HostRuntime) -> Result<(), Fail> {
-    let alloc = rt.alloc();
-    let stranger = told(&rt, alloc, one_network(alloc, 100)?, 1, None)?;
-    let config = one_network(alloc, 100)?;
-    assert_eq!(rt;
-        fault(
-            &rt,
-            alloc,
-            config,
-            Gift::WiredFrame,
-            Handed::Stranger(stranger)
-        )?,
-        Some(FinishFault::BadReceipt)
-    );
-    Ok(())
-}
-
-#[test]
-fn an_event_that_two_receipts_tell_of(rt: HostRuntime) -> Result<(), Fail> {
-    let alloc = rt.alloc();
-    let stranger = told(&rt, alloc, one_network(alloc, 100)?, 1, None)?;
-    let config = one_network(alloc, 100)?;
-    assert_eq!(rt;
-        fault(&rt, alloc, config, Gift::Ticks(1), Handed::Both(stranger))?,
-        Some(FinishFault::BadReceipt)
-    );
-    Ok(())
-}
-
-/// A caller of another access point was told 0 there, and is told 1 here.
-#[test]
-fn a_guest_whose_first_receipt_is_of_another(rt: HostRuntime) -> Result<(), Fail> {
-    let alloc = rt.alloc();
-    let guest = told(&rt, alloc, one_network(alloc, 100)?, 1, None)?;
-    let config = one_network(alloc, 100)?;
-    assert_eq!(rt;
-        fault(&rt, alloc, config, Gift::Ticks(1), Handed::Guest(guest))?,
-        Some(FinishFault::BadReceipt)
-    );
-    Ok(())
-}
-
-/// A caller was told 1 by one access point and then 0 by another: each event is there once, in the wrong order.
-#[test]
-fn numbers_that_do_not_rise(rt: HostRuntime) -> Result<(), Fail> {
-    let alloc = rt.alloc();
-    let new = told(&rt, alloc, one_network(alloc, 100)?, 0, None)?;
-    let second = told(&rt, alloc, one_network(alloc, 100)?, 1, Some(new))?;
-    let both = told(&rt, alloc, one_network(alloc, 100)?, 0, Some(second))?;
-    let config = one_network(alloc, 100)?;
-    assert_eq!(rt;
-        fault(&rt, alloc, config, Gift::Ticks(2), Handed::Stranger(both))?,
-        Some(FinishFault::BadReceipt)
-    );
-    Ok(())
-}
-
-/// The same caller, told 0 first, can't be told from the access point's own.
-#[test]
-fn a_stranger_whose_receipts_agree(rt: HostRuntime) -> Result<(), Fail> {
-    let alloc = rt.alloc();
-    let first = told(&rt, alloc, one_network(alloc, 100)?, 1, None)?;
-    let both = told(&rt, alloc, one_network(alloc, 100)?, 1, Some(first))?;
-    let config = one_network(alloc, 100)?;
-    assert_eq!(rt;
-        fault(&rt, alloc, config, Gift::Ticks(2), Handed::Stranger(both))?,
-        None
-    );
-    Ok(())
-}
-
-/// Where there is a bad receipt too, that comes first.
-#[test]
-fn an_event_that_no_receipt_tells_of(rt: HostRuntime) -> Result<(), Fail> {
-    let alloc = rt.alloc();
-    let config = one_network(alloc, 100)?;
-    assert_eq!(rt;
-        fault(&rt, alloc, config, Gift::Ticks(1), Handed::Nobody)?,
-        Some(FinishFault::Uncovered)
-    );
-    let stranger = told(&rt, alloc, two_networks(alloc)?, 1, None)?;
-    let config = one_network(alloc, 100)?;
-    assert_eq!(rt;
-        fault(
-            &rt,
-            alloc,
-            config,
-            Gift::Ticks(2),
-            Handed::Stranger(stranger)
-        )?,
-        Some(FinishFault::BadReceipt)
-    );
-    Ok(())
-}
-
-/// Where no receipt tells of some event, that comes first.
-#[test]
-fn a_network_that_is_not_full(rt: HostRuntime) -> Result<(), Fail> {
-    let alloc = rt.alloc();
-    for (ticks, expected) in [(1, FinishFault::FullEarly), (2, FinishFault::Uncovered)] {
-        let stranger = told(&rt, alloc, one_network(alloc, 1)?, 2, None)?;
-        let config = one_network(alloc, 100)?;
-        let handed = Handed::Stranger(stranger);
-        assert_eq!(rt;
-            fault(&rt, alloc, config, Gift::Ticks(ticks), handed)?,
-            Some(expected)
-        );
-    }
-    Ok(())
-}
-
-/// A caller was told that one network is full and then 1 by another: the history has all that the network may take.
-#[test]
-fn a_receipt_of_a_full_network(rt: HostRuntime) -> Result<(), Fail> {
-    let alloc = rt.alloc();
-    let full = told(&rt, alloc, one_network(alloc, 1)?, 2, None)?;
-    let later = told(&rt, alloc, one_network(alloc, 100)?, 1, Some(full))?;
-    let config = one_network(alloc, 2)?;
-    assert_eq!(rt;
-        fault(&rt, alloc, config, Gift::Ticks(2), Handed::Stranger(later))?,
-        Some(FinishFault::FullEarly)
-    );
-    Ok(())
-}
-
-#[test]
-fn a_full_network_that_is_not_there(rt: HostRuntime) -> Result<(), Fail> {
-    let alloc = rt.alloc();
-    let first = told(&rt, alloc, one_network(alloc, 100)?, 1, None)?;
-    let full = told(&rt, alloc, one_event_on_the_second(alloc)?, 1, Some(first))?;
-    let config = one_network(alloc, 100)?;
-    assert_eq!(rt;
-        fault(&rt, alloc, config, Gift::Ticks(2), Handed::Stranger(full))?,
-        Some(FinishFault::FullEarly)
-    );
+fn an_access_point_is_dropped(rt: HostRuntime) -> Result<(), Fail> {
+    let caller = told(&rt, rt.alloc(), &[100], 3, None)?;
+    assert_eq!(rt; caller.entries().len(), 3);
     Ok(())
 }

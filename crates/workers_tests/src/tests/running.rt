@@ -1,107 +1,90 @@
-//! One access point with one caller, from its opening to its end.
+//! One access point, from its opening to its end.
 
 ghost use Rattle.workers.specs.Names.{AreNamed};
 
-use super::{answers, ending, most, one_network, units};
+use super::moves::{Move, make_all};
+use super::overlap::look_and_answer;
+use super::receipts::{Visit, visit_it};
 use bss_core::RadioConfig;
 use std::alloc::Global;
 use std::marker::Brand;
 use std::process::Abort;
 use std::sync::Wait;
 use std::test::Fail;
-use workers::{Ap, ApName, Caller, Finished, Parts, Transmitter};
+use std::thread::Threads;
+use workers::{Ap, ApName, Caller, FinishFault, Finished, Parts, Transmitter};
 
-/// What its caller does with it.
+/// What is done with it.
 #[derive(Clone, Copy)]
 pub(super) enum Job {
-    /// It ticks, gives frames, and lets what it pumps leave.
-    PumpThenLeave,
-    /// It ticks twice, where one event fits.
-    TwoTicks,
-    /// It ticks three times, and lets one beacon leave.
-    ThreeBeacons,
-    /// It lets a station join and poll its units.
-    Units,
-    /// It ticks and lets a station probe, in each of as many networks as there may be.
-    TickAndProbe,
+    /// Its callers make these moves in turn.
+    Moves(&'static [Move]),
+    /// A thread looks at the first network until another's frame for the second was answered.
+    LookAndAnswer,
+    /// It is visited.
+    Visit(Visit),
 }
 
-/// The caller does so.
-fn work<N: ApName, R: Wait + Abort>(
+/// That is done. A stranger comes along for a visit.
+fn work<N: ApName + Send + Sync, R: Threads + Wait + Abort + Sync>(
     rt: &R,
     alloc: Global,
     job: Job,
     ap: &Ap<N>,
-    caller: &mut Caller,
+    callers: &mut Vec<Caller>,
     transmitter: &mut Transmitter<N>,
+    stranger: Option<Caller>,
 ) -> Result<(), Fail> {
     match job {
-        Job::PumpThenLeave => answers::use_it(rt, alloc, ap, caller, transmitter),
-        Job::TwoTicks => answers::tick_twice(rt, alloc, ap, caller),
-        Job::ThreeBeacons => ending::three_beacons(rt, ap, caller, transmitter),
-        Job::Units => units::give_all(rt, alloc, ap, caller),
-        Job::TickAndProbe => most::tick_and_probe(rt, alloc, ap, caller),
+        Job::Moves(moves) => make_all(rt, alloc, ap, callers.as_mut_slice(), transmitter, moves),
+        Job::LookAndAnswer => look_and_answer(rt, ap, callers.as_mut_slice()),
+        Job::Visit(visit) => visit_it(rt, ap, callers, visit, stranger),
     }
 }
 
-/// Each caller does so.
-fn work_all<N: ApName, R: Wait + Abort>(
+fn run_of<N: ApName + Send + Sync, R: Threads + Wait + Abort + Sync>(
     rt: &R,
     alloc: Global,
-    job: Job,
-    ap: &Ap<N>,
-    callers: &mut [Caller],
-    transmitter: &mut Transmitter<N>,
-) -> Result<(), Fail> {
-    for caller in callers.iter_mut() {
-        work(rt, alloc, job, ap, caller, transmitter)?;
-    }
-    Ok(())
-}
-
-/// What the access point ends with then.
-fn end<N: ApName, R: Wait + Abort>(
-    rt: &R,
-    alloc: Global,
-    job: Job,
-    ap: Ap<N>,
-    mut callers: Vec<Caller>,
-    mut transmitter: Transmitter<N>,
-) -> Result<Finished, Fail> {
-    let callers_now = callers.as_mut_slice();
-    work_all(rt, alloc, job, &ap, callers_now, &mut transmitter)?;
-    Ok(ap.finish(rt, callers, transmitter)?)
-}
-
-fn run_of<N: ApName, R: Wait + Abort>(
-    rt: &R,
-    alloc: Global,
-    job: Job,
     parts: Parts,
-) -> Result<Finished, Fail>
+    job: Job,
+    stranger: Option<Caller>,
+) -> Result<Result<Finished, FinishFault>, Fail>
     requires { AreNamed N.config N.queue parts }
 {
-    let (ap, callers, transmitter) = Ap::<N>::start(alloc, parts)?;
-    end(rt, alloc, job, ap, callers, transmitter)
+    let (ap, mut callers, mut transmitter) = Ap::<N>::start(alloc, parts)?;
+    work(
+        rt,
+        alloc,
+        job,
+        &ap,
+        &mut callers,
+        &mut transmitter,
+        stranger,
+    )?;
+    Ok(ap.finish(rt, callers, transmitter))
 }
 
-/// What a new access point of this configuration ends with.
-pub(super) fn run_with<R: Wait + Abort>(
+/// What a new access point of so many callers ends with.
+pub(super) fn run<R: Threads + Wait + Abort + Sync>(
     rt: &R,
     alloc: Global,
-    job: Job,
     config: RadioConfig,
+    callers: u32,
+    job: Job,
 ) -> Result<Finished, Fail> {
-    let parts = Parts::open(alloc, config, 1)?;
-    run_of::<Brand, R>(rt, alloc, job, parts)
+    let parts = Parts::open(alloc, config, callers)?;
+    Ok(run_of::<Brand, R>(rt, alloc, parts, job, None)??)
 }
 
-/// What a new access point whose network takes so many events ends with.
-pub(super) fn run<R: Wait + Abort>(
+/// Why a new access point can't be finished after a visit, if it can't.
+pub(super) fn fault<R: Threads + Wait + Abort + Sync>(
     rt: &R,
     alloc: Global,
-    job: Job,
-    max_events: u32,
-) -> Result<Finished, Fail> {
-    run_with(rt, alloc, job, one_network(alloc, max_events)?)
+    config: RadioConfig,
+    callers: u32,
+    visit: Visit,
+    stranger: Option<Caller>,
+) -> Result<Option<FinishFault>, Fail> {
+    let parts = Parts::open(alloc, config, callers)?;
+    Ok(run_of::<Brand, R>(rt, alloc, parts, Job::Visit(visit), stranger)?.err())
 }

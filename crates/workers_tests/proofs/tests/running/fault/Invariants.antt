@@ -1,4 +1,4 @@
-use Rattle.workers_tests.proofs.tests.running.run_with.Given as goal
+use Rattle.workers_tests.proofs.tests.running.fault.Given as goal
 
 -- the access point of these parts
 abbrev pub ghosts-run_of : goal.ghosts-run_of

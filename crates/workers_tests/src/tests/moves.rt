@@ -1,0 +1,389 @@
+//! What an access point answers, move by move, and that an event changes its network at once.
+
+use super::playing::is_as_alone;
+use super::running::{Job, run};
+use super::{
+    OTHER_ASSOCIATION, OTHER_AUTHENTICATION, are_frames, count_of, has_first, have_left, octets,
+    radio, section_at,
+};
+use bss_core::{Bss, Counts, MAX_NETWORKS};
+use fixtures::PROBE_REQUEST;
+use fixtures::lab::{
+    ASSOCIATION_REQUEST, ASSOCIATION_RESPONSE, AUTHENTICATION_REQUEST, AUTHENTICATION_RESPONSE,
+    BEACON, DOZE, PS_POLL, SECOND_AUTHENTICATION_RESPONSE,
+};
+use std::alloc::Global;
+use std::process::Abort;
+use std::sync::Wait;
+use std::test::Fail;
+use std::thread::Threads;
+use workers::{Ap, ApName, Caller, Entry, Finished, Outcome, Transmitter};
+
+/// What is given to an access point.
+#[derive(Clone, Copy)]
+pub(super) enum Given {
+    /// A frame on the air.
+    Air(&'static str),
+    /// A frame on the wire for the network at a place.
+    Wire(usize, &'static str),
+    Tick,
+}
+
+/// What a caller does, and what comes of it.
+#[derive(Clone, Copy)]
+pub(super) enum Move {
+    /// It gives this. The first network makes the first of it, and each of the others the second.
+    Gives(Given, [Outcome; 2]),
+    /// So many frames of the first network go to the queue.
+    Pumps(u32),
+    /// A frame leaves, or none, and so many have left then.
+    Leaves(bool, usize),
+    /// The first network shows how many events it took, how many intervals began, how many of its events are unread,
+    /// and how many stations it knows.
+    Shows([usize; 4]),
+    /// Each network is shown at its place.
+    ShowsEach,
+    /// The numbers of its receipts, and none for each refusal.
+    WasTold(&'static [Option<u32>]),
+}
+
+/// Only the first network took it, as its event of this number.
+const TOOK_0: [Outcome; 2] = [Outcome::Took(0), Outcome::NotHeard];
+
+const TOOK_1: [Outcome; 2] = [Outcome::Took(1), Outcome::NotHeard];
+
+const TOOK_2: [Outcome; 2] = [Outcome::Took(2), Outcome::NotHeard];
+
+const TOOK_3: [Outcome; 2] = [Outcome::Took(3), Outcome::NotHeard];
+
+const TOOK_4: [Outcome; 2] = [Outcome::Took(4), Outcome::NotHeard];
+
+const TOOK_5: [Outcome; 2] = [Outcome::Took(5), Outcome::NotHeard];
+
+const TOOK_6: [Outcome; 2] = [Outcome::Took(6), Outcome::NotHeard];
+
+const TOOK_7: [Outcome; 2] = [Outcome::Took(7), Outcome::NotHeard];
+
+const TOOK_8: [Outcome; 2] = [Outcome::Took(8), Outcome::NotHeard];
+
+/// Nobody heard it.
+const NOBODY: [Outcome; 2] = [Outcome::NotHeard, Outcome::NotHeard];
+
+/// Too short to be read, and too short to be heard.
+const THIRTEEN: &str = "00000000000000000000000000";
+
+const NINE: &str = "ffffffffffffffffff";
+
+/// Beacons of the first network with sequence numbers 1, 2, 4 and 5. With number 2 the first one of all, which names
+/// the station.
+const SECOND_BEACON: &str = "80000000 ffffffffffff 020000000001 020000000001 1000 \
+    0020030000000000 6400 0100 00036c6162 010482840b16 030106 050400010000";
+
+const THIRD_BEACON: &str = "80000000 ffffffffffff 020000000001 020000000001 2000 \
+    00b0040000000000 6400 0100 00036c6162 010482840b16 030106 050400010000";
+
+const NAMING_BEACON: &str = "80000000 ffffffffffff 020000000001 020000000001 2000 \
+    0090010000000000 6400 0100 00036c6162 010482840b16 030106 050400010002";
+
+const BEACON_4: &str = "80000000 ffffffffffff 020000000001 020000000001 4000 \
+    0090010000000000 6400 0100 00036c6162 010482840b16 030106 050400010000";
+
+const BEACON_5: &str = "80000000 ffffffffffff 020000000001 020000000001 5000 \
+    0020030000000000 6400 0100 00036c6162 010482840b16 030106 050400010000";
+
+/// A beacon interval begins.
+const BEACON_MOVES: &[Move] = &[Move::Gives(Given::Tick, TOOK_0), Move::Pumps(1)];
+
+/// An event is pumped and left, others show at once, and what nobody hears leaves no entry.
+const PUMP_THEN_LEAVE: &[Move] = &[
+    Move::Gives(Given::Tick, TOOK_0),
+    Move::Shows([1, 1, 0, 0]),
+    Move::Pumps(1),
+    Move::Leaves(true, 1),
+    Move::Pumps(0),
+    Move::Leaves(false, 1),
+    Move::Gives(Given::Air(AUTHENTICATION_REQUEST), TOOK_1),
+    Move::Shows([2, 1, 0, 1]),
+    Move::Gives(Given::Wire(0, THIRTEEN), TOOK_2),
+    Move::Shows([3, 1, 1, 1]),
+    Move::Gives(Given::Wire(1, THIRTEEN), NOBODY),
+    Move::Gives(Given::Wire(usize::MAX, THIRTEEN), NOBODY),
+    Move::Gives(Given::Air(NINE), NOBODY),
+    Move::WasTold(&[Some(0), Some(1), Some(2)]),
+];
+
+/// A network takes one tick, and refuses the next.
+const TWO_TICKS: &[Move] = &[
+    Move::Gives(Given::Tick, TOOK_0),
+    Move::Gives(Given::Tick, [Outcome::Full, Outcome::NotHeard]),
+    Move::WasTold(&[Some(0), None]),
+];
+
+/// Of three beacons the first leaves, the second is queued, and the third waits.
+const THREE_BEACONS: &[Move] = &[
+    Move::Gives(Given::Tick, TOOK_0),
+    Move::Pumps(1),
+    Move::Leaves(true, 1),
+    Move::Gives(Given::Tick, TOOK_1),
+    Move::Pumps(1),
+    Move::Gives(Given::Tick, TOOK_2),
+];
+
+/// A station joins and dozes, two frames come for it on the wire, and it polls them.
+const UNITS: &[Move] = &[
+    Move::Gives(Given::Air(AUTHENTICATION_REQUEST), TOOK_0),
+    Move::Gives(Given::Air(ASSOCIATION_REQUEST), TOOK_1),
+    Move::Gives(Given::Air(DOZE), TOOK_2),
+    Move::Gives(Given::Wire(0, "02aa00000001 02bb00000001 0800 01"), TOOK_3),
+    Move::Gives(Given::Wire(0, "02aa00000001 02bb00000001 0800 02"), TOOK_4),
+    Move::Gives(Given::Tick, TOOK_5),
+    Move::Gives(Given::Air(PS_POLL), TOOK_6),
+    Move::Gives(Given::Air(PS_POLL), TOOK_7),
+    Move::Gives(Given::Air(PS_POLL), TOOK_8),
+];
+
+/// The network answers both requests, tells in its beacon that units wait for the station, and sends them as it polls,
+/// the first with More Data.
+const POLLED: &[&str] = &[
+    AUTHENTICATION_RESPONSE,
+    ASSOCIATION_RESPONSE,
+    NAMING_BEACON,
+    "08220000 02aa00000001 020000000001 02bb00000001 3000 aaaa030000000800 01",
+    "08020000 02aa00000001 020000000001 02bb00000001 4000 aaaa030000000800 02",
+];
+
+/// Each network takes a tick and the probe request, and is shown at its place.
+const TICK_AND_PROBE: &[Move] = &[
+    Move::Gives(Given::Tick, [Outcome::Took(0), Outcome::Took(0)]),
+    Move::Gives(
+        Given::Air(PROBE_REQUEST),
+        [Outcome::Took(1), Outcome::Took(1)],
+    ),
+    Move::ShowsEach,
+];
+
+/// Each of two callers lets a station of its own join, and gives a tick.
+const IN_TURN: &[Move] = &[
+    Move::Gives(Given::Air(AUTHENTICATION_REQUEST), TOOK_0),
+    Move::Gives(Given::Air(OTHER_AUTHENTICATION), TOOK_1),
+    Move::Gives(Given::Air(ASSOCIATION_REQUEST), TOOK_2),
+    Move::Gives(Given::Air(OTHER_ASSOCIATION), TOOK_3),
+    Move::Gives(Given::Tick, TOOK_4),
+    Move::Gives(Given::Tick, TOOK_5),
+];
+
+/// What the network sends for that.
+const BOTH_JOINED: &[&str] = &[
+    AUTHENTICATION_RESPONSE,
+    "b0000000 02aa00000002 020000000001 020000000001 1000 0000 0200 0000",
+    "10000000 02aa00000001 020000000001 020000000001 2000 0100 0000 01c0 010482840b16",
+    "10000000 02aa00000002 020000000001 020000000001 3000 0100 0000 02c0 010482840b16",
+    BEACON_4,
+    BEACON_5,
+];
+
+/// What the access point makes of it.
+fn give<N: ApName, R: Wait>(
+    rt: &R,
+    alloc: Global,
+    ap: &Ap<N>,
+    caller: &mut Caller,
+    given: Given,
+) -> Result<[Outcome; MAX_NETWORKS], Fail> {
+    let outcomes = match given {
+        Given::Air(frame) => ap.air(rt, caller, octets(alloc, frame)?.as_slice())?,
+        Given::Wire(place, frame) => ap.wire(rt, caller, place, octets(alloc, frame)?.as_slice())?,
+        Given::Tick => ap.tick(rt, caller)?,
+    };
+    Ok(outcomes)
+}
+
+/// What the first network shows.
+fn shown(bss: &Bss) -> [usize; 4] {
+    let counts = bss.counts();
+    [
+        bss.history().len(),
+        counts.clock as usize,
+        counts.unread as usize,
+        bss.table_len(),
+    ]
+}
+
+/// The last octet of a network's address.
+fn last_octet(bss: &Bss) -> u8 {
+    bss.config().bssid.octets()[5]
+}
+
+/// Whether each place shows its network.
+fn shows_each_at_its_place<N: ApName, R: Wait>(rt: &R, ap: &Ap<N>) -> bool {
+    for place in 0..ap.networks() {
+        if usize::from(ap.inspect(rt, place, last_octet)) != place + 1 {
+            return false;
+        }
+    }
+    true
+}
+
+/// Whether the numbers of a caller's receipts are these, and none for each refusal.
+fn was_told(caller: &Caller, numbers: &[Option<u32>]) -> bool {
+    for (entry, expected) in caller.entries().iter().zip(numbers) {
+        let number = match entry {
+            Entry::Receipt { number, .. } => Some(*number),
+            Entry::Refused { .. } => None,
+        };
+        if number != *expected {
+            return false;
+        }
+    }
+    caller.entries().len() == numbers.len()
+}
+
+/// Whether that comes of a move.
+fn comes_of<N: ApName, R: Wait>(
+    rt: &R,
+    alloc: Global,
+    ap: &Ap<N>,
+    caller: &mut Caller,
+    transmitter: &mut Transmitter<N>,
+    made: Move,
+) -> Result<bool, Fail> {
+    has_first(ap)?;
+    match made {
+        Move::Gives(given, [first, other]) => {
+            let mut expected = [other; MAX_NETWORKS];
+            expected[0] = first;
+            Ok(give(rt, alloc, ap, caller, given)? == expected)
+        }
+        Move::Pumps(count) => Ok(ap.pump(rt, 0) == count),
+        Move::Leaves(leaves, count) => {
+            Ok(ap.leave(rt, transmitter)? == leaves && transmitter.left().len() == count)
+        }
+        Move::Shows(counts) => Ok(ap.inspect(rt, 0, shown) == counts),
+        Move::ShowsEach => Ok(shows_each_at_its_place(rt, ap)),
+        Move::WasTold(numbers) => Ok(was_told(caller, numbers)),
+    }
+}
+
+/// The callers make the moves in turn.
+pub(super) fn make_all<N: ApName, R: Wait + Abort>(
+    rt: &R,
+    alloc: Global,
+    ap: &Ap<N>,
+    callers: &mut [Caller],
+    transmitter: &mut Transmitter<N>,
+    moves: &[Move],
+) -> Result<(), Fail> {
+    let count = callers.len();
+    if count == 0 {
+        return Err(Fail::from("no caller"));
+    }
+    for (number, made) in moves.iter().enumerate() {
+        let caller = callers.get_mut(number % count).ok_or("no caller")?;
+        assert!(rt;
+            comes_of(rt, alloc, ap, caller, transmitter, *made)?,
+            "move {number}"
+        );
+    }
+    Ok(())
+}
+
+/// Whether the first network sent these frames, and these left; and whether it took so many events, counted so many
+/// beacon intervals, and left so many events unread. No unit was lost, and none is kept.
+fn are_sent(alloc: Global, end: &Finished, sent: &[&str], counts: [u32; 3]) -> Result<bool, Fail> {
+    let section = section_at(&end.sections, 0)?;
+    let [events, clock, unread] = counts;
+    let counts = Counts {
+        events,
+        clock,
+        unread,
+        lost: 0,
+        kept: 0,
+    };
+    Ok(
+        section.counts == counts
+            && are_frames(alloc, section.air.as_slice(), sent)?
+            && have_left(alloc, end.left.as_slice(), sent)?,
+    )
+}
+
+/// Whether an access point of one network and one caller, which takes so many events, ends so after these moves.
+fn ends_so<R: Threads + Wait + Abort + Sync>(
+    rt: &R,
+    alloc: Global,
+    most: u32,
+    moves: &'static [Move],
+    sent: &[&str],
+    counts: [u32; 3],
+) -> Result<bool, Fail> {
+    let config = radio(alloc, 64, &[most])?;
+    let end = run(rt, alloc, config, 1, Job::Moves(moves))?;
+    are_sent(alloc, &end, sent, counts)
+}
+
+#[test]
+fn a_beacon_is_sent(rt: HostRuntime) -> Result<(), Fail> {
+    assert!(rt; ends_so(&rt, rt.alloc(), 100, BEACON_MOVES, &[BEACON], [1, 1, 0])?);
+    Ok(())
+}
+
+#[test]
+fn pump_then_leave(rt: HostRuntime) -> Result<(), Fail> {
+    let sent = &[BEACON, SECOND_AUTHENTICATION_RESPONSE];
+    assert!(rt; ends_so(&rt, rt.alloc(), 100, PUMP_THEN_LEAVE, sent, [3, 1, 1])?);
+    Ok(())
+}
+
+#[test]
+fn a_full_network_refuses(rt: HostRuntime) -> Result<(), Fail> {
+    assert!(rt; ends_so(&rt, rt.alloc(), 1, TWO_TICKS, &[BEACON], [1, 1, 0])?);
+    Ok(())
+}
+
+#[test]
+fn all_frames_leave_in_order(rt: HostRuntime) -> Result<(), Fail> {
+    let sent = &[BEACON, SECOND_BEACON, THIRD_BEACON];
+    assert!(rt; ends_so(&rt, rt.alloc(), 100, THREE_BEACONS, sent, [3, 3, 0])?);
+    Ok(())
+}
+
+#[test]
+fn a_station_polls_its_units(rt: HostRuntime) -> Result<(), Fail> {
+    assert!(rt; ends_so(&rt, rt.alloc(), 100, UNITS, POLLED, [9, 1, 0])?);
+    Ok(())
+}
+
+/// Whether two frames of each network left, and no others.
+fn are_two_of_each(end: &Finished) -> bool {
+    for place in 0..MAX_NETWORKS {
+        if count_of(end.left.as_slice(), place) != 2 {
+            return false;
+        }
+    }
+    end.left.as_slice().len() == 2 * MAX_NETWORKS
+}
+
+#[test]
+fn as_many_networks_as_there_may_be(rt: HostRuntime) -> Result<(), Fail> {
+    let config = radio(rt.alloc(), 1, &[100; MAX_NETWORKS])?;
+    let end = run(&rt, rt.alloc(), config, 1, Job::Moves(TICK_AND_PROBE))?;
+    assert!(rt; are_two_of_each(&end));
+    Ok(())
+}
+
+/// Whether the first network's events came from these callers.
+fn are_givers(end: &Finished, givers: &[usize]) -> bool {
+    match end.givers.as_slice().first() {
+        Some(found) => found.as_slice() == givers,
+        None => false,
+    }
+}
+
+#[test]
+fn two_callers_give_in_turn(rt: HostRuntime) -> Result<(), Fail> {
+    let config = radio(rt.alloc(), 1, &[100])?;
+    let end = run(&rt, rt.alloc(), config, 2, Job::Moves(IN_TURN))?;
+    assert!(rt; are_givers(&end, &[0, 1, 0, 1, 0, 1]));
+    assert!(rt; are_sent(rt.alloc(), &end, BOTH_JOINED, [6, 2, 0])?);
+    assert!(rt; is_as_alone(rt.alloc(), section_at(&end.sections, 0)?)?);
+    Ok(())
+}
