@@ -97,7 +97,8 @@ fn run_threads<N: ApName + Send + Sync, R: Threads + Wait + Sync>(
     let [one, two] = callers else {
         return Err(RunFault::Open(OpenFault::Callers));
     };
-    Ok(join_threads(rt, ap, one, first, two, second, transmitter)?)
+    join_threads(rt, ap, one, first, two, second, transmitter)?;
+    Ok(())
 }
 
 /// One thread lets frames leave until the sources have ended.

@@ -42,7 +42,8 @@ fn take_one(network: &mut Bss, sent: &mut Vec<Octets>, event: Event) -> Result<(
     ensures sent { OnOk result (sent.new.items ≡ (network_of network.new).air) }
 {
     network.take(event)?;
-    Ok(send_waiting(network, sent)?)
+    send_waiting(network, sent)?;
+    Ok(())
 }
 
 /// Takes out the frames that wait, the first of them first. A program gives each to its radio here.

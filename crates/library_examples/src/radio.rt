@@ -34,12 +34,21 @@ fn send_waiting(alloc: Global, radio: &mut Radio, place: usize) -> Result<Vec<Ai
 {
     let mut left = Vec::new(alloc);
     for _ in 0..radio.bss(place).waiting_len() {
-        let _ = radio.hand(place);
-        if let Some(item) = radio.leave() {
+        if let Some(item) = send_first(radio, place) {
             left.push(item)?;
         }
     }
     Ok(left)
+}
+
+/// The same of the first of them alone.
+fn send_first(radio: &mut Radio, place: usize) -> Option<AirItem>
+    requires { place < length radio.old.config.networks }
+    ensures config { radio.new.config ≡ radio.old.config }
+    ensures others { OthersStay place radio.old radio.new }
+{
+    let _ = radio.hand(place);
+    radio.leave()
 }
 
 /// The section of each network of a radio after steps of theirs, in whatever order these come: each is that of the
