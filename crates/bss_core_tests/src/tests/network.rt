@@ -1,33 +1,24 @@
-//! A network alone, which takes the probe request.
+//! A network alone.
 
-ghost use Rattle.std.specs.Prelude.{IsTrue};
-ghost use Rattle.bss_core.specs.Configuration.{max_events_fits};
-
-use super::{expect, is_frame};
-use bss_core::{Bss, ConfigFault, Counts, Event, Refusal, Section, hears};
-use fixtures::{PROBE_REQUEST, lab, octets, radio_config};
-use mac_frame::{List, MacAddr, NoMemory, Octets};
+use super::{are_frames, heard};
+use bss_core::{Bss, Counts, Event, Network, Refusal, Sent, Setting};
+use fixtures::{PROBE_REQUEST, lab};
+use mac_frame::{List, MacAddr, Octets};
 use std::alloc::Global;
+use std::collections::VecDeque;
 use std::test::Fail;
 
-/// The network `lab`, which takes so many events.
-pub(super) fn opened(alloc: Global, max_events: u32) -> Result<Bss, NoMemory>
-    requires { IsTrue (max_events_fits max_events) }
-{
-    Bss::new(alloc, 6, 100, lab::config(alloc, max_events)?)
-}
-
-/// Lets a network take the probe request, and answers the number of the event.
-fn ask(alloc: Global, bss: &mut Bss) -> Result<u32, Fail> {
-    Ok(bss.take(Event::Air(octets(alloc, PROBE_REQUEST)?))?)
-}
-
-/// Whether the first frame that waits, which is taken out, is the one that a text spells.
-fn sends(alloc: Global, bss: &mut Bss, text: &str) -> Result<bool, Fail> {
-    match bss.take_front() {
-        Some(frame) => Ok(is_frame(alloc, frame.as_slice(), text)?),
-        None => Ok(false),
+/// What a network answers where it takes these octets from the air.
+fn take(
+    alloc: Global,
+    bss: &mut Bss,
+    heard_octets: &[&str],
+) -> Result<Vec<Result<u32, Refusal>>, Fail> {
+    let mut answers = Vec::new(alloc);
+    for text in heard_octets {
+        answers.push(bss.take(heard(alloc, *text)?))?;
     }
+    Ok(answers)
 }
 
 /// How many frames wait, events were taken, stations are known and frames are on the wire.
@@ -40,154 +31,30 @@ fn lengths(bss: &Bss) -> [usize; 4] {
     ]
 }
 
-/// Whether a network hears the probe request.
-fn hears_probe(alloc: Global, bss: &Bss) -> Result<bool, Fail> {
-    let frame = octets(alloc, PROBE_REQUEST)?;
-    Ok(hears(bss.config().bssid, frame.as_slice()))
-}
-
-/// What a network makes of the probe request: whether it hears it, the number of the event, whether its answer is the
-/// one of `lab`, and what it has then.
-type Answer = (bool, u32, bool, [usize; 4]);
-
-fn answer(alloc: Global, bss: &mut Bss) -> Result<Answer, Fail> {
-    let is_heard = hears_probe(alloc, bss)?;
-    let number = ask(alloc, bss)?;
-    let is_answered = sends(alloc, bss, lab::PROBE_RESPONSE)?;
-    Ok((is_heard, number, is_answered, lengths(bss)))
-}
-
-/// What `lab` makes of it.
-fn lab_answer(alloc: Global) -> Result<Answer, Fail> {
-    let mut bss = opened(alloc, 100)?;
-    answer(alloc, &mut bss)
-}
-
-/// Whether `lab` hears it.
-fn lab_hears(alloc: Global) -> Result<bool, Fail> {
-    let (is_heard, _, _, _) = lab_answer(alloc)?;
-    Ok(is_heard)
-}
-
-#[test]
-fn a_probe_is_heard(rt: HostRuntime) -> Result<(), Fail> {
-    expect(&rt, lab_hears(rt.alloc()), true)
-}
-
-#[test]
-fn a_probe_is_answered(rt: HostRuntime) -> Result<(), Fail> {
-    expect(&rt, lab_answer(rt.alloc()), (true, 0, true, [0, 1, 0, 0]))
-}
-
-/// Why a network refuses the probe request, where nothing has changed then that can be counted.
-fn refusal(alloc: Global, bss: &mut Bss) -> Result<Option<Refusal>, Fail> {
-    let probe = Event::Air(octets(alloc, PROBE_REQUEST)?);
-    let before = (bss.counts(), lengths(bss));
-    let refusal = bss.take(probe).err();
-    Ok(refusal.filter(|_| (bss.counts(), lengths(bss)) == before))
-}
-
-/// Why it refuses a second one, and what it has then.
-fn second_refusal(alloc: Global, bss: &mut Bss) -> Result<(Option<Refusal>, [usize; 4]), Fail> {
-    ask(alloc, bss)?;
-    let refusal = refusal(alloc, bss)?;
-    Ok((refusal, lengths(bss)))
-}
-
-/// Why a network that takes one event does.
-fn refusal_of_full(alloc: Global) -> Result<(Option<Refusal>, [usize; 4]), Fail> {
-    let mut bss = opened(alloc, 1)?;
-    second_refusal(alloc, &mut bss)
-}
-
-#[test]
-fn a_full_history_takes_no_event(rt: HostRuntime) -> Result<(), Fail> {
-    let refused = (Some(Refusal::HistoryFull), [1, 1, 0, 0]);
-    expect(&rt, refusal_of_full(rt.alloc()), refused)
-}
-
-/// Takes out the first frame that waits, if there is one, and gives it back. Answers whether there was a slot for it
-/// before that, and whether there was one after.
-fn give_first_back(bss: &mut Bss) -> Option<[bool; 2]> {
+/// Takes out the first frame that waits and gives it back. Answers whether there was a slot for it before that, then,
+/// and in the end.
+fn give_first_back(bss: &mut Bss) -> Option<[bool; 3]> {
+    let before = bss.has_slot();
     let first = bss.take_front()?;
-    if !bss.has_slot() {
-        return Some([false, false]);
-    }
+    let taken = bss.has_slot();
     bss.give_back(first);
-    Some([true, bss.has_slot()])
+    Some([before, taken, bss.has_slot()])
 }
 
-/// Whether the frames that wait are the answers to two probe requests, the first and the second, and no other waits.
-fn sends_both(alloc: Global, bss: &mut Bss) -> Result<[bool; 3], Fail> {
-    let first = sends(alloc, bss, lab::PROBE_RESPONSE)?;
-    let second = sends(alloc, bss, lab::SECOND_PROBE_RESPONSE)?;
-    Ok([first, second, bss.take_front().is_none()])
+/// The first three frames that wait, or all of them where there are fewer.
+fn take_out(alloc: Global, bss: &mut Bss) -> Result<List<Octets>, Fail> {
+    let mut frames = Vec::new(alloc);
+    for _ in 0..3 {
+        if let Some(frame) = bss.take_front() {
+            frames.push(frame)?;
+        }
+    }
+    Ok(List::from_vec(frames))
 }
 
-/// The slots of a network that was asked twice, and what waits once its first answer was given back.
-fn give_back(alloc: Global, bss: &mut Bss) -> Result<(Option<[bool; 2]>, [bool; 3]), Fail> {
-    ask(alloc, bss)?;
-    ask(alloc, bss)?;
-    let slots = give_first_back(bss);
-    let sent = sends_both(alloc, bss)?;
-    Ok((slots, sent))
-}
-
-/// Those of `lab`.
-fn lab_gives_back(alloc: Global) -> Result<(Option<[bool; 2]>, [bool; 3]), Fail> {
-    let mut bss = opened(alloc, 100)?;
-    give_back(alloc, &mut bss)
-}
-
-#[test]
-fn a_frame_is_given_back(rt: HostRuntime) -> Result<(), Fail> {
-    let given = (Some([true, false]), [true, true, true]);
-    expect(&rt, lab_gives_back(rt.alloc()), given)
-}
-
-/// A network takes the probe request and a string of no octets.
-fn ask_and_err(alloc: Global, bss: &mut Bss) -> Result<(), Fail> {
-    ask(alloc, bss)?;
-    bss.take(Event::Air(Octets::new(alloc)))?;
-    Ok(())
-}
-
-/// The section of `lab` then, without frames on the air.
-fn section(alloc: Global) -> Result<Section, Fail> {
-    let mut bss = opened(alloc, 100)?;
-    ask_and_err(alloc, &mut bss)?;
-    Ok(bss.into_section(List::from_vec(Vec::new(alloc)))?)
-}
-
-/// How many events, stations, frames on the air and frames on the wire a section has.
-fn section_lengths(section: &Section) -> [usize; 4] {
-    [
-        section.events.as_slice().len(),
-        section.table.as_slice().len(),
-        section.air.as_slice().len(),
-        section.wire.as_slice().len(),
-    ]
-}
-
-/// Whether a section is that of `lab`, by its address and its name.
-fn is_of_lab(section: &Section) -> bool {
-    section.config.bssid == MacAddr::new(lab::BSSID)
-        && section.config.ssid.as_slice() == b"lab".as_slice()
-}
-
-/// Whether the section is, what it has, and its counts.
-fn section_shape(alloc: Global) -> Result<(bool, [usize; 4], Counts), Fail> {
-    let section = section(alloc)?;
-    Ok((
-        is_of_lab(&section),
-        section_lengths(&section),
-        section.counts,
-    ))
-}
-
-/// Its counts where it took two events, of which it couldn't read one.
+/// What is counted of three events, of which the network couldn't read one.
 const COUNTS: Counts = Counts {
-    events: 2,
+    events: 3,
     clock: 0,
     unread: 1,
     lost: 0,
@@ -195,35 +62,88 @@ const COUNTS: Counts = Counts {
 };
 
 #[test]
-fn a_network_becomes_its_section(rt: HostRuntime) -> Result<(), Fail> {
-    expect(&rt, section_shape(rt.alloc()), (true, [2, 0, 0, 0], COUNTS))
+fn a_full_history_takes_no_event_and_a_frame_is_given_back(rt: HostRuntime) -> Result<(), Fail> {
+    let alloc = rt.alloc();
+    let mut bss = Bss::new(alloc, 6, 100, lab::config(alloc, 3)?)?;
+    let events = [PROBE_REQUEST, PROBE_REQUEST, "", PROBE_REQUEST];
+    let answers = take(alloc, &mut bss, &events)?;
+    let seen = (bss.counts(), lengths(&bss));
+    let slots = give_first_back(&mut bss);
+    let air = take_out(alloc, &mut bss)?;
+    let section = bss.into_section(air)?;
+    let refused = Err(Refusal::HistoryFull);
+    assert_eq!(rt;
+        answers.as_slice(),
+        [Ok(0), Ok(1), Ok(2), refused].as_slice()
+    );
+    assert_eq!(rt; seen, (COUNTS, [2, 3, 0, 0]));
+    assert_eq!(rt; slots, Some([false, true, false]));
+    let sent = [lab::PROBE_RESPONSE, lab::SECOND_PROBE_RESPONSE];
+    assert!(rt; are_frames(alloc, section.air.as_slice(), &sent)?);
+    assert_eq!(rt; section.config.bssid, MacAddr::new(lab::BSSID));
+    assert_eq!(rt; section.config.ssid.as_slice(), b"lab".as_slice());
+    assert_eq!(rt; section.counts, COUNTS);
+    assert_eq!(rt; section.events.as_slice().len(), 3);
+    assert_eq!(rt; section.table.as_slice().len(), 0);
+    assert_eq!(rt; section.wire.as_slice().len(), 0);
+    Ok(())
 }
 
-/// Its counts.
-fn section_counts(alloc: Global) -> Result<Counts, Fail> {
-    let (_, _, counts) = section_shape(alloc)?;
-    Ok(counts)
+/// The frames that a network, which took few events, sends on the air for a beacon interval that begins once these
+/// octets were heard.
+fn sent(alloc: Global, network: &mut Network, heard_octets: &[&str]) -> Result<Vec<Octets>, Fail> {
+    let mut events = Vec::new(alloc);
+    for text in heard_octets {
+        events.push(heard(alloc, *text)?)?;
+    }
+    events.push(Event::Tick)?;
+    let mut frames = VecDeque::new(alloc);
+    for event in events.iter() {
+        if network.events() > 100 {
+            return Err(Fail::new("too many events"));
+        }
+        let Sent { air, wire: _ } = network.take(event)?;
+        air.reserve_in(&mut frames)?;
+        air.append_to(&mut frames);
+    }
+    Ok(Vec::from(frames))
 }
+
+/// How many events it took, beacon intervals began, events were unread, units were lost and units are kept.
+fn counts(network: &Network) -> [u64; 5] {
+    [
+        network.events(),
+        u64::from(network.clock()),
+        network.unread(),
+        network.lost(),
+        u64::from(network.kept_len()),
+    ]
+}
+
+/// Its beacon of the first beacon interval, with sequence number 2.
+const BEACON: &str = "80000000 ffffffffffff 020000000001 020000000001 2000 \
+    0090010000000000 6400 0100 00036c6162 010482840b16 030106 050400010000";
 
 #[test]
-fn a_section_has_the_counts(rt: HostRuntime) -> Result<(), Fail> {
-    expect(&rt, section_counts(rt.alloc()), COUNTS)
-}
-
-/// The fault of a radio of `lab` alone on a channel.
-fn fault_on(alloc: Global, channel: u8) -> Result<Option<ConfigFault>, Fail> {
-    let networks = vec![in alloc; lab::config(alloc, 100)?]?;
-    let mut config = radio_config(64, networks);
-    config.channel = channel;
-    Ok(config.check())
-}
-
-#[test]
-fn a_configuration_is_checked(rt: HostRuntime) -> Result<(), Fail> {
-    expect(&rt, fault_on(rt.alloc(), 6), None)?;
-    expect(
-        &rt,
-        fault_on(rt.alloc(), 15),
-        Some(ConfigFault::of_radio(4)),
-    )
+fn a_network_without_its_history_counts(rt: HostRuntime) -> Result<(), Fail> {
+    let alloc = rt.alloc();
+    let setting = Setting {
+        channel: 6,
+        interval: 100,
+        network: lab::config(alloc, 100)?,
+    };
+    let mut network = Network::new(alloc, setting);
+    let events = [PROBE_REQUEST, lab::AUTHENTICATION_REQUEST, "00"];
+    let frames = sent(alloc, &mut network, &events)?;
+    let seen = (counts(&network), network.table_len());
+    let channel = network.setting().channel;
+    let expected = [
+        lab::PROBE_RESPONSE,
+        lab::SECOND_AUTHENTICATION_RESPONSE,
+        BEACON,
+    ];
+    assert!(rt; are_frames(alloc, frames.as_slice(), &expected)?);
+    assert_eq!(rt; seen, ([4, 1, 1, 0, 0], 1));
+    assert_eq!(rt; channel, 6);
+    Ok(())
 }
