@@ -1,7 +1,7 @@
 //! A network alone.
 
 use super::{are_frames, heard};
-use bss_core::{Bss, Counts, Event, Network, Refusal, Sent, Setting};
+use bss_core::{Bss, Counts, Event, Network, Refusal, Section, Sent, Setting};
 use fixtures::{PROBE_REQUEST, lab};
 use mac_frame::{List, MacAddr, Octets};
 use std::alloc::Global;
@@ -61,31 +61,64 @@ const COUNTS: Counts = Counts {
     kept: 0,
 };
 
+/// What is heard: probe requests, and among them a string of no octets.
+const HEARD: [&str; 4] = [PROBE_REQUEST, PROBE_REQUEST, "", PROBE_REQUEST];
+
+/// The network `lab`, which takes three events.
+fn opened(alloc: Global) -> Result<Bss, Fail> {
+    Ok(Bss::new(alloc, 6, 100, lab::config(alloc, 3)?)?)
+}
+
+/// What it answers, and what it has then.
+type Filled = (Vec<Result<u32, Refusal>>, Counts, [usize; 4]);
+
+fn fill(alloc: Global) -> Result<Filled, Fail> {
+    let mut bss = opened(alloc)?;
+    let answers = take(alloc, &mut bss, &HEARD)?;
+    Ok((answers, bss.counts(), lengths(&bss)))
+}
+
 #[test]
-fn a_full_history_takes_no_event_and_a_frame_is_given_back(rt: HostRuntime) -> Result<(), Fail> {
-    let alloc = rt.alloc();
-    let mut bss = Bss::new(alloc, 6, 100, lab::config(alloc, 3)?)?;
-    let events = [PROBE_REQUEST, PROBE_REQUEST, "", PROBE_REQUEST];
-    let answers = take(alloc, &mut bss, &events)?;
-    let seen = (bss.counts(), lengths(&bss));
+fn a_full_history_takes_no_event(rt: HostRuntime) -> Result<(), Fail> {
+    let (answers, counts, lengths) = fill(rt.alloc())?;
+    let expected = [Ok(0), Ok(1), Ok(2), Err(Refusal::HistoryFull)];
+    assert_eq!(rt; answers.as_slice(), expected.as_slice());
+    assert_eq!(rt; (counts, lengths), (COUNTS, [2, 3, 0, 0]));
+    Ok(())
+}
+
+/// The slots for its first frame, and its section with the frames that wait once that was given back.
+fn give_back(alloc: Global) -> Result<(Option<[bool; 3]>, Section), Fail> {
+    let mut bss = opened(alloc)?;
+    let _ = take(alloc, &mut bss, &HEARD)?;
     let slots = give_first_back(&mut bss);
     let air = take_out(alloc, &mut bss)?;
-    let section = bss.into_section(air)?;
-    let refused = Err(Refusal::HistoryFull);
-    assert_eq!(rt;
-        answers.as_slice(),
-        [Ok(0), Ok(1), Ok(2), refused].as_slice()
-    );
-    assert_eq!(rt; seen, (COUNTS, [2, 3, 0, 0]));
-    assert_eq!(rt; slots, Some([false, true, false]));
+    Ok((slots, bss.into_section(air)?))
+}
+
+/// Whether a section is that of `lab`, by its address and its name, and how many events, stations and frames on the
+/// wire it has.
+fn shape(section: &Section) -> (bool, [usize; 3]) {
+    (
+        section.config.bssid == MacAddr::new(lab::BSSID)
+            && section.config.ssid.as_slice() == b"lab".as_slice(),
+        [
+            section.events.as_slice().len(),
+            section.table.as_slice().len(),
+            section.wire.as_slice().len(),
+        ],
+    )
+}
+
+#[test]
+fn a_frame_is_given_back(rt: HostRuntime) -> Result<(), Fail> {
+    let (slots, section) = give_back(rt.alloc())?;
     let sent = [lab::PROBE_RESPONSE, lab::SECOND_PROBE_RESPONSE];
-    assert!(rt; are_frames(alloc, section.air.as_slice(), &sent)?);
-    assert_eq!(rt; section.config.bssid, MacAddr::new(lab::BSSID));
-    assert_eq!(rt; section.config.ssid.as_slice(), b"lab".as_slice());
-    assert_eq!(rt; section.counts, COUNTS);
-    assert_eq!(rt; section.events.as_slice().len(), 3);
-    assert_eq!(rt; section.table.as_slice().len(), 0);
-    assert_eq!(rt; section.wire.as_slice().len(), 0);
+    assert!(rt; are_frames(rt.alloc(), section.air.as_slice(), &sent)?);
+    assert_eq!(rt;
+        (slots, shape(&section), section.counts),
+        (Some([false, true, false]), (true, [3, 0, 0]), COUNTS)
+    );
     Ok(())
 }
 
@@ -124,26 +157,32 @@ fn counts(network: &Network) -> [u64; 5] {
 const BEACON: &str = "80000000 ffffffffffff 020000000001 020000000001 2000 \
     0090010000000000 6400 0100 00036c6162 010482840b16 030106 050400010000";
 
-#[test]
-fn a_network_without_its_history_counts(rt: HostRuntime) -> Result<(), Fail> {
-    let alloc = rt.alloc();
+/// The frames that `lab` sends for three strings of octets and a beacon interval, its counts, how many stations it
+/// knows, and its channel.
+type Shown = (Vec<Octets>, [u64; 5], usize, u8);
+
+fn shown(alloc: Global) -> Result<Shown, Fail> {
     let setting = Setting {
         channel: 6,
         interval: 100,
         network: lab::config(alloc, 100)?,
     };
     let mut network = Network::new(alloc, setting);
-    let events = [PROBE_REQUEST, lab::AUTHENTICATION_REQUEST, "00"];
-    let frames = sent(alloc, &mut network, &events)?;
-    let seen = (counts(&network), network.table_len());
+    let heard = [PROBE_REQUEST, lab::AUTHENTICATION_REQUEST, "00"];
+    let frames = sent(alloc, &mut network, &heard)?;
     let channel = network.setting().channel;
+    Ok((frames, counts(&network), network.table_len(), channel))
+}
+
+#[test]
+fn a_network_without_its_history_counts(rt: HostRuntime) -> Result<(), Fail> {
+    let (frames, counts, stations, channel) = shown(rt.alloc())?;
     let expected = [
         lab::PROBE_RESPONSE,
         lab::SECOND_AUTHENTICATION_RESPONSE,
         BEACON,
     ];
-    assert!(rt; are_frames(alloc, frames.as_slice(), &expected)?);
-    assert_eq!(rt; seen, ([4, 1, 1, 0, 0], 1));
-    assert_eq!(rt; channel, 6);
+    assert!(rt; are_frames(rt.alloc(), frames.as_slice(), &expected)?);
+    assert_eq!(rt; (counts, stations, channel), ([4, 1, 1, 0, 0], 1, 6));
     Ok(())
 }

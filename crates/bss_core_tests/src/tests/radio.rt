@@ -3,6 +3,7 @@
 use super::{are_items, heard};
 use bss_core::{AirItem, Bss, ConfigFault, Event, Handed, OpenFault, Radio, Refusal, run};
 use fixtures::{PROBE_REQUEST, guest, lab, lab_and_guest};
+use mac_frame::List;
 use std::alloc::Global;
 use std::test::Fail;
 
@@ -48,23 +49,31 @@ fn hand(
     Ok((handed, left))
 }
 
-#[test]
-fn a_queue_of_one_frame_serves_two_networks(rt: HostRuntime) -> Result<(), Fail> {
-    let alloc = rt.alloc();
+/// What a radio answers, what became of the frames that it was to hand, and which frames left.
+type Served = (Vec<Result<u32, Refusal>>, Vec<Handed>, Vec<AirItem>);
+
+/// A beacon interval begins in each network, and both beacons leave.
+fn serve(alloc: Global) -> Result<Served, Fail> {
     let mut radio = Radio::new(alloc, lab_and_guest(alloc, 2, 1)?)?;
     let taken = take(alloc, &mut radio, &[(0, None), (1, None)])?;
     let turns = [Some(0), Some(1), None, Some(1), Some(1), None, None];
     let (handed, left) = hand(alloc, &mut radio, &turns)?;
-    assert_eq!(rt; taken.as_slice(), [Ok(0), Ok(0)].as_slice());
+    Ok((taken, handed, left))
+}
+
+#[test]
+fn a_queue_of_one_frame_serves_two_networks(rt: HostRuntime) -> Result<(), Fail> {
+    let (taken, handed, left) = serve(rt.alloc())?;
     let expected = [
         Handed::Moved,
         Handed::QueueFull,
         Handed::Moved,
         Handed::Nothing,
     ];
-    assert_eq!(rt; handed.as_slice(), expected.as_slice());
     let beacons = [(0, lab::BEACON), (1, guest::BEACON)];
-    assert!(rt; are_items(alloc, left.as_slice(), &beacons)?);
+    assert!(rt; are_items(rt.alloc(), left.as_slice(), &beacons)?);
+    assert_eq!(rt; taken.as_slice(), [Ok(0), Ok(0)].as_slice());
+    assert_eq!(rt; handed.as_slice(), expected.as_slice());
     Ok(())
 }
 
@@ -78,9 +87,15 @@ fn lengths(alloc: Global, networks: &[Bss]) -> Result<Vec<(u32, u32, usize)>, Fa
     Ok(all)
 }
 
-#[test]
-fn a_full_network_leaves_the_other_one_until_they_come_apart(rt: HostRuntime) -> Result<(), Fail> {
-    let alloc = rt.alloc();
+/// The first network takes two probe requests, between them a string of no octets, and the second two, of which it
+/// hands the answer to one. Answers what they answered, their lengths, and what is queued.
+type Parted = (
+    Vec<Result<u32, Refusal>>,
+    Vec<(u32, u32, usize)>,
+    List<AirItem>,
+);
+
+fn part(alloc: Global) -> Result<Parted, Fail> {
     let mut radio = Radio::new(alloc, lab_and_guest(alloc, 2, 1)?)?;
     let probe = Some(PROBE_REQUEST);
     let events = [
@@ -91,33 +106,41 @@ fn a_full_network_leaves_the_other_one_until_they_come_apart(rt: HostRuntime) ->
         (1, probe),
     ];
     let taken = take(alloc, &mut radio, &events)?;
-    let (handed, _) = hand(alloc, &mut radio, &[Some(1)])?;
+    let _ = hand(alloc, &mut radio, &[Some(1)])?;
     let (networks, queued) = radio.into_parts();
-    let lengths = lengths(alloc, networks.as_slice())?;
-    let refused = Err(Refusal::HistoryFull);
-    let expected = [Ok(0), Ok(1), refused, Ok(0), Ok(1)];
-    assert_eq!(rt; taken.as_slice(), expected.as_slice());
-    assert_eq!(rt; handed.as_slice(), [Handed::Moved].as_slice());
-    assert_eq!(rt; lengths.as_slice(), [(2, 1, 1), (2, 0, 1)].as_slice());
+    Ok((taken, lengths(alloc, networks.as_slice())?, queued))
+}
+
+#[test]
+fn a_full_network_leaves_the_other_until_they_come_apart(rt: HostRuntime) -> Result<(), Fail> {
+    let (taken, lengths, queued) = part(rt.alloc())?;
+    let expected = [Ok(0), Ok(1), Err(Refusal::HistoryFull), Ok(0), Ok(1)];
     let answer = [(1, guest::PROBE_RESPONSE)];
-    assert!(rt; are_items(alloc, queued.as_slice(), &answer)?);
+    assert!(rt; are_items(rt.alloc(), queued.as_slice(), &answer)?);
+    assert_eq!(rt; taken.as_slice(), expected.as_slice());
+    assert_eq!(rt; lengths.as_slice(), [(2, 1, 1), (2, 0, 1)].as_slice());
     Ok(())
+}
+
+/// Why a radio with a queue of no frames is neither opened nor run.
+fn faults(alloc: Global) -> Result<[Option<OpenFault>; 2], Fail> {
+    Ok([
+        Radio::new(alloc, lab_and_guest(alloc, 2, 0)?).err(),
+        run(alloc, lab_and_guest(alloc, 2, 0)?, &[]).err(),
+    ])
+}
+
+/// The fault of one that is on no channel besides.
+fn first_fault(alloc: Global) -> Result<Option<ConfigFault>, Fail> {
+    let mut config = lab_and_guest(alloc, 2, 0)?;
+    config.channel = 15;
+    Ok(config.check())
 }
 
 #[test]
 fn the_first_fault_of_a_configuration_is_answered(rt: HostRuntime) -> Result<(), Fail> {
-    let alloc = rt.alloc();
-    let queue = OpenFault::Config(ConfigFault::of_radio(6));
-    assert_eq!(rt;
-        run(alloc, lab_and_guest(alloc, 2, 0)?, &[]).err(),
-        Some(queue)
-    );
-    assert_eq!(rt;
-        Radio::new(alloc, lab_and_guest(alloc, 2, 0)?).err(),
-        Some(queue)
-    );
-    let mut config = lab_and_guest(alloc, 2, 0)?;
-    config.channel = 15;
-    assert_eq!(rt; config.check(), Some(ConfigFault::of_radio(4)));
+    let queue = Some(OpenFault::Config(ConfigFault::of_radio(6)));
+    assert_eq!(rt; faults(rt.alloc())?, [queue, queue]);
+    assert_eq!(rt; first_fault(rt.alloc())?, Some(ConfigFault::of_radio(4)));
     Ok(())
 }

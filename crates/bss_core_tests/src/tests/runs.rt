@@ -36,13 +36,6 @@ fn push_steps(alloc: Global, steps: &mut Vec<Step>, times: u8, moves: &[Move]) -
     Ok(())
 }
 
-/// What these moves make of the two networks.
-fn ran(alloc: Global, moves: &[Move]) -> Result<RunResult, Fail> {
-    let mut steps = Vec::new(alloc);
-    push_steps(alloc, &mut steps, 1, moves)?;
-    Ok(run(alloc, lab_and_guest(alloc, 2, 1)?, steps.as_slice())?)
-}
-
 /// Whether the sections of a run are those of two networks, which took so many events and sent these frames on the air.
 fn are_sections(alloc: Global, run: &RunResult, sections: &[(u32, &[&str])]) -> Result<bool, Fail> {
     for (section, (events, air)) in run.sections.as_slice().iter().zip(sections) {
@@ -53,17 +46,35 @@ fn are_sections(alloc: Global, run: &RunResult, sections: &[(u32, &[&str])]) -> 
     Ok(run.sections.as_slice().len() == sections.len())
 }
 
+/// Whether these frames left after these moves, these are queued, and the sections are these.
+fn ends(
+    alloc: Global,
+    moves: &[Move],
+    left: &[(usize, &str)],
+    queued: &[(usize, &str)],
+    sections: &[(u32, &[&str])],
+) -> Result<[bool; 3], Fail> {
+    let mut steps = Vec::new(alloc);
+    push_steps(alloc, &mut steps, 1, moves)?;
+    let run = run(alloc, lab_and_guest(alloc, 2, 1)?, steps.as_slice())?;
+    Ok([
+        are_items(alloc, run.left.as_slice(), left)?,
+        are_items(alloc, run.queued.as_slice(), queued)?,
+        are_sections(alloc, &run, sections)?,
+    ])
+}
+
 /// A beacon interval begins in each network, and the first hands its beacon.
 const TICKS: [Move; 3] = [Move::Tick(0), Move::Tick(1), Move::Hand(0)];
 
 #[test]
 fn three_steps_are_run(rt: HostRuntime) -> Result<(), Fail> {
-    let alloc = rt.alloc();
-    let run = ran(alloc, &TICKS)?;
+    let beacon = [(0, lab::BEACON)];
     let sections: [(u32, &[&str]); 2] = [(1, &[lab::BEACON]), (1, &[guest::BEACON])];
-    assert!(rt; are_items(alloc, run.left.as_slice(), &[])?);
-    assert!(rt; are_items(alloc, run.queued.as_slice(), &[(0, lab::BEACON)])?);
-    assert!(rt; are_sections(alloc, &run, &sections)?);
+    assert_eq!(rt;
+        ends(rt.alloc(), &TICKS, &[], &beacon, &sections)?,
+        [true; 3]
+    );
     Ok(())
 }
 
@@ -87,22 +98,16 @@ const INTERLEAVED: [Move; 13] = [
 
 #[test]
 fn steps_of_two_networks_interleave(rt: HostRuntime) -> Result<(), Fail> {
-    let alloc = rt.alloc();
-    let run = ran(alloc, &INTERLEAVED)?;
     let left = [(0, lab::PROBE_RESPONSE), (1, guest::PROBE_RESPONSE)];
+    let queued = [(0, lab::SECOND_PROBE_RESPONSE)];
     let sections: [(u32, &[&str]); 2] = [
         (2, &[lab::PROBE_RESPONSE, lab::SECOND_PROBE_RESPONSE]),
         (1, &[guest::PROBE_RESPONSE]),
     ];
-    assert!(rt; are_items(alloc, run.left.as_slice(), &left)?);
-    assert!(rt;
-        are_items(
-            alloc,
-            run.queued.as_slice(),
-            &[(0, lab::SECOND_PROBE_RESPONSE)]
-        )?
+    assert_eq!(rt;
+        ends(rt.alloc(), &INTERLEAVED, &left, &queued, &sections)?,
+        [true; 3]
     );
-    assert!(rt; are_sections(alloc, &run, &sections)?);
     Ok(())
 }
 
@@ -152,20 +157,30 @@ fn seen(
     Ok((last.counts.events, last.air.as_slice().len(), text))
 }
 
+/// Whether the first network's section is the same in a run like that of both; and what the last has.
+fn is_same(
+    alloc: Global,
+    config: RadioConfig,
+    times: u8,
+    moves: &[Move],
+) -> Result<(bool, u32, usize), Fail> {
+    let (_, _, expected) = seen(alloc, lab_and_guest(alloc, 2, 1)?, 0, &BOTH)?;
+    let (events, frames, first) = seen(alloc, config, times, moves)?;
+    Ok((first == expected, events, frames))
+}
+
 #[test]
 fn the_first_network_is_the_same_whatever_the_second_does(rt: HostRuntime) -> Result<(), Fail> {
     let alloc = rt.alloc();
-    let (events, frames, first) = seen(alloc, lab_and_guest(alloc, 2, 1)?, 0, &BOTH)?;
-    assert_eq!(rt; (events, frames), (2, 2));
     let alone = radio_config(1, vec![in alloc; lab::config(alloc, 2)?]?);
-    let (events, frames, section) = seen(alloc, alone, 0, &BOTH)?;
-    assert_eq!(rt; (events, frames), (2, 2));
-    assert_eq!(rt; section, first);
-    let (events, frames, section) = seen(alloc, lab_and_guest(alloc, 2, 1)?, 0, &OWN)?;
-    assert_eq!(rt; (events, frames), (0, 0));
-    assert_eq!(rt; section, first);
-    let (events, frames, section) = seen(alloc, lab_and_guest(alloc, 2, 1)?, 25, &BOTH)?;
-    assert_eq!(rt; (events, frames), (52, 52));
-    assert_eq!(rt; section, first);
+    assert_eq!(rt; is_same(alloc, alone, 0, &BOTH)?, (true, 2, 2));
+    for (times, moves, expected) in [
+        (0, BOTH.as_slice(), (true, 2, 2)),
+        (0, OWN.as_slice(), (true, 0, 0)),
+        (25, BOTH.as_slice(), (true, 52, 52)),
+    ] {
+        let config = lab_and_guest(alloc, 2, 1)?;
+        assert_eq!(rt; is_same(alloc, config, times, moves)?, expected);
+    }
     Ok(())
 }
