@@ -1,68 +1,82 @@
 //! Pieces of a trace that are offered to a reader of lines.
 
 use crate::asked::Asked;
-use crate::growths::grow;
-use crate::outcome::{Flaw, Tried};
-use crate::texts::reported;
+use crate::outcome::{AGAIN, Flaw, ROOM, grow};
 use bss_core::Line;
+use mac_frame::NoMemory;
+use replay::run_text;
 use std::alloc::Global;
-use trace::{LineReader, ReadFault, read_config, read_trace};
+use std::fmt::Write;
+use trace::{Counted, LineReader, ReadFault, read_config, read_trace};
 
 /// The octets of a piece.
 const PIECE_LEN: usize = 7;
 
 /// Offers a trace in small pieces, each once more where it is refused for memory, and its end so too. The lines that
 /// they gave must be those of the trace.
-pub(crate) fn feed_pieces(alloc: Global, asked: &Asked<'_>) -> Result<Tried, Flaw> {
-    let config = read_config(alloc, asked.config)?;
+pub(crate) fn feed_pieces(
+    alloc: Global,
+    asked: &Asked<'_>,
+    report: &mut Vec<u8>,
+) -> Result<bool, Flaw> {
+    let Ok(config) = read_config(alloc, asked.config) else {
+        return Err(Flaw::Beside);
+    };
     let mut reader = LineReader::new(alloc, &config)?;
-    let mut lines = Vec::new(alloc);
+    let mut said = String::with_capacity(alloc, ROOM)?;
     grow(alloc, asked.before)?;
     let mut was_refused = false;
     for piece in asked.trace.chunks(PIECE_LEN) {
-        was_refused |= feed(&mut reader, piece, &mut lines)?;
+        was_refused |= feed(&mut reader, piece, &mut said)?;
     }
-    was_refused |= end(&mut reader, &mut lines)?;
-    let whole = read_trace(alloc, &config, asked.trace)?;
-    if format!(in alloc; "{lines:?}")? != format!(in alloc; "{whole:?}")? {
-        return Err(Flaw::End);
+    was_refused |= end(&mut reader, &mut said)?;
+    let Ok(lines) = read_trace(alloc, &config, asked.trace) else {
+        return Err(Flaw::Beside);
+    };
+    let mut whole = String::with_capacity(alloc, ROOM)?;
+    tell(lines.as_slice(), &mut whole)?;
+    if said != whole {
+        return Err(Flaw::Wrong("wrong: the pieces gave other lines\n"));
     }
-    let (_, report) = reported(alloc, asked)?;
-    Ok(Tried {
-        was_refused,
-        report,
-    })
+    match run_text(alloc, asked.config, asked.trace, &mut Counted::new(report)) {
+        Ok(()) => Ok(was_refused),
+        Err(_) => Err(Flaw::Beside),
+    }
 }
 
 /// Offers a piece, and once more where it is refused. Answers whether it was.
-fn feed(reader: &mut LineReader, piece: &[u8], lines: &mut Vec<Line>) -> Result<bool, Flaw> {
-    let (said, was_refused) = match reader.feed(piece) {
-        Err(ReadFault::NoMemory) => (again(reader.feed(piece))?, true),
-        said => (said?, false),
+fn feed(reader: &mut LineReader, piece: &[u8], said: &mut String) -> Result<bool, Flaw> {
+    let (lines, was_refused) = match reader.feed(piece) {
+        Err(ReadFault::NoMemory) => (reader.feed(piece), true),
+        lines => (lines, false),
     };
-    for line in said {
-        lines.push(line)?;
-    }
+    let Ok(lines) = lines else {
+        return Err(AGAIN);
+    };
+    tell(lines.as_slice(), said)?;
     Ok(was_refused)
 }
 
 /// Ends the text, and once more where that is refused. Answers whether it was.
-fn end(reader: &mut LineReader, lines: &mut Vec<Line>) -> Result<bool, Flaw> {
-    let (said, was_refused) = match reader.end() {
-        Err(ReadFault::NoMemory) => (again(reader.end())?, true),
-        said => (said?, false),
+fn end(reader: &mut LineReader, said: &mut String) -> Result<bool, Flaw> {
+    let (line, was_refused) = match reader.end() {
+        Err(ReadFault::NoMemory) => (reader.end(), true),
+        line => (line, false),
     };
-    if let Some(line) = said {
-        lines.push(line)?;
+    match line {
+        Ok(Some(line)) => tell(&[line], said)?,
+        Ok(None) => {}
+        Err(_) => return Err(AGAIN),
     }
     Ok(was_refused)
 }
 
-/// What a call answers that was refused a growth before.
-fn again<T, F: Drop>(answer: Result<T, ReadFault<F>>) -> Result<T, Flaw> {
-    match answer {
-        Ok(said) => Ok(said),
-        Err(ReadFault::NoMemory) => Err(Flaw::RefusedTwice),
-        Err(ReadFault::At(_)) => Err(Flaw::Changed),
+/// Adds lines to a text, which has room for them.
+fn tell(lines: &[Line], text: &mut String) -> Result<(), NoMemory> {
+    for line in lines {
+        if write!(text, "{line:?} ").is_err() {
+            return Err(NoMemory);
+        }
     }
+    Ok(())
 }

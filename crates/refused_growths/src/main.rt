@@ -1,35 +1,38 @@
 //! A program for tests: calls of the libraries in a run in which one growth is refused (*profile*).
 //!
-//! Standard input holds a line, which names a [`Trial`] and says how many growths come before it, and then a
+//! Standard input holds a line, which names a trial and says how many growths come before its calls, and then a
 //! configuration and a trace as `apctl` takes them. Whoever runs the program has one growth of the run refused, always
-//! of the same number; so of runs with fewer and fewer growths before the trial, each refuses the next growth of it.
-//! Standard output then holds a line of what was refused ([`Met`]) and the report of what the trial made.
+//! of the same number; so of runs with fewer and fewer growths before the calls, each refuses the next growth of them.
+//! Standard output then holds a line of what was refused and what the trial wrote: the report, before which the lines
+//! stand that an access point was not given, since a growth was refused; or the answers to lines as they came.
 //!
 //! Nothing is promised here beyond what the libraries promise. The trials show on the real calls that a refused growth
 //! changes nothing, and that what is offered again is taken.
 #![tactic(auto)]
 
-ghost use Rattle.trace.specs.Sinks.{MayFail};
-
 mod access_point;
 mod answered;
 mod asked;
-mod growths;
 mod lines;
 mod network;
 mod outcome;
 mod texts;
 
-use asked::{Asked, Trial, asked_of};
-use outcome::{Flaw, Met, Tried};
+use access_point::give_lines;
+use answered::answer_lines;
+use asked::{Asked, asked_of};
+use lines::feed_pieces;
+use network::take_each;
+use outcome::{Flaw, ROOM};
 use std::alloc::Global;
-use std::io::Read;
+use std::io::{Read, Write};
 use std::process::ExitCode;
 use std::sync::Wait;
 use std::thread::Threads;
-use texts::{Call, play_call, report_call, write_twice};
-use trace::{Counted, Failed, Sink, write_all};
+use texts::write_twice;
 
+/// Where something beside the calls failed, the trial begins anew; in a run that refuses one growth this happens once at
+/// most.
 fn main(rt: HostRuntime) -> ExitCode {
     let mut input = Vec::new(rt.alloc());
     if rt.stdin().read_to_end(&mut input).is_err() {
@@ -38,64 +41,49 @@ fn main(rt: HostRuntime) -> ExitCode {
     let Some(asked) = asked_of(input.as_slice()) else {
         return ExitCode::FAILURE;
     };
-    let mut out = Counted::new(rt.stdout());
-    match answer(&rt, rt.alloc(), &asked, &mut out) {
-        Ok(true) => ExitCode::SUCCESS,
-        Ok(false) | Err(Failed) => ExitCode::FAILURE,
+    let Ok(mut report) = Vec::with_capacity(rt.alloc(), ROOM) else {
+        return ExitCode::FAILURE;
+    };
+    let mut met = "refused nothing\n";
+    let mut tried = trial(&rt, rt.alloc(), &asked, &mut report);
+    if let Err(Flaw::Beside) = tried {
+        met = "refused beside the calls\n";
+        report.clear();
+        tried = trial(&rt, rt.alloc(), &asked, &mut report);
     }
+    let (line, status) = match tried {
+        Ok(false) => (met, ExitCode::SUCCESS),
+        Ok(true) => ("refused in a call\n", ExitCode::SUCCESS),
+        Err(Flaw::Beside) => ("wrong: what is not tried failed twice\n", ExitCode::FAILURE),
+        Err(Flaw::Wrong(line)) => (line, ExitCode::FAILURE),
+    };
+    let mut out = rt.stdout();
+    if out.write_all(line.as_bytes()).is_err() || out.write_all(report.as_slice()).is_err() {
+        return ExitCode::FAILURE;
+    }
+    status
 }
 
-/// Writes what was refused and the report, or what a trial found wrong. Answers whether nothing was.
-fn answer<R: Threads + Wait + Sync, W: Sink>(
-    rt: &R,
-    alloc: Global,
-    asked: &Asked<'_>,
-    out: &mut W,
-) -> Result<bool, Failed>
-    requires { MayFail (W.failed out.old) }
-{
-    let (met, tried) = attempt(rt, alloc, asked);
-    match tried {
-        Ok(tried) => {
-            write_all(out, met.and(tried.was_refused).line().as_bytes())?;
-            write_all(out, tried.report.as_slice())?;
-            Ok(true)
-        }
-        Err(flaw) => {
-            write_all(out, flaw.line().as_bytes())?;
-            Ok(false)
-        }
-    }
-}
-
-/// What a trial comes to. Where a growth of its own was refused, and of no call that it tries, it begins anew; in a run
-/// that refuses one growth this happens once at most.
-fn attempt<R: Threads + Wait + Sync>(
-    rt: &R,
-    alloc: Global,
-    asked: &Asked<'_>,
-) -> (Met, Result<Tried, Flaw>) {
-    match trial(rt, alloc, asked) {
-        Err(Flaw::NoMemory) => (Met::OwnGrowth, trial(rt, alloc, asked)),
-        tried => (Met::Nothing, tried),
-    }
-}
-
-/// The trial that is asked for.
+/// Tries the calls of a name. Answers whether a growth of one was refused.
 fn trial<R: Threads + Wait + Sync>(
     rt: &R,
     alloc: Global,
     asked: &Asked<'_>,
-) -> Result<Tried, Flaw> {
+    report: &mut Vec<u8>,
+) -> Result<bool, Flaw> {
     match asked.trial {
-        Trial::Take => network::take_each(alloc, asked),
-        Trial::Neighbour => access_point::give_once(rt, alloc, asked),
-        Trial::Finish => access_point::finish(rt, alloc, asked),
-        Trial::Lines => lines::feed_pieces(alloc, asked),
-        Trial::Report => write_twice(rt, alloc, asked, &report_call(alloc, asked)?),
-        Trial::Text => write_twice(rt, alloc, asked, &Call::Text),
-        Trial::Stream => write_twice(rt, alloc, asked, &Call::Stream),
-        Trial::Play => write_twice(rt, alloc, asked, &play_call(alloc, asked)?),
-        Trial::Live => answered::feed_lines(alloc, asked),
+        // `Bss::take` for each line; an event that was refused is offered again.
+        "take" => take_each(alloc, asked, report),
+        // The calls of one caller on an access point, none of which is made again, and its end.
+        "neighbour" => give_lines(rt, alloc, asked, 1, report),
+        // The same, by two callers in turn.
+        "finish" => give_lines(rt, alloc, asked, 2, report),
+        // `LineReader::feed`, in small pieces, and `end`; a piece that was refused is offered again.
+        "lines" => feed_pieces(alloc, asked, report),
+        // `Live::feed` for each line, none of which is offered again, and `end`.
+        "live" => answer_lines(alloc, asked, report),
+        // The calls of these names that write a report, `play` with the trace as the only one.
+        "report" | "text" | "stream" | "play" => write_twice(rt, alloc, asked, report),
+        _ => Err(Flaw::Wrong("wrong: there is no such trial\n")),
     }
 }
