@@ -95,14 +95,19 @@ fn plain_tim(
     least: u16,
     greatest: u16,
 ) -> Result<Octets, NoMemory> {
-    assert!(rt; least <= MAX_AID && greatest <= MAX_AID);
-    let mut bitmap = [0; 251];
-    bitmap[usize::from(least / 8)] |= 1 << (least % 8);
-    bitmap[usize::from(greatest / 8)] |= 1 << (greatest % 8);
-    let (first, last) = (least / 16 * 2, greatest / 8);
-    assert!(rt; first <= last);
-    let mut tim = Octets::from_slice(alloc, &[5, (last - first + 4) as u8, 0, 1, first as u8])?;
-    tim.append(&bitmap[usize::from(first)..=usize::from(last)])?;
+    assert!(rt; least <= greatest && greatest <= MAX_AID);
+    let offset = least / 16;
+    let len = greatest / 8 - 2 * offset + 4;
+    let mut tim = Octets::from_slice(alloc, &[5, len as u8, 0, 1, 2 * offset as u8])?;
+    for place in 2 * offset..=greatest / 8 {
+        let mut octet = 0;
+        for aid in [least, greatest] {
+            if aid / 8 == place {
+                octet |= 1 << (aid % 8);
+            }
+        }
+        tim.append(&[octet])?;
+    }
     Ok(tim)
 }
 
