@@ -6,8 +6,8 @@
 #![tactic(auto)]
 
 #[cfg(test)]
-mod pieces;
-#[cfg(test)]
 mod samples;
 #[cfg(test)]
 mod streams;
+#[cfg(test)]
+mod tests;
