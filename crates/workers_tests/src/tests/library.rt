@@ -122,12 +122,21 @@ fn is_fed(expected: &RunResult, end: &Finished) -> Result<bool, Fail> {
     Ok(end.left.as_slice().len() == 2 * all)
 }
 
+/// Whether so it is with a new access point.
+fn feeds<R: Threads + Wait + Sync>(
+    rt: &R,
+    alloc: Global,
+    expected: &RunResult,
+) -> Result<bool, Fail> {
+    let end = fed(rt, alloc)?;
+    is_fed(expected, &end)
+}
+
 #[test]
 fn two_networks_are_fed_at_once(rt: HostRuntime) -> Result<(), Fail> {
-    let alloc = rt.alloc();
-    let expected = alone(alloc)?;
+    let expected = alone(rt.alloc())?;
     for _ in 0..TIMES {
-        assert!(rt; is_fed(&expected, &fed(&rt, alloc)?)?);
+        assert!(rt; feeds(&rt, rt.alloc(), &expected)?);
     }
     Ok(())
 }

@@ -182,20 +182,23 @@ const BOTH_JOINED: &[&str] = &[
     BEACON_5,
 ];
 
-/// What the access point makes of it.
-fn give<N: ApName, R: Wait>(
+/// Whether the first network makes the first of it, and each of the others the second.
+fn is_answered<N: ApName, R: Wait>(
     rt: &R,
     alloc: Global,
     ap: &Ap<N>,
     caller: &mut Caller,
     given: Given,
-) -> Result<[Outcome; MAX_NETWORKS], Fail> {
+    expected: [Outcome; 2],
+) -> Result<bool, Fail> {
+    let mut all = [expected[1]; MAX_NETWORKS];
+    all[0] = expected[0];
     let outcomes = match given {
         Given::Air(frame) => ap.air(rt, caller, octets(alloc, frame)?.as_slice())?,
         Given::Wire(place, frame) => ap.wire(rt, caller, place, octets(alloc, frame)?.as_slice())?,
         Given::Tick => ap.tick(rt, caller)?,
     };
-    Ok(outcomes)
+    Ok(outcomes == all)
 }
 
 /// What the first network shows.
@@ -207,6 +210,12 @@ fn shown(bss: &Bss) -> [usize; 4] {
         counts.unread as usize,
         bss.table_len(),
     ]
+}
+
+/// Whether the first network shows that.
+fn shows<N: ApName, R: Wait>(rt: &R, ap: &Ap<N>, counts: [usize; 4]) -> Result<bool, Fail> {
+    has_first(ap)?;
+    Ok(ap.inspect(rt, 0, shown) == counts)
 }
 
 /// The last octet of a network's address.
@@ -249,16 +258,12 @@ fn comes_of<N: ApName, R: Wait>(
 ) -> Result<bool, Fail> {
     has_first(ap)?;
     match made {
-        Move::Gives(given, [first, other]) => {
-            let mut expected = [other; MAX_NETWORKS];
-            expected[0] = first;
-            Ok(give(rt, alloc, ap, caller, given)? == expected)
-        }
+        Move::Gives(given, outcomes) => is_answered(rt, alloc, ap, caller, given, outcomes),
         Move::Pumps(count) => Ok(ap.pump(rt, 0) == count),
         Move::Leaves(leaves, count) => {
             Ok(ap.leave(rt, transmitter)? == leaves && transmitter.left().len() == count)
         }
-        Move::Shows(counts) => Ok(ap.inspect(rt, 0, shown) == counts),
+        Move::Shows(counts) => shows(rt, ap, counts),
         Move::ShowsEach => Ok(shows_each_at_its_place(rt, ap)),
         Move::WasTold(numbers) => Ok(was_told(caller, numbers)),
     }
