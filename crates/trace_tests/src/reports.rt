@@ -1,7 +1,7 @@
 ghost use Rattle.trace.specs.Buffers.{sink_of};
 ghost use Rattle.trace.specs.Sinks.{MayFail};
 
-use bss_core::{Counts, Event, Section, StationRow};
+use bss_core::{Counts, Event, NetConfig, Section, StationRow};
 use fixtures::{lab, octets};
 use mac_frame::{List, MacAddr, Octets};
 use station_state::Standing;
@@ -118,7 +118,7 @@ fn report_of_many_pieces(rt: HostRuntime) -> Result<(), Fail> {
 }
 
 /// Puts the lines of a section one by one, and has the sink take what the piece holds.
-fn put_lines<W: Sink>(out: &mut Buffered<'_, W>, section: &Section) -> Result<(), Failed>
+fn put_lines<W: Sink>(out: &mut Buffered<'_, W>, config: &NetConfig) -> Result<(), Failed>
     requires { MayFail (W.failed (sink_of out.old)) }
 {
     let totals = Totals {
@@ -128,11 +128,12 @@ fn put_lines<W: Sink>(out: &mut Buffered<'_, W>, section: &Section) -> Result<()
         lost: 4,
         kept: 5,
     };
-    put_network_line(out, &section.config)?;
+    put_network_line(out, config)?;
     put_counts_line(out, &totals)?;
-    for row in section.table.as_slice() {
-        put_station_line(out, row)?;
-    }
+    put_station_line(out, &station(Standing::Authenticated, 1))?;
+    put_station_line(out, &station(Standing::Unknown, 2))?;
+    put_station_line(out, &station(Standing::Associated, 3))?;
+    put_station_line(out, &station(Standing::Associated, 4))?;
     put_frame_line(out, b"air ", &[1, 0x23])?;
     put_frame_line(out, b"wire ", &[0, 0xff])?;
     put_frame_line(out, b"wire ", &[])?;
@@ -143,12 +144,12 @@ fn put_lines<W: Sink>(out: &mut Buffered<'_, W>, section: &Section) -> Result<()
 #[test]
 fn lines_go_through_a_piece_of_any_length(rt: HostRuntime) -> Result<(), Fail> {
     let alloc = rt.alloc();
-    let section = section(alloc)?;
+    let config = lab::config(alloc, 100)?;
     for len in 0..100 {
         let mut piece = vec![in alloc; 0; len]?;
         let mut sink = Counted::new(Vec::new(alloc));
         let mut out = Buffered::new(&mut sink, piece.as_mut_slice());
-        assert_eq!(rt; put_lines(&mut out, &section), Ok(()), "at {len}");
+        assert_eq!(rt; put_lines(&mut out, &config), Ok(()), "at {len}");
         let taken: Vec<u8> = sink.into_inner();
         assert_eq!(rt; taken.as_slice(), REPORT.as_bytes(), "at {len}");
     }
