@@ -4,13 +4,32 @@ ghost use Rattle.workers.specs.Names.{AreNamed};
 
 use crate::asked::Asked;
 use crate::outcome::{ANSWER, CHANGED, Flaw, grow, report_sections};
-use bss_core::{Line, MAX_NETWORKS};
-use mac_frame::NoMemory;
+use bss_core::{Line, MAX_NETWORKS, RadioConfig, hears};
+use mac_frame::{MacAddr, NoMemory};
 use std::alloc::Global;
 use std::marker::Brand;
 use std::sync::Wait;
 use trace::{read_config, read_trace};
 use workers::{Ap, ApName, Caller, FinishFault, Outcome, Parts};
+
+/// The address of the network at each place; none where there is no network.
+type Addresses = [Option<MacAddr>; MAX_NETWORKS];
+
+/// What callers give, after so many growths.
+#[derive(Clone, Copy)]
+struct Work<'a> {
+    growths: u32,
+    lines: &'a [Line],
+    addresses: &'a Addresses,
+}
+
+/// A line that one gives, counted from 1, and the networks that may hear it.
+#[derive(Clone, Copy)]
+struct Given<'a> {
+    number: usize,
+    line: &'a Line,
+    addresses: &'a Addresses,
+}
 
 /// Gives each line once to an access point with so many callers, who give the lines in turn, and ends it. Writes which
 /// lines were refused, as [`live::Live`] says it but for the network's place, and the report in the end, which is none
@@ -28,32 +47,38 @@ pub(crate) fn give_lines<R: Wait>(
     let Ok(lines) = read_trace(alloc, &config, asked.trace) else {
         return Err(Flaw::Beside);
     };
+    let addresses = addresses_of(&config);
     let Ok(parts) = Parts::open(alloc, config, callers) else {
         return Err(Flaw::Beside);
     };
-    give_lines_of::<Brand, R>(rt, alloc, parts, asked.before, lines.as_slice(), report)
+    let work = Work {
+        growths: asked.before,
+        lines: lines.as_slice(),
+        addresses: &addresses,
+    };
+    give_lines_of::<Brand, R>(rt, alloc, parts, work, report)
+}
+
+/// The addresses of a configuration's networks.
+fn addresses_of(config: &RadioConfig) -> Addresses {
+    let mut addresses = [None; MAX_NETWORKS];
+    for (address, network) in addresses.iter_mut().zip(config.networks.as_slice()) {
+        *address = Some(network.bssid);
+    }
+    addresses
 }
 
 fn give_lines_of<N: ApName, R: Wait>(
     rt: &R,
     alloc: Global,
     parts: Parts,
-    growths: u32,
-    lines: &[Line],
+    work: Work<'_>,
     report: &mut Vec<u8>,
 ) -> Result<bool, Flaw>
     requires { AreNamed N.config N.queue parts }
 {
     let (ap, mut callers, transmitter) = Ap::<N>::start(alloc, parts)?;
-    let given = give_each(
-        rt,
-        alloc,
-        growths,
-        &ap,
-        callers.as_mut_slice(),
-        lines,
-        report,
-    );
+    let given = give_each(rt, alloc, &ap, callers.as_mut_slice(), work, report);
     match ap.finish(rt, callers, transmitter) {
         Ok(end) => {
             report_sections(alloc, end.sections.as_slice(), report)?;
@@ -71,19 +96,24 @@ fn give_lines_of<N: ApName, R: Wait>(
 fn give_each<N: ApName, R: Wait>(
     rt: &R,
     alloc: Global,
-    growths: u32,
     ap: &Ap<N>,
     callers: &mut [Caller],
-    lines: &[Line],
+    work: Work<'_>,
     report: &mut Vec<u8>,
 ) -> Result<bool, Flaw> {
-    grow(alloc, growths)?;
+    grow(alloc, work.growths)?;
+    let addresses = work.addresses;
     let mut was_refused = false;
     let mut number = 0_usize;
-    for few in lines.chunks(callers.len().max(1)) {
+    for few in work.lines.chunks(callers.len().max(1)) {
         for (caller, line) in callers.iter_mut().zip(few) {
             number = number.saturating_add(1);
-            was_refused |= give(rt, alloc, ap, caller, line, number, report)?;
+            let given = Given {
+                number,
+                line,
+                addresses,
+            };
+            was_refused |= give(rt, alloc, ap, caller, given, report)?;
         }
     }
     for place in 0..ap.networks() {
@@ -99,19 +129,19 @@ fn give<N: ApName, R: Wait>(
     alloc: Global,
     ap: &Ap<N>,
     caller: &mut Caller,
-    line: &Line,
-    number: usize,
+    given: Given<'_>,
     report: &mut Vec<u8>,
 ) -> Result<bool, Flaw> {
     let entries = caller.entries().len();
-    let answer = match line {
+    let answer = match given.line {
         Line::Air(octets) => ap.air(rt, caller, octets.as_slice()),
         Line::Wire { place, octets } => ap.wire(rt, caller, *place, octets.as_slice()),
         Line::Tick => ap.tick(rt, caller),
     };
     match answer {
-        Ok(outcomes) => tell(alloc, outcomes, number, report),
+        Ok(outcomes) => tell(alloc, outcomes, given, report),
         Err(NoMemory) if caller.entries().len() == entries => {
+            let number = given.number;
             let refusal = format!(in alloc; "fault memory line {number}\n")?;
             report.extend_from_slice(refusal.as_bytes())?;
             Ok(true)
@@ -120,24 +150,36 @@ fn give<N: ApName, R: Wait>(
     }
 }
 
-/// Writes which networks refused the line of a number for memory. Answers whether any did.
+/// Writes which networks refused the line of a number for memory. Answers whether any did. Each place that hears the
+/// line must have taken or refused it, and each other not have heard it.
 fn tell(
     alloc: Global,
     outcomes: [Outcome; MAX_NETWORKS],
-    number: usize,
+    given: Given<'_>,
     report: &mut Vec<u8>,
 ) -> Result<bool, Flaw> {
     let mut was_refused = false;
-    for (place, outcome) in outcomes.iter().enumerate() {
-        match outcome {
-            Outcome::NotHeard | Outcome::Took(_) => {}
-            Outcome::Full => return Err(ANSWER),
-            Outcome::NoMemory => {
+    let number = given.number;
+    for (place, (outcome, address)) in outcomes.iter().zip(given.addresses).enumerate() {
+        match (outcome, is_heard(place, *address, given.line)) {
+            (Outcome::NotHeard, false) | (Outcome::Took(_), true) => {}
+            (Outcome::NoMemory, true) => {
                 let refusal = format!(in alloc; "fault memory line {number} place {place}\n")?;
                 report.extend_from_slice(refusal.as_bytes())?;
                 was_refused = true;
             }
+            _ => return Err(ANSWER),
         }
     }
     Ok(was_refused)
+}
+
+/// Whether the network of a place and this address hears a line; none does where no network is.
+fn is_heard(place: usize, address: Option<MacAddr>, line: &Line) -> bool {
+    match (address, line) {
+        (None, _) => false,
+        (Some(address), Line::Air(octets)) => hears(address, octets.as_slice()),
+        (Some(_), Line::Wire { place: to, .. }) => *to == place,
+        (Some(_), Line::Tick) => true,
+    }
 }
