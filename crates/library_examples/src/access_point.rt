@@ -4,7 +4,7 @@ ghost use Rattle.std.specs.Prelude.{◌≡◌, IfOk, length};
 ghost use Rattle.workers.specs.Ending.{AreSections, HaveLeft};
 ghost use Rattle.workers.specs.Names.{AreNamed};
 
-use bss_core::{Line, MAX_NETWORKS, OpenFault, RadioConfig};
+use bss_core::{Line, MAX_NETWORKS, RadioConfig};
 use mac_frame::NoMemory;
 use std::alloc::Global;
 use std::marker::Brand;
@@ -12,36 +12,7 @@ use std::sync::Wait;
 use std::sync::atomic::{AtomicU64, Ordering};
 use std::thread;
 use std::thread::Threads;
-use workers::{Ap, ApName, Caller, FinishFault, Finished, Outcome, Parts, Transmitter};
-
-/// Why an access point came to no end.
-#[derive(Clone, Copy, Debug, PartialEq, Eq)]
-pub enum RunFault {
-    /// It was not opened.
-    Open(OpenFault),
-    /// A growth was refused while it ran.
-    NoMemory,
-    /// It was not finished.
-    Finish(FinishFault),
-}
-
-impl From<OpenFault> for RunFault {
-    fn from(fault: OpenFault) -> RunFault {
-        RunFault::Open(fault)
-    }
-}
-
-impl From<NoMemory> for RunFault {
-    fn from(_e: NoMemory) -> RunFault {
-        RunFault::NoMemory
-    }
-}
-
-impl From<FinishFault> for RunFault {
-    fn from(fault: FinishFault) -> RunFault {
-        RunFault::Finish(fault)
-    }
-}
+use workers::{Ap, ApName, Caller, Finished, Outcome, Parts, PlayFault, Transmitter};
 
 /// Opens an access point, lets two sources give it their lines, each on a thread of its own, and ends it. Its frames
 /// leave meanwhile.
@@ -51,7 +22,7 @@ pub fn run_two<R: Threads + Wait + Sync>(
     config: RadioConfig,
     first: &[Line],
     second: &[Line],
-) -> Result<Finished, RunFault>
+) -> Result<Finished, PlayFault>
     ensures networks { IfOk result (λ end. length end.sections ≡ length config.networks) }
     ensures sections { IfOk result (λ end. AreSections config end.sections) }
     ensures left { IfOk result (λ end. HaveLeft end.sections end.left) }
@@ -67,7 +38,7 @@ fn run_parts<N: ApName + Send + Sync, R: Threads + Wait + Sync>(
     parts: Parts,
     first: &[Line],
     second: &[Line],
-) -> Result<Finished, RunFault>
+) -> Result<Finished, PlayFault>
     requires { AreNamed N.config N.queue parts }
     ensures networks { IfOk result (λ end. length end.sections ≡ length N.config.networks) }
     ensures sections { IfOk result (λ end. AreSections N.config end.sections) }
@@ -93,9 +64,9 @@ fn run_threads<N: ApName + Send + Sync, R: Threads + Wait + Sync>(
     first: &[Line],
     second: &[Line],
     transmitter: &mut Transmitter<N>,
-) -> Result<(), RunFault> {
+) -> Result<(), PlayFault> {
     let [one, two] = callers else {
-        return Err(RunFault::Open(OpenFault::Callers));
+        return Err(PlayFault::Sources);
     };
     join_threads(rt, ap, one, first, two, second, transmitter)?;
     Ok(())

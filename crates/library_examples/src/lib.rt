@@ -10,6 +10,6 @@ mod access_point;
 mod network;
 mod radio;
 
-pub use access_point::{RunFault, run_two};
+pub use access_point::run_two;
 pub use network::take_all;
 pub use radio::{sections, serve};

@@ -1,4 +1,4 @@
-use Rattle.std.proofs.Common.{◌≡◌, ◌++◌, [], ℕ, List, refl, sym, ap, ◌∙◌, arith, append-nil}
+use Rattle.std.proofs.Common.{◌≡◌, ◌++◌, [], ◌∷◌, ℕ, List, refl, sym, ap, ◌∙◌, arith, append-nil, append_assoc}
 use Rattle.std.specs.Vec.Iter.{into_iter_items}
 use Rattle.bss_core.specs.BssView.{BssView, network_of}
 use Rattle.bss_core.specs.Network.{Network}
@@ -21,6 +21,21 @@ loop-event-init c =
       setting = refl;
       waiting = ap (λ (b : BssView). b.waiting) c.in_ok-network.ensures;
       sent = c.new-sent.ensures.items ∙ sym (air ∙ ap (λ (n : Network). n.air) (c.one_step.ensures.first given));
+    }
+
+pub loop-event-preserved : goal.loop-event-preserved
+loop-event-preserved c =
+    let rest : List Event = into_iter_items c.next.new.self in
+    let before : List Event = c.loop-event.network.history in
+    record {
+      history =
+          ap (λ (es : List Event). es ++ rest) c.in_ok-take_one.ensures.history
+          ∙ append_assoc before (c.in-Some.event ∷ []) rest
+          ∙ ap (λ (es : List Event). before ++ es) (sym c.in-Some.ensures.steps.0)
+          ∙ c.loop-event.invariant.history;
+      setting = c.take_one.ensures.setting ∙ c.loop-event.invariant.setting;
+      waiting = c.in_ok-take_one.ensures.waiting;
+      sent = c.in_ok-take_one.ensures.sent;
     }
 
 pub returns : goal.returns
