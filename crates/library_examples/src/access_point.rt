@@ -45,15 +45,17 @@ fn run_parts<N: ApName + Send + Sync, R: Threads + Wait + Sync>(
     ensures left { IfOk result (λ end. HaveLeft end.sections end.left) }
 {
     let (ap, mut callers, mut transmitter) = Ap::<N>::start(alloc, parts)?;
-    run_threads(
+    let fed = run_threads(
         rt,
         &ap,
         callers.as_mut_slice(),
         first,
         second,
         &mut transmitter,
-    )?;
-    Ok(ap.finish(rt, callers, transmitter)?)
+    );
+    let end = ap.finish(rt, callers, transmitter)?;
+    fed?;
+    Ok(end)
 }
 
 /// Two callers give the sources' lines.
