@@ -15,7 +15,9 @@ use std::thread::Threads;
 use workers::{Ap, ApName, Caller, Finished, Outcome, Parts, PlayFault, Transmitter};
 
 /// Opens an access point, lets two sources give it their lines, each on a thread of its own, and ends it. Its frames
-/// leave meanwhile.
+/// leave meanwhile. `Config` for the first fault of the configuration, `NoMemory` where a growth was refused to the
+/// access point, a source or the frames that leave, `Finish` where [`Ap::finish`] refuses; once it was opened it is
+/// ended in each case. What one network refused is no fault: that line is in no history of it (*profile*).
 pub fn run_two<R: Threads + Wait + Sync>(
     rt: &R,
     alloc: Global,
@@ -53,9 +55,9 @@ fn run_parts<N: ApName + Send + Sync, R: Threads + Wait + Sync>(
         second,
         &mut transmitter,
     );
-    let end = ap.finish(rt, callers, transmitter)?;
+    let ended = ap.finish(rt, callers, transmitter);
     fed?;
-    Ok(end)
+    Ok(ended?)
 }
 
 /// Two callers give the sources' lines.
