@@ -37,8 +37,3 @@ AreOfParts sections parts = (c : RadioConfig) × (configuration_of parts.0 ≡ O
 abbrev pub AreOfInput : List Section → Option (List ℕ) → Type 0
 AreOfInput sections left =
     (input : List ℕ) × IfSome left (λ octets. input ≡ octets) × AreOfParts sections (joined_parts input)
-
--- how a run ended, whatever it hands out
-abbrev pub outcome_of : {A : Type 0} → Result A Fault → Result Unit Fault
-outcome_of (Ok made) = Ok tt
-outcome_of (Err fault) = Err fault

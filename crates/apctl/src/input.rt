@@ -3,10 +3,10 @@
 //! It is all that the program does without words, but for its streams and the line of a fault.
 
 ghost use Rattle.std.specs.Prelude.{◌≡◌, ◌+◌, IfOk, IfErr, IfSome};
-ghost use Rattle.trace.specs.Endings.{failures_of};
+ghost use Rattle.trace.specs.Endings.{failures_of, outcome_of};
 ghost use Rattle.trace.specs.Sinks.{MayFail};
 ghost use Rattle.apctl.specs.Faults.{IsOfFile, run_ending};
-ghost use Rattle.apctl.specs.Input.{EndsInput, AreOfInput, outcome_of};
+ghost use Rattle.apctl.specs.Input.{EndsInput, AreOfInput};
 
 use crate::fault::Fault;
 use bss_core::Section;

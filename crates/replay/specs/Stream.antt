@@ -103,11 +103,6 @@ pub record RunsStream (result : Result Unit StreamFault) (config_text : List ℕ
   pub fails : ReadsFail result text failed failed'
   pub end : EndsStream result config_text text left' old new
 
--- how a run ended, whatever it hands out
-abbrev pub outcome_of : {A : Type 0} → Result A StreamFault → Result Unit StreamFault
-outcome_of (Ok made) = Ok tt
-outcome_of (Err fault) = Err fault
-
 -- how a call ends that reads a stream
 abbrev pub stream_ending : StreamFault → Ending StreamFault
 stream_ending NoMemory = OutOfMemory

@@ -4,13 +4,13 @@ ghost use Rattle.std.specs.Prelude.{◌≡◌, ◌+◌, ◌++◌, List, [], ℕ,
 ghost use Rattle.bss_core.specs.Configuration.{fault_of};
 ghost use Rattle.bss_core.specs.declared.config.RadioConfig.{RadioConfig};
 ghost use Rattle.trace.specs.ConfigurationText.{configuration_of};
-ghost use Rattle.trace.specs.Endings.{IsFaultOf, failures_of};
+ghost use Rattle.trace.specs.Endings.{IsFaultOf, failures_of, outcome_of};
 ghost use Rattle.trace.specs.Faults.{read_ending};
 ghost use Rattle.trace.specs.Sinks.{MayFail};
 ghost use Rattle.trace.specs.Texts.{LacksLineFeed, ended};
 ghost use Rattle.trace.specs.TraceText.{lines_of};
 ghost use Rattle.replay.specs.Stream.{HasReplayed, TakesStream, ReplaysStream, RunsStream, AreSectionsOf};
-ghost use Rattle.replay.specs.Stream.{stream_ending, outcome_of};
+ghost use Rattle.replay.specs.Stream.{stream_ending};
 
 use crate::fault::StreamFault;
 use crate::line_by_line::Replay;

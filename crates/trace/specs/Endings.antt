@@ -16,6 +16,11 @@ abbrev pub ending_of : {A E F : Type 0} → (E → Ending F) → Result A E → 
 ending_of named (Ok x) = Well
 ending_of named (Err e) = named e
 
+-- what a call answered, whatever it hands out
+abbrev pub outcome_of : {A E : Type 0} → Result A E → Result Unit E
+outcome_of (Ok x) = Ok tt
+outcome_of (Err e) = Err e
+
 -- ---- what it read
 
 -- A fault is the one that reading finds. Any other end says nothing of the text.

@@ -34,6 +34,8 @@ pub(super) enum Given {
 pub(super) enum Move {
     /// It gives this. The first network makes the first of it, and each of the others the second.
     Gives(Given, [Outcome; 2]),
+    /// It gives this. The first network alone hears it, and takes it as its event of this number.
+    Takes(Given, u32),
     /// So many frames of the first network go to the queue.
     Pumps(u32),
     /// A frame leaves, or none, and so many have left then.
@@ -46,25 +48,6 @@ pub(super) enum Move {
     /// The numbers of its receipts, and none for each refusal.
     WasTold(&'static [Option<u32>]),
 }
-
-/// Only the first network took it, as its event of this number.
-const TOOK_0: [Outcome; 2] = [Outcome::Took(0), Outcome::NotHeard];
-
-const TOOK_1: [Outcome; 2] = [Outcome::Took(1), Outcome::NotHeard];
-
-const TOOK_2: [Outcome; 2] = [Outcome::Took(2), Outcome::NotHeard];
-
-const TOOK_3: [Outcome; 2] = [Outcome::Took(3), Outcome::NotHeard];
-
-const TOOK_4: [Outcome; 2] = [Outcome::Took(4), Outcome::NotHeard];
-
-const TOOK_5: [Outcome; 2] = [Outcome::Took(5), Outcome::NotHeard];
-
-const TOOK_6: [Outcome; 2] = [Outcome::Took(6), Outcome::NotHeard];
-
-const TOOK_7: [Outcome; 2] = [Outcome::Took(7), Outcome::NotHeard];
-
-const TOOK_8: [Outcome; 2] = [Outcome::Took(8), Outcome::NotHeard];
 
 /// Nobody heard it.
 const NOBODY: [Outcome; 2] = [Outcome::NotHeard, Outcome::NotHeard];
@@ -92,19 +75,19 @@ const BEACON_5: &str = "80000000 ffffffffffff 020000000001 020000000001 5000 \
     0020030000000000 6400 0100 00036c6162 010482840b16 030106 050400010000";
 
 /// A beacon interval begins.
-const BEACON_MOVES: &[Move] = &[Move::Gives(Given::Tick, TOOK_0), Move::Pumps(1)];
+const BEACON_MOVES: &[Move] = &[Move::Takes(Given::Tick, 0), Move::Pumps(1)];
 
 /// An event is pumped and left, others show at once, and what nobody hears leaves no entry.
 const PUMP_THEN_LEAVE: &[Move] = &[
-    Move::Gives(Given::Tick, TOOK_0),
+    Move::Takes(Given::Tick, 0),
     Move::Shows([1, 1, 0, 0]),
     Move::Pumps(1),
     Move::Leaves(true, 1),
     Move::Pumps(0),
     Move::Leaves(false, 1),
-    Move::Gives(Given::Air(AUTHENTICATION_REQUEST), TOOK_1),
+    Move::Takes(Given::Air(AUTHENTICATION_REQUEST), 1),
     Move::Shows([2, 1, 0, 1]),
-    Move::Gives(Given::Wire(0, THIRTEEN), TOOK_2),
+    Move::Takes(Given::Wire(0, THIRTEEN), 2),
     Move::Shows([3, 1, 1, 1]),
     Move::Gives(Given::Wire(1, THIRTEEN), NOBODY),
     Move::Gives(Given::Wire(usize::MAX, THIRTEEN), NOBODY),
@@ -114,32 +97,32 @@ const PUMP_THEN_LEAVE: &[Move] = &[
 
 /// A network takes one tick, and refuses the next.
 const TWO_TICKS: &[Move] = &[
-    Move::Gives(Given::Tick, TOOK_0),
+    Move::Takes(Given::Tick, 0),
     Move::Gives(Given::Tick, [Outcome::Full, Outcome::NotHeard]),
     Move::WasTold(&[Some(0), None]),
 ];
 
 /// Of three beacons the first leaves, the second is queued, and the third waits.
 const THREE_BEACONS: &[Move] = &[
-    Move::Gives(Given::Tick, TOOK_0),
+    Move::Takes(Given::Tick, 0),
     Move::Pumps(1),
     Move::Leaves(true, 1),
-    Move::Gives(Given::Tick, TOOK_1),
+    Move::Takes(Given::Tick, 1),
     Move::Pumps(1),
-    Move::Gives(Given::Tick, TOOK_2),
+    Move::Takes(Given::Tick, 2),
 ];
 
 /// A station joins and dozes, two frames come for it on the wire, and it polls them.
 const UNITS: &[Move] = &[
-    Move::Gives(Given::Air(AUTHENTICATION_REQUEST), TOOK_0),
-    Move::Gives(Given::Air(ASSOCIATION_REQUEST), TOOK_1),
-    Move::Gives(Given::Air(DOZE), TOOK_2),
-    Move::Gives(Given::Wire(0, "02aa00000001 02bb00000001 0800 01"), TOOK_3),
-    Move::Gives(Given::Wire(0, "02aa00000001 02bb00000001 0800 02"), TOOK_4),
-    Move::Gives(Given::Tick, TOOK_5),
-    Move::Gives(Given::Air(PS_POLL), TOOK_6),
-    Move::Gives(Given::Air(PS_POLL), TOOK_7),
-    Move::Gives(Given::Air(PS_POLL), TOOK_8),
+    Move::Takes(Given::Air(AUTHENTICATION_REQUEST), 0),
+    Move::Takes(Given::Air(ASSOCIATION_REQUEST), 1),
+    Move::Takes(Given::Air(DOZE), 2),
+    Move::Takes(Given::Wire(0, "02aa00000001 02bb00000001 0800 01"), 3),
+    Move::Takes(Given::Wire(0, "02aa00000001 02bb00000001 0800 02"), 4),
+    Move::Takes(Given::Tick, 5),
+    Move::Takes(Given::Air(PS_POLL), 6),
+    Move::Takes(Given::Air(PS_POLL), 7),
+    Move::Takes(Given::Air(PS_POLL), 8),
 ];
 
 /// The network answers both requests, tells in its beacon that units wait for the station, and sends them as it polls,
@@ -164,12 +147,12 @@ const TICK_AND_PROBE: &[Move] = &[
 
 /// Each of two callers lets a station of its own join, and gives a tick.
 const IN_TURN: &[Move] = &[
-    Move::Gives(Given::Air(AUTHENTICATION_REQUEST), TOOK_0),
-    Move::Gives(Given::Air(OTHER_AUTHENTICATION), TOOK_1),
-    Move::Gives(Given::Air(ASSOCIATION_REQUEST), TOOK_2),
-    Move::Gives(Given::Air(OTHER_ASSOCIATION), TOOK_3),
-    Move::Gives(Given::Tick, TOOK_4),
-    Move::Gives(Given::Tick, TOOK_5),
+    Move::Takes(Given::Air(AUTHENTICATION_REQUEST), 0),
+    Move::Takes(Given::Air(OTHER_AUTHENTICATION), 1),
+    Move::Takes(Given::Air(ASSOCIATION_REQUEST), 2),
+    Move::Takes(Given::Air(OTHER_ASSOCIATION), 3),
+    Move::Takes(Given::Tick, 4),
+    Move::Takes(Given::Tick, 5),
 ];
 
 /// What the network sends for that.
@@ -259,6 +242,10 @@ fn comes_of<N: ApName, R: Wait>(
     has_first(ap)?;
     match made {
         Move::Gives(given, outcomes) => is_answered(rt, alloc, ap, caller, given, outcomes),
+        Move::Takes(given, number) => {
+            let outcomes = [Outcome::Took(number), Outcome::NotHeard];
+            is_answered(rt, alloc, ap, caller, given, outcomes)
+        }
         Move::Pumps(count) => Ok(ap.pump(rt, 0) == count),
         Move::Leaves(leaves, count) => {
             Ok(ap.leave(rt, transmitter)? == leaves && transmitter.left().len() == count)
