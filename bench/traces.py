@@ -87,8 +87,8 @@ def ticking(_networks, count):
 
 
 def aging(networks, count):
-    """So many lines: stations that doze and never poll, and units that come for them in turn; each 100th begins a beacon
-    interval, so that units age where the network is so configured."""
+    """So many lines: stations that doze and never poll, and units that come for them in turn; each 100th begins a
+    beacon interval, so that units age where the network is so configured."""
     [network] = networks
     yield from joining(networks, SENDERS)
     yield from (sets_mode(network, station, True) for station in range(SENDERS))

@@ -33,7 +33,8 @@ EndsInput end left old new = EndsOn end left old new
 abbrev pub AreOfParts : List Section → List ℕ × List ℕ → Type 0
 AreOfParts sections parts = (c : RadioConfig) × (configuration_of parts.0 ≡ Ok c) × AreSectionsOf c parts.1 sections
 
--- The sections that a run hands out are those of the text that the reader gave, all that it had left where that is known.
+-- The sections that a run hands out are those of the text that the reader gave, all that it had left where that is
+-- known.
 abbrev pub AreOfInput : List Section → Option (List ℕ) → Type 0
 AreOfInput sections left =
     (input : List ℕ) × IfSome left (λ octets. input ≡ octets) × AreOfParts sections (joined_parts input)

@@ -19,8 +19,8 @@ use trace::Sink;
 pub const STANDARD_INPUT: &str = "-";
 
 /// Reads a configuration and a trace in one text, to the end of the reader, and appends the report of them to what
-/// `out` has taken, as [`replay::run_text`] does of the two parts of the text. It hands out the sections that it reported,
-/// so that the program, which ends then, need not give back their memory.
+/// `out` has taken, as [`replay::run_text`] does of the two parts of the text. It hands out the sections that it
+/// reported, so that the program, which ends then, need not give back their memory.
 ///
 /// `File` comes where the reader failed, and names standard input; nothing is written then. `Memory` comes where a
 /// growth was refused: nothing is written then, or a prefix of the report. `Words` never comes.

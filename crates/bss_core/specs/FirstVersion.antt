@@ -1,5 +1,5 @@
--- A network of the first version of the configuration, which has no options (profile): each unit of a station is delivered
--- on the air, and none that is kept ages.
+-- A network of the first version of the configuration, which has no options (profile): each unit of a station is
+-- delivered on the air, and none that is kept ages.
 use Rattle.std.specs.Prelude.{Bool, true, false, List, [], ◌∷◌, Option, Some, None, Result, Ok, Err, ◌||◌, not, ℕ}
 use Rattle.mac_frame.specs.declared.frame.Unread.{Unread}
 use Rattle.mac_frame.specs.Address.{is_group}

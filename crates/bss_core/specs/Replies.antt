@@ -1,5 +1,6 @@
 -- What a reply makes of a network (profile).
-use Rattle.std.specs.Prelude.{ℕ, ◌+◌, ◌<◌, ◌≡◌, nat_lt, Bool, false, ◌&&◌, List, [], ◌∷◌, ◌++◌, length, Option, Some, None}
+use Rattle.std.specs.Prelude.{ℕ, ◌+◌, ◌<◌, ◌≡◌, nat_lt, Bool, false, ◌&&◌, List, [], ◌∷◌, ◌++◌, length}
+use Rattle.std.specs.Prelude.{Option, Some, None}
 use Rattle.std.specs.Prelude.{option_map, option_to_list}
 use Rattle.powersave.specs.declared.unit.Unit.{Unit as DataUnit}
 use Rattle.bss_core.specs.Units.{unit_frame, others_follow, is_too_old}
@@ -47,8 +48,8 @@ abbrev pub aid_for : Whom → Table → Option ℕ
 aid_for (One addr) table = aid_of addr table
 aid_for Group table = None
 
--- one that comes is within the quota once those that leave are gone, which were for others; it comes with the identifier
--- of its station, and the mode of one station is set at most
+-- one that comes is within the quota once those that leave are gone, which were for others; it comes with the
+-- identifier of its station, and the mode of one station is set at most
 abbrev pub IsWithin : ℕ → Change → Leaving → Table → List Entry → Option Arriving → Type 0
 IsWithin quota change leaving table kept None = Unit {0}
 IsWithin quota change leaving table kept (Some a) =

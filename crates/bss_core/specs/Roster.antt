@@ -1,6 +1,7 @@
 -- The stations of a network with the units that are kept for them (IEEE Std 802.11-2016, 11.2.3), and the association
 -- identifiers of those that units are kept for.
-use Rattle.std.specs.Prelude.{ℕ, ◌-◌, ◌≤◌, ◌≡◌, ◌≢◌, ◌==◌, ◌&&◌, nat_lt, Bool, false, not, List, [], length, Option, Some, None}
+use Rattle.std.specs.Prelude.{ℕ, ◌-◌, ◌≤◌, ◌≡◌, ◌≢◌, ◌==◌, ◌&&◌, nat_lt, Bool, false, not, List, [], length}
+use Rattle.std.specs.Prelude.{Option, Some, None}
 use Rattle.std.specs.FinSet as set
 use Rattle.std.specs.Ordering.{nat_cmp}
 use Rattle.powersave.specs.Keep.{Entry, Kept, units_for}

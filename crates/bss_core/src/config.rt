@@ -28,7 +28,8 @@ pub struct NetConfig {
     pub max_events: u32,
     /// Whether a station's unit may go to another station or to the group on the air; where not, it goes on the wire.
     pub relay: bool,
-    /// Whether a unit is dropped that was kept for a station for more beacon intervals than its listen interval (9.4.1.6).
+    /// Whether a unit is dropped that was kept for a station for more beacon intervals than its listen interval
+    /// (9.4.1.6).
     pub aging: bool,
 }
 

@@ -47,8 +47,8 @@ pub fn steps_append()
         → step s (sent_before air wire n) e ≡ sent_before air wire (step s n e) }
 {}
 
-/// Where a network relays and no unit ages, its frames on the air and on the wire, its table and its counts are those of
-/// a network of the first version, whose definition knows neither option (*profile*).
+/// Where a network relays and no unit ages, its frames on the air and on the wire, its table and its counts are those
+/// of a network of the first version, whose definition knows neither option (*profile*).
 pub fn first_version()
     ensures air { (s : Setting) (es : List Event) → s.network.relay ≡ true → s.network.aging ≡ false
         → (alone s es).air ≡ (alone_in_first_version s es).air }

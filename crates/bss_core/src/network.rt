@@ -1,6 +1,7 @@
 //! A network as it runs, without its history.
 
-ghost use Rattle.std.specs.Prelude.{◌≡◌, ◌+◌, ◌*◌, ◌<◌, ◌≤◌, ◌^◌, ◌&&◌, nat_lt, ℕ, true, IfSome, ◌↔◌, None, Some, Err, IfOk, OnOk, OnErr};
+ghost use Rattle.std.specs.Prelude.{◌≡◌, ◌+◌, ◌*◌, ◌<◌, ◌≤◌, ◌^◌, ◌&&◌, nat_lt, ℕ, true, ◌↔◌};
+ghost use Rattle.std.specs.Prelude.{None, Some, Err, IfSome, IfOk, OnOk, OnErr};
 ghost use Rattle.std.specs.Prelude.{length, slice_get, option_to_list};
 ghost use Rattle.bss_core.specs.Configuration.{setting_fault, network_fault};
 ghost use Rattle.bss_core.specs.Network.{step, table_of, age_units};
@@ -194,8 +195,8 @@ impl Network {
         Ok(self.finish(reply, polled)?)
     }
 
-    /// Fills in what it does about an event, which can be carried out, and answers whose poll is to be served besides, if
-    /// one is. It changes nothing.
+    /// Fills in what it does about an event, which can be carried out, and answers whose poll is to be served besides,
+    /// if one is. It changes nothing.
     pub(crate) fn reply(
         &self,
         reply: &mut Reply,
@@ -249,8 +250,8 @@ impl Network {
         }
     }
 
-    /// Serves the poll of a station: sends the unit that was kept first for it, if there is one. After `NoMemory` nothing
-    /// has changed.
+    /// Serves the poll of a station: sends the unit that was kept first for it, if there is one. After `NoMemory`
+    /// nothing has changed.
     fn serve_poll(&mut self, from: MacAddr) -> Result<Sent, NoMemory>
         requires sound { IsSoundNetwork self.old.setting (self.old.events + 1) (2 * (self.old.events + 1))
             (replied (Some from) (serving self.old.setting (units_for (whoms.One from) self.old.network.kept)

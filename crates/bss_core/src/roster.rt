@@ -101,9 +101,9 @@ impl Roster {
         Ok(())
     }
 
-    /// Does with its stations and units what a reply says: changes one station, takes out the units that leave, and keeps
-    /// one. Where units age, first those that are too old at this clock leave, and it answers how many these were. After
-    /// `NoMemory` nothing has changed.
+    /// Does with its stations and units what a reply says: changes one station, takes out the units that leave, and
+    /// keeps one. Where units age, first those that are too old at this clock leave, and it answers how many these
+    /// were. After `NoMemory` nothing has changed.
     pub fn carry_out(
         &mut self,
         change: Change,
@@ -139,8 +139,8 @@ impl Roster {
         Ok(0)
     }
 
-    /// Sets the mode of one station at most, takes out the units that leave, and keeps one. After `NoMemory` nothing has
-    /// changed.
+    /// Sets the mode of one station at most, takes out the units that leave, and keeps one. After `NoMemory` nothing
+    /// has changed.
     fn keep(
         &mut self,
         change: Change,
@@ -215,8 +215,9 @@ impl Roster {
         follow(&mut self.traffic, &self.stations, whom, false);
     }
 
-    /// Takes out the unit that was kept first for a station as the Data frame that carries it from the network `bss` with
-    /// this sequence number; `None`, and no unit leaves, where none is kept for it. After `NoMemory` all is as it was.
+    /// Takes out the unit that was kept first for a station as the Data frame that carries it from the network `bss`
+    /// with this sequence number; `None`, and no unit leaves, where none is kept for it. After `NoMemory` all is as it
+    /// was.
     pub fn send_oldest(
         &mut self,
         addr: MacAddr,

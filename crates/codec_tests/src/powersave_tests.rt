@@ -185,7 +185,8 @@ fn they_are_told_in_the_order_of_their_addresses(rt: HostRuntime) -> Result<(), 
     Ok(())
 }
 
-/// So many units must be kept for the stations 1 and 2 and for the group, of which the first for station 1 came at a clock.
+/// So many units must be kept for the stations 1 and 2 and for the group, of which the first for station 1 came at a
+/// clock.
 fn holds(rt: &impl Abort, keep: &Keep, counts: [usize; 3], first: Option<u32>) {
     let [one, other, group] = counts;
     assert_eq!(rt; keep.count_for(station(1)), one);
@@ -194,8 +195,8 @@ fn holds(rt: &impl Abort, keep: &Keep, counts: [usize; 3], first: Option<u32>) {
     assert_eq!(rt; clock_at(keep, station(1), 0), first);
 }
 
-/// At first no unit of a station is older than the clock, then the first is, and the unit at the clock itself stays, then
-/// all are, and then none is kept. Those of the group leave where they are asked for. Room for another is left.
+/// At first no unit of a station is older than the clock, then the first is, and the unit at the clock itself stays,
+/// then all are, and then none is kept. Those of the group leave where they are asked for. Room for another is left.
 #[test]
 fn those_that_came_before_a_clock_leave(rt: HostRuntime) -> Result<(), Fail> {
     let mut keep = Keep::new(rt.alloc(), 9);

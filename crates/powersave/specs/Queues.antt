@@ -1,5 +1,6 @@
 -- The queues of the units that are kept, one for each for whom units are kept, and the one list that they make.
-use Rattle.std.specs.Prelude.{ℕ, ◌≡◌, ◌+◌, ◌<◌, ◌++◌, Bool, List, [], ◌∷◌, length, map, filter, nat_lt, Option, Some, None}
+use Rattle.std.specs.Prelude.{ℕ, ◌≡◌, ◌+◌, ◌<◌, ◌++◌, Bool, List, [], ◌∷◌, length, map, filter, nat_lt}
+use Rattle.std.specs.Prelude.{Option, Some, None}
 use Rattle.std.specs.Prelude.{unwrap_or, if◌then◌else◌}
 use Rattle.std.specs.List.{AllByRecursion, IsDistinct, slice_get}
 use Rattle.std.specs.Map.{keys_of, lookup}
@@ -105,12 +106,14 @@ pub record Pops (whom : Whom) (old : Queues) (taken : Option Msdu) (new : Queues
   pub room : (reserved : Option Whom) → HasRoom reserved old → HasRoom (room_beside whom reserved) new
 
 -- the oldest unit for one is gone as a frame, which tells whether others follow
-abbrev pub SendsOne : (whom : Whom) (bss : List ℕ) (sequence : ℕ) (old : Queues) → List ℕ → Bool → Msdu → (new : Queues) → Type 0
+abbrev pub SendsOne : (whom : Whom) (bss : List ℕ) (sequence : ℕ) (old : Queues)
+    → List ℕ → Bool → Msdu → (new : Queues) → Type 0
 SendsOne whom bss sequence old frame follows unit new = Pops whom old (Some unit) new
     × (frame ≡ data_header unit.to bss unit.source sequence follows ++ unit.body)
     × (follows ≡ nat_lt 1 (length (queue_for whom old)))
 
-abbrev pub Sends : (whom : Whom) (bss : List ℕ) (sequence : ℕ) (old : Queues) → Option (List ℕ × Bool) → (new : Queues) → Type 0
+abbrev pub Sends : (whom : Whom) (bss : List ℕ) (sequence : ℕ) (old : Queues)
+    → Option (List ℕ × Bool) → (new : Queues) → Type 0
 Sends whom bss sequence old None new = Pops whom old None new
 Sends whom bss sequence old (Some sent) new = (unit : Msdu) × SendsOne whom bss sequence old sent.0 sent.1 unit new
 

@@ -118,8 +118,8 @@ impl Keep {
 
     /// Takes out the first unit that came for `whom` as the Data frame that carries it from the network `bss` with this
     /// sequence number (9.3.2.1), which tells by More Data whether others follow (9.2.4.1.8), and tells this beside it.
-    /// `None` where none is kept for it. The others stay in their order, and a reservation for `whom` ends. The queue is
-    /// found once. After `NoMemory` all is as it was.
+    /// `None` where none is kept for it. The others stay in their order, and a reservation for `whom` ends. The queue
+    /// is found once. After `NoMemory` all is as it was.
     pub fn send_oldest(
         &mut self,
         whom: Whom,
@@ -224,8 +224,8 @@ impl Keep {
     }
 
     /// Appends a unit for `whom` to a list that is not full and has seen fewer than 2^62 puts. Its queue is found once,
-    /// and it needs no memory where room is reserved for `whom`. A reservation, whoever it is for, ends. After `NoMemory`
-    /// all is as it was, and the unit is dropped.
+    /// and it needs no memory where room is reserved for `whom`. A reservation, whoever it is for, ends. After
+    /// `NoMemory` all is as it was, and the unit is dropped.
     pub fn put(&mut self, whom: Whom, unit: Unit) -> Result<(), NoMemory>
         requires not_full { length self.old.entries < self.old.quota }
         requires countable { self.old.puts < 2 ^ 62 }

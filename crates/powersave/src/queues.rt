@@ -6,7 +6,8 @@ ghost use Rattle.std.specs.Option.{option_map, option_copied};
 ghost use Rattle.mac_frame.specs.Data.{data_header};
 ghost use Rattle.std.specs.BTreeMap.{IsOrdered};
 ghost use Rattle.powersave.specs.contracts.unit.WhomOrd.TheImpl as order;
-ghost use Rattle.powersave.specs.Queues.{queue_for, unit_at, first_kept, queues_after, HasRoom, Pops, Sends, Removes, MakesRoom, Pushes, AreSound};
+ghost use Rattle.powersave.specs.Queues.{queue_for, unit_at, first_kept, queues_after, HasRoom, AreSound};
+ghost use Rattle.powersave.specs.Queues.{Pops, Sends, Removes, MakesRoom, Pushes};
 
 use crate::unit::{Unit, Whom};
 use mac_frame::{HEADER_LEN, MacAddr, NoMemory, Octets, write_msdu};
@@ -85,7 +86,8 @@ impl Queues {
     }
 
     /// Takes out the first unit of the queue for `whom` as the Data frame that carries it, which tells whether others
-    /// follow, and tells this beside it. The queue stays, and is found once. After `NoMemory` the units are as they were.
+    /// follow, and tells this beside it. The queue stays, and is found once. After `NoMemory` the units are as they
+    /// were.
     pub(crate) fn send(
         &mut self,
         whom: &Whom,
@@ -133,8 +135,8 @@ impl Queues {
         Ok(())
     }
 
-    /// Puts a unit last into the queue for `whom`, which is made where there is none. It needs no memory where the queue
-    /// has room. After `NoMemory` the units are as they were, and this one is dropped.
+    /// Puts a unit last into the queue for `whom`, which is made where there is none. It needs no memory where the
+    /// queue has room. After `NoMemory` the units are as they were, and this one is dropped.
     pub(crate) fn push(&mut self, whom: &Whom, arrived: Arrived) -> Result<(), NoMemory>
         requires sound { AreSound arrived.number self.old.map.entries }
         ensures ok { OnOk result (Pushes whom.now arrived self.old.map.entries self.new.map.entries) }

@@ -31,8 +31,8 @@ use std::sync::Wait;
 use std::thread::Threads;
 use texts::write_twice;
 
-/// Where something beside the calls failed, the trial begins anew; in a run that refuses one growth this happens once at
-/// most.
+/// Where something beside the calls failed, the trial begins anew; in a run that refuses one growth this happens once
+/// at most.
 fn main(rt: HostRuntime) -> ExitCode {
     let mut input = Vec::new(rt.alloc());
     if rt.stdin().read_to_end(&mut input).is_err() {

@@ -44,8 +44,8 @@ pub record IsFirstFault (c : RadioConfig) (traces : List (List ℕ)) (source : �
 
 -- What an access point of this configuration ended with that so many sources of lines fed: each section is that of the
 -- network alone, with as many events at most as it may take; what left of a network is all that it sent, and nothing
--- else left; each event was given by one source; and what a source gave a network are the first of those events that the
--- network hears of the source's lines, all of them where the network is not full.
+-- else left; each event was given by one source; and what a source gave a network are the first of those events that
+-- the network hears of the source's lines, all of them where the network is not full.
 pub record IsPlayOf (c : RadioConfig) (sources : List (List Line)) (end : Finished) : Type 0 where
   pub networks : length end.sections ≡ length c.networks
   pub sections : AreSections c end.sections
@@ -62,7 +62,8 @@ pub record ArePlayable (config_text : List ℕ) (traces : List (List ℕ)) (c : 
   pub lines : AreLines c traces sources
 
 abbrev pub Playable : List ℕ → List (List ℕ) → Type 0
-Playable config_text traces = (c : RadioConfig) × (sources : List (List Line)) × ArePlayable config_text traces c sources
+Playable config_text traces =
+    (c : RadioConfig) × (sources : List (List Line)) × ArePlayable config_text traces c sources
 
 -- the report of what these traces may have made, played at once
 pub record IsReport (config_text : List ℕ) (traces : List (List ℕ)) (report : List ℕ) : Type 0 where
@@ -76,8 +77,8 @@ pub record IsReport (config_text : List ℕ) (traces : List (List ℕ)) (report 
 -- ---- what may be answered
 
 -- What may be answered to a configuration and traces. A fault of the configuration is the first of it; it comes before
--- the number of traces, and that before a fault of a trace. A thread that could not be started, and an access point that
--- could not be finished, come where all that is sound. Memory may run out at any point.
+-- the number of traces, and that before a fault of a trace. A thread that could not be started, and an access point
+-- that could not be finished, come where all that is sound. Memory may run out at any point.
 abbrev pub MayBeAnswered : List ℕ → List (List ℕ) → Result (List ℕ) PlayTextFault → Type 0
 MayBeAnswered config_text traces (Ok report) = IsReport config_text traces report
 MayBeAnswered config_text traces (Err (Config fault)) = configuration_of config_text ≡ Err fault

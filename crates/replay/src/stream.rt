@@ -51,8 +51,8 @@ pub fn run_stream<R: Source, W: Sink>(
     Ok(())
 }
 
-/// Does what [`run_stream`] does, and hands out the sections that it reported, so that a program that ends then need not
-/// give back their memory, one event after another.
+/// Does what [`run_stream`] does, and hands out the sections that it reported, so that a program that ends then need
+/// not give back their memory, one event after another.
 pub fn report_stream<R: Source, W: Sink>(
     alloc: Global,
     config: &[u8],

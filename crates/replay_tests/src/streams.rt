@@ -26,8 +26,8 @@ impl Read for Pieces<'_> {
     }
 }
 
-/// What a configuration and a trace are answered, and what was written; how often the reader failed, and how many octets
-/// it has left.
+/// What a configuration and a trace are answered, and what was written; how often the reader failed, and how many
+/// octets it has left.
 type Ended = (Result<(), StreamFault>, Vec<u8>, u64, usize);
 
 fn stream(alloc: Global, config: &[u8], reader: Pieces) -> Ended {

@@ -92,8 +92,8 @@ impl LineReader {
         read
     }
 
-    /// Ends the unfinished line with these octets and an LF, and gives what it says, or nothing where it is skipped: what
-    /// [`LineReader::feed`] gives of these octets and an LF as a piece, and leaves after it.
+    /// Ends the unfinished line with these octets and an LF, and gives what it says, or nothing where it is skipped:
+    /// what [`LineReader::feed`] gives of these octets and an LF as a piece, and leaves after it.
     #[inline(always)]
     pub fn end_line(&mut self, octets: &[u8]) -> Result<Option<Line>, TraceTextFault>
         requires { LacksLineFeed octets.now }
@@ -172,7 +172,8 @@ impl LineReader {
     fn read_next(&mut self, octets: &[u8]) -> Result<Option<Line>, TraceTextFault>
         requires unfinished { LacksLineFeed self.old.unfinished }
         requires lacks { LacksLineFeed octets.now }
-        ensures exact { Gives option_to_list read_ending result (said_in self.old (self.old.unfinished ++ ended octets.now)) }
+        ensures exact { Gives option_to_list read_ending result
+            (said_in self.old (self.old.unfinished ++ ended octets.now)) }
         ensures ok { OnOk result (self.new ≡ past self.old (self.old.unfinished ++ ended octets.now)) }
         ensures err { OnErr result (self.new ≡ self.old) }
     {

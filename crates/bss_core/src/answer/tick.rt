@@ -14,8 +14,8 @@ use powersave::Whom;
 use tim::{Bitmap, one_tim};
 
 impl Network {
-    /// The reply to a beacon interval that begins, once units have aged: a beacon, and at a DTIM after it all units that
-    /// are kept for the group.
+    /// The reply to a beacon interval that begins, once units have aged: a beacon, and at a DTIM after it all units
+    /// that are kept for the group.
     pub(crate) fn tick(&self, reply: &mut Reply) -> Result<(), NoMemory>
         requires clock { self.now.network.clock < 4294967295 }
         requires nothing { reply.old ≡ no_reply self.now.network.sequence }
@@ -37,7 +37,8 @@ impl Network {
         Ok(())
     }
 
-    /// Goes on with a reply: sends the beacon at this clock, which tells of the units that are kept once they have aged.
+    /// Goes on with a reply: sends the beacon at this clock, which tells of the units that are kept once they have
+    /// aged.
     fn announce(&self, reply: &mut Reply, clock: u32) -> Result<(), NoMemory>
         requires clock { 1 ≤ clock }
         requires sequence { reply.old.sequence < 4096 }

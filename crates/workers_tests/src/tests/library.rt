@@ -1,5 +1,5 @@
-//! The programs of `docs/LIBRARY.md` on frames from outside: calls succeed where there is memory, and the octets are those
-//! of the standard.
+//! The programs of `docs/LIBRARY.md` on frames from outside: calls succeed where there is memory, and the octets are
+//! those of the standard.
 
 use super::{are_frames, are_same, count_of, have_left, octets, section_at};
 use bss_core::{Event, Line, Radio, RunResult, Step, run};

@@ -53,8 +53,8 @@ struct Row {
     expected: Option<FinishFault>,
 }
 
-/// Of several faults the first is told: a bad receipt, then an event that no receipt tells of, then a network that is not
-/// full.
+/// Of several faults the first is told: a bad receipt, then an event that no receipt tells of, then a network that is
+/// not full.
 const ROWS: [Row; 19] = [
     Row {
         what: "its own caller, after Took and Full",
