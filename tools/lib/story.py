@@ -2,8 +2,9 @@
 
 The report says what was sent and what stands at the end, not when. Here the lines are gone through in order: the
 answers are taken from the section's frames, one after the other, and what no frame says (who dozes, for whom a unit is
-kept) is followed by the rules of docs/PROTOCOL.md. At the end all frames have to be used up and the section's counts
-and stations have to be those that came of it. So a report of another trace is refused.
+kept) is followed by the rules of docs/PROTOCOL.md, with what the network's configuration says of units. At the end all
+frames have to be used up and the section's counts and stations have to be those that came of it. So a report of another
+trace is refused.
 """
 from typing import NamedTuple
 
@@ -11,10 +12,13 @@ from frames import (ASSOCIATION_REQUEST, ASSOCIATION_RESPONSE, AUTHENTICATION, B
                     DEAUTHENTICATION, DISASSOCIATION, PROBE_REQUEST, PROBE_RESPONSE, REASSOCIATION_REQUEST,
                     REASSOCIATION_RESPONSE, TIM, Frame, elements, first_of, is_group, number, tim_bits)
 from reading import POLL, Unit, hears, request_of, unit_from_wire, wired_form
+from texts import Options
 
 GROUP = "group"
 AUTHENTICATED, ASSOCIATED, DOZING = "authenticated", "associated", "dozing"
 MOST_NAMED = 3
+# What a configuration may say of relaying and aging, the most usual first.
+CHOICES = ((True, False), (False, False), (True, True), (False, True))
 RESPONSES = {ASSOCIATION_REQUEST: ASSOCIATION_RESPONSE, REASSOCIATION_REQUEST: REASSOCIATION_RESPONSE}
 
 
@@ -41,6 +45,14 @@ class Span(NamedTuple):
     aid: object
 
 
+class Kept(NamedTuple):
+    """A unit that is kept for a station or the group, and the clock at which it came."""
+
+    whom: object
+    unit: Unit
+    clock: int
+
+
 class Link:
     """How far a station has come."""
 
@@ -57,8 +69,8 @@ class Link:
 class Story:
     """One network over the lines of a trace."""
 
-    def __init__(self, section, quota):
-        self.section, self.quota = section, quota
+    def __init__(self, section, options):
+        self.section, self.options = section, options
         self.links, self.kept = {}, []
         self.clock = self.events = self.unread = self.lost = self.most_kept = 0
         self.sent = self.wired = 0
@@ -110,7 +122,9 @@ class Story:
         self.pop(lambda frame: frame.type == DATA and Unit(frame.receiver, frame.third, frame.body) == unit, "a unit")
 
     def begin_interval(self):
-        """A beacon, and the group's units after one with a DTIM."""
+        """A beacon, and the group's units after one with a DTIM. Where units age, the old ones are lost before it."""
+        if self.options.aging:
+            self.age()
         self.clock += 1
         beacon = self.pop(lambda frame: frame.is_management(BEACON), "a beacon")
         listed = first_of(elements(beacon.body[BEACON_FIXED_LEN:]) or [], TIM)
@@ -121,18 +135,27 @@ class Story:
         if count == 0:
             self.release(GROUP)
 
+    def age(self):
+        """Units are lost that were kept for a station for more beacon intervals than its listen interval."""
+        old = [kept for kept in self.kept
+               if kept.whom != GROUP and self.clock - kept.clock > self.links[kept.whom].listen]
+        for kept in old:
+            self.kept.remove(kept)
+            self.lost += 1
+            self.mark("lost", kept.whom)
+
     def release(self, whom, most=None):
         """Units that were kept for somebody are sent, in order of arrival."""
-        for unit in [unit for owner, unit in self.kept if owner == whom][:most]:
-            self.pop_unit(unit)
-            self.kept.remove((whom, unit))
+        for kept in [kept for kept in self.kept if kept.whom == whom][:most]:
+            self.pop_unit(kept.unit)
+            self.kept.remove(kept)
             self.mark("delivered", whom)
 
     def drop(self, station):
         """No unit is kept for a station any more."""
-        for _ in [unit for owner, unit in self.kept if owner == station]:
+        for _ in [kept for kept in self.kept if kept.whom == station]:
             self.mark("dropped", station)
-        self.kept = [(owner, unit) for owner, unit in self.kept if owner != station]
+        self.kept = [kept for kept in self.kept if kept.whom != station]
 
     def answer(self, request):
         """What a request of a station brings about."""
@@ -204,8 +227,10 @@ class Story:
         woke, link.doze = link.doze and not request.doze, request.doze
         if woke:
             self.release(request.station)
-        if request.unit:
+        if request.unit and self.options.relay:
             self.deliver(request.unit, True)
+        elif request.unit:
+            self.put_on_wire(request.unit)
 
     def deliver(self, unit, from_air):
         """A unit on its way: at once, kept or lost, and on the wire."""
@@ -214,21 +239,22 @@ class Story:
             self.keep_or_send(unit, unit.destination, link.doze)
             return
         if is_group(unit.destination):
-            waits = any(other.doze for other in self.links.values()) or any(whom == GROUP for whom, _ in self.kept)
+            waits = any(other.doze for other in self.links.values()) or any(kept.whom == GROUP for kept in self.kept)
             self.keep_or_send(unit, GROUP, waits)
         if from_air:
             self.put_on_wire(unit)
 
     def keep_or_send(self, unit, whom, waits):
         """A unit for somebody on the air."""
+        quota = self.options.quota
         if not waits:
             self.pop_unit(unit)
             self.mark("sent", whom)
-        elif self.quota is not None and len(self.kept) >= self.quota:
+        elif quota is not None and len(self.kept) >= quota:
             self.lost += 1
             self.mark("lost", whom)
         else:
-            self.kept.append((whom, unit))
+            self.kept.append(Kept(whom, unit, self.clock))
             self.most_kept = max(self.most_kept, len(self.kept))
             self.mark("kept", whom)
 
@@ -258,7 +284,7 @@ class Story:
     def end(self):
         """Compares what came of it with the section."""
         section = self.section
-        rows = [(station, link.aid, link.listen, link.doze, sum(whom == station for whom, _ in self.kept))
+        rows = [(station, link.aid, link.listen, link.doze, sum(kept.whom == station for kept in self.kept))
                 for station, link in self.links.items()]
         found = [self.events, self.clock, self.unread, self.lost, len(self.kept), rows, self.sent, self.wired]
         wanted = [section.events, section.clock, section.unread, section.lost, section.kept,
@@ -280,20 +306,39 @@ def told_of(aids, group):
     return ", ".join(names + ["group"] * group)
 
 
-def told(section, lines):
-    """The story of a network. How many units it keeps at most stands in the configuration alone; where units were lost,
-    it is found by trying less and less than would have been kept without end."""
+def told(section, lines, options=None):
+    """The story of a network. Where its options aren't known, they are those by which the report can be explained: the
+    first of `CHOICES`, and a quota. Mismatch where there are none."""
+    if options is not None:
+        return follow(Story(section, options), lines)
+    faults = []
+    for relay, aging in CHOICES:
+        try:
+            return told_with_a_quota(section, lines, relay, aging)
+        except Mismatch as fault:
+            faults.append(fault)
+    raise faults[0]
+
+
+def told_with_a_quota(section, lines, relay, aging):
+    """The story of a network with some quota. It is found by trying less and less than would have been kept without
+    end, where units were lost."""
     quota = None
     while True:
-        story = Story(section, quota)
+        story = Story(section, Options(quota, relay, aging))
         try:
-            for line in lines:
-                story.take(line)
-            return story.end()
-        except Mismatch as fault:
-            if section.lost == 0 or quota == 0:
-                raise Mismatch(f"network {section.bssid.hex(':')}: {fault}") from None
-            quota = story.most_kept if quota is None else quota
-            quota -= 1
-            if quota < 0:
-                raise Mismatch(f"network {section.bssid.hex(':')}: {fault}") from None
+            return follow(story, lines)
+        except Mismatch:
+            quota = (story.most_kept if quota is None else quota) - 1
+            if section.lost == 0 or quota < 0:
+                raise
+
+
+def follow(story, lines):
+    """Goes through the lines, and compares what came of them."""
+    try:
+        for line in lines:
+            story.take(line)
+        return story.end()
+    except Mismatch as fault:
+        raise Mismatch(f"network {story.section.bssid.hex(':')}: {fault}") from None

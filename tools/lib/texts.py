@@ -1,6 +1,8 @@
-"""The program's texts, as docs/PROTOCOL.md says them: a trace, and a report with a section for each network."""
+"""The program's texts, as docs/PROTOCOL.md says them: a trace, and a report with a section for each network; and what a
+configuration says of units."""
 import re
 import sys
+import tomllib
 from typing import NamedTuple, Optional
 
 from frames import address_of, address_text
@@ -21,6 +23,15 @@ class Line(NamedTuple):
     kind: str
     bssid: Optional[bytes]
     octets: bytes
+
+
+class Options(NamedTuple):
+    """What a configuration says of a network's units: how many are kept at most (None: there is no end), whether those
+    of stations go to stations and the group on the air, and whether those that are kept for too long are lost."""
+
+    quota: Optional[int]
+    relay: bool = True
+    aging: bool = False
 
 
 class Station(NamedTuple):
@@ -78,6 +89,25 @@ def read_trace(text):
         if line and not line.startswith("#"):
             found.append(trace_line(number, line))
     return found
+
+
+def read_options(text):
+    """The options of each network of a text that has a configuration and a line `---` before a trace, by the network's
+    address; none where it is a trace alone."""
+    lines = text.split("\n")
+    if SEPARATOR not in lines:
+        return {}
+    config = "\n".join(lines[:lines.index(SEPARATOR)])
+    try:
+        return {address_of(network["bssid"]): options_of(network) for network in tomllib.loads(config)["network"]}
+    except (tomllib.TOMLDecodeError, KeyError, TypeError, ValueError) as fault:
+        raise TextError(f"the configuration can't be read: {fault}") from None
+
+
+def options_of(network):
+    """The options of a network. A configuration of version 1 doesn't name those that it can't choose."""
+    named = {name: network[name] for name in ("relay", "aging") if name in network}
+    return Options(network["quota"], **named)
 
 
 def trace_line(number, line):

@@ -6,7 +6,7 @@ import xml.etree.ElementTree as tree
 from common import (DEVICES, EXAMPLES, GUEST, OFFICE, PROGRAM, ROOT, THREE, ToolTest, input_of, needs_program,
                     report_of, run_program, tool, with_report)
 from story import told
-from texts import read_report, read_text
+from texts import read_options, read_report, read_text
 
 STORED = os.path.join(ROOT, "docs", "three_networks.svg")
 SVG = "{http://www.w3.org/2000/svg}"
@@ -162,31 +162,61 @@ class Stories(ToolTest):
     """What is told of the lines of a trace."""
 
     def test_stories_of_all_examples(self):
-        """Each example's report is explained by its trace, to its last frame, count and row."""
+        """Each example's report is explained by its configuration and trace, to its last frame, count and row, and
+        without the configuration too."""
         count = 0
         for folder in with_report():
-            lines = input_of(folder)[1]
+            text, lines = input_of(folder)
+            options = read_options(text)
             for section in report_of(folder):
                 count += 1
-                story = told(section, lines)
-                self.assertEqual([octets for _, octets in story.frames], section.air, folder)
+                for story in (told(section, lines, options.get(section.bssid)), told(section, lines)):
+                    self.assertEqual([octets for _, octets in story.frames], section.air, folder)
         self.assertGreater(count, 60)
+
+    def test_options_are_followed(self):
+        """A report is refused where the configuration is changed: the quota, relaying or aging."""
+        for name, old, new in (("guests_are_kept_apart", "relay = false", "relay = true"),
+                               ("guests_are_kept_apart", "relay = true", "relay = false"),
+                               ("units_of_stations_that_doze_too_long", "aging = true", "aging = false"),
+                               ("units_over_the_quota", "quota = ", "quota = 1")):
+            folder = os.path.join(EXAMPLES, name)
+            text = read_text(os.path.join(folder, "input"))
+            self.assertIn(old, text)
+            with open(self.path("input"), "w", encoding="ascii") as file:
+                file.write(text.replace(old, new))
+            self.refused("picture", self.path("input"), os.path.join(folder, "stdout"), says="network 02:")
+
+    def test_units_that_age_are_lost_in_their_interval(self):
+        """Of units that are kept for too long the loss stands at the beacon interval that ends their time."""
+        folder = os.path.join(EXAMPLES, "units_of_stations_that_doze_too_long")
+        text, lines = input_of(folder)
+        options = read_options(text)
+        ticks = {line.number for line in lines if line.kind == "T"}
+        stories = [told(section, lines, options[section.bssid]) for section in report_of(folder)]
+        lost = [mark.line for story in stories for mark in story.marks if mark.what == "lost"]
+        self.assertTrue(lost)
+        self.assertLessEqual(set(lost), ticks)
 
     @needs_program
     def test_each_line_brings_what_the_program_says(self):
         """What each line brings about is by how much the report of the lines up to it is longer than that of those
         before."""
         for name in ("three_networks_over_some_intervals", "leaving_drops_kept_units", "one_event_loses_two",
-                     "waking_makes_room_for_the_group", "station_roams_between_two_networks"):
+                     "waking_makes_room_for_the_group", "station_roams_between_two_networks", "guests_are_kept_apart",
+                     "units_of_stations_that_doze_too_long", "keeping_between_two_networks_where_units_age"):
             folder = os.path.join(EXAMPLES, name)
             text, lines = input_of(folder)
-            stories = [told(section, lines) for section in report_of(folder)]
+            options = read_options(text)
+            stories = [told(section, lines, options[section.bssid]) for section in report_of(folder)]
             config, trace = text.split("\n---\n")
             for number in [line.number for line in lines]:
                 begun = "\n".join([config, "---", *trace.split("\n")[:number], ""])
                 for story, section in zip(stories, read_report(run_program(program_input=begun))):
                     wanted = [octets for line, octets in story.frames if line <= number]
                     self.assertEqual(section.air, wanted, f"{PROGRAM} {name} up to line {number}")
+                    lost = [mark for mark in story.marks if mark.what == "lost" and mark.line <= number]
+                    self.assertEqual(section.lost, len(lost), f"{name} up to line {number}")
                     held = {span.station: span.state for span in story.spans
                             if span.begins <= number and (span.ends is None or number < span.ends)}
                     rows = {row.address: "authenticated" if row.aid is None else "dozing" if row.doze else "associated"
