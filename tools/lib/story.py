@@ -12,7 +12,7 @@ from frames import (ASSOCIATION_REQUEST, ASSOCIATION_RESPONSE, AUTHENTICATION, B
                     DEAUTHENTICATION, DISASSOCIATION, PROBE_REQUEST, PROBE_RESPONSE, REASSOCIATION_REQUEST,
                     REASSOCIATION_RESPONSE, TIM, Frame, elements, first_of, is_group, number, tim_bits)
 from reading import POLL, Unit, hears, request_of, unit_from_wire, wired_form
-from texts import Options
+from texts import Options, options_of
 
 GROUP = "group"
 AUTHENTICATED, ASSOCIATED, DOZING = "authenticated", "associated", "dozing"
@@ -304,6 +304,17 @@ def told_of(aids, group):
     more = [f"{len(aids) - MOST_NAMED} more"] if len(aids) > MOST_NAMED else []
     names = ["aid " + ", ".join(first + more)] if aids else []
     return ", ".join(names + ["group"] * group)
+
+
+def stories(sections, lines, config):
+    """The stories of all networks of a report, whose configuration may not be known (None). Mismatch where one can't be
+    told, or the configuration is of other networks."""
+    if config is None:
+        return [told(section, lines) for section in sections]
+    options = options_of(config)
+    if [section.bssid for section in sections] != list(options):
+        raise Mismatch("the networks of the report aren't those of the configuration")
+    return [told(section, lines, options[section.bssid]) for section in sections]
 
 
 def told(section, lines, options=None):

@@ -30,8 +30,8 @@ class Options(NamedTuple):
     of stations go to stations and the group on the air, and whether those that are kept for too long are lost."""
 
     quota: Optional[int]
-    relay: bool = True
-    aging: bool = False
+    relay: bool
+    aging: bool
 
 
 class Station(NamedTuple):
@@ -91,23 +91,33 @@ def read_trace(text):
     return found
 
 
-def read_options(text):
-    """The options of each network of a text that has a configuration and a line `---` before a trace, by the network's
-    address; none where it is a trace alone."""
+def read_config(text):
+    """The configuration of a text that has one and a line `---` before a trace, as TOML gives it; None where the text
+    is a trace alone. TextError where it is no TOML."""
     lines = text.split("\n")
     if SEPARATOR not in lines:
-        return {}
-    config = "\n".join(lines[:lines.index(SEPARATOR)])
+        return None
     try:
-        return {address_of(network["bssid"]): options_of(network) for network in tomllib.loads(config)["network"]}
-    except (tomllib.TOMLDecodeError, KeyError, TypeError, ValueError) as fault:
-        raise TextError(f"the configuration can't be read: {fault}") from None
+        return tomllib.loads("\n".join(lines[:lines.index(SEPARATOR)]))
+    except tomllib.TOMLDecodeError as fault:
+        raise TextError(f"the configuration is no TOML: {fault}") from None
 
 
-def options_of(network):
-    """The options of a network. A configuration of version 1 doesn't name those that it can't choose."""
-    named = {name: network[name] for name in ("relay", "aging") if name in network}
-    return Options(network["quota"], **named)
+def options_of(config):
+    """The options of each network of a configuration, by the network's address. A configuration of version 1 doesn't
+    name those that it can't choose. TextError where one isn't there, or is of another type."""
+    try:
+        return {address_of(network["bssid"]): network_options(network) for network in config["network"]}
+    except (KeyError, TypeError, AttributeError, ValueError) as fault:
+        raise TextError(f"the configuration has a network that can't be read: {fault}") from None
+
+
+def network_options(network):
+    """The options of one network."""
+    options = Options(network["quota"], network.get("relay", True), network.get("aging", False))
+    if tuple(map(type, options)) != (int, bool, bool):
+        raise ValueError("`quota` is a number, `relay` and `aging` are truth values")
+    return options
 
 
 def trace_line(number, line):

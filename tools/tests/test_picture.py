@@ -5,8 +5,8 @@ import xml.etree.ElementTree as tree
 
 from common import (DEVICES, EXAMPLES, GUEST, OFFICE, PROGRAM, ROOT, THREE, ToolTest, input_of, needs_program,
                     report_of, run_program, tool, with_report)
-from story import told
-from texts import read_options, read_report, read_text
+from story import stories
+from texts import read_config, read_report, read_text
 
 STORED = os.path.join(ROOT, "docs", "three_networks.svg")
 SVG = "{http://www.w3.org/2000/svg}"
@@ -167,11 +167,11 @@ class Stories(ToolTest):
         count = 0
         for folder in with_report():
             text, lines = input_of(folder)
-            options = read_options(text)
-            for section in report_of(folder):
-                count += 1
-                for story in (told(section, lines, options.get(section.bssid)), told(section, lines)):
-                    self.assertEqual([octets for _, octets in story.frames], section.air, folder)
+            sections = report_of(folder)
+            count += len(sections)
+            for config in (read_config(text), None):
+                for story in stories(sections, lines, config):
+                    self.assertEqual([octets for _, octets in story.frames], story.section.air, folder)
         self.assertGreater(count, 60)
 
     def test_options_are_followed(self):
@@ -180,21 +180,38 @@ class Stories(ToolTest):
                                ("guests_are_kept_apart", "relay = true", "relay = false"),
                                ("units_of_stations_that_doze_too_long", "aging = true", "aging = false"),
                                ("units_over_the_quota", "quota = ", "quota = 1")):
-            folder = os.path.join(EXAMPLES, name)
-            text = read_text(os.path.join(folder, "input"))
-            self.assertIn(old, text)
-            with open(self.path("input"), "w", encoding="ascii") as file:
-                file.write(text.replace(old, new))
-            self.refused("picture", self.path("input"), os.path.join(folder, "stdout"), says="network 02:")
+            text = self.with_change(name, old, new)
+            self.refused_with(name, text, says="network 02:")
+
+    def test_other_configurations_are_refused(self):
+        """One of other networks, that is no TOML, or that lacks what it has to say."""
+        for old, new, says in (('"02:00:00:00:00:02"', '"02:00:00:00:00:03"', "aren't those of the configuration"),
+                               ("channel = 6", "channel 6", "is no TOML"), ("quota = 8", "", "'quota'"),
+                               ("quota = 8", 'quota = "8"', "is a number"), ("relay = true", "relay = 1", "truth")):
+            text = self.with_change("guests_are_kept_apart", old, new)
+            self.refused_with("guests_are_kept_apart", text, says=says)
+
+    def with_change(self, name, old, new):
+        """The input of an example with another text in it."""
+        text = input_of(os.path.join(EXAMPLES, name))[0]
+        self.assertIn(old, text)
+        return text.replace(old, new)
+
+    def refused_with(self, name, text, says):
+        """The tools refuse the report of an example with this input."""
+        with open(self.path("input"), "w", encoding="ascii") as file:
+            file.write(text)
+        report = os.path.join(EXAMPLES, name, "stdout")
+        self.refused("picture", self.path("input"), report, says=says)
+        self.refused("capture-from-run", self.path("input"), report, "--out", self.path("out"), says=says)
 
     def test_units_that_age_are_lost_in_their_interval(self):
         """Of units that are kept for too long the loss stands at the beacon interval that ends their time."""
         folder = os.path.join(EXAMPLES, "units_of_stations_that_doze_too_long")
         text, lines = input_of(folder)
-        options = read_options(text)
         ticks = {line.number for line in lines if line.kind == "T"}
-        stories = [told(section, lines, options[section.bssid]) for section in report_of(folder)]
-        lost = [mark.line for story in stories for mark in story.marks if mark.what == "lost"]
+        told = stories(report_of(folder), lines, read_config(text))
+        lost = [mark.line for story in told for mark in story.marks if mark.what == "lost"]
         self.assertTrue(lost)
         self.assertLessEqual(set(lost), ticks)
 
@@ -207,12 +224,11 @@ class Stories(ToolTest):
                      "units_of_stations_that_doze_too_long", "keeping_between_two_networks_where_units_age"):
             folder = os.path.join(EXAMPLES, name)
             text, lines = input_of(folder)
-            options = read_options(text)
-            stories = [told(section, lines, options[section.bssid]) for section in report_of(folder)]
+            told = stories(report_of(folder), lines, read_config(text))
             config, trace = text.split("\n---\n")
             for number in [line.number for line in lines]:
                 begun = "\n".join([config, "---", *trace.split("\n")[:number], ""])
-                for story, section in zip(stories, read_report(run_program(program_input=begun))):
+                for story, section in zip(told, read_report(run_program(program_input=begun))):
                     wanted = [octets for line, octets in story.frames if line <= number]
                     self.assertEqual(section.air, wanted, f"{PROGRAM} {name} up to line {number}")
                     lost = [mark for mark in story.marks if mark.what == "lost" and mark.line <= number]
