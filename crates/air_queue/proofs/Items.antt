@@ -4,9 +4,9 @@ use Rattle.std.specs.Prelude.{All}
 use Rattle.std.proofs.lemmas.Bool.{eq-eqb, ne_eqb}
 use Rattle.std.proofs.lemmas.List.{append-nil}
 use Rattle.std.proofs.lemmas.List.Elements.{All-head, All-tail, All-weaker}
-use Rattle.bss_core.specs.Radio.{items_of}
-use Rattle.bss_core.specs.declared.radio.step.AirItem.{AirItem}
-use Rattle.bss_core.proofs.RadioFrames.{items_of-append}
+use Rattle.events.specs.Items.{items_of}
+use Rattle.events.specs.declared.air_item.AirItem.{AirItem}
+use Rattle.events.proofs.Items.{items_of-append}
 
 -- one item more of the network, and of another
 pub items_of-here : (place : ℕ) (items : List AirItem) (item : AirItem) → item.place ≡ place → items_of place (items ++ item ∷ []) ≡ items_of place items ++ item.octets ∷ []

@@ -1,8 +1,8 @@
 -- Steps of a queue for two networks, computed: what each pass knows after them.
 use Rattle.std.proofs.Common.{◌≡◌, ℕ, [], ◌∷◌, refl}
 use Rattle.std.specs.FinMap as finite
-use Rattle.bss_core.specs.Radio.{items_of}
-use Rattle.bss_core.specs.declared.radio.step.AirItem.{AirItem}
+use Rattle.events.specs.Items.{items_of}
+use Rattle.events.specs.declared.air_item.AirItem.{AirItem}
 use Rattle.air_queue.specs.Passes.{QueueName, fresh_pass, fresh_passes}
 use Rattle.air_queue.specs.Rule.{fresh, giving, given, pushing, leaving, taking_in}
 use Rattle.air_queue.specs.declared.known.Known.TheVariants.{Network, Radio}

@@ -9,8 +9,8 @@ use Rattle.std.proofs.lemmas.List.{length-set}
 use Rattle.std.proofs.lemmas.List.Elements.{All-push, All-head, All-tail, All-nil}
 use Rattle.crossbeam_queue.specs.Fifo.{Pushes, Pops, Forks, Merges, Learns}
 use Rattle.crossbeam_queue.proofs.Lists.{at_set, set_here, set_else, at_longer, at_last}
-use Rattle.bss_core.specs.Radio.{items_of}
-use Rattle.bss_core.specs.declared.radio.step.AirItem.{AirItem}
+use Rattle.events.specs.Items.{items_of}
+use Rattle.events.specs.declared.air_item.AirItem.{AirItem}
 use Rattle.air_queue.specs.Passes.{TakenIn}
 use Rattle.air_queue.specs.Rule.{IsKept, IsNetworkAt, IsRadioWith, Accounts, pushed_by, networks_of, taken_in_of, fresh, giving, given, pushing, leaving, taking_in}
 use Rattle.air_queue.specs.declared.known.Known.{Known}

@@ -7,8 +7,8 @@ use lib.ListN.{get_elem?}
 use Rattle.air_queue.specs.Passes.{TakenIn, NetPassView}
 use Rattle.air_queue.specs.declared.known.Known.{Known}
 use Rattle.air_queue.specs.declared.known.Known.TheVariants.{Network, Radio, Spent}
-use Rattle.bss_core.specs.Radio.{items_of}
-use Rattle.bss_core.specs.declared.radio.step.AirItem.{AirItem}
+use Rattle.events.specs.Items.{items_of}
+use Rattle.events.specs.declared.air_item.AirItem.{AirItem}
 
 -- ---- the rule
 

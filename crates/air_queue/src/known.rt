@@ -1,6 +1,6 @@
 //! What a pass knows of the queue (*profile*), for proofs alone: no value of these types is made.
 
-use bss_core::AirItem;
+use events::AirItem;
 use mac_frame::Octets;
 use std::collections::LinkedList;
 use std::marker::Model;

@@ -2,7 +2,7 @@
 
 ghost use Rattle.std.specs.Prelude.{◌≡◌, ◌<◌, ℕ, List, [], ◌∷◌};
 ghost use Rattle.crossbeam_queue.specs.Fifo.{Pushes, Pops, Forks, Merges, Learns};
-ghost use Rattle.bss_core.specs.declared.radio.step.AirItem.{AirItem};
+ghost use Rattle.events.specs.declared.air_item.AirItem.{AirItem};
 ghost use Rattle.air_queue.specs.Rule.{IsKept, IsNetworkAt, IsRadio, IsRadioWith, Accounts, fresh, giving, given};
 ghost use Rattle.air_queue.specs.Rule.{pushing, leaving, networks_of, taking_in};
 ghost use Rattle.air_queue.specs.declared.known.Known.{Known};

@@ -5,7 +5,7 @@ ghost use Rattle.crossbeam_queue.specs.Passes.{view as known_by};
 ghost use Rattle.air_queue.specs.Rule.{IsNetworkAt, pushed_by};
 
 use crate::rule::QueuePass;
-use bss_core::AirItem;
+use events::AirItem;
 use mac_frame::NoMemory;
 use std::marker::Model;
 

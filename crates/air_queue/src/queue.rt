@@ -4,14 +4,15 @@ ghost use Rattle.std.specs.Prelude.{◌≡◌, ◌+◌, ◌<◌, ◌≤◌, ◌+
 ghost use Rattle.std.specs.Prelude.{MatchBool};
 ghost use Rattle.std.specs.FinMap as finite;
 ghost use Rattle.crossbeam_queue.specs.Passes.{view as known_by, IsPassOf, IsSamePass};
-ghost use Rattle.bss_core.specs.declared.radio.step.AirItem.{AirItem};
+ghost use Rattle.events.specs.declared.air_item.AirItem.{AirItem};
 ghost use Rattle.air_queue.specs.Passes.{fresh_passes, fresh_radio};
 ghost use Rattle.air_queue.specs.Rule.{IsRadioWith, Accounts, networks_of, taken_in_of};
 ghost use Rattle.air_queue.specs.declared.known.Known.TheVariants.{Radio};
 
 use crate::pass::{NetPass, RadioPass};
 use crate::rule::{Give, Leave, Push, QueuePass, RuledQueue};
-use bss_core::{AirItem, MAX_NETWORKS, MAX_QUEUE};
+use ap_config::{MAX_NETWORKS, MAX_QUEUE};
+use events::AirItem;
 use mac_frame::NoMemory;
 use std::alloc::Global;
 use std::marker::Model;

@@ -9,9 +9,9 @@ ghost use Rattle.air_queue.specs.Rule.{taking_in};
 ghost use Rattle.air_queue.specs.declared.known.Known.TheVariants.{Spent};
 
 use crate::known::Known;
-use bss_core::AirItem;
 use crossbeam_queue::protocol::{Join, Lesson, Outcome, Protocol, Split};
 use crossbeam_queue::{Pass, RuledArrayQueue};
+use events::AirItem;
 
 /// The queue, under the rule.
 pub type RuledQueue = RuledArrayQueue<AirItem, Known, Rule>;

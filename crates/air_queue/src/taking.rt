@@ -4,9 +4,9 @@ ghost use Rattle.std.specs.Prelude.{◌≡◌, ◌+◌, ◌<◌, ◌≤◌, [], 
 ghost use Rattle.std.specs.List.{AllByRecursion};
 ghost use Rattle.std.specs.FinMap as finite;
 ghost use Rattle.crossbeam_queue.specs.Passes.{view as known_by, IsPassOf, IsSamePass, ruled_capacity};
-ghost use Rattle.bss_core.specs.Radio.{items_of};
+ghost use Rattle.events.specs.Items.{items_of};
 ghost use Rattle.air_queue.specs.Passes.{AllThere};
-ghost use Rattle.bss_core.specs.Lists.{IsPrefix};
+ghost use Rattle.events.specs.Lists.{IsPrefix};
 ghost use Rattle.air_queue.specs.Rule.{IsRadio, IsRadioWith, AllTaken, Accounts, networks_of, taken_in_of, taking_in};
 ghost use Rattle.air_queue.specs.Rule.{after_taking};
 ghost use Rattle.air_queue.specs.declared.known.Known.TheVariants.{Network, Radio};
@@ -14,7 +14,7 @@ ghost use Rattle.air_queue.specs.declared.known.Known.TheVariants.{Network, Radi
 use crate::pass::{NetPass, RadioPass};
 use crate::queue::{AirQueue, pop_into};
 use crate::rule::{Leave, QueuePass, RuledQueue, TakeIn};
-use bss_core::AirItem;
+use events::AirItem;
 use mac_frame::List;
 use std::sync::Wait;
 

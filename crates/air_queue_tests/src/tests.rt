@@ -5,7 +5,8 @@ ghost use Rattle.std.specs.FinMap as finite;
 ghost use Rattle.air_queue.specs.Passes.{AllThere, fresh_pass};
 
 use air_queue::{AirQueue, Left, NetPass, RadioPass};
-use bss_core::{AirItem, MAX_NETWORKS};
+use ap_config::MAX_NETWORKS;
+use events::AirItem;
 use fixtures::{guest, lab, octets};
 use hex::FromHexError;
 use mac_frame::{NoMemory, Octets};

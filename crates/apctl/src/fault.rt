@@ -6,7 +6,7 @@ ghost use Rattle.trace.specs.Sinks.{MayFail, report_ending};
 ghost use Rattle.apctl.specs.Faults.{of_texts, of_play, status_of, memory_line, IsOfFile, IsOfStream, IsOfLive};
 ghost use Rattle.apctl.specs.declared.fault.Fault.TheVariants as faults;
 
-use bss_core::ConfigFault;
+use ap_config::ConfigFault;
 use live::LiveFault;
 use replay::{PlayTextFault, StreamFault, TextFault};
 use std::alloc::{AllocError, AllocFailed, Global};

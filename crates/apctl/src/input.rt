@@ -9,7 +9,7 @@ ghost use Rattle.apctl.specs.Faults.{IsOfFile, run_ending};
 ghost use Rattle.apctl.specs.Input.{EndsInput, AreOfInput};
 
 use crate::fault::Fault;
-use bss_core::Section;
+use events::Section;
 use replay::{report_texts, split_joined};
 use std::alloc::Global;
 use std::io::{ErrorKind, Read};

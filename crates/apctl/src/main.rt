@@ -14,7 +14,7 @@ mod files;
 mod input;
 mod words;
 
-use bss_core::Section;
+use events::Section;
 use fault::{Fault, show_fault};
 use files::{open_file, read_file, read_traces};
 use input::{STANDARD_INPUT, run_input};

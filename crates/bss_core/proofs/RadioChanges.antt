@@ -1,13 +1,13 @@
 -- What contracts see of a radio, where one of the networks that it runs changed.
 use Rattle.std.proofs.Common.{◌≡◌, ℕ, ◌<◌, List, [], ◌∷◌, ◌++◌, length, map, get_or, set, Result, Ok, Err, OnOk, sym, ap, ◌∙◌}
 use Rattle.std.proofs.lemmas.List.{get_or-map}
-use Rattle.bss_core.specs.Network.{Setting}
-use Rattle.bss_core.specs.Radio.{setting_at}
+use Rattle.ap_config.specs.declared.setting.Setting.{Setting}
+use Rattle.ap_config.specs.Places.{setting_at}
 use Rattle.bss_core.specs.RadioView.{RadioView, NetworkView, unused, view_at, settings_of, shown, config_of, radio_of, took, moved}
-use Rattle.bss_core.specs.BssView.{BssView, sent_by}
-use Rattle.bss_core.specs.declared.bss.Refusal.{Refusal}
-use Rattle.bss_core.specs.declared.event.Event.{Event}
-use Rattle.bss_core.specs.declared.radio.step.AirItem.{AirItem}
+use Rattle.network.specs.BssView.{BssView, sent_by}
+use Rattle.network.specs.declared.bss.Refusal.{Refusal}
+use Rattle.events.specs.declared.event.Event.{Event}
+use Rattle.events.specs.declared.air_item.AirItem.{AirItem}
 use Rattle.bss_core.proofs.RadioKeeps.{setting-at, radio-changed}
 
 -- the network at a place, as the radio shows it

@@ -1,42 +1,21 @@
 -- The frames of a radio: those of a network that left, those in the queue and those that wait are all that it sent.
-use Rattle.std.proofs.Common.{◌≡◌, ℕ, ◌+◌, ◌≤◌, ◌<◌, ltb, List, [], ◌∷◌, ◌++◌, length, take, drop, Option, Some, None, slice_get, filter, map, refl, sym, ap, subst, ◌∙◌, arith, inl, inr}
-use Rattle.std.proofs.lemmas.Bool.{cond_both, cases_lt, ltb-true, eq-eqb, ne_eqb}
-use Rattle.std.proofs.lemmas.List.{length-append, length-set, take_more, drop_more, get_or_past, append-nil, append_assoc, map-append, take-append-drop, take-append-le, get_or-map, length-map}
+use Rattle.std.proofs.Common.{◌≡◌, ℕ, ◌+◌, ◌≤◌, ◌<◌, ltb, List, [], ◌∷◌, ◌++◌, length, take, drop, Option, Some, None, slice_get, map, refl, sym, ap, subst, ◌∙◌, arith, inl, inr}
+use Rattle.std.proofs.lemmas.Bool.{cond_both, cases_lt, ltb-true}
+use Rattle.std.proofs.lemmas.List.{length-append, length-set, take_more, drop_more, get_or_past, append_assoc, take-append-drop, take-append-le, get_or-map, length-map}
 use Rattle.std.proofs.lemmas.Option.{slice_get_within, get_or_from_slice_get}
-use Rattle.std.proofs.lemmas.List.Elements.{filter-append}
-use Rattle.bss_core.specs.Network.{alone}
-use Rattle.bss_core.specs.Radio.{names_network, network_at, setting_at, Place, untouched, RadioState, first_state, place_at, air_at, waiting_at, with_place, hand_frame, leave_first, radio_step, after_steps, part_of, items_of}
-use Rattle.bss_core.specs.BssView.{sent_by}
-use Rattle.bss_core.specs.declared.config.RadioConfig.{RadioConfig}
-use Rattle.bss_core.specs.declared.event.Event.{Event}
-use Rattle.bss_core.specs.declared.radio.step.AirItem.{AirItem}
+use Rattle.network.specs.Network.{alone}
+use Rattle.ap_config.specs.Places.{names_network, network_at, setting_at}
+use Rattle.bss_core.specs.Radio.{Place, untouched, RadioState, first_state, place_at, air_at, waiting_at, with_place, hand_frame, leave_first, radio_step, after_steps, part_of}
+use Rattle.events.specs.Items.{items_of}
+use Rattle.network.specs.BssView.{sent_by}
+use Rattle.ap_config.specs.declared.config.RadioConfig.{RadioConfig}
+use Rattle.events.specs.declared.event.Event.{Event}
+use Rattle.events.specs.declared.air_item.AirItem.{AirItem}
 use Rattle.bss_core.specs.declared.radio.step.Step.{Step}
 use Rattle.bss_core.specs.declared.radio.step.Step.TheVariants.{Take, Hand, Leave}
-use Rattle.bss_core.proofs.SentFrames.{air-push}
+use Rattle.network.proofs.SentFrames.{air-push}
 use Rattle.bss_core.proofs.RadioSteps.{at_each_place, after_steps-follow, events-part}
-
--- ---- the items of a network
-
-pub items_of-append : (place : ℕ) (xs ys : List AirItem) → items_of place (xs ++ ys) ≡ items_of place xs ++ items_of place ys
-items_of-append place xs ys =
-    ap (map (λ (item : AirItem). item.octets)) (filter-append _ xs ys)
-    ∙ map-append (λ (item : AirItem). item.octets) (filter _ xs) (filter _ ys)
-
--- one item more of the network, and of another
-pub items_of-same : (place : ℕ) (items : List AirItem) (octets : List ℕ) → items_of place (items ++ (record { place = place; octets = octets }) ∷ []) ≡ items_of place items ++ octets ∷ []
-items_of-same place items octets =
-    items_of-append place items _ ∙ ap (λ (fs : List (List ℕ)). items_of place items ++ fs) one
-  where
-    one : items_of place ((record { place = place; octets = octets }) ∷ []) ≡ octets ∷ []
-    one = rw (eq-eqb place place refl) refl
-
-pub items_of-other : (place other : ℕ) (items : List AirItem) (octets : List ℕ) → (place ≡ other → ⊥) → items_of place (items ++ (record { place = other; octets = octets }) ∷ []) ≡ items_of place items
-items_of-other place other items octets ne =
-    items_of-append place items _ ∙ ap (λ (fs : List (List ℕ)). items_of place items ++ fs) none
-    ∙ append-nil (items_of place items)
-  where
-    none : items_of place ((record { place = other; octets = octets }) ∷ []) ≡ []
-    none = rw (ne_eqb other place (λ e. ne (sym e))) refl
+use Rattle.events.proofs.Items.{items_of-append, items_of-other, items_of-same}
 
 -- ---- the frame with a number
 

@@ -5,17 +5,19 @@ use Rattle.std.proofs.lemmas.Bool.{cases_eq}
 use Rattle.std.proofs.lemmas.List.{length-map, length-set, map-set, get_or-map, get_or-set_same, get_or-set_other, append_assoc}
 use Rattle.std.proofs.lemmas.List.Elements.{All-rest}
 use Rattle.std.proofs.Math.Seq.{map-set_same}
-use Rattle.bss_core.specs.Lists.{IsSuffix}
-use Rattle.bss_core.specs.Network.{Setting, alone}
-use Rattle.bss_core.specs.Radio.{no_network, setting_at, setting_in, items_of}
+use Rattle.events.specs.Lists.{IsSuffix}
+use Rattle.ap_config.specs.declared.setting.Setting.{Setting}
+use Rattle.network.specs.Network.{alone}
+use Rattle.ap_config.specs.Places.{no_network, setting_at, setting_in}
+use Rattle.events.specs.Items.{items_of}
 use Rattle.bss_core.specs.RadioView.{RadioView, NetworkView, unused, view_at, settings_of, shown, config_of, radio_of, IsSoundRadio}
-use Rattle.bss_core.specs.BssView.{BssView, network_of, sent_by}
-use Rattle.bss_core.specs.declared.bss.Refusal.{Refusal}
-use Rattle.bss_core.specs.declared.config.NetConfig.{NetConfig}
-use Rattle.bss_core.specs.declared.config.RadioConfig.{RadioConfig}
-use Rattle.bss_core.specs.declared.event.Event.{Event}
-use Rattle.bss_core.specs.declared.radio.step.AirItem.{AirItem}
-use Rattle.bss_core.proofs.RadioFrames.{items_of-append, items_of-same}
+use Rattle.network.specs.BssView.{BssView, network_of, sent_by}
+use Rattle.network.specs.declared.bss.Refusal.{Refusal}
+use Rattle.ap_config.specs.declared.config.NetConfig.{NetConfig}
+use Rattle.ap_config.specs.declared.config.RadioConfig.{RadioConfig}
+use Rattle.events.specs.declared.event.Event.{Event}
+use Rattle.events.specs.declared.air_item.AirItem.{AirItem}
+use Rattle.events.proofs.Items.{items_of-append, items_of-same}
 
 -- ---- suffixes
 

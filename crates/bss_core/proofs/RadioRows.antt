@@ -3,17 +3,19 @@ use Rattle.std.proofs.Common.{◌≡◌, ℕ, ◌+◌, List, [], ◌∷◌, ◌+
 use Rattle.std.specs.Prelude.{replicate, map, flat_map, drop}
 use Rattle.beacon.specs.ProbeResponse.{timestamp, fixed_fields, network_elements}
 use Rattle.elements.specs.Elements.{elements_of, elements_within}
-use Rattle.bss_core.specs.Network.{alone}
-use Rattle.bss_core.specs.Radio.{first_state, radio_step, after_steps, waiting_at, part_of, items_of, sections_after}
-use Rattle.bss_core.specs.Section.{section_of}
-use Rattle.bss_core.specs.declared.config.NetConfig.{NetConfig}
-use Rattle.bss_core.specs.declared.config.RadioConfig.{RadioConfig}
-use Rattle.bss_core.specs.declared.event.Event.{Event}
-use Rattle.bss_core.specs.declared.event.Event.TheVariants.{Air}
-use Rattle.bss_core.specs.declared.radio.step.AirItem.{AirItem}
+use Rattle.network.specs.Network.{alone}
+use Rattle.bss_core.specs.Radio.{first_state, radio_step, after_steps, waiting_at, part_of, sections_after}
+use Rattle.events.specs.Items.{items_of}
+use Rattle.network.specs.Section.{section_of}
+use Rattle.ap_config.specs.declared.config.NetConfig.{NetConfig}
+use Rattle.ap_config.specs.declared.config.RadioConfig.{RadioConfig}
+use Rattle.events.specs.declared.event.Event.{Event}
+use Rattle.events.specs.declared.event.Event.TheVariants.{Air}
+use Rattle.events.specs.declared.air_item.AirItem.{AirItem}
 use Rattle.bss_core.specs.declared.radio.step.Step.{Step}
 use Rattle.bss_core.specs.declared.radio.step.Step.TheVariants.{Take, Hand, Leave}
-use Rattle.bss_core.proofs.Samples.{station, network, radio, setting, probe, probe_for_lab, response_with}
+use Rattle.ap_config.proofs.Samples.{station, network, radio, setting}
+use Rattle.network.proofs.Samples.{probe, probe_for_lab, response_with}
 
 -- ---- samples
 

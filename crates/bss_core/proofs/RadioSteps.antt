@@ -4,10 +4,11 @@ use Rattle.std.specs.List.{cons_option, filter_map}
 use Rattle.std.proofs.lemmas.Bool.{cond_both, ltb-true, ltb-false, eq-eqb, ne_eqb, cases_eq}
 use Rattle.std.proofs.lemmas.List.{length-append, length-map, length-set, length-take, get_or-map, get_or-set_same, get_or-set_other, append-nil, append_assoc, take_all, take-append-le}
 use Rattle.std.proofs.lemmas.List.Elements.{filter_map-append}
-use Rattle.bss_core.specs.Radio.{names_network, network_at, Place, untouched, RadioState, first_state, place_at, with_place, hand_frame, leave_first, radio_step, steps_from, after_steps, event_for, part_of}
-use Rattle.bss_core.specs.declared.config.RadioConfig.{RadioConfig}
-use Rattle.bss_core.specs.declared.event.Event.{Event}
-use Rattle.bss_core.specs.declared.radio.step.AirItem.{AirItem}
+use Rattle.ap_config.specs.Places.{names_network, network_at}
+use Rattle.bss_core.specs.Radio.{Place, untouched, RadioState, first_state, place_at, with_place, hand_frame, leave_first, radio_step, steps_from, after_steps, event_for, part_of}
+use Rattle.ap_config.specs.declared.config.RadioConfig.{RadioConfig}
+use Rattle.events.specs.declared.event.Event.{Event}
+use Rattle.events.specs.declared.air_item.AirItem.{AirItem}
 use Rattle.bss_core.specs.declared.radio.step.Step.{Step}
 use Rattle.bss_core.specs.declared.radio.step.Step.TheVariants.{Take, Hand, Leave}
 

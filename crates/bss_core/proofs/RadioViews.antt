@@ -1,15 +1,16 @@
 -- What contracts see of a radio: as it opens.
 use Rattle.std.proofs.Common.{◌≡◌, ℕ, List, [], ◌∷◌, map, None, refl, sym, ap, subst, ◌∙◌, arith}
 use Rattle.std.proofs.lemmas.List.{length-map, get_or-map}
-use Rattle.bss_core.specs.Lists.{IsSuffix}
-use Rattle.bss_core.specs.Configuration.{fault_of}
-use Rattle.bss_core.specs.Network.{Setting, alone}
-use Rattle.bss_core.specs.Radio.{network_at, setting_at}
-use Rattle.bss_core.specs.RadioView.{NetworkView, unused, view_at, settings_of, shown, opened, config_of, radio_of, IsSoundRadio, fresh_radio}
-use Rattle.bss_core.specs.BssView.{BssView}
-use Rattle.bss_core.specs.declared.config.NetConfig.{NetConfig}
-use Rattle.bss_core.specs.declared.config.RadioConfig.{RadioConfig}
-use Rattle.bss_core.specs.declared.radio.step.AirItem.{AirItem}
+use Rattle.events.specs.Lists.{IsSuffix}
+use Rattle.ap_config.specs.Configuration.{fault_of}
+use Rattle.ap_config.specs.declared.setting.Setting.{Setting}
+use Rattle.network.specs.Network.{alone}
+use Rattle.ap_config.specs.Places.{network_at, setting_at}
+use Rattle.bss_core.specs.RadioView.{NetworkView, unused, view_at, settings_of, shown, config_of, radio_of, IsSoundRadio, fresh_radio}
+use Rattle.network.specs.BssView.{opened, BssView}
+use Rattle.ap_config.specs.declared.config.NetConfig.{NetConfig}
+use Rattle.ap_config.specs.declared.config.RadioConfig.{RadioConfig}
+use Rattle.events.specs.declared.air_item.AirItem.{AirItem}
 
 -- ---- networks that open
 

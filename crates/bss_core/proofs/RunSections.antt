@@ -3,15 +3,18 @@ use Rattle.std.proofs.Common.{◌≡◌, ℕ, ◌+◌, ◌<◌, List, [], ◌∷
 use Rattle.std.specs.List.{enumerate_from}
 use Rattle.std.proofs.lemmas.List.{append_assoc, length_push, length-map, get_or-map}
 use Rattle.std.proofs.lemmas.List.FromFn.{fill_by_all, length-enumerate_from, get_or-enumerate_from}
-use Rattle.bss_core.specs.Network.{Setting, alone, table_of, counts_of}
-use Rattle.bss_core.specs.Radio.{setting_in, setting_at, no_network, items_of, after_steps, waiting_at, part_of, sections_after}
+use Rattle.ap_config.specs.declared.setting.Setting.{Setting}
+use Rattle.network.specs.Network.{alone, table_of, counts_of}
+use Rattle.ap_config.specs.Places.{setting_in, setting_at, no_network}
+use Rattle.events.specs.Items.{items_of}
+use Rattle.bss_core.specs.Radio.{after_steps, waiting_at, part_of, sections_after}
 use Rattle.bss_core.specs.RadioView.{RadioView, NetworkView, unused, view_at, settings_of, shown}
-use Rattle.bss_core.specs.Running.{IsAt, section_with, frames_of, sections_with}
-use Rattle.bss_core.specs.Section.{section_of}
-use Rattle.bss_core.specs.BssView.{BssView}
-use Rattle.bss_core.specs.declared.event.Event.{Event}
-use Rattle.bss_core.specs.declared.section.Section.{Section}
-use Rattle.bss_core.specs.declared.radio.step.AirItem.{AirItem}
+use Rattle.bss_core.specs.Running.{IsAt, frames_of, sections_with}
+use Rattle.network.specs.BssView.{section_with, BssView}
+use Rattle.network.specs.Section.{section_of}
+use Rattle.events.specs.declared.event.Event.{Event}
+use Rattle.events.specs.declared.section.Section.{Section}
+use Rattle.events.specs.declared.air_item.AirItem.{AirItem}
 use Rattle.bss_core.specs.declared.radio.step.Step.{Step}
 use Rattle.bss_core.proofs.RadioFrames.{frames-alone}
 use Rattle.bss_core.proofs.RadioSteps.{events-part}

@@ -3,21 +3,22 @@ use Rattle.std.proofs.Common.{◌≡◌, ◌≢◌, ◌↔◌, ℕ, ◌+◌, ◌
 use Rattle.std.specs.List.{filter_map}
 use Rattle.std.proofs.lemmas.List.{length-take, length-drop, get_or-map, get_or-set_same, get_or-set_other, drop-append-le, drop_more}
 use Rattle.std.proofs.lemmas.Option.{slice_get_past, slice_get-get_or}
-use Rattle.bss_core.specs.Network.{alone}
-use Rattle.bss_core.specs.Radio.{network_at, setting_at, Place, untouched, RadioState, first_state, place_at, air_at, waiting_at, with_place, radio_step, after_steps, event_for}
+use Rattle.network.specs.Network.{alone}
+use Rattle.ap_config.specs.Places.{network_at, setting_at}
+use Rattle.bss_core.specs.Radio.{Place, untouched, RadioState, first_state, place_at, air_at, waiting_at, with_place, radio_step, after_steps, event_for}
 use Rattle.bss_core.specs.RadioView.{RadioView, NetworkView, unused, view_at, IsSoundRadio, fresh_radio, took, moved, after_hand}
 use Rattle.bss_core.specs.Running.{IsAt}
-use Rattle.bss_core.specs.BssView.{sent_by}
-use Rattle.bss_core.specs.declared.config.RadioConfig.{RadioConfig}
-use Rattle.bss_core.specs.declared.event.Event.{Event}
-use Rattle.bss_core.specs.declared.radio.step.AirItem.{AirItem}
-use Rattle.bss_core.specs.declared.radio.step.Handed.{Handed}
-use Rattle.bss_core.specs.declared.radio.step.Handed.TheVariants.{Moved, Nothing, QueueFull}
+use Rattle.network.specs.BssView.{sent_by}
+use Rattle.ap_config.specs.declared.config.RadioConfig.{RadioConfig}
+use Rattle.events.specs.declared.event.Event.{Event}
+use Rattle.events.specs.declared.air_item.AirItem.{AirItem}
+use Rattle.events.specs.declared.air_item.Handed.{Handed}
+use Rattle.events.specs.declared.air_item.Handed.TheVariants.{Moved, Nothing, QueueFull}
 use Rattle.bss_core.specs.declared.radio.step.Step.{Step}
 use Rattle.bss_core.specs.declared.radio.step.Step.TheVariants.{Take, Hand, Leave}
 use Rattle.bss_core.proofs.RadioFrames.{handed-le}
 use Rattle.bss_core.proofs.RadioSteps.{after_steps-none, after_steps-push, at_each_place, length-places, events-part}
-use Rattle.bss_core.proofs.SentFrames.{air-push}
+use Rattle.network.proofs.SentFrames.{air-push}
 use Rattle.bss_core.proofs.StepKinds.{take-room, take-full, take-nowhere, hand-frame, hand-full, hand-nothing, hand-nowhere, leave-first, leave-nothing}
 
 -- ---- the next frame

@@ -1,10 +1,11 @@
 -- What a step makes of a state, by its kind and by what stands there.
 use Rattle.std.proofs.Common.{◌≡◌, ℕ, ◌+◌, ◌≤◌, ◌<◌, List, [], ◌∷◌, ◌++◌, length, slice_get, Some, None, refl}
 use Rattle.std.proofs.lemmas.Bool.{lt-ltb, le-ltb}
-use Rattle.bss_core.specs.Radio.{network_at, RadioState, place_at, air_at, with_place, radio_step}
-use Rattle.bss_core.specs.declared.config.RadioConfig.{RadioConfig}
-use Rattle.bss_core.specs.declared.event.Event.{Event}
-use Rattle.bss_core.specs.declared.radio.step.AirItem.{AirItem}
+use Rattle.ap_config.specs.Places.{network_at}
+use Rattle.bss_core.specs.Radio.{RadioState, place_at, air_at, with_place, radio_step}
+use Rattle.ap_config.specs.declared.config.RadioConfig.{RadioConfig}
+use Rattle.events.specs.declared.event.Event.{Event}
+use Rattle.events.specs.declared.air_item.AirItem.{AirItem}
 use Rattle.bss_core.specs.declared.radio.step.Step.TheVariants.{Take, Hand, Leave}
 
 -- ---- an event

@@ -4,15 +4,18 @@ use Rattle.std.proofs.lemmas.Bool.{cases_lt}
 use Rattle.std.proofs.lemmas.List.{append_assoc, take-append-drop, take-append-le, take_at}
 use Rattle.std.proofs.lemmas.List.FromFn.{get_or-map-range_with_len, length-map-range_with_len}
 use Rattle.std.proofs.lemmas.Option.{slice_get-get_or}
-use Rattle.bss_core.specs.Lists.{IsPrefix}
-use Rattle.bss_core.specs.Network.{Setting, alone}
-use Rattle.bss_core.specs.Radio.{setting_at, after_steps, waiting_at, part_of, items_of, sections_after}
-use Rattle.bss_core.specs.Section.{section_of}
+use Rattle.events.specs.Lists.{IsPrefix}
+use Rattle.ap_config.specs.declared.setting.Setting.{Setting}
+use Rattle.network.specs.Network.{alone}
+use Rattle.ap_config.specs.Places.{setting_at}
+use Rattle.bss_core.specs.Radio.{after_steps, waiting_at, part_of, sections_after}
+use Rattle.events.specs.Items.{items_of}
+use Rattle.network.specs.Section.{section_of}
 use Rattle.bss_core.specs.Worlds.{AreAlike, AreCutFromOne}
-use Rattle.bss_core.specs.declared.config.NetConfig.{NetConfig}
-use Rattle.bss_core.specs.declared.config.RadioConfig.{RadioConfig}
-use Rattle.bss_core.specs.declared.event.Event.{Event}
-use Rattle.bss_core.specs.declared.section.Section.{Section}
+use Rattle.ap_config.specs.declared.config.NetConfig.{NetConfig}
+use Rattle.ap_config.specs.declared.config.RadioConfig.{RadioConfig}
+use Rattle.events.specs.declared.event.Event.{Event}
+use Rattle.events.specs.declared.section.Section.{Section}
 use Rattle.bss_core.specs.declared.radio.step.Step.{Step}
 use Rattle.bss_core.proofs.RadioFrames.{frames-alone}
 

@@ -1,47 +1,17 @@
 -- A radio and its networks (profile): what a list of steps makes of them, in whatever order the steps come. What a
 -- network does is said by `alone`, of its own setting and its own events, and by nothing else.
-use Rattle.std.specs.Prelude.{false, ℕ, ◌+◌, ◌==◌, nat_lt, Bool, List, [], ◌∷◌, ◌++◌, length, take, drop, map, filter}
-use Rattle.std.specs.Prelude.{slice_get, slice_set, Option, Some, None, if◌then◌else◌}
-use Rattle.std.specs.List.{slice_index_or, filter_map, range_with_len}
-use Rattle.bss_core.specs.Network.{Setting, alone}
-use Rattle.bss_core.specs.Section.{section_of}
-use Rattle.bss_core.specs.declared.config.NetConfig.{NetConfig}
-use Rattle.bss_core.specs.declared.config.RadioConfig.{RadioConfig}
-use Rattle.bss_core.specs.declared.event.Event.{Event}
-use Rattle.bss_core.specs.declared.section.Section.{Section}
-use Rattle.bss_core.specs.declared.radio.step.AirItem.{AirItem}
+use Rattle.std.specs.Prelude.{ℕ, ◌+◌, ◌==◌, nat_lt, List, [], ◌∷◌, ◌++◌, length, take, drop, map, slice_get, slice_set}
+use Rattle.std.specs.Prelude.{Option, Some, None, if◌then◌else◌}
+use Rattle.std.specs.List.{slice_index_or, filter_map}
+use Rattle.network.specs.Network.{alone}
+use Rattle.ap_config.specs.declared.config.RadioConfig.{RadioConfig}
+use Rattle.events.specs.declared.event.Event.{Event}
+use Rattle.events.specs.declared.section.Section.{Section}
+use Rattle.events.specs.declared.air_item.AirItem.{AirItem}
 use Rattle.bss_core.specs.declared.radio.step.Step.{Step}
 use Rattle.bss_core.specs.declared.radio.step.Step.TheVariants.{Take, Hand, Leave}
-
--- ---- networks by their places in the configuration
-
-abbrev pub names_network : RadioConfig → ℕ → Bool
-names_network c place = nat_lt place (length c.networks)
-
--- what stands at a place that names no network; of it nothing is said
-abbrev pub no_network : NetConfig
-no_network = record {
-  bssid = [];
-  ssid = [];
-  rates = [];
-  dtim = 0;
-  max_stations = 0;
-  max_known = 0;
-  quota = 0;
-  max_events = 0;
-  relay = false;
-  aging = false;
-}
-
-abbrev pub network_at : RadioConfig → ℕ → NetConfig
-network_at c place = slice_index_or c.networks place no_network
-
--- a network's configuration with the radio's settings that it uses
-abbrev pub setting_in : RadioConfig → NetConfig → Setting
-setting_in c n = record { channel = c.channel; interval = c.interval; network = n }
-
-abbrev pub setting_at : RadioConfig → ℕ → Setting
-setting_at c place = setting_in c (network_at c place)
+use Rattle.ap_config.specs.Places.{names_network, network_at, setting_at}
+use Rattle.network.specs.Section.{sections_of}
 
 -- ---- states
 
@@ -130,15 +100,6 @@ event_for place Leave = None
 -- its own events among the steps: the first `max_events` of those that it is to take
 abbrev pub part_of : RadioConfig → ℕ → List Step → List Event
 part_of c place steps = take (network_at c place).max_events (filter_map (event_for place) steps)
-
--- its own frames among items
-abbrev pub items_of : ℕ → List AirItem → List (List ℕ)
-items_of place items = map (λ item. item.octets) (filter (λ item. item.place == place) items)
-
--- the section of each network, alone with the events of its place, in order of place
-abbrev pub sections_of : RadioConfig → (ℕ → List Event) → List Section
-sections_of c events_at =
-    map (λ place. section_of (setting_at c place) (events_at place)) (range_with_len 0 (length c.networks))
 
 -- with its own events among the steps
 abbrev pub sections_after : RadioConfig → List Step → List Section

@@ -1,17 +1,18 @@
 -- What contracts see of a radio that runs (profile).
-use Rattle.std.specs.Prelude.{ℕ, ◌<◌, ◌≤◌, ◌≡◌, All, List, [], ◌∷◌, ◌++◌, length, map, slice_set, false, None}
+use Rattle.std.specs.Prelude.{ℕ, ◌<◌, ◌≤◌, ◌≡◌, All, List, [], ◌∷◌, ◌++◌, length, map, slice_set, None}
 use Rattle.std.specs.List.{slice_index_or}
-use Rattle.bss_core.specs.Configuration.{fault_of}
-use Rattle.bss_core.specs.Lists.{IsSuffix}
-use Rattle.bss_core.specs.Network.{Setting, alone}
-use Rattle.bss_core.specs.Radio.{setting_in, setting_at, items_of}
-use Rattle.bss_core.specs.BssView.{BssView, sent_by}
-use Rattle.bss_core.specs.declared.config.NetConfig.{NetConfig}
-use Rattle.bss_core.specs.declared.config.RadioConfig.{RadioConfig}
-use Rattle.bss_core.specs.declared.event.Event.{Event}
-use Rattle.bss_core.specs.declared.radio.step.AirItem.{AirItem}
-use Rattle.bss_core.specs.declared.radio.step.Handed.{Handed}
-use Rattle.bss_core.specs.declared.radio.step.Handed.TheVariants.{Moved, Nothing, QueueFull}
+use Rattle.ap_config.specs.Configuration.{fault_of}
+use Rattle.events.specs.Lists.{IsSuffix}
+use Rattle.ap_config.specs.declared.setting.Setting.{Setting}
+use Rattle.network.specs.Network.{alone}
+use Rattle.ap_config.specs.Places.{setting_in, setting_at}
+use Rattle.events.specs.Items.{items_of}
+use Rattle.network.specs.BssView.{BssView, sent_by}
+use Rattle.ap_config.specs.declared.config.RadioConfig.{RadioConfig}
+use Rattle.events.specs.declared.event.Event.{Event}
+use Rattle.events.specs.declared.air_item.AirItem.{AirItem}
+use Rattle.events.specs.declared.air_item.Handed.{Handed}
+use Rattle.events.specs.declared.air_item.Handed.TheVariants.{Moved, Nothing, QueueFull}
 
 -- of one network, the events that it took and the frames that wait; all else is what `alone` gives of its setting and
 -- its events
@@ -53,15 +54,6 @@ radio_of channel interval capacity networks queue = record {
   config = config_of channel interval capacity networks;
   networks = map shown networks;
   queue = queue;
-}
-
--- a network that took no event
-abbrev pub opened : ℕ → ℕ → NetConfig → BssView
-opened channel interval n = record {
-  setting = record { channel = channel; interval = interval; network = n };
-  history = [];
-  waiting = [];
-  has_slot = false;
 }
 
 -- ---- what a radio keeps

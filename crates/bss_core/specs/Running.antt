@@ -1,12 +1,12 @@
 -- What a run of steps keeps, and the sections that it ends with (profile).
 use Rattle.std.specs.Prelude.{ℕ, ◌<◌, ◌≡◌, List, ◌++◌, length, map}
 use Rattle.std.specs.List.{enumerate_from}
-use Rattle.bss_core.specs.Network.{table_of, counts_of}
-use Rattle.bss_core.specs.Radio.{RadioState, place_at, waiting_at, items_of}
+use Rattle.bss_core.specs.Radio.{RadioState, place_at, waiting_at}
+use Rattle.events.specs.Items.{items_of}
 use Rattle.bss_core.specs.RadioView.{RadioView, view_at}
-use Rattle.bss_core.specs.BssView.{BssView, network_of}
-use Rattle.bss_core.specs.declared.section.Section.{Section}
-use Rattle.bss_core.specs.declared.radio.step.AirItem.{AirItem}
+use Rattle.network.specs.BssView.{BssView, section_with}
+use Rattle.events.specs.declared.section.Section.{Section}
+use Rattle.events.specs.declared.air_item.AirItem.{AirItem}
 
 -- a radio that runs is at this state, and these items have left it
 pub record IsAt (s : RadioState) (r : RadioView) (gone : List AirItem) : Type 0 where
@@ -16,17 +16,6 @@ pub record IsAt (s : RadioState) (r : RadioView) (gone : List AirItem) : Type 0 
       (place : ℕ) → place < length r.config.networks → (view_at r place).history ≡ (place_at s place).events
   pub waiting :
       (place : ℕ) → place < length r.config.networks → (view_at r place).waiting ≡ waiting_at r.config s place
-
--- the section of a network that ends, with these frames on the air
-abbrev pub section_with : List (List ℕ) → BssView → Section
-section_with air s = record {
-  config = s.setting.network;
-  events = s.history;
-  table = table_of (network_of s);
-  counts = counts_of (length s.history) (network_of s);
-  air = air;
-  wire = (network_of s).wire;
-}
 
 -- all frames of the network at a place: those that left, those that are queued, those that wait
 abbrev pub frames_of : List AirItem → List AirItem → ℕ → BssView → List (List ℕ)

@@ -1,8 +1,9 @@
 -- Two radios that have a network in common, whatever else they have and whatever else happens to them (profile).
 use Rattle.std.specs.Prelude.{ℕ, ◌<◌, ◌≡◌, ◌⊎◌, List, length}
-use Rattle.bss_core.specs.Lists.{IsPrefix}
-use Rattle.bss_core.specs.Radio.{network_at, part_of}
-use Rattle.bss_core.specs.declared.config.RadioConfig.{RadioConfig}
+use Rattle.events.specs.Lists.{IsPrefix}
+use Rattle.ap_config.specs.Places.{network_at}
+use Rattle.bss_core.specs.Radio.{part_of}
+use Rattle.ap_config.specs.declared.config.RadioConfig.{RadioConfig}
 use Rattle.bss_core.specs.declared.radio.step.Step.{Step}
 
 -- The network at place p of one radio, and the one at place q of another, have the same configuration, channel and

@@ -3,53 +3,24 @@
 ghost use Rattle.std.specs.Prelude.{◌≡◌, ◌≢◌, ◌↔◌, ◌++◌, ◌<◌, [], None, Some, Err, IfOk, OnOk, OnErr, IsNone, length};
 ghost use Rattle.std.specs.Prelude.{map, option_to_list};
 ghost use Rattle.std.specs.List.{AllByRecursion};
-ghost use Rattle.bss_core.specs.Configuration.{setting_fault, network_fault, fault_of};
-ghost use Rattle.bss_core.specs.Radio.{network_at, setting_at};
-ghost use Rattle.bss_core.specs.RadioView.{IsSoundRadio, view_at, opened, shown, settings_of, fresh_radio, took};
-ghost use Rattle.bss_core.specs.RadioView.{after_hand};
-ghost use Rattle.bss_core.specs.declared.config.ConfigFault.{ConfigFault};
-ghost use Rattle.bss_core.specs.declared.radio.OpenFault.TheVariants as faults;
+ghost use Rattle.ap_config.specs.Configuration.{setting_fault, network_fault, fault_of};
+ghost use Rattle.ap_config.specs.Places.{network_at, setting_at};
+ghost use Rattle.bss_core.specs.RadioView.{IsSoundRadio, view_at, shown, settings_of, fresh_radio, took, after_hand};
+ghost use Rattle.network.specs.BssView.{opened};
+ghost use Rattle.ap_config.specs.declared.config.ConfigFault.{ConfigFault};
 
 mod running;
 mod step;
 
-use crate::bss::{Bss, Refusal};
-use crate::config::{ConfigFault, NetConfig, RadioConfig};
-use crate::event::Event;
-use crate::laws::checked_networks;
+use ap_config::{ConfigFault, NetConfig, OpenFault, RadioConfig, checked_networks};
+use events::{AirItem, Event, Handed};
 use mac_frame::{List, NoMemory};
+use network::{Bss, Refusal};
 pub use running::{RunResult, run};
-use std::alloc::{AllocError, Global};
+use std::alloc::Global;
 use std::collections::VecDeque;
 use std::marker::Model;
-pub use step::{AirItem, Handed, Step};
-
-/// Why an access point was not opened.
-#[derive(Clone, Copy, Debug, PartialEq, Eq)]
-pub enum OpenFault {
-    /// The first fault of the configuration.
-    Config(ConfigFault),
-    /// Not 1 to 64 callers (*profile*). No call of this crate answers it.
-    Callers,
-    /// A growth was refused.
-    NoMemory,
-}
-
-impl From<NoMemory> for OpenFault {
-    ghost from_gives = { λ _ fault. fault ≡ faults.NoMemory };
-
-    fn from(_e: NoMemory) -> OpenFault {
-        OpenFault::NoMemory
-    }
-}
-
-impl From<AllocError> for OpenFault {
-    ghost from_gives = { λ _ fault. fault ≡ faults.NoMemory };
-
-    fn from(_e: AllocError) -> OpenFault {
-        OpenFault::NoMemory
-    }
-}
+pub use step::Step;
 
 /// The networks of a radio and the queue of frames that are about to leave.
 ///

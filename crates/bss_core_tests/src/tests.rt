@@ -1,7 +1,7 @@
 //! What neither the prover nor the program's report can say: what calls answer. A test asserts on what came out of a
 //! function that made the calls: one that asserts much itself, while a network is at hand, takes long to prove.
 
-use bss_core::{AirItem, Event};
+use events::{AirItem, Event};
 use fixtures::octets;
 use hex::FromHexError;
 use mac_frame::Octets;

@@ -1,10 +1,9 @@
 -- The section of a network that sent all that it had to send.
 use Rattle.std.proofs.Common.{◌≡◌, ℕ, List, [], ◌∷◌, length, refl, ap, ◌∙◌, arith}
-use Rattle.bss_core.specs.BssView.{BssView, network_of}
-use Rattle.bss_core.specs.declared.setting.Setting.{Setting}
-use Rattle.bss_core.specs.Running.{section_with}
-use Rattle.bss_core.specs.Section.{section_of}
-use Rattle.bss_core.specs.declared.event.Event.{Event}
+use Rattle.network.specs.BssView.{BssView, network_of, section_with}
+use Rattle.ap_config.specs.declared.setting.Setting.{Setting}
+use Rattle.network.specs.Section.{section_of}
+use Rattle.events.specs.declared.event.Event.{Event}
 
 pub section_by : (b : BssView) (s : Setting) (es : List Event) (sent : List (List ℕ)) → b.setting ≡ s
     → b.history ≡ es → sent ≡ (network_of b).air → section_with sent b ≡ section_of s es

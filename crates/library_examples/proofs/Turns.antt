@@ -2,9 +2,9 @@
 use Rattle.std.proofs.Common.{◌≡◌, ℕ, List, [], ◌∷◌, refl, ap, ◌∙◌}
 use Rattle.std.proofs.lemmas.List.{get_or-set_other}
 use Rattle.bss_core.specs.RadioView.{RadioView, unused, view_at, took, moved, after_hand}
-use Rattle.bss_core.specs.declared.event.Event.{Event}
-use Rattle.bss_core.specs.declared.radio.step.Handed.{Handed}
-use Rattle.bss_core.specs.declared.radio.step.Handed.TheVariants.{Moved, Nothing, QueueFull}
+use Rattle.events.specs.declared.event.Event.{Event}
+use Rattle.events.specs.declared.air_item.Handed.{Handed}
+use Rattle.events.specs.declared.air_item.Handed.TheVariants.{Moved, Nothing, QueueFull}
 use Rattle.library_examples.specs.Others.{OthersStay}
 
 pub stay_took : (place : ℕ) (event : Event) (r : RadioView) → OthersStay place r (took place event r)

@@ -4,7 +4,8 @@ ghost use Rattle.std.specs.Prelude.{◌≡◌, IfOk, length};
 ghost use Rattle.workers.specs.Ending.{AreSections, HaveLeft};
 ghost use Rattle.workers.specs.Names.{AreNamed};
 
-use bss_core::{Line, MAX_NETWORKS, RadioConfig};
+use ap_config::{MAX_NETWORKS, RadioConfig};
+use events::Line;
 use mac_frame::NoMemory;
 use std::alloc::Global;
 use std::marker::Brand;

@@ -1,13 +1,15 @@
 //! A network alone.
 
 ghost use Rattle.std.specs.Prelude.{◌≡◌, ◌++◌, [], ◌∷◌, None, IfOk, OnOk};
-ghost use Rattle.bss_core.specs.Configuration.{setting_fault, network_fault};
-ghost use Rattle.bss_core.specs.BssView.{network_of};
-ghost use Rattle.bss_core.specs.Section.{section_of};
+ghost use Rattle.ap_config.specs.Configuration.{setting_fault, network_fault};
+ghost use Rattle.network.specs.BssView.{network_of};
+ghost use Rattle.network.specs.Section.{section_of};
 ghost use Rattle.library_examples.specs.Settings.{setting};
 
-use bss_core::{Bss, Event, NetConfig, Refusal, Section, one_step};
+use ap_config::NetConfig;
+use events::{Event, Section};
 use mac_frame::{List, NoMemory, Octets};
+use network::{Bss, Refusal, one_step};
 use std::alloc::Global;
 
 /// What a network alone makes of events, on a channel and with a beacon interval in time units: what it keeps of them,

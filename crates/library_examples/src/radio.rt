@@ -4,10 +4,11 @@ ghost use Rattle.std.specs.Prelude.{◌≡◌, ◌<◌, IfOk, length};
 ghost use Rattle.bss_core.specs.Radio.{sections_after};
 ghost use Rattle.library_examples.specs.Others.{OthersStay};
 
-use bss_core::{
-    AirItem, Event, OpenFault, Radio, RadioConfig, Refusal, RunResult, Section, Step, run,
-};
+use ap_config::{OpenFault, RadioConfig};
+use bss_core::{Radio, RunResult, Step, run};
+use events::{AirItem, Event, Section};
 use mac_frame::{List, NoMemory};
+use network::Refusal;
 use std::alloc::Global;
 
 /// Lets the network at a place take an event, and its frames leave through the air queue. Answers what left. It refuses

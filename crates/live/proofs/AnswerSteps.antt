@@ -1,16 +1,15 @@
 -- Lines that are answered, one after the other.
-use Rattle.std.proofs.Common.{◌≡◌, ℕ, ◌+◌, ◌≤◌, ◌<◌, ◌^◌, Bool, true, false, List, [], ◌∷◌, ◌++◌, Option, Some, None, Result, Ok, Err, map}
-use Rattle.std.proofs.Common.{refl, sym, ap, subst, ◌∙◌, arith, append-nil, get_or, length, suc, zero, Bor, codes, take, drop, take_at}
+use Rattle.std.proofs.Common.{◌≡◌, ℕ, ◌+◌, ◌≤◌, ◌<◌, ◌^◌, Bool, true, false, List, [], ◌∷◌, ◌++◌, Option, Some, None, Result, Ok, Err, map, refl, sym, ap, subst, ◌∙◌, arith, append-nil, get_or, length, suc, zero, Bor, codes, take, drop, take_at}
 use Rattle.std.specs.Prelude.{◌==◌, if◌then◌else◌, option_map, decimal}
 use Rattle.std.specs.List.{AllByRecursion}
-use Rattle.bss_core.specs.Lines.{heard_of}
-use Rattle.bss_core.specs.NetworkView.{NetworkState}
-use Rattle.bss_core.specs.declared.config.NetConfig.{NetConfig}
-use Rattle.bss_core.specs.declared.config.RadioConfig.{RadioConfig}
-use Rattle.bss_core.specs.declared.event.Event.{Event}
-use Rattle.bss_core.specs.declared.event.Event.TheVariants as event
-use Rattle.bss_core.specs.declared.line.Line.{Line}
-use Rattle.bss_core.specs.declared.line.Line.TheVariants as line
+use Rattle.events.specs.Lines.{heard_of}
+use Rattle.network.specs.NetworkView.{NetworkState}
+use Rattle.ap_config.specs.declared.config.NetConfig.{NetConfig}
+use Rattle.ap_config.specs.declared.config.RadioConfig.{RadioConfig}
+use Rattle.events.specs.declared.event.Event.{Event}
+use Rattle.events.specs.declared.event.Event.TheVariants as event
+use Rattle.events.specs.declared.line.Line.{Line}
+use Rattle.events.specs.declared.line.Line.TheVariants as line
 use Rattle.mac_frame.specs.Hearing.{is_heard}
 use Rattle.trace.specs.Texts.{ended}
 use Rattle.trace.specs.TraceText.{said_by, code_of}
@@ -18,8 +17,7 @@ use Rattle.trace.specs.declared.fault.LineFault.{LineFault}
 use Rattle.trace.specs.declared.fault.LineFault.TheVariants.{TooMany}
 use Rattle.live.specs.AnswerText.{answer_text, fault_words}
 use Rattle.live.specs.Answering.{AreAnswered, IsMoment, opened}
-use Rattle.live.specs.Answers.{Asked, IsTooLong, ForTables, Says, asks_for_tables, asked_by, Answer, MayAnswer}
-use Rattle.live.specs.Answers.{after_line_from, after_answer, Answers, Replies, Faulty, Unread}
+use Rattle.live.specs.Answers.{Asked, IsTooLong, ForTables, Says, asks_for_tables, asked_by, Answer, MayAnswer, after_line_from, after_answer, Answers, Replies, Faulty, Unread}
 use Rattle.live.specs.Feeding.{line_in}
 use Rattle.live.specs.Moments.{Moment, one_line_more, bssid_of, bssids_at, Reply, Sends, Refuses, after_events}
 use Rattle.live.specs.TextLines.{TextLine, Octets}

@@ -1,17 +1,14 @@
 -- What is answered where nothing is refused for memory.
 use Rattle.std.proofs.Common.{◌≡◌, ℕ, ◌+◌, Bool, true, false, List, [], ◌∷◌, Some, None, Ok, Err, refl, sym, ap, ◌∙◌}
 use Rattle.std.specs.List.{AllByRecursion}
-use Rattle.bss_core.specs.Lines.{heard_of}
-use Rattle.bss_core.specs.NetworkView.{NetworkState}
-use Rattle.bss_core.specs.declared.event.Event.{Event}
-use Rattle.bss_core.specs.declared.line.Line.{Line}
-use Rattle.bss_core.specs.declared.network.NetworkRefusal.TheVariants.{NoMemory, Clock}
+use Rattle.events.specs.Lines.{heard_of}
+use Rattle.network.specs.NetworkView.{NetworkState}
+use Rattle.events.specs.declared.event.Event.{Event}
+use Rattle.events.specs.declared.line.Line.{Line}
+use Rattle.network.specs.declared.network.NetworkRefusal.TheVariants.{NoMemory, Clock}
 use Rattle.live.specs.TextLines.{TextLine}
-use Rattle.live.specs.Moments.{Moment, bssid_of, bssids_at, Reply, Sends, Refuses, is_past_clock, reply_of}
-use Rattle.live.specs.Moments.{MayReply, after_event, replies_of, MayReplyAll}
-use Rattle.live.specs.Answers.{Asked, IsTooLong, ForTables, Says, asked_by, Answer, Replies, Unread}
-use Rattle.live.specs.Answers.{replies_from, MayReplyFrom, answer_of, MayAnswer, after_answer, Answers, answers_of}
-use Rattle.live.specs.Answers.{HasMemory, IsUnrefused, AreUnrefused}
+use Rattle.live.specs.Moments.{Moment, bssid_of, bssids_at, Reply, Sends, Refuses, is_past_clock, reply_of, MayReply, after_event, replies_of, MayReplyAll}
+use Rattle.live.specs.Answers.{Asked, IsTooLong, ForTables, Says, asked_by, Answer, Replies, Unread, replies_from, MayReplyFrom, answer_of, MayAnswer, after_answer, Answers, answers_of, HasMemory, IsUnrefused, AreUnrefused}
 
 -- ---- what must be
 

@@ -1,13 +1,12 @@
 -- What networks reply to a line, one place after the other.
-use Rattle.std.proofs.Common.{◌≡◌, ℕ, suc, ◌+◌, ◌<◌, ◌≤◌, List, [], ◌∷◌, ◌++◌, Option, length, map, take, drop}
-use Rattle.std.proofs.Common.{get_or, set, refl, sym, ap, subst, ◌∙◌, arith, append_assoc, append-nil, length-take}
+use Rattle.std.proofs.Common.{◌≡◌, ℕ, suc, ◌+◌, ◌<◌, ◌≤◌, List, [], ◌∷◌, ◌++◌, Option, length, map, take, drop, get_or, set, refl, sym, ap, subst, ◌∙◌, arith, append_assoc, append-nil, length-take}
 use Rattle.std.specs.Prelude.{flat_map}
 use Rattle.std.proofs.lemmas.List.{take_more, take_all, drop_more, drop_all}
 use Rattle.std.proofs.Math.Seq.{get_or-append_seam, set-append_seam}
-use Rattle.bss_core.specs.Lines.{heard_of}
-use Rattle.bss_core.specs.NetworkView.{NetworkState}
-use Rattle.bss_core.specs.declared.event.Event.{Event}
-use Rattle.bss_core.specs.declared.line.Line.{Line}
+use Rattle.events.specs.Lines.{heard_of}
+use Rattle.network.specs.NetworkView.{NetworkState}
+use Rattle.events.specs.declared.event.Event.{Event}
+use Rattle.events.specs.declared.line.Line.{Line}
 use Rattle.live.specs.AnswerText.{reply_text, replies_text}
 use Rattle.live.specs.Answers.{MayReplyFrom, after_line_from}
 use Rattle.live.specs.Hearing.{HasReplied, HaveReplied}

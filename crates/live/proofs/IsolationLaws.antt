@@ -1,23 +1,20 @@
 -- What is written of a network is what it does alone.
-use Rattle.std.proofs.Common.{◌≡◌, ℕ, suc, zero, ◌<◌, List, [], ◌∷◌, ◌++◌, length, map, take, Option, Some, None, Ok, Err}
-use Rattle.std.proofs.Common.{refl, sym, ap, subst, ◌∙◌}
+use Rattle.std.proofs.Common.{◌≡◌, ℕ, suc, zero, ◌<◌, List, [], ◌∷◌, ◌++◌, length, map, take, Option, Some, None, Ok, Err, refl, sym, ap, subst, ◌∙◌}
 use Rattle.std.specs.Prelude.{slice_get, flat_map, option_map}
 use Rattle.std.proofs.lemmas.Option.{slice_get-get_or, slice_get-map}
-use Rattle.bss_core.specs.Lines.{heard}
-use Rattle.bss_core.specs.Network.{Network, alone}
-use Rattle.bss_core.specs.declared.setting.Setting.{Setting}
-use Rattle.bss_core.specs.NetworkView.{NetworkState, new_network}
-use Rattle.bss_core.specs.Radio.{network_at, setting_in, setting_at, no_network}
-use Rattle.bss_core.specs.declared.config.NetConfig.{NetConfig}
-use Rattle.bss_core.specs.declared.config.RadioConfig.{RadioConfig}
-use Rattle.bss_core.specs.declared.event.Event.{Event}
+use Rattle.events.specs.Lines.{heard}
+use Rattle.network.specs.Network.{Network, alone}
+use Rattle.ap_config.specs.declared.setting.Setting.{Setting}
+use Rattle.network.specs.NetworkView.{NetworkState, new_network}
+use Rattle.ap_config.specs.Places.{network_at, setting_in, setting_at, no_network}
+use Rattle.ap_config.specs.declared.config.NetConfig.{NetConfig}
+use Rattle.ap_config.specs.declared.config.RadioConfig.{RadioConfig}
+use Rattle.events.specs.declared.event.Event.{Event}
 use Rattle.trace.specs.TraceText.{bssids_of}
 use Rattle.live.specs.TextLines.{TextLine}
 use Rattle.live.specs.Moments.{Moment, first_moment, bssid_of, bssids_at, Reply, MayReplyAll, after_events}
-use Rattle.live.specs.Answers.{Asked, IsTooLong, ForTables, Says, asked_by, Answer, Tables}
-use Rattle.live.specs.Answers.{MayAnswer, after_answer, Answers}
-use Rattle.live.specs.Own.{lines_read, replies_at, events_at, air_in, wire_in, air_at, wire_at, alone_after}
-use Rattle.live.specs.Own.{IsAlone, AreAlike}
+use Rattle.live.specs.Answers.{Asked, IsTooLong, ForTables, Says, asked_by, Answer, Tables, MayAnswer, after_answer, Answers}
+use Rattle.live.specs.Own.{lines_read, replies_at, events_at, air_in, wire_in, air_at, wire_at, alone_after, IsAlone, AreAlike}
 use Rattle.live.proofs.OwnSteps.{AloneLaws, alone_after-none, RepliesAlone, replies-alone}
 use Rattle.live.proofs.OwnLines.{RepliesThere, own}
 

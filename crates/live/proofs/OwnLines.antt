@@ -1,17 +1,15 @@
 -- What one network hears of lines, and replies, among the others.
-use Rattle.std.proofs.Common.{◌≡◌, ℕ, suc, zero, ◌+◌, List, [], ◌∷◌, ◌++◌, map, Option, Some, None, Ok, Err}
-use Rattle.std.proofs.Common.{refl, sym, ap, subst, ◌∙◌, arith, append-nil}
+use Rattle.std.proofs.Common.{◌≡◌, ℕ, suc, zero, ◌+◌, List, [], ◌∷◌, ◌++◌, map, Option, Some, None, Ok, Err, refl, sym, ap, subst, ◌∙◌, arith, append-nil}
 use Rattle.std.specs.Prelude.{slice_get}
 use Rattle.std.specs.List.{slice_index_or}
 use Rattle.std.proofs.lemmas.List.Concat.{flat_map-append}
-use Rattle.bss_core.specs.Lines.{heard, heard_of}
-use Rattle.bss_core.specs.NetworkView.{NetworkState}
-use Rattle.bss_core.specs.declared.event.Event.{Event}
-use Rattle.bss_core.specs.declared.line.Line.{Line}
+use Rattle.events.specs.Lines.{heard, heard_of}
+use Rattle.network.specs.NetworkView.{NetworkState}
+use Rattle.events.specs.declared.event.Event.{Event}
+use Rattle.events.specs.declared.line.Line.{Line}
 use Rattle.live.specs.TextLines.{TextLine}
 use Rattle.live.specs.Moments.{Moment, bssid_of, bssids_at, Reply, MayReplyAll, after_events}
-use Rattle.live.specs.Answers.{Asked, IsTooLong, ForTables, Says, asked_by, Answer, Replies}
-use Rattle.live.specs.Answers.{MayReplyFrom, after_line_from, MayAnswer, after_answer, Answers}
+use Rattle.live.specs.Answers.{Asked, IsTooLong, ForTables, Says, asked_by, Answer, Replies, MayReplyFrom, after_line_from, MayAnswer, after_answer, Answers}
 use Rattle.live.specs.Own.{read_in, lines_read, replies_in, replies_at}
 use Rattle.live.proofs.OwnSteps.{replies-join, events-join, setting-events}
 

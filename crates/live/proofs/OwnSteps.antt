@@ -1,15 +1,13 @@
 -- What one network replies, and what becomes of it, whatever the other networks do.
-use Rattle.std.proofs.Common.{◌≡◌, ℕ, Bool, true, false, List, [], ◌∷◌, ◌++◌, length}
-use Rattle.std.proofs.Common.{refl, sym, ap, subst, ◌∙◌, append_assoc, append-nil}
+use Rattle.std.proofs.Common.{◌≡◌, ℕ, Bool, true, false, List, [], ◌∷◌, ◌++◌, length, refl, sym, ap, subst, ◌∙◌, append_assoc, append-nil}
 use Rattle.std.specs.Prelude.{flat_map, if◌then◌else◌}
 use Rattle.std.proofs.lemmas.List.{length_push}
-use Rattle.bss_core.specs.Network.{Network, empty_network, step, alone}
-use Rattle.bss_core.specs.declared.setting.Setting.{Setting}
-use Rattle.bss_core.specs.NetworkView.{NetworkState, unsent, sent_before, took_event}
-use Rattle.bss_core.specs.declared.event.Event.{Event}
-use Rattle.bss_core.specs.declared.network.NetworkRefusal.TheVariants.{Clock}
-use Rattle.live.specs.Moments.{Reply, Sends, Refuses, is_past_clock, sending, MayReply, after_event, MayReplyAll}
-use Rattle.live.specs.Moments.{after_events}
+use Rattle.network.specs.Network.{Network, empty_network, step, alone}
+use Rattle.ap_config.specs.declared.setting.Setting.{Setting}
+use Rattle.network.specs.NetworkView.{NetworkState, unsent, sent_before, took_event}
+use Rattle.events.specs.declared.event.Event.{Event}
+use Rattle.network.specs.declared.network.NetworkRefusal.TheVariants.{Clock}
+use Rattle.live.specs.Moments.{Reply, Sends, Refuses, is_past_clock, sending, MayReply, after_event, MayReplyAll, after_events}
 use Rattle.live.specs.Own.{taken, air_in, wire_in, alone_after}
 
 -- ---- what is known of the network alone

@@ -1,6 +1,5 @@
 -- A text that is a trace, answered as its report tells it.
-use Rattle.std.proofs.Common.{◌≡◌, ℕ, zero, suc, ◌+◌, ◌*◌, ◌<◌, ◌≤◌, Bool, true, false, List, [], ◌∷◌, ◌++◌, length, map}
-use Rattle.std.proofs.Common.{Option, Some, None, Result, Ok, Err, refl, sym, ap, subst, ◌∙◌, arith}
+use Rattle.std.proofs.Common.{◌≡◌, ℕ, zero, suc, ◌+◌, ◌*◌, ◌<◌, ◌≤◌, Bool, true, false, List, [], ◌∷◌, ◌++◌, length, map, Option, Some, None, Result, Ok, Err, refl, sym, ap, subst, ◌∙◌, arith}
 use Rattle.std.specs.Prelude.{slice_get, nat_lt, codes, if◌then◌else◌}
 use Rattle.std.specs.List.{slice_index_or, AllByRecursion}
 use Rattle.std.specs.Option.{option_to_list}
@@ -10,32 +9,30 @@ use Rattle.std.proofs.lemmas.List.{length_push, take_all}
 use Rattle.std.proofs.lemmas.List.FromFn.{get_or-map-range_with_len, length-map-range_with_len}
 use Rattle.std.proofs.lemmas.Option.{slice_get-get_or}
 use Rattle.std.proofs.lemmas.Slice.Eq.{bytes_eq-Decides}
-use Rattle.bss_core.specs.Configuration.{fault_of, network_fault}
-use Rattle.bss_core.specs.Lines.{heard, own_events, sections_of_lines}
-use Rattle.bss_core.specs.Network.{alone}
-use Rattle.bss_core.specs.NetworkView.{NetworkState}
-use Rattle.bss_core.specs.Radio.{network_at, setting_at, no_network}
-use Rattle.bss_core.specs.Section.{section_of}
-use Rattle.bss_core.specs.Sound.{IsSoundNetwork}
-use Rattle.bss_core.specs.declared.config.NetConfig.{NetConfig}
-use Rattle.bss_core.specs.declared.config.RadioConfig.{RadioConfig}
-use Rattle.bss_core.specs.declared.event.Event.{Event}
-use Rattle.bss_core.specs.declared.event.Event.TheVariants.{Air, Wire, Tick}
-use Rattle.bss_core.specs.declared.line.Line.{Line}
-use Rattle.bss_core.specs.declared.network.NetworkRefusal.TheVariants.{NoMemory, Clock}
-use Rattle.bss_core.specs.declared.section.Section.{Section}
-use Rattle.bss_core.specs.declared.setting.Setting.{Setting}
-use Rattle.bss_core.proofs.Checked.{numbers_bounded}
+use Rattle.ap_config.specs.Configuration.{fault_of, network_fault}
+use Rattle.events.specs.Lines.{heard, own_events}
+use Rattle.network.specs.Section.{sections_of_lines, section_of}
+use Rattle.network.specs.Network.{alone}
+use Rattle.network.specs.NetworkView.{NetworkState}
+use Rattle.ap_config.specs.Places.{network_at, setting_at, no_network}
+use Rattle.network.specs.Sound.{IsSoundNetwork}
+use Rattle.ap_config.specs.declared.config.NetConfig.{NetConfig}
+use Rattle.ap_config.specs.declared.config.RadioConfig.{RadioConfig}
+use Rattle.events.specs.declared.event.Event.{Event}
+use Rattle.events.specs.declared.event.Event.TheVariants.{Air, Wire, Tick}
+use Rattle.events.specs.declared.line.Line.{Line}
+use Rattle.network.specs.declared.network.NetworkRefusal.TheVariants.{NoMemory, Clock}
+use Rattle.events.specs.declared.section.Section.{Section}
+use Rattle.ap_config.specs.declared.setting.Setting.{Setting}
+use Rattle.ap_config.proofs.Checked.{numbers_bounded}
 use Rattle.trace.specs.Faults.{◌>>=◌}
 use Rattle.trace.specs.TraceText.{max_lines, without_spaces_at_end, content_of, said_by, line_of, lines_from, at_line, bssids_of}
 use Rattle.trace.specs.declared.fault.LineFault.{LineFault}
 use Rattle.trace.specs.declared.fault.LineFault.TheVariants.{UnknownKind, TooMany}
 use Rattle.trace.specs.declared.fault.TraceFault.{TraceFault}
 use Rattle.live.specs.TextLines.{TextLine, max_line, line_with}
-use Rattle.live.specs.Moments.{Moment, first_moment, bssids_at, Reply, Sends, Refuses, is_past_clock, sending}
-use Rattle.live.specs.Moments.{MayReplyAll}
-use Rattle.live.specs.Answers.{Asked, Says, asks_for_tables, asked_by, Answer, Nothing, Replies, Tables}
-use Rattle.live.specs.Answers.{Faulty, Unread, MayAnswer, after_answer, Answers, HasMemory, IsUnrefused, AreUnrefused}
+use Rattle.live.specs.Moments.{Moment, first_moment, bssids_at, Reply, Sends, Refuses, is_past_clock, sending, MayReplyAll}
+use Rattle.live.specs.Answers.{Asked, Says, asks_for_tables, asked_by, Answer, Nothing, Replies, Tables, Faulty, Unread, MayAnswer, after_answer, Answers, HasMemory, IsUnrefused, AreUnrefused}
 use Rattle.live.specs.Own.{read_in, lines_read, replies_in, replies_at, taken, events_at, alone_after, IsLikeTrace, IsShown, IsAlone}
 use Rattle.live.proofs.OwnSteps.{AloneLaws, sent}
 use Rattle.live.proofs.OwnLines.{bssids-answer}

@@ -1,15 +1,14 @@
 -- What a network replied is what it may reply.
-use Rattle.std.proofs.Common.{◌≡◌, ℕ, Bool, true, false, List, Option, Some, None, Result, Ok, Err}
-use Rattle.std.proofs.Common.{Bor, refl, sym, ap, ◌∙◌}
+use Rattle.std.proofs.Common.{◌≡◌, ℕ, Bool, true, false, List, Option, Some, None, Result, Ok, Err, Bor, refl, sym, ap, ◌∙◌}
 use Rattle.std.specs.Prelude.{◌↔◌, ◌==◌, option_to_list, option_map, if◌then◌else◌}
 use Rattle.std.specs.Option.{option_copied}
 use Rattle.std.proofs.lemmas.Bool.{eqb-true}
-use Rattle.bss_core.specs.NetworkView.{NetworkState}
-use Rattle.bss_core.specs.declared.event.Event.{Event}
-use Rattle.bss_core.specs.declared.event.Event.TheVariants.{Air, Wire, Tick}
-use Rattle.bss_core.specs.declared.network.NetworkRefusal.{NetworkRefusal}
-use Rattle.bss_core.specs.declared.network.NetworkRefusal.TheVariants.{NoMemory, Clock}
-use Rattle.bss_core.specs.declared.network.Sent.{Sent}
+use Rattle.network.specs.NetworkView.{NetworkState}
+use Rattle.events.specs.declared.event.Event.{Event}
+use Rattle.events.specs.declared.event.Event.TheVariants.{Air, Wire, Tick}
+use Rattle.network.specs.declared.network.NetworkRefusal.{NetworkRefusal}
+use Rattle.network.specs.declared.network.NetworkRefusal.TheVariants.{NoMemory, Clock}
+use Rattle.network.specs.declared.network.Sent.{Sent}
 use Rattle.live.specs.Moments.{Sends, Refuses, is_past_clock, sending, MayReply}
 
 -- a beacon interval is to begin that the clock can't count

@@ -6,19 +6,17 @@ use Rattle.hex.specs.Hex.{encode_with}
 use Rattle.hex.proofs.OnLiterals.{hex_on_literals}
 use Rattle.beacon.specs.ProbeResponse.{timestamp, fixed_fields, network_elements}
 use Rattle.elements.specs.Elements.{elements_of, elements_within}
-use Rattle.bss_core.specs.NetworkView.{NetworkState}
-use Rattle.bss_core.specs.declared.config.RadioConfig.{RadioConfig}
-use Rattle.bss_core.specs.declared.event.Event.TheVariants.{Tick}
-use Rattle.bss_core.specs.declared.line.Line.TheVariants as line
-use Rattle.bss_core.specs.declared.network.NetworkRefusal.TheVariants.{NoMemory, Clock}
-use Rattle.bss_core.proofs.Samples.{network, radio, setting}
+use Rattle.network.specs.NetworkView.{NetworkState}
+use Rattle.ap_config.specs.declared.config.RadioConfig.{RadioConfig}
+use Rattle.events.specs.declared.event.Event.TheVariants.{Tick}
+use Rattle.events.specs.declared.line.Line.TheVariants as line
+use Rattle.network.specs.declared.network.NetworkRefusal.TheVariants.{NoMemory, Clock}
+use Rattle.ap_config.proofs.Samples.{network, radio, setting}
 use Rattle.trace.specs.Report.{network_line, counts_line, station_line, frame_line}
 use Rattle.trace.specs.declared.fault.LineFault.TheVariants.{UnknownKind}
-use Rattle.live.specs.TextLines.{Octets, TooLong, line_with, lines_of_text, begun_in, lines_in}
-use Rattle.live.specs.TextLines.{begun_after, last_line}
+use Rattle.live.specs.TextLines.{Octets, TooLong, line_with, lines_of_text, begun_in, lines_in, begun_after, last_line}
 use Rattle.live.specs.Moments.{Moment, first_moment, Sends, Refuses, is_past_clock, reply_of, after_event}
-use Rattle.live.specs.Answers.{ForTables, Says, asked_by, Answer, Replies, Tables, Unread, MayAnswer}
-use Rattle.live.specs.Answers.{after_answer}
+use Rattle.live.specs.Answers.{ForTables, Says, asked_by, Answer, Replies, Tables, Unread, MayAnswer, after_answer}
 use Rattle.live.specs.AnswerText.{table_text, answer_text, answers_text, live_text}
 
 abbrev cr : List ℕ

@@ -1,10 +1,10 @@
 -- The text of what is answered: lines, each ended by LF (profile).
 use Rattle.std.specs.Prelude.{ℕ, ◌+◌, List, [], ◌∷◌, ◌++◌, codes, decimal, flat_map}
 use Rattle.mac_frame.specs.Address.{address_text}
-use Rattle.bss_core.specs.Network.{table_of, counts_of}
-use Rattle.bss_core.specs.NetworkView.{NetworkState}
-use Rattle.bss_core.specs.declared.network.NetworkRefusal.{NetworkRefusal}
-use Rattle.bss_core.specs.declared.network.NetworkRefusal.TheVariants.{NoMemory, Clock}
+use Rattle.network.specs.Network.{table_of, counts_of}
+use Rattle.network.specs.NetworkView.{NetworkState}
+use Rattle.network.specs.declared.network.NetworkRefusal.{NetworkRefusal}
+use Rattle.network.specs.declared.network.NetworkRefusal.TheVariants.{NoMemory, Clock}
 use Rattle.trace.specs.Report.{network_line, counts_line, station_line, frame_line}
 use Rattle.trace.specs.Texts.{ended}
 use Rattle.trace.specs.TraceText.{code_of}

@@ -1,8 +1,8 @@
 -- Lines that are answered, and the text of the answers that goes to a writer.
 use Rattle.std.specs.Prelude.{◌≡◌, ℕ, ◌≤◌, List, Option}
 use Rattle.std.specs.List.{AllByRecursion}
-use Rattle.bss_core.specs.NetworkView.{NetworkState, new_network}
-use Rattle.bss_core.specs.declared.config.NetConfig.{NetConfig}
+use Rattle.network.specs.NetworkView.{NetworkState, new_network}
+use Rattle.ap_config.specs.declared.config.NetConfig.{NetConfig}
 use Rattle.live.specs.AnswerText.{text_after}
 use Rattle.live.specs.Answers.{Answer, Answers}
 use Rattle.live.specs.Moments.{Moment, bssids_at}

@@ -1,12 +1,12 @@
 -- What is answered to lines.
-use Rattle.std.specs.Prelude.{ℕ, ◌+◌, ◌≡◌, Bool, List, [], ◌∷◌, codes, Option, Some, None, Result, Ok, Err}
-use Rattle.std.specs.Prelude.{◌++◌, if◌then◌else◌}
+use Rattle.std.specs.Prelude.{ℕ, ◌+◌, ◌≡◌, Bool, List, [], ◌∷◌, codes, Option, Some, None, Result, Ok, Err, ◌++◌}
+use Rattle.std.specs.Prelude.{if◌then◌else◌}
 use Rattle.std.specs.List.{AllByRecursion}
 use Rattle.std.specs.Str.{bytes_eq}
-use Rattle.bss_core.specs.Lines.{heard_of}
-use Rattle.bss_core.specs.NetworkView.{NetworkState}
-use Rattle.bss_core.specs.declared.line.Line.{Line}
-use Rattle.bss_core.specs.declared.network.NetworkRefusal.TheVariants.{NoMemory, Clock}
+use Rattle.events.specs.Lines.{heard_of}
+use Rattle.network.specs.NetworkView.{NetworkState}
+use Rattle.events.specs.declared.line.Line.{Line}
+use Rattle.network.specs.declared.network.NetworkRefusal.TheVariants.{NoMemory, Clock}
 use Rattle.trace.specs.TraceText.{without_spaces_at_end, said_by}
 use Rattle.trace.specs.declared.fault.LineFault.{LineFault}
 use Rattle.trace.specs.declared.fault.LineFault.TheVariants.{TooMany}

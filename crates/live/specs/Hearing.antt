@@ -1,11 +1,11 @@
 -- A line as one event, and what networks reply to it.
 use Rattle.std.specs.Prelude.{◌≡◌, ℕ, List, Option, flat_map, map}
-use Rattle.bss_core.specs.Lines.{heard_of}
-use Rattle.bss_core.specs.NetworkView.{NetworkState}
-use Rattle.bss_core.specs.declared.event.Event.{Event}
-use Rattle.bss_core.specs.declared.event.Event.TheVariants as event
-use Rattle.bss_core.specs.declared.line.Line.{Line}
-use Rattle.bss_core.specs.declared.line.Line.TheVariants as line
+use Rattle.events.specs.Lines.{heard_of}
+use Rattle.network.specs.NetworkView.{NetworkState}
+use Rattle.events.specs.declared.event.Event.{Event}
+use Rattle.events.specs.declared.event.Event.TheVariants as event
+use Rattle.events.specs.declared.line.Line.{Line}
+use Rattle.events.specs.declared.line.Line.TheVariants as line
 use Rattle.live.specs.AnswerText.{reply_text, replies_text}
 use Rattle.live.specs.Answers.{MayReplyFrom, after_line_from}
 use Rattle.live.specs.Moments.{Reply, MayReplyAll, after_events, bssid_of}

@@ -1,13 +1,13 @@
 -- What is known between two lines, and what a network makes of an event.
 use Rattle.std.specs.Prelude.{ℕ, ◌+◌, ◌≡◌, ◌==◌, Bool, false, List, [], ◌∷◌, map, if◌then◌else◌}
-use Rattle.bss_core.specs.Network.{Network, step}
-use Rattle.bss_core.specs.NetworkView.{NetworkState, new_network, took_event}
-use Rattle.bss_core.specs.Radio.{setting_in}
-use Rattle.bss_core.specs.declared.config.RadioConfig.{RadioConfig}
-use Rattle.bss_core.specs.declared.event.Event.{Event}
-use Rattle.bss_core.specs.declared.event.Event.TheVariants.{Air, Wire, Tick}
-use Rattle.bss_core.specs.declared.network.NetworkRefusal.{NetworkRefusal}
-use Rattle.bss_core.specs.declared.network.NetworkRefusal.TheVariants.{NoMemory, Clock}
+use Rattle.network.specs.Network.{Network, step}
+use Rattle.network.specs.NetworkView.{NetworkState, new_network, took_event}
+use Rattle.ap_config.specs.Places.{setting_in}
+use Rattle.ap_config.specs.declared.config.RadioConfig.{RadioConfig}
+use Rattle.events.specs.declared.event.Event.{Event}
+use Rattle.events.specs.declared.event.Event.TheVariants.{Air, Wire, Tick}
+use Rattle.network.specs.declared.network.NetworkRefusal.{NetworkRefusal}
+use Rattle.network.specs.declared.network.NetworkRefusal.TheVariants.{NoMemory, Clock}
 
 -- A moment, between two lines: how many lines have ended, skipped ones too; and of each network by its place how many
 -- events it took, and what these made of it but for the frames that it sent (profile).

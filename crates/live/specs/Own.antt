@@ -1,18 +1,17 @@
 -- What of the lines and of the answers is one network's own.
-use Rattle.std.specs.Prelude.{ℕ, ◌<◌, ◌≤◌, ◌≡◌, List, [], ◌∷◌, ◌++◌, length, flat_map, take, slice_get, Some, None}
-use Rattle.std.specs.Prelude.{Ok}
+use Rattle.std.specs.Prelude.{ℕ, ◌<◌, ◌≤◌, ◌≡◌, List, [], ◌∷◌, ◌++◌, length, flat_map, take, slice_get, Some, None, Ok}
 use Rattle.std.specs.List.{slice_index_or, AllByRecursion}
 use Rattle.std.specs.Str.Lines.{lines}
-use Rattle.bss_core.specs.Lines.{heard}
-use Rattle.bss_core.specs.Configuration.{fault_of}
-use Rattle.bss_core.specs.Network.{alone, table_of, counts_of}
-use Rattle.bss_core.specs.declared.setting.Setting.{Setting}
-use Rattle.bss_core.specs.NetworkView.{NetworkState, unsent}
-use Rattle.bss_core.specs.Radio.{network_at, setting_at}
-use Rattle.bss_core.specs.declared.config.RadioConfig.{RadioConfig}
-use Rattle.bss_core.specs.declared.event.Event.{Event}
-use Rattle.bss_core.specs.declared.line.Line.{Line}
-use Rattle.bss_core.specs.declared.section.Section.{Section}
+use Rattle.events.specs.Lines.{heard}
+use Rattle.ap_config.specs.Configuration.{fault_of}
+use Rattle.network.specs.Network.{alone, table_of, counts_of}
+use Rattle.ap_config.specs.declared.setting.Setting.{Setting}
+use Rattle.network.specs.NetworkView.{NetworkState, unsent}
+use Rattle.ap_config.specs.Places.{network_at, setting_at}
+use Rattle.ap_config.specs.declared.config.RadioConfig.{RadioConfig}
+use Rattle.events.specs.declared.event.Event.{Event}
+use Rattle.events.specs.declared.line.Line.{Line}
+use Rattle.events.specs.declared.section.Section.{Section}
 use Rattle.trace.specs.TraceText.{bssids_of, lines_of}
 use Rattle.live.specs.TextLines.{TextLine, max_line, lines_of_text}
 use Rattle.live.specs.Moments.{Moment, first_moment, Reply, Sends, Refuses}

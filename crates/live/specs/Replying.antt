@@ -1,7 +1,7 @@
 -- What a network replied, as the code has it.
 use Rattle.std.specs.Prelude.{ℕ, List, flat_map, option_to_list, Result, Ok, Err}
-use Rattle.bss_core.specs.declared.network.NetworkRefusal.{NetworkRefusal}
-use Rattle.bss_core.specs.declared.network.Sent.{Sent}
+use Rattle.network.specs.declared.network.NetworkRefusal.{NetworkRefusal}
+use Rattle.network.specs.declared.network.Sent.{Sent}
 use Rattle.trace.specs.Report.{frame_line}
 use Rattle.live.specs.AnswerText.{frame_words}
 use Rattle.live.specs.Moments.{Reply, Sends, Refuses}

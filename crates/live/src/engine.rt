@@ -1,7 +1,7 @@
 //! Lines that come in pieces, and their answers.
 
 ghost use Rattle.std.specs.Prelude.{◌≡◌, ◌<◌, ◌≤◌, ◌+◌, ◌^◌, ◌∷◌, [], None, IfOk, length};
-ghost use Rattle.bss_core.specs.Configuration.{fault_of};
+ghost use Rattle.ap_config.specs.Configuration.{fault_of};
 ghost use Rattle.trace.specs.Endings.{failures_of};
 ghost use Rattle.trace.specs.Sinks.{MayFail, write_ending};
 ghost use Rattle.trace.specs.Texts.{LacksLineFeed};
@@ -15,7 +15,7 @@ ghost use Rattle.live.specs.Writing.{CanWrite, writer};
 use crate::begun::{Begun, ended_line};
 use crate::networks::Networks;
 use crate::writer::end_writing;
-use bss_core::RadioConfig;
+use ap_config::RadioConfig;
 use mac_frame::NoMemory;
 use std::alloc::Global;
 use std::marker::Model;

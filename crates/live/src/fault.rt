@@ -4,7 +4,7 @@ ghost use Rattle.std.specs.Prelude.{◌≡◌};
 ghost use Rattle.live.specs.Running.{of_config};
 ghost use Rattle.live.specs.declared.fault.LiveFault.TheVariants as faults;
 
-use bss_core::ConfigFault;
+use ap_config::ConfigFault;
 use mac_frame::NoMemory;
 use trace::{ConfigTextFault, Failed};
 

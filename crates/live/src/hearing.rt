@@ -2,13 +2,14 @@
 
 ghost use Rattle.std.specs.Prelude.{◌≡◌, ◌<◌, ◌^◌, ◌∷◌, [], if◌then◌else◌};
 ghost use Rattle.std.specs.List.{AllByRecursion};
-ghost use Rattle.bss_core.specs.Lines.{heard_of};
+ghost use Rattle.events.specs.Lines.{heard_of};
 ghost use Rattle.live.specs.Hearing.{line_as, HasReplied, HaveReplied};
 ghost use Rattle.live.specs.Writing.{CanWrite, writer};
 
 use crate::replying::reply;
-use bss_core::{Event, Line, Network, hears};
+use events::{Event, Line, hears};
 use mac_frame::MacAddr;
+use network::Network;
 use trace::{Buffered, Sink};
 
 /// A line as one event.

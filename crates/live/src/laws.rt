@@ -1,23 +1,24 @@
 //! What follows from the definitions, for whoever stands on them.
 
 ghost use Rattle.std.specs.Prelude.{◌≡◌, ◌<◌, ◌++◌, List, [], ◌∷◌, ℕ, length, codes, flat_map, Some, slice_get};
-ghost use Rattle.bss_core.specs.Lines.{sections_of_lines};
-ghost use Rattle.bss_core.specs.Network.{alone, table_of, counts_of};
-ghost use Rattle.bss_core.specs.declared.config.RadioConfig.{RadioConfig};
-ghost use Rattle.bss_core.specs.declared.setting.Setting.{Setting};
-ghost use Rattle.bss_core.specs.declared.event.Event.{Event};
-ghost use Rattle.bss_core.specs.declared.line.Line.{Line};
-ghost use Rattle.bss_core.specs.declared.section.Section.{Section};
+ghost use Rattle.network.specs.Section.{sections_of_lines};
+ghost use Rattle.network.specs.Network.{alone, table_of, counts_of};
+ghost use Rattle.ap_config.specs.declared.config.RadioConfig.{RadioConfig};
+ghost use Rattle.ap_config.specs.declared.setting.Setting.{Setting};
+ghost use Rattle.events.specs.declared.event.Event.{Event};
+ghost use Rattle.events.specs.declared.line.Line.{Line};
+ghost use Rattle.events.specs.declared.section.Section.{Section};
 ghost use Rattle.trace.specs.Report.{network_line, counts_line, station_line};
 ghost use Rattle.trace.specs.Texts.{ended};
 ghost use Rattle.live.specs.AnswerText.{table_text, text_after};
 ghost use Rattle.live.specs.Answers.{Answer, Answers, answers_of, AreUnrefused, Begins};
 ghost use Rattle.live.specs.Moments.{Moment, first_moment};
 ghost use Rattle.live.specs.Own.{IsAlone, AreAlike, IsLikeTrace, IsShown, air_at, wire_at, alone_after};
-ghost use Rattle.live.specs.TextLines.{TextLine, lines_of_text, ended_lines, begun_in};
-ghost use Rattle.live.specs.TextLines.{lines_in, begun_after, last_line};
+ghost use Rattle.live.specs.TextLines.{TextLine, lines_of_text, ended_lines, begun_in, lines_in, begun_after};
+ghost use Rattle.live.specs.TextLines.{last_line};
 
-use bss_core::{checked_networks, one_step, reachable, steps_append};
+use ap_config::checked_networks;
+use network::{one_step, reachable, steps_append};
 
 /// However a text is cut, the lines that end in its pieces, and the last line, are those of the whole text.
 pub fn lines_come_in_pieces()

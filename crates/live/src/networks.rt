@@ -2,7 +2,7 @@
 
 ghost use Rattle.std.specs.Prelude.{◌≡◌, ◌+◌, ◌<◌, ◌^◌, ◌∷◌, [], ℕ, None, IfOk, map, option_map};
 ghost use Rattle.std.specs.List.{AllByRecursion};
-ghost use Rattle.bss_core.specs.Configuration.{fault_of, network_fault, setting_fault};
+ghost use Rattle.ap_config.specs.Configuration.{fault_of, network_fault, setting_fault};
 ghost use Rattle.live.specs.AnswerText.{tables_text};
 ghost use Rattle.live.specs.Answering.{AreAnswered, opened};
 ghost use Rattle.live.specs.Answers.{asks_for_tables};
@@ -14,8 +14,9 @@ ghost use Rattle.live.specs.Writing.{Adds, CanWrite, writer};
 use crate::hearing::{Heard, reply_all};
 use crate::tables::put_table;
 use crate::telling::{put_line_fault, put_unread};
-use bss_core::{NetConfig, Network, RadioConfig, Setting, checked_networks};
+use ap_config::{NetConfig, RadioConfig, Setting, checked_networks};
 use mac_frame::{List, MacAddr, NoMemory};
+use network::Network;
 use std::alloc::Global;
 use std::marker::Model;
 use trace::{Buffered, LineFault, ReadFault, Sink, read_line};

@@ -7,8 +7,9 @@ ghost use Rattle.live.specs.Replying.{frames_text};
 ghost use Rattle.live.specs.Writing.{Adds, CanWrite, writer};
 
 use crate::telling::{put_frame, put_refusal};
-use bss_core::{Event, Network, Sent};
+use events::Event;
 use mac_frame::{MacAddr, Octets};
+use network::{Network, Sent};
 use trace::{Buffered, Sink};
 
 /// Has a network take an event, where it took fewer than 2^62 before, and puts its reply: the frames that it sends, or

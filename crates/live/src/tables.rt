@@ -1,13 +1,13 @@
 //! The table of a network: what a report says of it, but for its frames.
 
 ghost use Rattle.std.specs.Prelude.{◌≡◌, ◌++◌, codes, flat_map};
-ghost use Rattle.bss_core.specs.Network.{table_of, counts_of};
+ghost use Rattle.network.specs.Network.{table_of, counts_of};
 ghost use Rattle.trace.specs.Report.{station_line, counts_in};
 ghost use Rattle.live.specs.AnswerText.{table_text};
 ghost use Rattle.live.specs.Writing.{Adds, CanWrite, writer};
 
 use crate::writer::{put, put_counts_line, put_network_line, put_station_line};
-use bss_core::Network;
+use network::Network;
 use trace::{Buffered, Sink, Totals};
 
 /// Puts a network's table: its name, its counts, its stations, and `end`.

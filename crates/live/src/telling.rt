@@ -10,8 +10,8 @@ ghost use Rattle.live.specs.Moments.{Refuses};
 ghost use Rattle.live.specs.Writing.{Adds, CanWrite, writer};
 
 use crate::writer::{put, put_digits};
-use bss_core::NetworkRefusal;
 use mac_frame::MacAddr;
+use network::NetworkRefusal;
 use trace::{Buffered, LineFault, Sink, address_text};
 
 /// Puts a number in decimal digits.

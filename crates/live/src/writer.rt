@@ -7,7 +7,8 @@ ghost use Rattle.trace.specs.Buffers.{held};
 ghost use Rattle.trace.specs.Report.{network_line, counts_line, counts_in, station_line};
 ghost use Rattle.live.specs.Writing.{Adds, CanWrite, writer};
 
-use bss_core::{NetConfig, StationRow};
+use ap_config::NetConfig;
+use events::StationRow;
 use trace::{Buffered, Failed, Sink, Totals};
 
 /// Puts a text after what the piece holds.

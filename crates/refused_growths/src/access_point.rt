@@ -4,7 +4,8 @@ ghost use Rattle.workers.specs.Names.{AreNamed};
 
 use crate::asked::Asked;
 use crate::outcome::{ANSWER, CHANGED, Flaw, grow, report_sections};
-use bss_core::{Line, MAX_NETWORKS, RadioConfig, hears};
+use ap_config::{MAX_NETWORKS, RadioConfig};
+use events::{Line, hears};
 use mac_frame::{MacAddr, NoMemory};
 use std::alloc::Global;
 use std::marker::Brand;

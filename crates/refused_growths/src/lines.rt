@@ -2,7 +2,7 @@
 
 use crate::asked::Asked;
 use crate::outcome::{AGAIN, Flaw, ROOM, grow};
-use bss_core::Line;
+use events::Line;
 use mac_frame::NoMemory;
 use replay::run_text;
 use std::alloc::Global;

@@ -2,8 +2,11 @@
 
 use crate::asked::Asked;
 use crate::outcome::{AGAIN, CHANGED, Flaw, ROOM, grow, report_sections};
-use bss_core::{Bss, Event, Line, Radio, RadioConfig, Refusal};
+use ap_config::RadioConfig;
+use bss_core::Radio;
+use events::{Event, Line};
 use mac_frame::{List, NoMemory, Octets};
+use network::{Bss, Refusal};
 use std::alloc::Global;
 use std::fmt::Write;
 use trace::{read_config, read_trace};

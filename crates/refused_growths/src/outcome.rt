@@ -1,6 +1,6 @@
 //! What a trial comes to, and what comes before its calls.
 
-use bss_core::Section;
+use events::Section;
 use mac_frame::NoMemory;
 use std::alloc::{AllocError, Global};
 use trace::{Counted, write_report};

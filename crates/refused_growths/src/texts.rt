@@ -2,7 +2,7 @@
 
 use crate::asked::Asked;
 use crate::outcome::{AGAIN, ANSWER, Flaw, ROOM, grow};
-use bss_core::Section;
+use events::Section;
 use mac_frame::Octets;
 use replay::{
     PlayTextFault, StreamFault, TextFault, play_text, report_texts, run_stream, run_text,

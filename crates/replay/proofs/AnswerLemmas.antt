@@ -1,10 +1,10 @@
 -- What each part of a run leaves, as the end of the whole.
 use Rattle.std.proofs.Common.{◌≡◌, ℕ, List, Option, Result, Ok, Err, ap, ◌∙◌}
 use Rattle.std.proofs.KnownBytes.{Keeps-refl}
-use Rattle.bss_core.specs.declared.config.RadioConfig.{RadioConfig}
-use Rattle.bss_core.specs.declared.config.ConfigFault.{ConfigFault}
-use Rattle.bss_core.specs.declared.section.Section.{Section}
-use Rattle.bss_core.specs.declared.line.Line.{Line}
+use Rattle.ap_config.specs.declared.config.RadioConfig.{RadioConfig}
+use Rattle.ap_config.specs.declared.config.ConfigFault.{ConfigFault}
+use Rattle.events.specs.declared.section.Section.{Section}
+use Rattle.events.specs.declared.line.Line.{Line}
 use Rattle.trace.specs.ConfigurationText.{configuration_of}
 use Rattle.trace.specs.Endings.{IsFaultOf, Ends}
 use Rattle.trace.specs.Faults.{read_ending}
@@ -18,7 +18,7 @@ use Rattle.trace.specs.declared.report.ReportFault.{ReportFault}
 use Rattle.trace.specs.declared.report.ReportFault.TheVariants as reports
 use Rattle.trace.proofs.EndingLemmas.{nothing_written, part_written, part_kept}
 use Rattle.replay.specs.Answer.{answered, replayed, answer_of, text_ending, of_config, of_trace, of_report}
-use Rattle.bss_core.specs.Lines.{sections_of_lines}
+use Rattle.network.specs.Section.{sections_of_lines}
 use Rattle.replay.specs.declared.fault.TextFault.{TextFault}
 
 -- a report that was cut short

@@ -2,11 +2,10 @@
 use Rattle.std.proofs.Common.{◌≡◌, ℕ, codes, List, [], ◌∷◌, ◌++◌, Result, Ok, Err, refl, ap}
 use Rattle.std.specs.Fmt.{digits}
 use Rattle.hex.specs.Hex.{encode_with}
-use Rattle.bss_core.specs.Network.{alone}
-use Rattle.bss_core.specs.declared.section.Section.{Section}
-use Rattle.bss_core.proofs.NetworkRows.{the_section_of_one_probe, the_section_of_a_probe_for_another}
-use Rattle.bss_core.proofs.NetworkRows.{the_section_of_a_short_history}
-use Rattle.bss_core.specs.Configuration.{of_radio}
+use Rattle.network.specs.Network.{alone}
+use Rattle.events.specs.declared.section.Section.{Section}
+use Rattle.network.proofs.NetworkRows.{the_section_of_one_probe, the_section_of_a_probe_for_another, the_section_of_a_short_history}
+use Rattle.ap_config.specs.Configuration.{of_radio}
 use Rattle.trace.specs.Report.{report_text, section_text, network_line, counts_line, frame_line}
 use Rattle.replay.specs.Answer.{answer_of}
 use Rattle.replay.specs.declared.fault.TextFault.{TextFault}

@@ -1,8 +1,8 @@
 -- What each part of a check leaves, as the end of the whole.
 use Rattle.std.proofs.Common.{◌≡◌, ℕ, List, length, Option, Result, Ok, Err, ap}
 use Rattle.std.proofs.KnownBytes.{Keeps-refl}
-use Rattle.bss_core.specs.declared.config.RadioConfig.{RadioConfig}
-use Rattle.bss_core.specs.declared.config.ConfigFault.{ConfigFault}
+use Rattle.ap_config.specs.declared.config.RadioConfig.{RadioConfig}
+use Rattle.ap_config.specs.declared.config.ConfigFault.{ConfigFault}
 use Rattle.trace.specs.ConfigurationText.{configuration_of}
 use Rattle.trace.specs.Endings.{IsFaultOf, Ends}
 use Rattle.trace.specs.Faults.{read_ending}

@@ -1,9 +1,9 @@
 -- A line is taken at one place after another.
 use Rattle.std.proofs.Common.{◌≡◌, ℕ, ◌<◌, ◌≤◌, ◌++◌}
-use Rattle.bss_core.specs.Radio.{network_at}
+use Rattle.ap_config.specs.Places.{network_at}
 use Rattle.bss_core.specs.RadioView.{RadioView, view_at}
-use Rattle.bss_core.specs.Lines.{taken_of}
-use Rattle.bss_core.specs.declared.line.Line.{Line}
+use Rattle.events.specs.Lines.{taken_of}
+use Rattle.events.specs.declared.line.Line.{Line}
 
 -- the networks before a place took what they hear of a line, and the others nothing
 pub record TakesBelow (count : ℕ) (line : Line) (old new : RadioView) : Type 0 where

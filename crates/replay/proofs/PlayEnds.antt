@@ -2,9 +2,9 @@
 use Rattle.std.proofs.Common.{◌≡◌, ℕ, suc, ◌++◌, ◌∷◌, [], true, false, List, Option, Ok, Err, length, refl, ap, ◌∙◌}
 use Rattle.std.proofs.KnownBytes.{Keeps-refl}
 use Rattle.std.specs.Io.KnownBytes.{Appends}
-use Rattle.bss_core.specs.declared.config.RadioConfig.{RadioConfig}
-use Rattle.bss_core.specs.declared.config.ConfigFault.{ConfigFault}
-use Rattle.bss_core.specs.declared.line.Line.{Line}
+use Rattle.ap_config.specs.declared.config.RadioConfig.{RadioConfig}
+use Rattle.ap_config.specs.declared.config.ConfigFault.{ConfigFault}
+use Rattle.events.specs.declared.line.Line.{Line}
 use Rattle.trace.specs.ConfigurationText.{configuration_of}
 use Rattle.trace.specs.Endings.{IsFaultOf, Ends}
 use Rattle.trace.specs.Faults.{read_ending}
@@ -20,11 +20,9 @@ use Rattle.workers.specs.Names.{callers_fit}
 use Rattle.workers.specs.declared.finish.Finished.{Finished}
 use Rattle.workers.specs.declared.playing.PlayFault.{PlayFault}
 use Rattle.workers.specs.declared.playing.PlayFault.TheVariants as plays
-use Rattle.replay.specs.Playing.{AreLines, IsTracesFault, IsPlayOf, ArePlayable, EndsPlay, in_trace}
-use Rattle.replay.specs.Playing.{of_config, of_play, of_report}
+use Rattle.replay.specs.Playing.{AreLines, IsTracesFault, IsPlayOf, ArePlayable, EndsPlay, in_trace, of_config, of_play, of_report}
 use Rattle.replay.specs.declared.fault.PlayTextFault.{PlayTextFault}
-use Rattle.replay.specs.declared.fault.PlayTextFault.TheVariants.{Config, Sources, Trace, NoThread, NoMemory}
-use Rattle.replay.specs.declared.fault.PlayTextFault.TheVariants.{Finish, Write}
+use Rattle.replay.specs.declared.fault.PlayTextFault.TheVariants.{Config, Sources, Trace, NoThread, NoMemory, Finish, Write}
 
 -- ---- the traces
 

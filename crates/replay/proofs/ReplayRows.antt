@@ -1,11 +1,12 @@
 -- What networks take of some lines.
 use Rattle.std.proofs.Common.{◌≡◌, ℕ, List, [], ◌∷◌, ◌++◌, take, refl}
-use Rattle.bss_core.specs.Section.{section_of}
-use Rattle.bss_core.specs.declared.config.NetConfig.{NetConfig}
-use Rattle.bss_core.specs.declared.event.Event.TheVariants as event
-use Rattle.bss_core.proofs.Samples.{bssid, station, network, setting, radio, probe, probe_for_another}
-use Rattle.bss_core.specs.Lines.{heard, own_events, sections_of_lines}
-use Rattle.bss_core.specs.declared.line.Line.TheVariants.{Air, Wire, Tick}
+use Rattle.network.specs.Section.{section_of, sections_of_lines}
+use Rattle.ap_config.specs.declared.config.NetConfig.{NetConfig}
+use Rattle.events.specs.declared.event.Event.TheVariants as event
+use Rattle.ap_config.proofs.Samples.{bssid, station, network, setting, radio}
+use Rattle.network.proofs.Samples.{probe, probe_for_another}
+use Rattle.events.specs.Lines.{heard, own_events}
+use Rattle.events.specs.declared.line.Line.TheVariants.{Air, Wire, Tick}
 
 -- an acknowledgement to the network, of ten octets
 abbrev to_the_network : List ℕ

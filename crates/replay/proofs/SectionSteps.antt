@@ -1,6 +1,5 @@
 -- What the networks took, line after line, and their sections in the end.
-use Rattle.std.proofs.Common.{◌≡◌, ℕ, zero, suc, ◌+◌, ◌<◌, ◌≤◌, ◌++◌, ◌∷◌, [], List, Option, Some, None, IsSomeAnd}
-use Rattle.std.proofs.Common.{Result, Ok, Err, IfOk, length, map, get_or, refl, sym, ap, ◌∙◌, subst, arith, inl, inr}
+use Rattle.std.proofs.Common.{◌≡◌, ℕ, zero, suc, ◌+◌, ◌<◌, ◌≤◌, ◌++◌, ◌∷◌, [], List, Option, Some, None, IsSomeAnd, Result, Ok, Err, IfOk, length, map, get_or, refl, sym, ap, ◌∙◌, subst, arith, inl, inr}
 use Rattle.std.specs.List.{range_with_len, zip}
 use Rattle.std.proofs.lemmas.List.FromFn.{fill_by_all}
 use Rattle.std.proofs.lemmas.Slice.Zip.{get_or-zip, length-zip}
@@ -8,20 +7,19 @@ use Rattle.std.specs.declared.vec.Vec.{Vec}
 use Rattle.std.specs.declared.alloc.Global.{Global}
 use Rattle.std.proofs.lemmas.List.{length-map, length-replicate, get_or-replicate, get_or-map, get_or_past}
 use Rattle.std.proofs.lemmas.Bool.{cases_lt}
-use Rattle.bss_core.specs.Configuration.{fault_of}
-use Rattle.bss_core.specs.Network.{alone}
-use Rattle.bss_core.specs.BssView.{BssView}
-use Rattle.bss_core.specs.Radio.{network_at, no_network, setting_in, setting_at}
-use Rattle.bss_core.specs.RadioView.{NetworkView, RadioView, unused, view_at, fresh_radio, shown, settings_of, opened}
-use Rattle.bss_core.specs.Running.{section_with}
-use Rattle.bss_core.specs.Section.{section_of}
-use Rattle.bss_core.specs.declared.config.NetConfig.{NetConfig}
-use Rattle.bss_core.specs.declared.config.RadioConfig.{RadioConfig}
-use Rattle.bss_core.specs.declared.event.Event.{Event}
-use Rattle.bss_core.specs.declared.section.Section.{Section}
-use Rattle.bss_core.specs.declared.setting.Setting.{Setting}
-use Rattle.bss_core.specs.Lines.{own_events, taken_of, sections_of_lines}
-use Rattle.bss_core.specs.declared.line.Line.{Line}
+use Rattle.ap_config.specs.Configuration.{fault_of}
+use Rattle.network.specs.Network.{alone}
+use Rattle.network.specs.BssView.{BssView, opened, section_with}
+use Rattle.ap_config.specs.Places.{network_at, no_network, setting_in, setting_at}
+use Rattle.bss_core.specs.RadioView.{NetworkView, RadioView, unused, view_at, fresh_radio, shown, settings_of}
+use Rattle.network.specs.Section.{section_of, sections_of_lines}
+use Rattle.ap_config.specs.declared.config.NetConfig.{NetConfig}
+use Rattle.ap_config.specs.declared.config.RadioConfig.{RadioConfig}
+use Rattle.events.specs.declared.event.Event.{Event}
+use Rattle.events.specs.declared.section.Section.{Section}
+use Rattle.ap_config.specs.declared.setting.Setting.{Setting}
+use Rattle.events.specs.Lines.{own_events, taken_of}
+use Rattle.events.specs.declared.line.Line.{Line}
 use Rattle.replay.specs.Frames.{FrameLists, sent_at, none_sent}
 use Rattle.replay.specs.Replay.{HasTaken, IsDrained, TakesLine, sections_at}
 use Rattle.replay.proofs.ReplayLemmas.{own_events-none, own_events-push}

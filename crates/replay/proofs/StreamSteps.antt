@@ -1,14 +1,13 @@
 -- What the steps of reading a stream rest on.
-use Rattle.std.proofs.Common.{◌≡◌, ℕ, ◌+◌, ◌≤◌, List, [], ◌++◌, length, take, drop, Option, Some, Result, Ok, Err}
-use Rattle.std.proofs.Common.{refl, ap, sym, subst, ◌∙◌, arith, append_assoc, append-nil, length-append}
+use Rattle.std.proofs.Common.{◌≡◌, ℕ, ◌+◌, ◌≤◌, List, [], ◌++◌, length, take, drop, Option, Some, Result, Ok, Err, refl, ap, sym, subst, ◌∙◌, arith, append_assoc, append-nil, length-append}
 use Rattle.std.proofs.KnownBytes.{Consumes-nil, Consumes-trans}
 use Rattle.std.specs.Io.KnownBytes.{Consumes}
 use Rattle.std.proofs.lemmas.List.Quantifiers.{position-Some}
 use Rattle.std.specs.List.{position}
 use Rattle.std.specs.Option.{option_to_list}
 use Rattle.bss_core.specs.RadioView.{RadioView}
-use Rattle.bss_core.specs.declared.config.RadioConfig.{RadioConfig}
-use Rattle.bss_core.specs.declared.line.Line.{Line}
+use Rattle.ap_config.specs.declared.config.RadioConfig.{RadioConfig}
+use Rattle.events.specs.declared.line.Line.{Line}
 use Rattle.trace.specs.Faults.{◌>>=◌}
 use Rattle.trace.specs.Pieces.{ReaderView, said_after, answer_to_end, answer_to_all}
 use Rattle.trace.specs.Texts.{is_line_feed, LacksLineFeed, ended}

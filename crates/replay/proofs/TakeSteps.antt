@@ -1,14 +1,13 @@
 -- A network takes an event, and its frames leave.
-use Rattle.std.proofs.Common.{◌≡◌, ◌≢◌, ℕ, ◌<◌, ◌++◌, ◌∷◌, [], List, Result, Ok, Err, OnOk, length, set, refl, sym, ap}
-use Rattle.std.proofs.Common.{◌∙◌, subst, arith, inl, inr}
+use Rattle.std.proofs.Common.{◌≡◌, ◌≢◌, ℕ, ◌<◌, ◌++◌, ◌∷◌, [], List, Result, Ok, Err, OnOk, length, set, refl, sym, ap, ◌∙◌, subst, arith, inl, inr}
 use Rattle.std.proofs.lemmas.Bool.{cases_eq, lt-ltb}
 use Rattle.std.proofs.lemmas.List.{set-set, length-set, get_or-set_same, get_or-set_other}
-use Rattle.bss_core.specs.Network.{alone}
-use Rattle.bss_core.specs.Radio.{network_at, setting_at}
+use Rattle.network.specs.Network.{alone}
+use Rattle.ap_config.specs.Places.{network_at, setting_at}
 use Rattle.bss_core.specs.RadioView.{NetworkView, RadioView, unused, view_at, took}
-use Rattle.bss_core.specs.BssView.{sent_by}
-use Rattle.bss_core.specs.declared.event.Event.{Event}
-use Rattle.bss_core.specs.declared.setting.Setting.{Setting}
+use Rattle.network.specs.BssView.{sent_by}
+use Rattle.events.specs.declared.event.Event.{Event}
+use Rattle.ap_config.specs.declared.setting.Setting.{Setting}
 use Rattle.replay.specs.Frames.{FrameLists, sent_at, sends_more}
 use Rattle.replay.specs.Replay.{emptied, IsDrained, TakesAt}
 

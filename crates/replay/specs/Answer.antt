@@ -1,9 +1,9 @@
 -- What is answered to the octets of a configuration and of a trace.
 use Rattle.std.specs.Prelude.{ℕ, List, Result, Ok, Err}
-use Rattle.bss_core.specs.Lines.{sections_of_lines}
-use Rattle.bss_core.specs.declared.config.RadioConfig.{RadioConfig}
-use Rattle.bss_core.specs.declared.config.ConfigFault.{ConfigFault}
-use Rattle.bss_core.specs.declared.line.Line.{Line}
+use Rattle.network.specs.Section.{sections_of_lines}
+use Rattle.ap_config.specs.declared.config.RadioConfig.{RadioConfig}
+use Rattle.ap_config.specs.declared.config.ConfigFault.{ConfigFault}
+use Rattle.events.specs.declared.line.Line.{Line}
 use Rattle.trace.specs.ConfigurationText.{configuration_of}
 use Rattle.trace.specs.Endings.{Ending, Refused, WriteFailed, OutOfMemory}
 use Rattle.trace.specs.Report.{report_text}

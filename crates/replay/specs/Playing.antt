@@ -1,9 +1,9 @@
 -- What is answered to the octets of a configuration and of several traces that are played at once.
 use Rattle.std.specs.Prelude.{ℕ, ◌≡◌, ◌++◌, ◌∷◌, true, false, List, Option, Result, Ok, Err, length}
 use Rattle.std.specs.List.{AllZip}
-use Rattle.bss_core.specs.declared.config.RadioConfig.{RadioConfig}
-use Rattle.bss_core.specs.declared.config.ConfigFault.{ConfigFault}
-use Rattle.bss_core.specs.declared.line.Line.{Line}
+use Rattle.ap_config.specs.declared.config.RadioConfig.{RadioConfig}
+use Rattle.ap_config.specs.declared.config.ConfigFault.{ConfigFault}
+use Rattle.events.specs.declared.line.Line.{Line}
 use Rattle.trace.specs.ConfigurationText.{configuration_of}
 use Rattle.trace.specs.Endings.{Ending, Refused, WriteFailed, OutOfMemory, Ends}
 use Rattle.trace.specs.Report.{report_text}
@@ -21,8 +21,8 @@ use Rattle.workers.specs.declared.finish.Finished.{Finished}
 use Rattle.workers.specs.declared.playing.PlayFault.{PlayFault}
 use Rattle.workers.specs.declared.playing.PlayFault.TheVariants as plays
 use Rattle.replay.specs.declared.fault.PlayTextFault.{PlayTextFault}
-use Rattle.replay.specs.declared.fault.PlayTextFault.TheVariants.{Config, Sources, Trace, NoThread, NoMemory}
-use Rattle.replay.specs.declared.fault.PlayTextFault.TheVariants.{Finish, Write}
+use Rattle.replay.specs.declared.fault.PlayTextFault.TheVariants.{Config, Sources, Trace, NoThread, NoMemory, Finish}
+use Rattle.replay.specs.declared.fault.PlayTextFault.TheVariants.{Write}
 
 -- ---- the traces
 

@@ -1,16 +1,17 @@
 -- What a trace makes of the networks of a configuration: each network takes what it hears, alone.
-use Rattle.std.specs.Prelude.{ℕ, ◌<◌, ◌≤◌, ◌≡◌, ◌≢◌, ◌++◌, nat_lt, Bool, true, false, List, [], ◌∷◌, length}
-use Rattle.std.specs.Prelude.{slice_set, None, if◌then◌else◌}
-use Rattle.bss_core.specs.Configuration.{fault_of}
+use Rattle.std.specs.Prelude.{ℕ, ◌<◌, ◌≤◌, ◌≡◌, ◌≢◌, ◌++◌, nat_lt, Bool, true, false, List, [], ◌∷◌, length, slice_set}
+use Rattle.std.specs.Prelude.{None, if◌then◌else◌}
+use Rattle.ap_config.specs.Configuration.{fault_of}
 use Rattle.mac_frame.specs.Hearing.{is_heard}
-use Rattle.bss_core.specs.Network.{alone}
-use Rattle.bss_core.specs.Radio.{network_at, setting_at, sections_of}
+use Rattle.network.specs.Network.{alone}
+use Rattle.ap_config.specs.Places.{network_at, setting_at}
+use Rattle.network.specs.Section.{sections_of}
 use Rattle.bss_core.specs.RadioView.{RadioView, view_at}
-use Rattle.bss_core.specs.declared.config.RadioConfig.{RadioConfig}
-use Rattle.bss_core.specs.declared.event.Event.{Event}
-use Rattle.bss_core.specs.declared.section.Section.{Section}
-use Rattle.bss_core.specs.declared.line.Line.{Line}
-use Rattle.bss_core.specs.Lines.{own_events, taken_of}
+use Rattle.ap_config.specs.declared.config.RadioConfig.{RadioConfig}
+use Rattle.events.specs.declared.event.Event.{Event}
+use Rattle.events.specs.declared.section.Section.{Section}
+use Rattle.events.specs.declared.line.Line.{Line}
+use Rattle.events.specs.Lines.{own_events, taken_of}
 use Rattle.replay.specs.Frames.{FrameLists, sent_at, sends_more}
 
 -- ---- a radio between two lines

@@ -2,12 +2,12 @@
 use Rattle.std.specs.Prelude.{◌≡◌, ℕ, ◌+◌, ◌-◌, ◌^◌, ◌≤◌, ◌⊎◌, List, [], length, Option, Result, Ok, Err, MatchResult}
 use Rattle.std.specs.Option.{IsSomeAnd}
 use Rattle.std.specs.Io.KnownBytes.{Consumes, IsAtEnd, Keeps}
-use Rattle.bss_core.specs.Lines.{sections_of_lines}
+use Rattle.network.specs.Section.{sections_of_lines}
 use Rattle.bss_core.specs.RadioView.{RadioView}
-use Rattle.bss_core.specs.declared.config.RadioConfig.{RadioConfig}
-use Rattle.bss_core.specs.declared.config.ConfigFault.{ConfigFault}
-use Rattle.bss_core.specs.declared.line.Line.{Line}
-use Rattle.bss_core.specs.declared.section.Section.{Section}
+use Rattle.ap_config.specs.declared.config.RadioConfig.{RadioConfig}
+use Rattle.ap_config.specs.declared.config.ConfigFault.{ConfigFault}
+use Rattle.events.specs.declared.line.Line.{Line}
+use Rattle.events.specs.declared.section.Section.{Section}
 use Rattle.trace.specs.Endings.{Ending, Refused, WriteFailed, OutOfMemory, Ends}
 use Rattle.trace.specs.Pieces.{ReaderView, HasRead}
 use Rattle.trace.specs.TraceText.{lines_of}

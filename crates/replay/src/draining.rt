@@ -1,16 +1,19 @@
 //! A radio whose frames all leave before the next line.
 
 ghost use Rattle.std.specs.Prelude.{◌≡◌, ◌<◌, ◌+◌, [], None, IsTrue, IfSome, IfNone, IfOk, OnOk, length};
-ghost use Rattle.bss_core.specs.Configuration.{fault_of};
+ghost use Rattle.ap_config.specs.Configuration.{fault_of};
 ghost use Rattle.bss_core.specs.RadioView.{fresh_radio, view_at};
-ghost use Rattle.bss_core.specs.declared.line.Line.TheVariants as Lines;
+ghost use Rattle.events.specs.declared.line.Line.TheVariants as Lines;
 ghost use Rattle.replay.specs.Frames.{sends_more};
 ghost use Rattle.replay.specs.Replay.{IsDrained, TakesAt, TakesLine, sections_at, is_heard_at, IsUnheardFrom, emptied};
 ghost use Rattle.replay.specs.Replay.{SendsFirst};
 
 use crate::sent::SentFrames;
-use bss_core::{Event, Handed, Line, Radio, RadioConfig, Refusal, Section, hears, sent_frames};
+use ap_config::RadioConfig;
+use bss_core::Radio;
+use events::{Event, Handed, Line, Section, hears};
 use mac_frame::{List, NoMemory, Octets};
+use network::{Refusal, sent_frames};
 use std::alloc::Global;
 
 /// A radio, and the frames that left it. It is drained: nothing waits and nothing is queued, but while it takes a line.

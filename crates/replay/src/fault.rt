@@ -8,7 +8,7 @@ ghost use Rattle.replay.specs.declared.fault.PlayTextFault.TheVariants as play_f
 ghost use Rattle.replay.specs.Playing.{of_play, of_config as play_config, of_report as play_report};
 ghost use Rattle.replay.specs.Stream.{of_config as stream_config, of_trace as stream_trace, of_report as stream_report};
 
-use bss_core::ConfigFault;
+use ap_config::ConfigFault;
 use mac_frame::NoMemory;
 use std::alloc::{AllocError, AllocFailed};
 use trace::{ConfigTextFault, Failed, ReportFault, TraceFault, TraceTextFault};

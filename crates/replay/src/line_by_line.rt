@@ -1,12 +1,13 @@
 //! The networks of a configuration, line by line.
 
 ghost use Rattle.std.specs.Prelude.{◌≡◌, None, Some, IfOk, OnOk, OnErr, IsSomeAnd};
-ghost use Rattle.bss_core.specs.Configuration.{fault_of};
+ghost use Rattle.ap_config.specs.Configuration.{fault_of};
 ghost use Rattle.bss_core.specs.RadioView.{fresh_radio};
 ghost use Rattle.replay.specs.Replay.{TakesLine, sections_at};
 
 use crate::draining::DrainedRadio;
-use bss_core::{Line, RadioConfig, Section};
+use ap_config::RadioConfig;
+use events::{Line, Section};
 use mac_frame::NoMemory;
 use std::alloc::Global;
 use std::marker::Model;

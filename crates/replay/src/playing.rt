@@ -7,7 +7,8 @@ ghost use Rattle.replay.specs.Playing.{AreLines, EndsPlay, IsTracesFault, in_tra
 ghost use Rattle.workers.specs.Names.{callers_fit};
 
 use crate::fault::PlayTextFault;
-use bss_core::{Line, RadioConfig};
+use ap_config::RadioConfig;
+use events::Line;
 use mac_frame::Octets;
 use std::alloc::Global;
 use std::sync::Wait;

@@ -3,7 +3,7 @@
 ghost use Rattle.std.specs.Prelude.{◌≡◌, ◌<◌, ◌∷◌, [], length, map, IfOk, OnOk};
 ghost use Rattle.replay.specs.Frames.{none_sent, sends_more};
 
-use bss_core::AirItem;
+use events::AirItem;
 use mac_frame::{NoMemory, Octets};
 use std::alloc::Global;
 use std::marker::Model;

@@ -1,8 +1,8 @@
 //! A trace that is read as it comes, and the report of it.
 
 ghost use Rattle.std.specs.Prelude.{◌≡◌, ◌+◌, ◌++◌, List, [], ℕ, None, Ok, IfOk, MatchResult};
-ghost use Rattle.bss_core.specs.Configuration.{fault_of};
-ghost use Rattle.bss_core.specs.declared.config.RadioConfig.{RadioConfig};
+ghost use Rattle.ap_config.specs.Configuration.{fault_of};
+ghost use Rattle.ap_config.specs.declared.config.RadioConfig.{RadioConfig};
 ghost use Rattle.trace.specs.ConfigurationText.{configuration_of};
 ghost use Rattle.trace.specs.Endings.{IsFaultOf, failures_of, outcome_of};
 ghost use Rattle.trace.specs.Faults.{read_ending};
@@ -15,7 +15,8 @@ ghost use Rattle.replay.specs.Stream.{stream_ending};
 use crate::fault::StreamFault;
 use crate::line_by_line::Replay;
 use crate::taking::{take_all, take_last};
-use bss_core::{RadioConfig, Section};
+use ap_config::RadioConfig;
+use events::Section;
 use std::alloc::Global;
 use trace::{
     LineReader, Sink, Source, TraceTextFault, piece_by_piece, place_of, read_config, write_report,

@@ -2,12 +2,12 @@
 
 ghost use Rattle.std.specs.Prelude.{◌≡◌, ◌++◌, List, OnOk, IsSomeAnd};
 ghost use Rattle.std.specs.Option.{option_to_list};
-ghost use Rattle.bss_core.specs.declared.config.RadioConfig.{RadioConfig};
-ghost use Rattle.bss_core.specs.declared.line.Line.{Line};
+ghost use Rattle.ap_config.specs.declared.config.RadioConfig.{RadioConfig};
+ghost use Rattle.events.specs.declared.line.Line.{Line};
 ghost use Rattle.replay.specs.Replay.{HasTaken};
 
 use crate::line_by_line::Replay;
-use bss_core::Line;
+use events::Line;
 use mac_frame::NoMemory;
 
 /// Lets the networks take lines, in order.

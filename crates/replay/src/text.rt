@@ -1,9 +1,9 @@
 //! The two texts, and the report of them.
 
 ghost use Rattle.std.specs.Prelude.{◌≡◌, ◌+◌, None, Ok, IfOk};
-ghost use Rattle.bss_core.specs.Configuration.{fault_of};
-ghost use Rattle.bss_core.specs.Lines.{sections_of_lines};
-ghost use Rattle.bss_core.specs.declared.config.RadioConfig.{RadioConfig};
+ghost use Rattle.ap_config.specs.Configuration.{fault_of};
+ghost use Rattle.network.specs.Section.{sections_of_lines};
+ghost use Rattle.ap_config.specs.declared.config.RadioConfig.{RadioConfig};
 ghost use Rattle.trace.specs.ConfigurationText.{configuration_of};
 ghost use Rattle.trace.specs.Endings.{Ends, failures_of};
 ghost use Rattle.trace.specs.Sinks.{MayFail};
@@ -13,7 +13,8 @@ ghost use Rattle.replay.specs.Stream.{AreSectionsOf};
 use crate::fault::TextFault;
 use crate::line_by_line::Replay;
 use crate::taking::take_all;
-use bss_core::{Line, RadioConfig, Section};
+use ap_config::RadioConfig;
+use events::{Line, Section};
 use mac_frame::NoMemory;
 use std::alloc::Global;
 use trace::{Sink, read_config, read_trace, write_report};

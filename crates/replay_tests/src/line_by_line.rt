@@ -1,6 +1,6 @@
 //! Networks that take one line after another.
 
-use bss_core::{Line, Section};
+use events::{Line, Section};
 use fixtures::lab_and_guest;
 use mac_frame::Octets;
 use replay::Replay;

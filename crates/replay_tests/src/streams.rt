@@ -1,6 +1,6 @@
 //! Traces that are read as they come.
 
-use bss_core::ConfigFault;
+use ap_config::ConfigFault;
 use fixtures::texts::{CONFIGURATION, PROBE_LINE};
 use replay::{StreamFault, run_stream, run_text};
 use std::alloc::Global;

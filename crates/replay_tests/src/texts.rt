@@ -1,6 +1,6 @@
 //! Whole texts: writers that fail, a configuration that is no text, and a long trace.
 
-use bss_core::ConfigFault;
+use ap_config::ConfigFault;
 use fixtures::texts::{ANSWERED_REPORT, CONFIGURATION, PROBE_LINE, TICK_LINE};
 use replay::{TextFault, run_text};
 use std::test::Fail;

@@ -1,14 +1,13 @@
 -- The networks of an array, as a loop over its values reads them.
-use Rattle.std.proofs.Common.{◌≡◌, ℕ, ◌<◌, ◌+◌, length, get_or, drop, List, [], ◌∷◌, ◌++◌, append_assoc, Some}
-use Rattle.std.proofs.Common.{None, Result, Ok, Err, refl, sym, ap, ◌∙◌, ◌≤◌}
+use Rattle.std.proofs.Common.{◌≡◌, ℕ, ◌<◌, ◌+◌, length, get_or, drop, List, [], ◌∷◌, ◌++◌, append_assoc, Some, None, Result, Ok, Err, refl, sym, ap, ◌∙◌, ◌≤◌}
 use Rattle.std.proofs.lemmas.List.{append-nil, at_drop_all}
 use Rattle.std.proofs.lemmas.Option.{same_Some, none-some}
 use Rattle.toml.specs.Data.{Data, Items, item, Members, table, as_table}
 use Rattle.toml.specs.View.{view, items_view}
 use Rattle.toml.specs.declared.value.Value.{Value}
 use Rattle.toml.proofs.Views.{items_view-drop}
-use Rattle.bss_core.specs.declared.config.NetConfig.{NetConfig}
-use Rattle.bss_core.specs.declared.config.ConfigFault.{ConfigFault}
+use Rattle.ap_config.specs.declared.config.NetConfig.{NetConfig}
+use Rattle.ap_config.specs.declared.config.ConfigFault.{ConfigFault}
 use Rattle.trace.specs.Endings.{Ending, Well, Refused, WriteFailed, OutOfMemory, IsFaultOf}
 use Rattle.trace.specs.Faults.{◌>>=◌}
 use Rattle.trace.specs.ConfigurationText.{tables_in, network_of, networks_of}

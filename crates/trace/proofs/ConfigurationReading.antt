@@ -1,7 +1,5 @@
 -- Lists, tables and texts, as the readers of a configuration go over them.
-use Rattle.std.proofs.Common.{◌≡◌, ℕ, length, nat_le, codes, Ok, Err, if◌then◌else◌, Bool, true, false, List, [], ◌∷◌}
-use Rattle.std.proofs.Common.{map, Bor, Some, None, String, Global, string_bytes, refl, inl, inr, ◌∙◌}
-use Rattle.std.proofs.Common.{arith}
+use Rattle.std.proofs.Common.{◌≡◌, ℕ, length, nat_le, codes, Ok, Err, if◌then◌else◌, Bool, true, false, List, [], ◌∷◌, map, Bor, Some, None, String, Global, string_bytes, refl, inl, inr, ◌∙◌, arith}
 use Rattle.std.specs.List.{list_any, list_all}
 use Rattle.std.specs.Map.{keys_of}
 use Rattle.std.specs.Str.{bytes_eq, IsUtf8, is_utf8}
@@ -13,11 +11,9 @@ use Rattle.toml.specs.Data.{Data, table, Members}
 use Rattle.toml.specs.View.{view, items_of, items_view, members_view}
 use Rattle.toml.specs.declared.value.Value.{Value}
 use Rattle.toml.proofs.Views.{Entry, items_view-drop}
-use Rattle.bss_core.specs.declared.config.NetConfig.{NetConfig}
-use Rattle.bss_core.specs.Configuration.{dtim_fits, max_stations_fits, max_known_fits, quota_fits}
-use Rattle.bss_core.specs.Configuration.{max_events_fits}
-use Rattle.trace.specs.ConfigurationText.{number_at, bssid_at, ssid_at, rates_at, has_only, are_tables, tables_in}
-use Rattle.trace.specs.ConfigurationText.{fault_after, network_of_table, document_of}
+use Rattle.ap_config.specs.declared.config.NetConfig.{NetConfig}
+use Rattle.ap_config.specs.Configuration.{dtim_fits, max_stations_fits, max_known_fits, quota_fits, max_events_fits}
+use Rattle.trace.specs.ConfigurationText.{number_at, bssid_at, ssid_at, rates_at, has_only, are_tables, tables_in, fault_after, network_of_table, document_of}
 
 -- a test of what references point to
 pub among_texts : (p : List ℕ → Bool) (texts : List (Bor (List ℕ)))

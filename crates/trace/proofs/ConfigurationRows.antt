@@ -4,10 +4,8 @@ use Rattle.std.specs.Prelude.{⊤, replicate}
 use Rattle.std.specs.Str.{chars, is_utf8}
 use Rattle.toml.proofs.OnLiterals.{toml_on_literals}
 use Rattle.hex.proofs.OnLiterals.{hex_on_literals}
-use Rattle.bss_core.specs.Configuration.{of_radio, of_network}
-use Rattle.trace.specs.ConfigurationText.{number_at, text_at, array_at, truth_at, version_at, bssid_at, ssid_at, rates_at}
-use Rattle.trace.specs.ConfigurationText.{network_of_table, with_options, is_listed, networks_at, radio_of, document_of}
-use Rattle.trace.specs.ConfigurationText.{configuration_of}
+use Rattle.ap_config.specs.Configuration.{of_radio, of_network}
+use Rattle.trace.specs.ConfigurationText.{number_at, text_at, array_at, truth_at, version_at, bssid_at, ssid_at, rates_at, network_of_table, with_options, is_listed, networks_at, radio_of, document_of, configuration_of}
 
 -- what is opened to compute the configuration of a text
 unfoldable pub configuration_on_literals : ⊤

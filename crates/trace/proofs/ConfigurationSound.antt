@@ -1,25 +1,18 @@
 -- A configuration that was read has no fault.
-use Rattle.std.proofs.Common.{◌≡◌, ℕ, Bool, true, false, not, ◌&&◌, ◌||◌, if◌then◌else◌, nat_le, length, List, []}
-use Rattle.std.proofs.Common.{◌∷◌, ◌++◌, Option, Some, None, IfSome, option_and_then, Result, Ok, Err, IfOk, codes}
-use Rattle.std.proofs.Common.{refl, arith, ◌≤◌}
+use Rattle.std.proofs.Common.{◌≡◌, ℕ, Bool, true, false, not, ◌&&◌, ◌||◌, if◌then◌else◌, nat_le, length, List, [], ◌∷◌, ◌++◌, Option, Some, None, IfSome, option_and_then, Result, Ok, Err, IfOk, codes, refl, arith, ◌≤◌}
 use Rattle.std.specs.Option.{ok_or}
 use Rattle.std.proofs.lemmas.Bool.{and_parts, or_parts, not-true, le-leb, le-ltb, leb-true}
 use Rattle.std.proofs.lemmas.Result.{IfOk-at_ok}
 use Rattle.toml.specs.Data.{Members, get_member, as_integer}
 use Rattle.mac_frame.specs.Address.{is_group, address_of}
-use Rattle.bss_core.specs.Configuration.{is_between, most_networks, channel_fits, interval_fits, queue_fits, count_fits, ssid_fits, rates_fit}
-use Rattle.bss_core.specs.Configuration.{dtim_fits, max_stations_fits, max_known_fits, quota_fits, max_events_fits}
-use Rattle.bss_core.specs.Configuration.{numbers_fit, is_taken, of_radio, fault_among, networks_fault, fault_of}
-use Rattle.bss_core.specs.declared.config.NetConfig.{NetConfig}
-use Rattle.bss_core.specs.declared.config.RadioConfig.{RadioConfig}
-use Rattle.bss_core.specs.declared.config.ConfigFault.{ConfigFault}
+use Rattle.ap_config.specs.Configuration.{is_between, most_networks, channel_fits, interval_fits, queue_fits, count_fits, ssid_fits, rates_fit, dtim_fits, max_stations_fits, max_known_fits, quota_fits, max_events_fits, numbers_fit, is_taken, of_radio, fault_among, networks_fault, fault_of}
+use Rattle.ap_config.specs.declared.config.NetConfig.{NetConfig}
+use Rattle.ap_config.specs.declared.config.RadioConfig.{RadioConfig}
+use Rattle.ap_config.specs.declared.config.ConfigFault.{ConfigFault}
 use Rattle.trace.specs.Endings.{Gives}
 use Rattle.trace.specs.Faults.{◌>>=◌, read_ending}
 use Rattle.trace.specs.declared.read_fault.ReadFault.{ReadFault}
-use Rattle.trace.specs.ConfigurationText.{demand, passing, natural, octets_of_digits, text_at, array_at, number_at}
-use Rattle.trace.specs.ConfigurationText.{bssid_at, ssid_at, rates_at, network_of_table, networks_of, are_tables}
-use Rattle.trace.specs.ConfigurationText.{tables_in, networks_at, is_listed, document_of, radio_of, configuration_of}
-use Rattle.trace.specs.ConfigurationText.{version_at, most_networks_in, truth_at, fault_after, with_options, network_of}
+use Rattle.trace.specs.ConfigurationText.{demand, passing, natural, octets_of_digits, text_at, array_at, number_at, bssid_at, ssid_at, rates_at, network_of_table, networks_of, are_tables, tables_in, networks_at, is_listed, document_of, radio_of, configuration_of, version_at, most_networks_in, truth_at, fault_after, with_options, network_of}
 use Rattle.trace.specs.declared.configuration.version.Version.{Version}
 use Rattle.trace.specs.declared.configuration.version.Version.TheVariants.{One, Two}
 

@@ -1,15 +1,13 @@
 -- A piece that is the end of one line, with the LF that ends it.
-use Rattle.std.proofs.Common.{◌≡◌, ℕ, ◌+◌, Bool, true, false, List, [], ◌∷◌, ◌++◌, map}
-use Rattle.std.proofs.Common.{Option, Ok, Err, refl, ap, sym, ◌∙◌, append_assoc, append-nil, arith}
+use Rattle.std.proofs.Common.{◌≡◌, ℕ, ◌+◌, Bool, true, false, List, [], ◌∷◌, ◌++◌, map, Option, Ok, Err, refl, ap, sym, ◌∙◌, append_assoc, append-nil, arith}
 use Rattle.std.specs.Prelude.{nat_lt, ◌&&◌}
 use Rattle.std.specs.Option.{option_to_list}
 use Rattle.std.specs.Str.Lines.{strip_carriage_return}
 use Rattle.std.proofs.lemmas.List.Elements.{All-append}
-use Rattle.bss_core.specs.declared.line.Line.{Line}
+use Rattle.events.specs.declared.line.Line.{Line}
 use Rattle.trace.specs.Texts.{LacksLineFeed, cut, ended}
 use Rattle.trace.specs.TraceText.{max_lines, line_of}
-use Rattle.trace.specs.Pieces.{ReaderView, all_but_last, last_of, whole_lines, unfinished_line}
-use Rattle.trace.specs.Pieces.{said_in, said_by_next, past, past_next}
+use Rattle.trace.specs.Pieces.{ReaderView, all_but_last, last_of, whole_lines, unfinished_line, said_in, said_by_next, past, past_next}
 use Rattle.trace.specs.declared.fault.TraceFault.{TraceFault}
 use Rattle.trace.proofs.TextLemmas.{cut-ended}
 use Rattle.trace.proofs.PieceLaws.{limited}

@@ -1,19 +1,15 @@
 -- What is answered to the pieces of a text is what the text says.
-use Rattle.std.proofs.Common.{◌≡◌, ℕ, ◌+◌, Bool, true, false, List, [], ◌∷◌, ◌++◌, length}
-use Rattle.std.proofs.Common.{Option, None, Result, Ok, Err, refl, ap, sym, ◌∙◌, append_assoc, append-nil, arith}
-use Rattle.std.proofs.Common.{subst, cond, length-append}
+use Rattle.std.proofs.Common.{◌≡◌, ℕ, ◌+◌, Bool, true, false, List, [], ◌∷◌, ◌++◌, length, Option, None, Result, Ok, Err, refl, ap, sym, ◌∙◌, append_assoc, append-nil, arith, subst, cond, length-append}
 use Rattle.std.specs.Prelude.{nat_lt, ◌&&◌, if◌then◌else◌}
 use Rattle.std.specs.List.{concat, onto_first}
 use Rattle.std.specs.Option.{option_to_list}
 use Rattle.std.specs.Str.Lines.{lines, lines_of_parts, strip_carriage_return}
-use Rattle.bss_core.specs.declared.config.RadioConfig.{RadioConfig}
-use Rattle.bss_core.specs.declared.line.Line.{Line}
+use Rattle.ap_config.specs.declared.config.RadioConfig.{RadioConfig}
+use Rattle.events.specs.declared.line.Line.{Line}
 use Rattle.trace.specs.Faults.{◌>>=◌}
 use Rattle.trace.specs.Texts.{is_line_feed, cut}
 use Rattle.trace.specs.TraceText.{max_lines, fault_in, bssids_of, line_of, lines_from, lines_of}
-use Rattle.trace.specs.Pieces.{ReaderView, HasRead, new_reader, reader_after, whole_lines, unfinished_line}
-use Rattle.trace.specs.Pieces.{before_line, said_last, said_after, answer_to, answer_to_all}
-use Rattle.trace.specs.Pieces.{after_answer, after_piece, past}
+use Rattle.trace.specs.Pieces.{ReaderView, HasRead, new_reader, reader_after, whole_lines, unfinished_line, before_line, said_last, said_after, answer_to, answer_to_all, after_answer, after_piece, past}
 use Rattle.trace.specs.declared.fault.TraceFault.{TraceFault}
 use Rattle.trace.specs.declared.fault.LineFault.TheVariants.{TooMany}
 use Rattle.trace.proofs.PieceLines.{whole_lines-append, unfinished_line-append, lines-append, cut-unfinished}

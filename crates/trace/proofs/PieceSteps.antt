@@ -1,17 +1,15 @@
 -- What the steps of reading a piece rest on.
-use Rattle.std.proofs.Common.{◌≡◌, ℕ, ◌+◌, Bool, true, false, List, [], ◌∷◌, ◌++◌, length, take, drop}
-use Rattle.std.proofs.Common.{Option, Some, Result, Ok, Err, refl, ap, sym, ◌∙◌, append_assoc, append-nil, arith}
+use Rattle.std.proofs.Common.{◌≡◌, ℕ, ◌+◌, Bool, true, false, List, [], ◌∷◌, ◌++◌, length, take, drop, Option, Some, Result, Ok, Err, refl, ap, sym, ◌∙◌, append_assoc, append-nil, arith}
 use Rattle.std.specs.Prelude.{nat_lt, ◌&&◌}
 use Rattle.std.specs.List.{position}
 use Rattle.std.specs.Option.{option_to_list}
 use Rattle.std.specs.Str.Lines.{strip_carriage_return}
-use Rattle.bss_core.specs.declared.config.RadioConfig.{RadioConfig}
-use Rattle.bss_core.specs.declared.line.Line.{Line}
+use Rattle.ap_config.specs.declared.config.RadioConfig.{RadioConfig}
+use Rattle.events.specs.declared.line.Line.{Line}
 use Rattle.trace.specs.Faults.{◌>>=◌}
 use Rattle.trace.specs.Texts.{is_line_feed, LacksLineFeed}
 use Rattle.trace.specs.TraceText.{max_lines, bssids_of, line_of, lines_from, lines_of}
-use Rattle.trace.specs.Pieces.{ReaderView, new_reader, whole_lines, unfinished_line, before_line, said_in, said_by_next}
-use Rattle.trace.specs.Pieces.{said_after, answer_to, answer_to_end, answer_to_all, after_piece, past, past_next}
+use Rattle.trace.specs.Pieces.{ReaderView, new_reader, whole_lines, unfinished_line, before_line, said_in, said_by_next, said_after, answer_to, answer_to_end, answer_to_all, after_piece, past, past_next}
 use Rattle.trace.specs.declared.fault.TraceFault.{TraceFault}
 use Rattle.trace.proofs.PieceLines.{whole_lines_more, unfinished_line_more, whole_lines_none, unfinished_line_none}
 use Rattle.trace.proofs.PieceLaws.{all-read, limited, lines_from-append}

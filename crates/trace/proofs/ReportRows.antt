@@ -5,13 +5,12 @@ use Rattle.std.specs.Fmt.{digits}
 use Rattle.hex.specs.Hex.{encode_with}
 use Rattle.station_state.specs.declared.Standing.{Standing}
 use Rattle.station_state.specs.declared.Standing.TheVariants.{Unknown, Authenticated, Associated}
-use Rattle.bss_core.specs.declared.config.NetConfig.{NetConfig}
-use Rattle.bss_core.specs.declared.event.Event.TheVariants.{Air}
-use Rattle.bss_core.specs.declared.section.Counts.{Counts}
-use Rattle.bss_core.specs.declared.section.Section.{Section}
-use Rattle.bss_core.specs.declared.section.StationRow.{StationRow}
-use Rattle.trace.specs.Report.{report_text, section_text, network_line, counts_line, station_line, frame_line}
-use Rattle.trace.specs.Report.{authenticated_line, associated_line}
+use Rattle.ap_config.specs.declared.config.NetConfig.{NetConfig}
+use Rattle.events.specs.declared.event.Event.TheVariants.{Air}
+use Rattle.events.specs.declared.section.Counts.{Counts}
+use Rattle.events.specs.declared.section.Section.{Section}
+use Rattle.events.specs.declared.section.StationRow.{StationRow}
+use Rattle.trace.specs.Report.{report_text, section_text, network_line, counts_line, station_line, frame_line, authenticated_line, associated_line}
 
 -- the network 02:00:00:00:00:01 with the name lab
 abbrev lab : NetConfig

@@ -2,10 +2,10 @@
 use Rattle.std.proofs.Common.{◌≡◌, ℕ, List, [], ◌∷◌, ◌++◌, Ok, Err, codes, refl}
 use Rattle.std.specs.Prelude.{replicate}
 use Rattle.hex.proofs.OnLiterals.{hex_on_literals}
-use Rattle.bss_core.specs.declared.config.RadioConfig.{RadioConfig}
-use Rattle.bss_core.proofs.Samples.{network, radio}
+use Rattle.ap_config.specs.declared.config.RadioConfig.{RadioConfig}
+use Rattle.ap_config.proofs.Samples.{network, radio}
 use Rattle.trace.specs.TraceText.{lines_of, lines_from}
-use Rattle.bss_core.specs.declared.line.Line.TheVariants.{Air, Wire, Tick}
+use Rattle.events.specs.declared.line.Line.TheVariants.{Air, Wire, Tick}
 use Rattle.trace.specs.declared.fault.TraceFault.{TraceFault}
 
 abbrev tab : List ℕ

@@ -11,13 +11,12 @@ use Rattle.toml.specs.Data.{as_array, as_table, as_bool}
 use Rattle.toml.specs.Parse.{parse_document}
 use Rattle.hex.specs.Hex.{decode_of}
 use Rattle.mac_frame.specs.Address.{address_of, is_group}
-use Rattle.bss_core.specs.Configuration.{is_between, most_networks, channel_fits, interval_fits, queue_fits}
-use Rattle.bss_core.specs.Configuration.{ssid_fits, rates_fit}
-use Rattle.bss_core.specs.Configuration.{dtim_fits, max_stations_fits, max_known_fits, quota_fits, max_events_fits}
-use Rattle.bss_core.specs.Configuration.{is_taken, of_radio, of_network}
-use Rattle.bss_core.specs.declared.config.NetConfig.{NetConfig}
-use Rattle.bss_core.specs.declared.config.RadioConfig.{RadioConfig}
-use Rattle.bss_core.specs.declared.config.ConfigFault.{ConfigFault}
+use Rattle.ap_config.specs.Configuration.{is_between, most_networks, channel_fits, interval_fits, queue_fits, ssid_fits}
+use Rattle.ap_config.specs.Configuration.{rates_fit, dtim_fits, max_stations_fits, max_known_fits, quota_fits}
+use Rattle.ap_config.specs.Configuration.{max_events_fits, is_taken, of_radio, of_network}
+use Rattle.ap_config.specs.declared.config.NetConfig.{NetConfig}
+use Rattle.ap_config.specs.declared.config.RadioConfig.{RadioConfig}
+use Rattle.ap_config.specs.declared.config.ConfigFault.{ConfigFault}
 use Rattle.trace.specs.Faults.{◌>>=◌}
 use Rattle.trace.specs.declared.configuration.version.Version.{Version}
 use Rattle.trace.specs.declared.configuration.version.Version.TheVariants.{One, Two}

@@ -4,10 +4,10 @@ use Rattle.hex.specs.Hex.{encode_lower}
 use Rattle.mac_frame.specs.Address.{address_text}
 use Rattle.station_state.specs.declared.Standing.{Standing}
 use Rattle.station_state.specs.declared.Standing.TheVariants.{Unknown, Authenticated, Associated}
-use Rattle.bss_core.specs.declared.config.NetConfig.{NetConfig}
-use Rattle.bss_core.specs.declared.section.Counts.{Counts}
-use Rattle.bss_core.specs.declared.section.Section.{Section}
-use Rattle.bss_core.specs.declared.section.StationRow.{StationRow}
+use Rattle.ap_config.specs.declared.config.NetConfig.{NetConfig}
+use Rattle.events.specs.declared.section.Counts.{Counts}
+use Rattle.events.specs.declared.section.Section.{Section}
+use Rattle.events.specs.declared.section.StationRow.{StationRow}
 use Rattle.trace.specs.Texts.{ended}
 use Rattle.trace.specs.declared.report.lines.Totals.{Totals}
 

@@ -5,7 +5,7 @@
 
 ghost use Rattle.std.specs.Prelude.{◌≡◌, None, IfOk};
 ghost use Rattle.std.specs.Option.{ok_or};
-ghost use Rattle.bss_core.specs.Configuration.{fault_of, of_radio};
+ghost use Rattle.ap_config.specs.Configuration.{fault_of, of_radio};
 ghost use Rattle.toml.specs.View.{table_view};
 ghost use Rattle.trace.specs.Endings.{Gives};
 ghost use Rattle.trace.specs.Faults.{read_ending};
@@ -18,7 +18,7 @@ mod values;
 mod version;
 
 use crate::read_fault::ReadFault;
-use bss_core::{CHANNEL_LIMITS, INTERVAL_LIMITS, QUEUE_LIMITS, RadioConfig};
+use ap_config::{CHANNEL_LIMITS, INTERVAL_LIMITS, QUEUE_LIMITS, RadioConfig};
 pub use fault::ConfigTextFault;
 use fault::at_radio;
 use keys::is_listed;

@@ -2,8 +2,8 @@
 
 ghost use Rattle.std.specs.Prelude.{◌≡◌, ◌++◌, List, [], ℕ, Ok, Err};
 ghost use Rattle.std.specs.List.{concat};
-ghost use Rattle.bss_core.specs.declared.config.RadioConfig.{RadioConfig};
-ghost use Rattle.bss_core.specs.declared.line.Line.{Line};
+ghost use Rattle.ap_config.specs.declared.config.RadioConfig.{RadioConfig};
+ghost use Rattle.events.specs.declared.line.Line.{Line};
 ghost use Rattle.trace.specs.TraceText.{bssids_of, lines_of};
 ghost use Rattle.trace.specs.Pieces.{ReaderView, HasRead, new_reader, answer_to, answer_to_all, after_piece};
 ghost use Rattle.trace.specs.Pieces.{said_after};

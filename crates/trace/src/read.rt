@@ -8,7 +8,8 @@ ghost use Rattle.trace.specs.TraceText.{lines_of};
 
 use crate::fault::TraceTextFault;
 use crate::line_reader::{LineReader, add};
-use bss_core::{Line, RadioConfig};
+use ap_config::RadioConfig;
+use events::Line;
 use std::alloc::Global;
 
 /// Reads a trace text: lines that end with LF, of which the last may lack it. A CR directly before the LF is dropped,

@@ -27,8 +27,8 @@ mod buffer;
 mod lines;
 
 use crate::sink::{Failed, Sink};
-use bss_core::{Section, StationRow};
 pub use buffer::Buffered;
+use events::{Section, StationRow};
 pub use lines::{
     Totals, address_text, put_counts_line, put_end_line, put_frame_line, put_network_line,
     put_station_line,

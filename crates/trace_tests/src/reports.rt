@@ -1,7 +1,8 @@
 ghost use Rattle.trace.specs.Buffers.{sink_of};
 ghost use Rattle.trace.specs.Sinks.{MayFail};
 
-use bss_core::{Counts, Event, NetConfig, Section, StationRow};
+use ap_config::NetConfig;
+use events::{Counts, Event, Section, StationRow};
 use fixtures::{lab, octets};
 use mac_frame::{List, MacAddr, Octets};
 use station_state::Standing;

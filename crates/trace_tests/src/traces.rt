@@ -1,4 +1,5 @@
-use bss_core::{Line, RadioConfig};
+use ap_config::RadioConfig;
+use events::Line;
 use mac_frame::MacAddr;
 use std::alloc::Global;
 use std::process::Abort;

@@ -7,20 +7,20 @@ use Rattle.std.proofs.lemmas.Grind.{flat_map-append}
 use Rattle.std.proofs.lemmas.List.Elements.{All-head, All-tail, filter-append}
 use Rattle.std.proofs.lemmas.Option.{slice_get_within, slice_get-get_or}
 use Rattle.mac_frame.specs.Hearing.{is_heard}
-use Rattle.bss_core.specs.Configuration.{fault_of, most_networks}
-use Rattle.bss_core.specs.Lines.{heard_of, heard}
-use Rattle.bss_core.specs.Lists.{IsPrefix}
-use Rattle.bss_core.specs.Radio.{names_network, network_at}
-use Rattle.bss_core.specs.declared.bss.Refusal.TheVariants as refusals
-use Rattle.bss_core.specs.declared.config.ConfigFault.{ConfigFault}
-use Rattle.bss_core.specs.declared.config.RadioConfig.{RadioConfig}
-use Rattle.bss_core.specs.declared.event.Event.{Event}
-use Rattle.bss_core.specs.declared.event.Event.TheVariants as event
-use Rattle.bss_core.specs.declared.line.Line.{Line}
-use Rattle.bss_core.specs.declared.line.Line.TheVariants.{Air, Wire, Tick}
-use Rattle.bss_core.specs.declared.radio.OpenFault.{OpenFault}
-use Rattle.bss_core.specs.declared.radio.OpenFault.TheVariants as opening
-use Rattle.bss_core.specs.declared.section.Section.{Section}
+use Rattle.ap_config.specs.Configuration.{fault_of, most_networks}
+use Rattle.events.specs.Lines.{heard_of, heard}
+use Rattle.events.specs.Lists.{IsPrefix}
+use Rattle.ap_config.specs.Places.{names_network, network_at}
+use Rattle.network.specs.declared.bss.Refusal.TheVariants as refusals
+use Rattle.ap_config.specs.declared.config.ConfigFault.{ConfigFault}
+use Rattle.ap_config.specs.declared.config.RadioConfig.{RadioConfig}
+use Rattle.events.specs.declared.event.Event.{Event}
+use Rattle.events.specs.declared.event.Event.TheVariants as event
+use Rattle.events.specs.declared.line.Line.{Line}
+use Rattle.events.specs.declared.line.Line.TheVariants.{Air, Wire, Tick}
+use Rattle.ap_config.specs.declared.open_fault.OpenFault.{OpenFault}
+use Rattle.ap_config.specs.declared.open_fault.OpenFault.TheVariants as opening
+use Rattle.events.specs.declared.section.Section.{Section}
 use Rattle.workers.specs.Giving.{heard_at, AreHeard, entry_of, entries_of, event_of}
 use Rattle.workers.specs.Playing.{ArePlayed, is_from, Answers, events_at, AreAnswers, AreAnswered, play_fault_of}
 use Rattle.workers.specs.Receipts.{receipts_of, histories_of, limits_of, dealt, AreReceipts, IsFullAt, AreFullLast}

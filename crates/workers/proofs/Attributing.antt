@@ -6,8 +6,8 @@ use Rattle.std.proofs.lemmas.Option.{slice_get_within, get_or_from_slice_get}
 use Rattle.std.proofs.lemmas.List.{append-nil, length-map, length-set, length_push, length-replicate, get_or-map, get_or-set_same, get_or-set_other, get_or_append_left, get_or_push, get_or_past}
 use Rattle.std.proofs.lemmas.List.Elements.{All-from_get_or, filter_map-append}
 use Rattle.std.proofs.lemmas.List.FromFn.{get_or-enumerate_from, length-enumerate_from}
-use Rattle.bss_core.specs.BssView.{BssView}
-use Rattle.bss_core.specs.declared.event.Event.{Event}
+use Rattle.network.specs.BssView.{BssView}
+use Rattle.events.specs.declared.event.Event.{Event}
 use Rattle.workers.specs.Attributions.{AttributionView, fresh_attribution, attribution_at, histories, history_at, IsAdded, Adds, IsAttributed, AreAttributed, AreUpTo, dealt_so_far}
 use Rattle.workers.specs.Receipts.{receipt_for, receipts_of, numbered, AreReceipts, AreGivers}
 use Rattle.workers.specs.declared.caller.Entry.{Entry}

@@ -6,14 +6,14 @@ use Rattle.std.proofs.lemmas.List.{length-map, length_push, map-append}
 use Rattle.std.proofs.lemmas.List.FromFn.{length-range_with_len, map-range_with_len_more}
 use Rattle.std.proofs.lemmas.Slice.Zip.{AllZip-long}
 use Rattle.air_queue.specs.Passes.{QueueName, NetPassView}
-use Rattle.bss_core.specs.Radio.{setting_at, items_of}
-use Rattle.bss_core.specs.Running.{section_with}
-use Rattle.bss_core.specs.Section.{section_of}
-use Rattle.bss_core.specs.BssView.{BssView, network_of}
-use Rattle.bss_core.specs.declared.config.RadioConfig.{RadioConfig}
-use Rattle.bss_core.specs.declared.section.Section.{Section}
-use Rattle.bss_core.specs.declared.setting.Setting.{Setting}
-use Rattle.bss_core.specs.declared.radio.step.AirItem.{AirItem}
+use Rattle.ap_config.specs.Places.{setting_at}
+use Rattle.events.specs.Items.{items_of}
+use Rattle.network.specs.BssView.{section_with, BssView, network_of}
+use Rattle.network.specs.Section.{section_of}
+use Rattle.ap_config.specs.declared.config.RadioConfig.{RadioConfig}
+use Rattle.events.specs.declared.section.Section.{Section}
+use Rattle.ap_config.specs.declared.setting.Setting.{Setting}
+use Rattle.events.specs.declared.air_item.AirItem.{AirItem}
 use Rattle.workers.specs.Ending.{AreSeated, IsSent, AreSent, IsEnded, AreEnded, items_at}
 use Rattle.workers.specs.Seats.{IsSeated}
 use Rattle.workers.proofs.Frames.{items_of-here, items_of-other}

@@ -4,8 +4,8 @@ use Rattle.std.specs.Prelude.{All, filter, ◌==◌}
 use Rattle.std.proofs.lemmas.Bool.{eq-eqb, ne_eqb}
 use Rattle.std.proofs.lemmas.List.{append-nil, map-append}
 use Rattle.std.proofs.lemmas.List.Elements.{filter-append, All-append, All-nil, All-cons}
-use Rattle.bss_core.specs.Radio.{items_of}
-use Rattle.bss_core.specs.declared.radio.step.AirItem.{AirItem}
+use Rattle.events.specs.Items.{items_of}
+use Rattle.events.specs.declared.air_item.AirItem.{AirItem}
 use Rattle.workers.specs.Ending.{items_at}
 
 pub items_of-append : (place : ℕ) (xs ys : List AirItem) → items_of place (xs ++ ys) ≡ items_of place xs ++ items_of place ys

@@ -4,8 +4,8 @@ use Rattle.std.specs.Prelude.{slice_get}
 use Rattle.std.proofs.lemmas.Bool.{cases_lt}
 use Rattle.std.proofs.lemmas.Option.{slice_get_within}
 use Rattle.std.proofs.lemmas.List.{append-nil, length_push, drop-append-le, drop_at}
-use Rattle.bss_core.specs.BssView.{BssView}
-use Rattle.bss_core.specs.declared.bss.Refusal.TheVariants as refusals
+use Rattle.network.specs.BssView.{BssView}
+use Rattle.network.specs.declared.bss.Refusal.TheVariants as refusals
 use Rattle.workers.specs.Attributions.{histories, limits, MarksFull}
 use Rattle.workers.specs.Receipts.{receipts_of, IsFullLast}
 use Rattle.workers.specs.declared.caller.Entry.{Entry}

@@ -7,13 +7,13 @@ use Rattle.std.proofs.lemmas.Bool.{lt-ltb, ltb-true, ltb-false, le-ltb, cases_lt
 use Rattle.std.proofs.lemmas.List.{append-nil, get_or-replicate, length-replicate, get_or-set_other, get_or-set_same, take_more, take_more_set, length-take-le}
 use Rattle.std.proofs.lemmas.List.FromFn.{get_or-map-range_with_len, length-map-range_with_len}
 use Rattle.std.proofs.lemmas.Option.{slice_get-get_or}
-use Rattle.bss_core.specs.Configuration.{most_networks}
-use Rattle.bss_core.specs.Lines.{heard_of}
-use Rattle.bss_core.specs.Radio.{network_at}
-use Rattle.bss_core.specs.declared.config.RadioConfig.{RadioConfig}
-use Rattle.bss_core.specs.declared.event.Event.{Event}
-use Rattle.bss_core.specs.declared.line.Line.{Line}
-use Rattle.bss_core.specs.declared.line.Line.TheVariants.{Air, Wire, Tick}
+use Rattle.ap_config.specs.Configuration.{most_networks}
+use Rattle.events.specs.Lines.{heard_of}
+use Rattle.ap_config.specs.Places.{network_at}
+use Rattle.ap_config.specs.declared.config.RadioConfig.{RadioConfig}
+use Rattle.events.specs.declared.event.Event.{Event}
+use Rattle.events.specs.declared.line.Line.{Line}
+use Rattle.events.specs.declared.line.Line.TheVariants.{Air, Wire, Tick}
 use Rattle.workers.specs.Copies.{copies_of, copies_of_event, copies_at, HaveNetworks, AreOf, IsOffered, AreOffered}
 use Rattle.workers.specs.Giving.{heard_at, AreHeard, entry_of, entries_of, event_of, hears_line}
 use Rattle.workers.specs.declared.caller.Entry.{Entry}

@@ -2,13 +2,13 @@
 use Rattle.std.proofs.Common.{◌≡◌, ℕ, ◌<◌, ◌≤◌, List, ◌++◌, length, Result, Ok, Err, sym, ap, ◌∙◌, subst, append_assoc}
 use Rattle.std.specs.Prelude.{OnOk, OnErr}
 use Rattle.air_queue.specs.Passes.{QueueName, NetPassView}
-use Rattle.bss_core.specs.Network.{alone}
-use Rattle.bss_core.specs.Radio.{setting_at}
-use Rattle.bss_core.specs.BssView.{BssView, network_of}
-use Rattle.bss_core.specs.declared.bss.Refusal.{Refusal}
-use Rattle.bss_core.specs.declared.config.RadioConfig.{RadioConfig}
-use Rattle.bss_core.specs.declared.event.Event.{Event}
-use Rattle.bss_core.specs.declared.setting.Setting.{Setting}
+use Rattle.network.specs.Network.{alone}
+use Rattle.ap_config.specs.Places.{setting_at}
+use Rattle.network.specs.BssView.{BssView, network_of}
+use Rattle.network.specs.declared.bss.Refusal.{Refusal}
+use Rattle.ap_config.specs.declared.config.RadioConfig.{RadioConfig}
+use Rattle.events.specs.declared.event.Event.{Event}
+use Rattle.ap_config.specs.declared.setting.Setting.{Setting}
 use Rattle.workers.specs.Seats.{IsSeated, IsNetworkOf}
 
 -- frames go from the network to the pass, or stay: together they are the same

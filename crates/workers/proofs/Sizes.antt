@@ -2,9 +2,9 @@
 use Rattle.std.proofs.Common.{◌≡◌, ℕ, ◌≤◌, length, Bool, true, false, not, ◌&&◌, Option, Some, None, refl}
 use Rattle.std.specs.Prelude.{if◌then◌else◌}
 use Rattle.std.proofs.lemmas.Bool.{leb-true}
-use Rattle.bss_core.specs.Configuration.{is_between, channel_fits, interval_fits, queue_fits, count_fits, fault_of, most_networks}
-use Rattle.bss_core.specs.declared.config.ConfigFault.{ConfigFault}
-use Rattle.bss_core.specs.declared.config.RadioConfig.{RadioConfig}
+use Rattle.ap_config.specs.Configuration.{is_between, channel_fits, interval_fits, queue_fits, count_fits, fault_of, most_networks}
+use Rattle.ap_config.specs.declared.config.ConfigFault.{ConfigFault}
+use Rattle.ap_config.specs.declared.config.RadioConfig.{RadioConfig}
 
 -- no fault is found where the test holds and no later fault is found
 passed : (b : Bool) (fault : ConfigFault) (later : Option ConfigFault) → (if not b then Some fault else later) ≡ None → (b ≡ true) × (later ≡ None)

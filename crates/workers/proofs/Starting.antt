@@ -2,12 +2,12 @@
 use Rattle.std.proofs.Common.{◌≡◌, ℕ, suc, ◌+◌, ◌<◌, List, [], ◌∷◌, length, map, get_or, None, refl, ap, ◌∙◌, arith}
 use Rattle.std.specs.List.{AllByRecursion, range_with_len, zip}
 use Rattle.air_queue.specs.Passes.{QueueName, NetPassView, fresh_pass, fresh_passes}
-use Rattle.bss_core.specs.Configuration.{network_fault}
-use Rattle.bss_core.specs.Network.{alone}
-use Rattle.bss_core.specs.Radio.{no_network, network_at, setting_in}
-use Rattle.bss_core.specs.RadioView.{opened}
-use Rattle.bss_core.specs.declared.config.NetConfig.{NetConfig}
-use Rattle.bss_core.specs.declared.config.RadioConfig.{RadioConfig}
+use Rattle.ap_config.specs.Configuration.{network_fault}
+use Rattle.network.specs.Network.{alone}
+use Rattle.ap_config.specs.Places.{no_network, network_at, setting_in}
+use Rattle.network.specs.BssView.{opened}
+use Rattle.ap_config.specs.declared.config.NetConfig.{NetConfig}
+use Rattle.ap_config.specs.declared.config.RadioConfig.{RadioConfig}
 use Rattle.workers.specs.Seats.{IsSeated}
 
 -- a network that took no event, with a pass by which nothing was pushed

@@ -1,9 +1,9 @@
 -- Which caller gave which event, as far as the receipts that were read tell (profile).
 use Rattle.std.specs.Prelude.{ℕ, ◌≡◌, ◌<◌, ◌≤◌, ◌+◌, ◌==◌, Bool, false, true, List, [], ◌∷◌, length, map, replicate}
 use Rattle.std.specs.Prelude.{Option, Some, None, slice_get, slice_index_or, slice_set, if◌then◌else◌}
-use Rattle.bss_core.specs.BssView.{BssView}
-use Rattle.bss_core.specs.declared.bss.Refusal.TheVariants as refusals
-use Rattle.bss_core.specs.declared.event.Event.{Event}
+use Rattle.network.specs.BssView.{BssView}
+use Rattle.network.specs.declared.bss.Refusal.TheVariants as refusals
+use Rattle.events.specs.declared.event.Event.{Event}
 use Rattle.workers.specs.Receipts.{receipt_for, receipts_of, numbered, IsFullAt}
 use Rattle.workers.specs.declared.caller.Entry.{Entry}
 use Rattle.workers.specs.declared.caller.Entry.TheVariants.{Refused}

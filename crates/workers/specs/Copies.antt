@@ -1,10 +1,10 @@
 -- Copies of an event, one pair for each place (profile).
 use Rattle.std.specs.Prelude.{ℕ, ◌≡◌, ◌<◌, ◌↔◌, List, [], ◌∷◌, length, map, Option, Some, None, IfSome}
 use Rattle.std.specs.List.{slice_index_or, range_with_len}
-use Rattle.bss_core.specs.Configuration.{most_networks}
-use Rattle.bss_core.specs.declared.config.RadioConfig.{RadioConfig}
-use Rattle.bss_core.specs.declared.event.Event.{Event}
-use Rattle.bss_core.specs.declared.line.Line.{Line}
+use Rattle.ap_config.specs.Configuration.{most_networks}
+use Rattle.ap_config.specs.declared.config.RadioConfig.{RadioConfig}
+use Rattle.events.specs.declared.event.Event.{Event}
+use Rattle.events.specs.declared.line.Line.{Line}
 use Rattle.workers.specs.Giving.{heard_at}
 use Rattle.workers.specs.declared.copies.Copies.{Copies}
 use Rattle.workers.specs.declared.outcome.Outcome.{Outcome}

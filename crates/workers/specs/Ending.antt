@@ -2,12 +2,13 @@
 use Rattle.std.specs.Prelude.{ℕ, ◌<◌, ◌≤◌, ◌≡◌, ◌++◌, All, List, length, map, Some, slice_get}
 use Rattle.std.specs.List.{AllByRecursion, AllZip, enumerate_from}
 use Rattle.air_queue.specs.Passes.{QueueName, NetPassView, AllThere}
-use Rattle.bss_core.specs.Radio.{network_at, setting_at, items_of}
-use Rattle.bss_core.specs.Section.{section_of}
-use Rattle.bss_core.specs.BssView.{BssView, network_of}
-use Rattle.bss_core.specs.declared.config.RadioConfig.{RadioConfig}
-use Rattle.bss_core.specs.declared.section.Section.{Section}
-use Rattle.bss_core.specs.declared.radio.step.AirItem.{AirItem}
+use Rattle.ap_config.specs.Places.{network_at, setting_at}
+use Rattle.events.specs.Items.{items_of}
+use Rattle.network.specs.Section.{section_of}
+use Rattle.network.specs.BssView.{BssView, network_of}
+use Rattle.ap_config.specs.declared.config.RadioConfig.{RadioConfig}
+use Rattle.events.specs.declared.section.Section.{Section}
+use Rattle.events.specs.declared.air_item.AirItem.{AirItem}
 use Rattle.workers.specs.Seats.{IsSeated}
 
 -- the section of the network at a place, alone with its own events, which are as many at most as it may take

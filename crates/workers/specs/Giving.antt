@@ -1,16 +1,16 @@
 -- What a caller gives to the networks of an access point, and what it keeps of their answers (profile).
 use Rattle.std.specs.Prelude.{ℕ, ◌≡◌, ◌<◌, ◌↔◌, ◌==◌, Bool, true, List, [], ◌∷◌, ◌++◌, Some, slice_get, if◌then◌else◌}
 use Rattle.std.specs.List.{flat_map, enumerate_from}
-use Rattle.bss_core.specs.Configuration.{most_networks}
+use Rattle.ap_config.specs.Configuration.{most_networks}
 use Rattle.mac_frame.specs.Hearing.{is_heard}
-use Rattle.bss_core.specs.Lines.{heard_of}
-use Rattle.bss_core.specs.Radio.{names_network, network_at}
-use Rattle.bss_core.specs.declared.bss.Refusal.TheVariants as refusals
-use Rattle.bss_core.specs.declared.config.RadioConfig.{RadioConfig}
-use Rattle.bss_core.specs.declared.event.Event.{Event}
-use Rattle.bss_core.specs.declared.event.Event.TheVariants as event
-use Rattle.bss_core.specs.declared.line.Line.{Line}
-use Rattle.bss_core.specs.declared.line.Line.TheVariants as line
+use Rattle.events.specs.Lines.{heard_of}
+use Rattle.ap_config.specs.Places.{names_network, network_at}
+use Rattle.network.specs.declared.bss.Refusal.TheVariants as refusals
+use Rattle.ap_config.specs.declared.config.RadioConfig.{RadioConfig}
+use Rattle.events.specs.declared.event.Event.{Event}
+use Rattle.events.specs.declared.event.Event.TheVariants as event
+use Rattle.events.specs.declared.line.Line.{Line}
+use Rattle.events.specs.declared.line.Line.TheVariants as line
 use Rattle.workers.specs.declared.caller.Entry.{Entry}
 use Rattle.workers.specs.declared.caller.Entry.TheVariants.{Receipt, Refused}
 use Rattle.workers.specs.declared.given.Given.{Given}

@@ -1,8 +1,8 @@
 -- Which access point it is (profile).
 use Rattle.std.specs.Prelude.{ℕ, ◌≡◌, Bool, []}
 use Rattle.air_queue.specs.Passes.{QueueName}
-use Rattle.bss_core.specs.Configuration.{is_between}
-use Rattle.bss_core.specs.declared.config.RadioConfig.{RadioConfig}
+use Rattle.ap_config.specs.Configuration.{is_between}
+use Rattle.ap_config.specs.declared.config.RadioConfig.{RadioConfig}
 
 -- what names no access point
 abbrev pub no_config : RadioConfig

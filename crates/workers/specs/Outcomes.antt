@@ -1,7 +1,7 @@
 -- What a network made of an event (profile).
 use Rattle.std.specs.Prelude.{ℕ, Result, Ok, Err}
-use Rattle.bss_core.specs.declared.bss.Refusal.{Refusal}
-use Rattle.bss_core.specs.declared.bss.Refusal.TheVariants as refusals
+use Rattle.network.specs.declared.bss.Refusal.{Refusal}
+use Rattle.network.specs.declared.bss.Refusal.TheVariants as refusals
 use Rattle.workers.specs.declared.outcome.Outcome.{Outcome}
 use Rattle.workers.specs.declared.outcome.Outcome.TheVariants.{Took, Full, NoMemory}
 

@@ -1,17 +1,17 @@
 -- What sources give to an access point, and what is dealt to each of them (profile).
 use Rattle.std.specs.Prelude.{ℕ, ◌≡◌, ◌<◌, ◌==◌, ◌++◌, ◌∷◌, Bool, List, [], length, Some, slice_get, slice_index_or, ⊤}
 use Rattle.std.specs.List.{AllZip, filter, flat_map}
-use Rattle.bss_core.specs.Configuration.{most_networks}
-use Rattle.bss_core.specs.Lines.{heard}
-use Rattle.bss_core.specs.Lists.{IsPrefix}
-use Rattle.bss_core.specs.Radio.{network_at}
-use Rattle.bss_core.specs.declared.bss.Refusal.TheVariants as refusals
-use Rattle.bss_core.specs.declared.config.RadioConfig.{RadioConfig}
-use Rattle.bss_core.specs.declared.event.Event.{Event}
-use Rattle.bss_core.specs.declared.line.Line.{Line}
-use Rattle.bss_core.specs.declared.radio.OpenFault.{OpenFault}
-use Rattle.bss_core.specs.declared.radio.OpenFault.TheVariants as opening
-use Rattle.bss_core.specs.declared.section.Section.{Section}
+use Rattle.ap_config.specs.Configuration.{most_networks}
+use Rattle.events.specs.Lines.{heard}
+use Rattle.events.specs.Lists.{IsPrefix}
+use Rattle.ap_config.specs.Places.{network_at}
+use Rattle.network.specs.declared.bss.Refusal.TheVariants as refusals
+use Rattle.ap_config.specs.declared.config.RadioConfig.{RadioConfig}
+use Rattle.events.specs.declared.event.Event.{Event}
+use Rattle.events.specs.declared.line.Line.{Line}
+use Rattle.ap_config.specs.declared.open_fault.OpenFault.{OpenFault}
+use Rattle.ap_config.specs.declared.open_fault.OpenFault.TheVariants as opening
+use Rattle.events.specs.declared.section.Section.{Section}
 use Rattle.workers.specs.Giving.{heard_at}
 use Rattle.workers.specs.Receipts.{dealt}
 use Rattle.workers.specs.declared.caller.Entry.{Entry}

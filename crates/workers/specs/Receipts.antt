@@ -2,9 +2,9 @@
 use Rattle.std.specs.Prelude.{ℕ, ◌≡◌, ◌<◌, ◌==◌, All, List, [], ◌∷◌, length, map, drop, Option, Some, None, slice_get}
 use Rattle.std.specs.Prelude.{slice_index_or, if◌then◌else◌}
 use Rattle.std.specs.List.{enumerate_from, filter_map}
-use Rattle.bss_core.specs.declared.bss.Refusal.TheVariants as refusals
-use Rattle.bss_core.specs.declared.event.Event.{Event}
-use Rattle.bss_core.specs.declared.section.Section.{Section}
+use Rattle.network.specs.declared.bss.Refusal.TheVariants as refusals
+use Rattle.events.specs.declared.event.Event.{Event}
+use Rattle.events.specs.declared.section.Section.{Section}
 use Rattle.workers.specs.declared.caller.Entry.{Entry}
 use Rattle.workers.specs.declared.caller.Entry.TheVariants.{Receipt, Refused}
 

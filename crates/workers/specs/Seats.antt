@@ -2,13 +2,13 @@
 use Rattle.std.specs.Prelude.{ℕ, ◌<◌, ◌≤◌, ◌≡◌, ◌≢◌, [], ◌∷◌, ◌++◌, List, length}
 use Rattle.std.specs.FinMap as finite
 use Rattle.air_queue.specs.Passes.{QueueName, NetPassView, RadioPassView}
-use Rattle.bss_core.specs.Radio.{setting_at}
-use Rattle.bss_core.specs.Lists.{IsSuffix}
-use Rattle.bss_core.specs.BssView.{BssView, network_of}
-use Rattle.bss_core.specs.declared.config.RadioConfig.{RadioConfig}
-use Rattle.bss_core.specs.declared.event.Event.{Event}
-use Rattle.bss_core.specs.declared.radio.step.Handed.{Handed}
-use Rattle.bss_core.specs.declared.radio.step.Handed.TheVariants.{Moved, Nothing, QueueFull}
+use Rattle.ap_config.specs.Places.{setting_at}
+use Rattle.events.specs.Lists.{IsSuffix}
+use Rattle.network.specs.BssView.{BssView, network_of}
+use Rattle.ap_config.specs.declared.config.RadioConfig.{RadioConfig}
+use Rattle.events.specs.declared.event.Event.{Event}
+use Rattle.events.specs.declared.air_item.Handed.{Handed}
+use Rattle.events.specs.declared.air_item.Handed.TheVariants.{Moved, Nothing, QueueFull}
 use Rattle.workers.specs.declared.outcome.Outcome.{Outcome}
 use Rattle.workers.specs.declared.outcome.Outcome.TheVariants.{NotHeard, Took, Full, NoMemory}
 

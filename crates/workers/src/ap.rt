@@ -1,12 +1,12 @@
 //! An access point whose networks run at the same time (*profile*).
 
-ghost use Rattle.std.specs.Prelude.{◌≡◌, ◌≢◌, ◌+◌, ◌<◌, ◌≤◌, ◌++◌, ◌∷◌, [], length, map};
-ghost use Rattle.std.specs.Prelude.{IfOk, OnErr, MatchBool, vec_len, vec_capacity};
+ghost use Rattle.std.specs.Prelude.{◌≡◌, ◌≢◌, ◌+◌, ◌<◌, ◌≤◌, ◌++◌, ◌∷◌, [], length, map, IfOk, OnErr, MatchBool};
+ghost use Rattle.std.specs.Prelude.{vec_len, vec_capacity};
 ghost use Rattle.std.specs.Fn.{FnOnceTakesAt, FnOnceReturnsAt};
-ghost use Rattle.bss_core.specs.BssView.{BssView};
-ghost use Rattle.bss_core.specs.declared.event.Event.{Event};
-ghost use Rattle.bss_core.specs.declared.line.Line.TheVariants as line;
-ghost use Rattle.bss_core.specs.declared.radio.step.AirItem.{AirItem};
+ghost use Rattle.network.specs.BssView.{BssView};
+ghost use Rattle.events.specs.declared.event.Event.{Event};
+ghost use Rattle.events.specs.declared.line.Line.TheVariants as line;
+ghost use Rattle.events.specs.declared.air_item.AirItem.{AirItem};
 ghost use Rattle.workers.specs.Copies.{copies_at, AreCopies, HaveNetworks, AreOf, AreOffered};
 ghost use Rattle.workers.specs.Giving.{AreHeard, AddsEntries, line_of, event_of, entry_of};
 ghost use Rattle.workers.specs.Seats.{IsNetworkOf};
@@ -19,8 +19,10 @@ use crate::outcome::Outcome;
 use crate::seat::Seat;
 use crate::transmitter::Transmitter;
 use air_queue::AirQueue;
-use bss_core::{Bss, Handed, MAX_NETWORKS};
+use ap_config::MAX_NETWORKS;
+use events::Handed;
 use mac_frame::{MacAddr, NoMemory};
+use network::Bss;
 use std::alloc::Global;
 use std::marker::Model;
 use std::sync::{Mutex, Wait};
@@ -38,7 +40,7 @@ pub struct Ap<N: ApName> {
 
 impl<N: ApName> Model for Ap<N> {
     ghost use Rattle.std.specs.Prelude.{◌≡◌, vec_len, length, map};
-    ghost use Rattle.bss_core.specs.declared.config.RadioConfig.{RadioConfig};
+    ghost use Rattle.ap_config.specs.declared.config.RadioConfig.{RadioConfig};
 
     ghost Value = { RadioConfig };
 

@@ -4,7 +4,7 @@ ghost use Rattle.std.specs.Prelude.{◌≡◌, ◌↔◌, IfOk, IsTrue, OnOk, So
 ghost use Rattle.workers.specs.Attributions.{IsAdded, fresh_attribution};
 
 use crate::finish::FinishFault;
-use bss_core::Event;
+use events::Event;
 use mac_frame::{List, NoMemory};
 use std::alloc::Global;
 use std::marker::Model;

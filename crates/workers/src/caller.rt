@@ -4,7 +4,8 @@ ghost use Rattle.std.specs.Prelude.{◌≡◌, [], option_to_list};
 ghost use Rattle.workers.specs.Giving.{entry_of};
 
 use crate::outcome::Outcome;
-use bss_core::{Event, Refusal};
+use events::Event;
+use network::Refusal;
 use std::alloc::Global;
 use std::marker::Model;
 

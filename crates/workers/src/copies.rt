@@ -5,7 +5,7 @@ ghost use Rattle.workers.specs.Giving.{line_of, event_of};
 ghost use Rattle.workers.specs.Copies.{copies_of_event};
 
 use crate::given::Given;
-use bss_core::Event;
+use events::Event;
 use mac_frame::NoMemory;
 use std::alloc::Global;
 

@@ -1,9 +1,9 @@
 //! The end of an access point: all that waits or is queued leaves, and every network has its section (*profile*).
 
 ghost use Rattle.std.specs.Prelude.{◌≡◌, ◌++◌, IfOk, OnOk, vec_len, length};
-ghost use Rattle.bss_core.specs.Lists.{IsPrefix};
-ghost use Rattle.bss_core.specs.Radio.{items_of};
-ghost use Rattle.bss_core.specs.Running.{section_with};
+ghost use Rattle.events.specs.Lists.{IsPrefix};
+ghost use Rattle.events.specs.Items.{items_of};
+ghost use Rattle.network.specs.BssView.{section_with};
 ghost use Rattle.workers.specs.Attributions.{histories, limits};
 ghost use Rattle.workers.specs.Ending.{AreSections, HaveLeft, ArePlaced, AreSeated, AreSent, AreEnded, items_at};
 ghost use Rattle.workers.specs.Receipts.{AreReceipts, AreGivers, AreFullLast, histories_of, limits_of};
@@ -16,8 +16,9 @@ use crate::receipts::givers_of;
 use crate::seat::Seat;
 use crate::transmitter::Transmitter;
 use air_queue::NetPass;
-use bss_core::{AirItem, Bss, Section};
+use events::{AirItem, Section};
 use mac_frame::{List, NoMemory, Octets};
+use network::Bss;
 use std::alloc::{AllocError, AllocFailed, Global};
 use std::fmt;
 use std::sync::{Mutex, Wait};

@@ -1,14 +1,14 @@
 //! What a caller gives to the networks of an access point.
 
 ghost use Rattle.std.specs.Prelude.{◌≡◌, IfOk, option_to_list};
-ghost use Rattle.bss_core.specs.Lines.{heard_of};
+ghost use Rattle.events.specs.Lines.{heard_of};
 ghost use Rattle.workers.specs.Giving.{line_of, event_of, hears_line};
 
-use bss_core::{Event, hears};
+use events::{Event, hears};
 use mac_frame::{MacAddr, NoMemory, Octets};
 use std::alloc::Global;
 
-/// One thing that happened to the networks of a radio, as [`bss_core::Line`] has it, lent by whoever tells of it.
+/// One thing that happened to the networks of a radio, as [`events::Line`] has it, lent by whoever tells of it.
 #[derive(Clone, Copy)]
 pub(crate) enum Given<'a> {
     /// A string of octets was heard on the air.

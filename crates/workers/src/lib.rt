@@ -63,8 +63,8 @@ mod start;
 mod transmitter;
 
 pub use ap::Ap;
-pub use bss_core::Line;
 pub use caller::{Caller, Entry};
+pub use events::Line;
 pub use finish::{FinishFault, Finished};
 pub use gate::Gate;
 pub use name::ApName;

@@ -5,7 +5,7 @@ use std::marker::Brand;
 /// Names one access point: its configuration, and the name of its air queue. The call of a function that is generic
 /// in it picks both, from the [`crate::Parts`] that it hands on. It has no code, and no value of it is made.
 pub trait ApName {
-    ghost use Rattle.bss_core.specs.declared.config.RadioConfig.{RadioConfig};
+    ghost use Rattle.ap_config.specs.declared.config.RadioConfig.{RadioConfig};
     ghost use Rattle.air_queue.specs.Passes.{QueueName};
 
     ghost config: { RadioConfig };

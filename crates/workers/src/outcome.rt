@@ -2,7 +2,7 @@
 
 ghost use Rattle.std.specs.Prelude.{◌≡◌};
 
-use bss_core::Refusal;
+use network::Refusal;
 
 /// What a network made of an event that a caller gave (*profile*).
 #[derive(Clone, Copy, Debug, PartialEq, Eq)]

@@ -1,12 +1,12 @@
 //! What an access point is made of (*profile*).
 
 ghost use Rattle.std.specs.Prelude.{◌≡◌, ◌↔◌, false, None, Some, Err, IfOk};
-ghost use Rattle.bss_core.specs.Configuration.{fault_of};
-ghost use Rattle.bss_core.specs.declared.config.ConfigFault.{ConfigFault};
+ghost use Rattle.ap_config.specs.Configuration.{fault_of};
+ghost use Rattle.ap_config.specs.declared.config.ConfigFault.{ConfigFault};
 ghost use Rattle.workers.specs.Names.{callers_fit};
 
 use air_queue::{AirQueue, NetPass, RadioPass};
-use bss_core::{OpenFault, RadioConfig};
+use ap_config::{OpenFault, RadioConfig};
 use std::alloc::Global;
 use std::marker::Model;
 
@@ -27,7 +27,7 @@ pub struct Parts {
 impl Model for Parts {
     ghost use Rattle.std.specs.Prelude.{◌≡◌, ◌≤◌, None, length};
     ghost use Rattle.air_queue.specs.Passes.{fresh_passes, fresh_radio};
-    ghost use Rattle.bss_core.specs.Configuration.{fault_of};
+    ghost use Rattle.ap_config.specs.Configuration.{fault_of};
     ghost use Rattle.workers.specs.Names.{PartsView};
 
     ghost Value = { PartsView };

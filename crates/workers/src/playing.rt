@@ -2,8 +2,8 @@
 
 ghost use Rattle.std.specs.Prelude.{◌≡◌, ◌≢◌, ◌↔◌, All, None, Some, Err, IfOk, IfErr, OnOk, vec_len, length, map};
 ghost use Rattle.std.specs.Prelude.{false};
-ghost use Rattle.bss_core.specs.Configuration.{fault_of};
-ghost use Rattle.bss_core.specs.declared.config.ConfigFault.{ConfigFault};
+ghost use Rattle.ap_config.specs.Configuration.{fault_of};
+ghost use Rattle.ap_config.specs.declared.config.ConfigFault.{ConfigFault};
 ghost use Rattle.workers.specs.Ending.{AreSections, HaveLeft, ArePlaced};
 ghost use Rattle.workers.specs.Giving.{AreHeard, AddsEntries, event_of};
 ghost use Rattle.workers.specs.Names.{AreNamed, callers_fit};
@@ -20,7 +20,8 @@ use crate::name::ApName;
 use crate::outcome::Outcome;
 use crate::parts::Parts;
 use crate::transmitter::Transmitter;
-use bss_core::{ConfigFault, Line, MAX_NETWORKS, OpenFault, RadioConfig};
+use ap_config::{ConfigFault, MAX_NETWORKS, OpenFault, RadioConfig};
+use events::Line;
 use mac_frame::NoMemory;
 use std::alloc::{AllocError, AllocFailed, Global};
 use std::marker::{Brand, PhantomData};

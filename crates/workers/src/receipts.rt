@@ -8,8 +8,8 @@ ghost use Rattle.workers.specs.Receipts.{AreFullLast, AreGivers, AreReceipts, Is
 use crate::attribution::Attribution;
 use crate::caller::{Caller, Entry};
 use crate::finish::FinishFault;
-use bss_core::{Bss, Refusal};
 use mac_frame::{List, NoMemory};
+use network::{Bss, Refusal};
 use std::alloc::Global;
 
 /// For each network, in order of place, who gave each event of its history: the callers by their numbers, from 0.

@@ -3,13 +3,14 @@
 ghost use Rattle.std.specs.Prelude.{◌≡◌, []};
 ghost use Rattle.std.specs.Fn.{FnOnceTakesAt, FnOnceReturnsAt};
 ghost use Rattle.air_queue.specs.Passes.{NetPassView};
-ghost use Rattle.bss_core.specs.BssView.{BssView};
+ghost use Rattle.network.specs.BssView.{BssView};
 ghost use Rattle.workers.specs.Seats.{IsSeated, IsNetworkOf, AnswersEvent, HandsFrame};
 
 use crate::name::ApName;
 use crate::outcome::Outcome;
 use air_queue::{AirQueue, NetPass};
-use bss_core::{AirItem, Bss, Event, Handed};
+use events::{AirItem, Event, Handed};
+use network::Bss;
 use std::marker::{Model, PhantomData};
 use std::sync::Wait;
 

@@ -2,7 +2,7 @@
 
 ghost use Rattle.std.specs.Prelude.{◌≡◌, [], None, IfOk, vec_len, length, map, replicate};
 ghost use Rattle.air_queue.specs.Passes.{fresh_passes};
-ghost use Rattle.bss_core.specs.Configuration.{fault_of};
+ghost use Rattle.ap_config.specs.Configuration.{fault_of};
 ghost use Rattle.workers.specs.Names.{AreNamed};
 
 use crate::ap::Ap;
@@ -12,8 +12,9 @@ use crate::parts::Parts;
 use crate::seat::Seat;
 use crate::transmitter::Transmitter;
 use air_queue::NetPass;
-use bss_core::{Bss, NetConfig, RadioConfig, checked_networks};
+use ap_config::{NetConfig, RadioConfig, checked_networks};
 use mac_frame::{MacAddr, NoMemory};
+use network::Bss;
 use std::alloc::Global;
 use std::marker::PhantomData;
 use std::sync::Mutex;

@@ -4,7 +4,7 @@ ghost use Rattle.std.specs.Prelude.{◌≡◌, ◌++◌, ◌∷◌, [], List};
 
 use crate::name::ApName;
 use air_queue::RadioPass;
-use bss_core::AirItem;
+use events::AirItem;
 use std::marker::{Model, PhantomData};
 
 /// The one right to let frames leave the access point N (*profile*). Contracts see the frames that left by it, in
@@ -17,7 +17,7 @@ pub struct Transmitter<N: ApName> {
 
 impl<N: ApName> Model for Transmitter<N> {
     ghost use Rattle.std.specs.Prelude.{List};
-    ghost use Rattle.bss_core.specs.declared.radio.step.AirItem.{AirItem};
+    ghost use Rattle.events.specs.declared.air_item.AirItem.{AirItem};
     ghost use Rattle.workers.specs.Seats.{IsRadioOf};
 
     ghost Value = { List AirItem };

@@ -3,7 +3,8 @@
 
 ghost use Rattle.std.specs.Prelude.{◌<◌, OnOk, length};
 
-use bss_core::{AirItem, NetConfig, RadioConfig, Section};
+use ap_config::{NetConfig, RadioConfig};
+use events::{AirItem, Section};
 use mac_frame::{List, MacAddr, NoMemory, Octets};
 use std::alloc::Global;
 use std::test::Fail;

@@ -1,20 +1,22 @@
 //! Runs of a radio: what a list of steps makes of it.
 
 ghost use Rattle.std.specs.Prelude.{◌≡◌, ◌≢◌, ◌↔◌, ◌++◌, ◌∷◌, [], ◌<◌, ℕ, List, Some, Err, IfOk, OnOk, length};
-ghost use Rattle.bss_core.specs.Configuration.{fault_of};
-ghost use Rattle.bss_core.specs.Network.{alone};
-ghost use Rattle.bss_core.specs.Radio.{after_steps, setting_at, waiting_at, part_of, items_of, sections_after};
-ghost use Rattle.bss_core.specs.Running.{IsAt, section_with, frames_of, sections_with};
-ghost use Rattle.bss_core.specs.declared.config.ConfigFault.{ConfigFault};
+ghost use Rattle.ap_config.specs.Configuration.{fault_of};
+ghost use Rattle.network.specs.Network.{alone};
+ghost use Rattle.bss_core.specs.Radio.{after_steps, waiting_at, part_of, sections_after};
+ghost use Rattle.ap_config.specs.Places.{setting_at};
+ghost use Rattle.events.specs.Items.{items_of};
+ghost use Rattle.bss_core.specs.Running.{IsAt, frames_of, sections_with};
+ghost use Rattle.network.specs.BssView.{section_with};
+ghost use Rattle.ap_config.specs.declared.config.ConfigFault.{ConfigFault};
 ghost use Rattle.bss_core.specs.declared.radio.step.Step.{Step};
 ghost use Rattle.bss_core.specs.declared.radio.step.Step.TheVariants as steps;
 
-use crate::bss::{Bss, Refusal};
-use crate::config::RadioConfig;
-use crate::event::Event;
-use crate::radio::{AirItem, OpenFault, Radio, Step};
-use crate::section::Section;
+use crate::radio::{Radio, Step};
+use ap_config::{OpenFault, RadioConfig};
+use events::{AirItem, Event, Section};
 use mac_frame::{List, NoMemory, Octets};
+use network::{Bss, Refusal};
 use std::alloc::Global;
 
 /// What a run ends with.

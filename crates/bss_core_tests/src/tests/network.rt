@@ -1,9 +1,11 @@
 //! A network alone.
 
 use super::{are_frames, heard};
-use bss_core::{Bss, Counts, Event, Network, Refusal, Section, Sent, Setting};
+use ap_config::Setting;
+use events::{Counts, Event, Section};
 use fixtures::{PROBE_REQUEST, lab};
 use mac_frame::{List, MacAddr, Octets};
+use network::{Bss, Network, Refusal, Sent};
 use std::alloc::Global;
 use std::collections::VecDeque;
 use std::test::Fail;

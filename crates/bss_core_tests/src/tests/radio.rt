@@ -1,9 +1,12 @@
 //! A radio of two networks, with a queue of one frame, the first of which takes two events.
 
 use super::{are_items, heard};
-use bss_core::{AirItem, Bss, ConfigFault, Event, Handed, OpenFault, Radio, Refusal, run};
+use ap_config::{ConfigFault, OpenFault};
+use bss_core::{Radio, run};
+use events::{AirItem, Event, Handed};
 use fixtures::{PROBE_REQUEST, guest, lab, lab_and_guest};
 use mac_frame::List;
+use network::{Bss, Refusal};
 use std::alloc::Global;
 use std::test::Fail;
 

@@ -1,7 +1,9 @@
 //! Runs of steps on two networks with a queue of one frame, the first of which takes two events.
 
 use super::{are_frames, are_items, heard};
-use bss_core::{Event, RadioConfig, RunResult, Step, run};
+use ap_config::RadioConfig;
+use bss_core::{RunResult, Step, run};
+use events::Event;
 use fixtures::{PROBE_REQUEST, guest, lab, lab_and_guest, radio_config};
 use std::alloc::Global;
 use std::test::Fail;

@@ -1,11 +1,11 @@
 //! Why a text is no configuration.
 
 ghost use Rattle.std.specs.Prelude.{◌≡◌};
-ghost use Rattle.bss_core.specs.Configuration.{of_radio, of_network};
+ghost use Rattle.ap_config.specs.Configuration.{of_radio, of_network};
 ghost use Rattle.trace.specs.declared.read_fault.ReadFault.TheVariants as faults;
 
 use crate::read_fault::ReadFault;
-use bss_core::ConfigFault;
+use ap_config::ConfigFault;
 
 /// Why no configuration was read.
 pub type ConfigTextFault = ReadFault<ConfigFault>;

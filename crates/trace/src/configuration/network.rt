@@ -10,7 +10,7 @@ ghost use Rattle.trace.specs.ConfigurationText.{networks_at, are_tables, tables_
 use crate::configuration::fault::{ConfigTextFault, at_network};
 use crate::configuration::values::{array_at, number_at, text_at, truth_at};
 use crate::configuration::version::Version;
-use bss_core::{
+use ap_config::{
     DTIM_LIMITS, EVENT_LIMITS, KNOWN_LIMITS, NetConfig, QUOTA_LIMITS, STATION_LIMITS, is_taken,
     rates_fit, ssid_fits, stations_fit,
 };

@@ -1,12 +1,12 @@
 //! The value at a key of a table, where it is of the type that the key asks for.
 
 ghost use Rattle.std.specs.Prelude.{◌≡◌, ◌≤◌, IfSome, option_map, option_copied};
-ghost use Rattle.bss_core.specs.Configuration.{is_between};
+ghost use Rattle.ap_config.specs.Configuration.{is_between};
 ghost use Rattle.toml.specs.Data.{get_member};
 ghost use Rattle.toml.specs.View.{view, array_view, table_view};
 ghost use Rattle.trace.specs.ConfigurationText.{number_at, text_at, array_at, truth_at};
 
-use bss_core::Limits;
+use ap_config::Limits;
 use toml::value::Array;
 use toml::{Table, Value};
 

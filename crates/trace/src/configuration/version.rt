@@ -5,7 +5,7 @@ ghost use Rattle.toml.specs.View.{table_view};
 ghost use Rattle.trace.specs.ConfigurationText.{version_at, most_networks_in, network_keys};
 
 use crate::configuration::values::number_at;
-use bss_core::{Limits, MAX_NETWORKS};
+use ap_config::{Limits, MAX_NETWORKS};
 use toml::Table;
 
 /// The numbers of the versions that are read.

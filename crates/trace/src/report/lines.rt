@@ -11,7 +11,8 @@ ghost use Rattle.trace.specs.Texts.{ended};
 
 use crate::report::buffer::Buffered;
 use crate::sink::{Failed, Sink};
-use bss_core::{NetConfig, StationRow};
+use ap_config::NetConfig;
+use events::StationRow;
 use mac_frame::MacAddr;
 use station_state::Standing;
 

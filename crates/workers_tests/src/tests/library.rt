@@ -2,7 +2,8 @@
 //! those of the standard.
 
 use super::{are_frames, are_same, count_of, have_left, octets, section_at};
-use bss_core::{Event, Line, Radio, RunResult, Step, run};
+use bss_core::{Radio, RunResult, Step, run};
+use events::{Event, Line};
 use fixtures::{PROBE_REQUEST, guest, lab, lab_and_guest};
 use library_examples::{run_two, sections, serve, take_all};
 use std::alloc::Global;

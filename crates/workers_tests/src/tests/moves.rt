@@ -6,12 +6,14 @@ use super::{
     OTHER_ASSOCIATION, OTHER_AUTHENTICATION, are_frames, count_of, has_first, have_left, octets,
     radio, section_at,
 };
-use bss_core::{Bss, Counts, MAX_NETWORKS};
+use ap_config::MAX_NETWORKS;
+use events::Counts;
 use fixtures::PROBE_REQUEST;
 use fixtures::lab::{
     ASSOCIATION_REQUEST, ASSOCIATION_RESPONSE, AUTHENTICATION_REQUEST, AUTHENTICATION_RESPONSE,
     BEACON, DOZE, PS_POLL, SECOND_AUTHENTICATION_RESPONSE,
 };
+use network::Bss;
 use std::alloc::Global;
 use std::process::Abort;
 use std::sync::Wait;

@@ -1,7 +1,7 @@
 //! Which access points are opened.
 
 use super::radio;
-use bss_core::{ConfigFault, OpenFault};
+use ap_config::{ConfigFault, OpenFault};
 use std::alloc::Global;
 use std::test::Fail;
 use workers::Parts;

@@ -4,8 +4,9 @@ ghost use Rattle.std.specs.Prelude.{◌<◌, length};
 
 use super::running::{Job, run};
 use super::{has_first, radio};
-use bss_core::{Bss, MAX_NETWORKS};
+use ap_config::MAX_NETWORKS;
 use mac_frame::{MacAddr, NoMemory};
+use network::Bss;
 use std::process::Abort;
 use std::sync::Wait;
 use std::sync::atomic::{AtomicU64, Ordering};

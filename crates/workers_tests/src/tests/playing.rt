@@ -3,7 +3,8 @@
 use super::opening::CHANNEL;
 use super::overlap::comes;
 use super::{OTHER_ASSOCIATION, OTHER_AUTHENTICATION, are_same, octets, radio, section_at};
-use bss_core::{Event, Section, Step, run};
+use bss_core::{Step, run};
+use events::{Event, Section};
 use fixtures::lab::{ASSOCIATION_REQUEST, AUTHENTICATION_REQUEST};
 use mac_frame::Octets;
 use std::alloc::Global;

@@ -5,7 +5,7 @@ ghost use Rattle.workers.specs.Names.{AreNamed};
 use super::moves::{Move, make_all};
 use super::overlap::look_and_answer;
 use super::receipts::{Visit, visit_it};
-use bss_core::RadioConfig;
+use ap_config::RadioConfig;
 use std::alloc::Global;
 use std::marker::Brand;
 use std::process::Abort;

@@ -1,6 +1,6 @@
 use Rattle.std.proofs.Common.{◌≡◌, ◌≤◌, ◌-◌, vec_len, vec_capacity}
 use Rattle.crossbeam_queue.specs.Passes.{IsPassOf, view}
-use Rattle.bss_core.specs.Lists.{IsPrefix}
+use Rattle.events.specs.Lists.{IsPrefix}
 use Rattle.air_queue.specs.Rule.{IsRadioWith, networks_of, taken_in_of}
 use Rattle.air_queue.proofs.taking.drain.Given as goal
 

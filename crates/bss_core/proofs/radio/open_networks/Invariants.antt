@@ -1,8 +1,8 @@
 use Rattle.std.proofs.Common.{◌≡◌, ◌++◌, None, map}
 use Rattle.std.specs.List.{AllByRecursion}
 use Rattle.std.specs.Vec.Iter.{into_iter_items}
-use Rattle.bss_core.specs.Configuration.{network_fault}
-use Rattle.bss_core.specs.RadioView.{opened}
+use Rattle.ap_config.specs.Configuration.{network_fault}
+use Rattle.network.specs.BssView.{opened}
 use Rattle.bss_core.proofs.radio.open_networks.Given as goal
 
 abbrev pub invariant-loop-network : goal.invariant-loop-network

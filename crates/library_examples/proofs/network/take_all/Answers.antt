@@ -1,10 +1,9 @@
 use Rattle.std.proofs.Common.{◌≡◌, ◌++◌, [], ◌∷◌, ℕ, List, refl, sym, ap, ◌∙◌, arith, append-nil, append_assoc}
 use Rattle.std.specs.Vec.Iter.{into_iter_items}
-use Rattle.bss_core.specs.BssView.{BssView, network_of}
-use Rattle.bss_core.specs.Network.{Network}
-use Rattle.bss_core.specs.Running.{section_with}
-use Rattle.bss_core.specs.declared.event.Event.{Event}
-use Rattle.bss_core.specs.declared.setting.Setting.{Setting}
+use Rattle.network.specs.BssView.{BssView, network_of, section_with}
+use Rattle.network.specs.Network.{Network}
+use Rattle.events.specs.declared.event.Event.{Event}
+use Rattle.ap_config.specs.declared.setting.Setting.{Setting}
 use Rattle.library_examples.specs.Settings.{setting}
 use Rattle.library_examples.proofs.NetworkSection.{section_by, no_items}
 use Rattle.library_examples.proofs.network.take_all.Goals as goal

@@ -1,6 +1,6 @@
 use Rattle.std.proofs.Common.{◌≡◌, ◌++◌, []}
 use Rattle.std.specs.Vec.Iter.{into_iter_items}
-use Rattle.bss_core.specs.BssView.{network_of}
+use Rattle.network.specs.BssView.{network_of}
 use Rattle.library_examples.proofs.network.take_all.Given as goal
 
 -- of the events so far, all frames left

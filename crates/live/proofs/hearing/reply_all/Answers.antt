@@ -1,5 +1,5 @@
 use Rattle.std.proofs.Common.{arith, sym, subst}
-use Rattle.bss_core.specs.NetworkView.{NetworkState}
+use Rattle.network.specs.NetworkView.{NetworkState}
 use Rattle.live.specs.Hearing.{line_as, HasReplied}
 use Rattle.live.specs.Writing.{writer}
 use Rattle.live.proofs.HearingSteps.{replies-none, replies-more, replies-all}

@@ -1,9 +1,9 @@
 use Rattle.std.proofs.Common.{◌≡◌, ◌∙◌, [], ◌∷◌, ap, sym}
 use Rattle.std.specs.Prelude.{if◌then◌else◌}
-use Rattle.bss_core.specs.Lines.{heard_of}
-use Rattle.bss_core.specs.declared.event.Event.{Event}
-use Rattle.bss_core.specs.declared.line.Line.{Line}
-use Rattle.bss_core.specs.declared.setting.Setting.{Setting}
+use Rattle.events.specs.Lines.{heard_of}
+use Rattle.events.specs.declared.event.Event.{Event}
+use Rattle.events.specs.declared.line.Line.{Line}
+use Rattle.ap_config.specs.declared.setting.Setting.{Setting}
 use Rattle.live.specs.Hearing.{line_as}
 use Rattle.live.specs.Moments.{bssid_of}
 use Rattle.live.proofs.HearingSteps.{replied-none, replied-one}

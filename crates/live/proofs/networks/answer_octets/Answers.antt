@@ -1,6 +1,6 @@
 use Rattle.std.proofs.Common.{◌≡◌, ◌∙◌, ◌+◌, ap, sym, refl, Some, None, Ok, Err, false, List}
-use Rattle.bss_core.specs.NetworkView.{NetworkState}
-use Rattle.bss_core.specs.declared.line.Line.{Line}
+use Rattle.network.specs.NetworkView.{NetworkState}
+use Rattle.events.specs.declared.line.Line.{Line}
 use Rattle.trace.specs.TraceText.{said_by}
 use Rattle.live.specs.Answers.{asks_for_tables, ForTables, Says, Nothing, Replies, Tables, Faulty, Unread}
 use Rattle.live.specs.Hearing.{line_as}

@@ -1,7 +1,7 @@
 use Rattle.std.proofs.Common.{ap, arith}
 use Rattle.std.specs.Prelude.{flat_map}
 use Rattle.std.proofs.lemmas.List.{take_all}
-use Rattle.bss_core.specs.Network.{table_of}
+use Rattle.network.specs.Network.{table_of}
 use Rattle.trace.specs.Report.{station_line}
 use Rattle.live.proofs.WriterSteps.{Adds-nothing, Adds-item, Adds-same}
 use Rattle.live.proofs.tables.put_stations.Goals as goal

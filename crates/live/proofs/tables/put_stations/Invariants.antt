@@ -1,7 +1,7 @@
 -- The lines of the stations so far were put.
 use Rattle.std.proofs.Common.{take}
 use Rattle.std.specs.Prelude.{flat_map}
-use Rattle.bss_core.specs.Network.{table_of}
+use Rattle.network.specs.Network.{table_of}
 use Rattle.trace.specs.Report.{station_line}
 use Rattle.live.specs.Writing.{Adds, writer}
 use Rattle.live.proofs.tables.put_stations.Given as goal

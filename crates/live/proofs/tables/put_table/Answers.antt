@@ -1,5 +1,5 @@
 use Rattle.std.proofs.Common.{ap}
-use Rattle.bss_core.specs.declared.section.Counts.{Counts}
+use Rattle.events.specs.declared.section.Counts.{Counts}
 use Rattle.trace.specs.Report.{network_line, counts_line}
 use Rattle.live.specs.AnswerText.{table_text}
 use Rattle.live.proofs.WriterSteps.{Adds-then, Adds-same}

@@ -4,7 +4,7 @@ use Rattle.std.proofs.lemmas.List.{length-map}
 use Rattle.std.proofs.lemmas.Option.{none-some}
 use Rattle.std.proofs.lemmas.Result.{err_from_is_err_and}
 use Rattle.std.specs.Prelude.{vec_len}
-use Rattle.bss_core.specs.declared.line.Line.{Line}
+use Rattle.events.specs.declared.line.Line.{Line}
 use Rattle.workers.specs.Names.{callers_fit}
 use Rattle.workers.specs.Receipts.{AreGivers, histories_of}
 use Rattle.replay.specs.Playing.{ArePlayable, IsPlayOf}

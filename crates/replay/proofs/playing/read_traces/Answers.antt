@@ -1,7 +1,7 @@
 use Rattle.std.proofs.Common.{◌≡◌, suc, ◌+◌, ◌++◌, ◌∷◌, [], ℕ, List, length, map, take, drop, sym, ap, subst, ◌∙◌}
 use Rattle.std.proofs.lemmas.List.{take_more, length-map, map-append}
 use Rattle.std.proofs.Math.Seq.{split_at}
-use Rattle.bss_core.specs.declared.line.Line.{Line}
+use Rattle.events.specs.declared.line.Line.{Line}
 use Rattle.replay.specs.Playing.{AreLines}
 use Rattle.replay.proofs.PlayEnds.{lines-more, fault_met}
 use Rattle.replay.proofs.playing.read_traces.Goals as goal

@@ -1,7 +1,7 @@
 use Rattle.std.proofs.Common.{◌++◌, List, Ok, refl}
 use Rattle.std.proofs.lemmas.Result.{err_from_is_err_and}
 use Rattle.std.specs.Option.{option_to_list}
-use Rattle.bss_core.specs.declared.line.Line.{Line}
+use Rattle.events.specs.declared.line.Line.{Line}
 use Rattle.trace.specs.TraceText.{lines_of}
 use Rattle.trace.proofs.EndingLemmas.{same_fault}
 use Rattle.replay.proofs.SectionSteps.{replay-sections}

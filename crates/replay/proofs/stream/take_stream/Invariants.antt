@@ -1,5 +1,5 @@
 use Rattle.std.proofs.Common.{◌≡◌, []}
-use Rattle.bss_core.specs.declared.config.RadioConfig.{RadioConfig}
+use Rattle.ap_config.specs.declared.config.RadioConfig.{RadioConfig}
 use Rattle.replay.specs.Stream.{HasReplayed}
 use Rattle.replay.proofs.StreamSteps.{SoFar}
 use Rattle.replay.proofs.stream.take_stream.Given as goal

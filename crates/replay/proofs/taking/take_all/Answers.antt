@@ -1,7 +1,7 @@
 use Rattle.std.proofs.Common.{◌≡◌, ◌++◌, ◌∷◌, [], List, rules, arith, sym, subst, append_assoc, append-nil}
 use Rattle.std.specs.Option.{IsSomeAnd}
 use Rattle.std.proofs.lemmas.Grind.{common_steps}
-use Rattle.bss_core.specs.declared.line.Line.{Line}
+use Rattle.events.specs.declared.line.Line.{Line}
 use Rattle.replay.specs.Replay.{HasTaken}
 use Rattle.replay.proofs.SectionSteps.{replay-more}
 use Rattle.replay.proofs.taking.take_all.Goals as goal

@@ -1,7 +1,7 @@
 use Rattle.std.proofs.Common.{List, sym, subst, append-nil}
 use Rattle.std.proofs.lemmas.Result.{on_ok_weaker}
 use Rattle.std.specs.Option.{IsSomeAnd}
-use Rattle.bss_core.specs.declared.line.Line.{Line}
+use Rattle.events.specs.declared.line.Line.{Line}
 use Rattle.replay.specs.Replay.{HasTaken}
 use Rattle.replay.proofs.SectionSteps.{replay-more}
 use Rattle.replay.proofs.taking.take_last.Goals as goal

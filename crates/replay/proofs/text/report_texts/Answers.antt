@@ -1,6 +1,6 @@
 use Rattle.std.proofs.Common.{◌≡◌, ◌∙◌}
 use Rattle.std.proofs.lemmas.Result.{err_from_is_err_and}
-use Rattle.bss_core.specs.Lines.{sections_of_lines}
+use Rattle.network.specs.Section.{sections_of_lines}
 use Rattle.trace.proofs.EndingLemmas.{nothing_written, whole_written}
 use Rattle.replay.proofs.AnswerLemmas.{config_ends, trace_ends, answer_of-sections, report_ends}
 use Rattle.replay.proofs.text.report_texts.Goals as goal

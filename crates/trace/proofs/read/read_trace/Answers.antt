@@ -1,7 +1,7 @@
 use Rattle.std.proofs.Common.{◌∙◌, ℕ, List, Ok, ap, sym}
 use Rattle.std.proofs.lemmas.Result.{err_from_is_err_and}
-use Rattle.bss_core.specs.declared.config.RadioConfig.{RadioConfig}
-use Rattle.bss_core.specs.declared.line.Line.{Line}
+use Rattle.ap_config.specs.declared.config.RadioConfig.{RadioConfig}
+use Rattle.events.specs.declared.line.Line.{Line}
 use Rattle.trace.specs.Pieces.{ReaderView, answer_to, answer_to_end, after_piece}
 use Rattle.trace.proofs.EndingLemmas.{same_fault}
 use Rattle.trace.proofs.PieceSteps.{whole-fault, whole-end_fault, whole-said}

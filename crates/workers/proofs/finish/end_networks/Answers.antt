@@ -3,9 +3,9 @@ use Rattle.std.proofs.lemmas.List.{length_push}
 use Rattle.std.specs.Prelude.{All}
 use Rattle.std.specs.List.{AllByRecursion, enumerate_from}
 use Rattle.std.specs.Vec.Iter.{into_iter_items}
-use Rattle.bss_core.specs.BssView.{BssView}
-use Rattle.bss_core.specs.declared.section.Section.{Section}
-use Rattle.bss_core.specs.declared.radio.step.AirItem.{AirItem}
+use Rattle.network.specs.BssView.{BssView}
+use Rattle.events.specs.declared.section.Section.{Section}
+use Rattle.events.specs.declared.air_item.AirItem.{AirItem}
 use Rattle.workers.specs.Ending.{IsSent, items_at}
 use Rattle.workers.proofs.Endings.{ended-step, ended-map, sent-step}
 use Rattle.workers.proofs.Frames.{placed-more}

@@ -2,7 +2,7 @@ use Rattle.std.proofs.Common.{◌≡◌, ◌+◌, ◌++◌, ◌<◌, length, vec
 use Rattle.std.specs.Prelude.{All}
 use Rattle.std.specs.List.{AllByRecursion, enumerate_from}
 use Rattle.std.specs.Vec.Iter.{into_iter_items}
-use Rattle.bss_core.specs.Lists.{IsPrefix}
+use Rattle.events.specs.Lists.{IsPrefix}
 use Rattle.workers.specs.Attributions.{histories, limits}
 use Rattle.workers.specs.Ending.{IsSent, AreEnded}
 use Rattle.workers.specs.Receipts.{histories_of, limits_of}

@@ -1,7 +1,7 @@
 use Rattle.std.proofs.Common.{◌≡◌, ◌+◌, ◌++◌, ◌∷◌, [], List, length, sym, ap, subst, ◌∙◌, arith, vec_len}
 use Rattle.std.specs.List.{AllZip, range_with_len}
 use Rattle.air_queue.specs.Passes.{NetPassView}
-use Rattle.bss_core.specs.BssView.{BssView}
+use Rattle.network.specs.BssView.{BssView}
 use Rattle.workers.specs.Seats.{IsSeated}
 use Rattle.workers.proofs.Endings.{seated-push, named-seated, placed-push}
 use Rattle.workers.proofs.finish.unseat.Goals as goal

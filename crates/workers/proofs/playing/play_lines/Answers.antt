@@ -1,6 +1,6 @@
 use Rattle.std.proofs.Common.{◌≡◌, ◌+◌, ◌++◌, ◌∷◌, [], ◌<◌, ◌≤◌, ℕ, List, length, take, sym, ap, subst, ◌∙◌}
 use Rattle.std.proofs.lemmas.List.{take_more, take_all}
-use Rattle.bss_core.specs.declared.line.Line.{Line}
+use Rattle.events.specs.declared.line.Line.{Line}
 use Rattle.workers.specs.Playing.{AreAnswers}
 use Rattle.workers.specs.declared.caller.Entry.{Entry}
 use Rattle.workers.proofs.Answering.{answers-none, answers-more}

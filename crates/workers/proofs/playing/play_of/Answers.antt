@@ -1,6 +1,6 @@
 use Rattle.std.proofs.Common.{List, map, subst, ◌∙◌}
 use Rattle.std.proofs.lemmas.List.{length-map}
-use Rattle.bss_core.specs.declared.line.Line.{Line}
+use Rattle.events.specs.declared.line.Line.{Line}
 use Rattle.workers.specs.Receipts.{AreGivers, histories_of}
 use Rattle.workers.proofs.Answering.{answered-length, played}
 use Rattle.workers.proofs.Sizes.{sizes}

@@ -2,8 +2,8 @@ use Rattle.std.proofs.Common.{◌≡◌, List, length, inl, inr, sym, ap, subst,
 use Rattle.std.specs.List.{AllByRecursion, zip}
 use Rattle.std.specs.Vec.Iter.{into_iter_items}
 use Rattle.air_queue.specs.Passes.{NetPassView, fresh_passes}
-use Rattle.bss_core.specs.declared.config.NetConfig.{NetConfig}
-use Rattle.bss_core.specs.declared.config.RadioConfig.{RadioConfig}
+use Rattle.ap_config.specs.declared.config.NetConfig.{NetConfig}
+use Rattle.ap_config.specs.declared.config.RadioConfig.{RadioConfig}
 use Rattle.workers.proofs.Starting.{IsReady, all_ready, count_ready, none_first, none_second}
 use Rattle.workers.proofs.start.seat_networks.Goals as goal
 

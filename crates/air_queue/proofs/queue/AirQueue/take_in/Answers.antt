@@ -2,8 +2,8 @@ use Rattle.std.proofs.Common.{◌≡◌, ◌<◌, ℕ, List, [], sym, ap, subst,
 use Rattle.std.specs.Prelude.{All}
 use Rattle.std.specs.List.{AllByRecursion, range_with_len}
 use Rattle.crossbeam_queue.specs.Passes.{view}
-use Rattle.bss_core.specs.Radio.{items_of}
-use Rattle.bss_core.specs.declared.radio.step.AirItem.{AirItem}
+use Rattle.events.specs.Items.{items_of}
+use Rattle.events.specs.declared.air_item.AirItem.{AirItem}
 use Rattle.air_queue.specs.Passes.{NetPassView}
 use Rattle.air_queue.specs.Rule.{IsRadioWith, AllTaken, Accounts, networks_of, taken_in_of}
 use Rattle.air_queue.specs.declared.known.Known.TheVariants.{Radio}

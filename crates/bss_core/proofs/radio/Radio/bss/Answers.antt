@@ -1,8 +1,8 @@
 use Rattle.std.proofs.Common.{◌<◌, List, length, arith, ap, ◌∙◌}
 use Rattle.std.proofs.lemmas.List.{length-map}
-use Rattle.bss_core.specs.Radio.{setting_at}
+use Rattle.ap_config.specs.Places.{setting_at}
 use Rattle.bss_core.specs.RadioView.{RadioView}
-use Rattle.bss_core.specs.BssView.{BssView}
+use Rattle.network.specs.BssView.{BssView}
 use Rattle.bss_core.proofs.RadioChanges.{setting-is}
 use Rattle.bss_core.proofs.radio.Radio.bss.Goals as goal
 

@@ -2,12 +2,12 @@ use Rattle.std.proofs.Common.{◌≡◌, ◌≤◌, ◌<◌, ◌++◌, ◌∷◌
 use Rattle.std.specs.Prelude.{All}
 use Rattle.std.proofs.lemmas.List.{length-map, length-append}
 use Rattle.std.proofs.lemmas.List.Elements.{All-push}
-use Rattle.bss_core.specs.Lists.{IsSuffix}
-use Rattle.bss_core.specs.Radio.{items_of}
+use Rattle.events.specs.Lists.{IsSuffix}
+use Rattle.events.specs.Items.{items_of}
 use Rattle.bss_core.specs.RadioView.{RadioView, view_at, radio_of, IsSoundRadio, moved}
-use Rattle.bss_core.specs.BssView.{BssView, network_of}
-use Rattle.bss_core.specs.declared.radio.step.AirItem.{AirItem}
-use Rattle.bss_core.proofs.RadioFrames.{items_of-other}
+use Rattle.network.specs.BssView.{BssView, network_of}
+use Rattle.events.specs.declared.air_item.AirItem.{AirItem}
+use Rattle.events.proofs.Items.{items_of-other}
 use Rattle.bss_core.proofs.RadioChanges.{moved-shown}
 use Rattle.bss_core.proofs.RadioKeeps.{radio-changed, sound-network, settings-changed, last-at, handed-last}
 use Rattle.bss_core.proofs.radio.Radio.hand.Goals as goal

@@ -1,5 +1,5 @@
 use Rattle.std.proofs.Common.{◌≡◌, None, arith, rules, sym, subst}
-use Rattle.bss_core.specs.Configuration.{fault_of}
+use Rattle.ap_config.specs.Configuration.{fault_of}
 use Rattle.bss_core.specs.RadioView.{IsSoundRadio}
 use Rattle.bss_core.proofs.RadioViews.{radio-opened, settings-fresh, sound-fresh}
 use Rattle.bss_core.proofs.radio.Radio.of_checked.Goals as goal

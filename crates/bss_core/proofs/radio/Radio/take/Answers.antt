@@ -1,10 +1,10 @@
 use Rattle.std.specs.Prelude.{All}
 use Rattle.std.proofs.Common.{◌≡◌, ◌<◌, ◌++◌, List, ℕ, length, get_or, set, OnOk, arith, refl, sym, ap, subst, ◌∙◌}
 use Rattle.std.proofs.lemmas.List.{length-map}
-use Rattle.bss_core.specs.Lists.{IsSuffix}
-use Rattle.bss_core.specs.Radio.{items_of}
+use Rattle.events.specs.Lists.{IsSuffix}
+use Rattle.events.specs.Items.{items_of}
 use Rattle.bss_core.specs.RadioView.{RadioView, radio_of, took}
-use Rattle.bss_core.specs.BssView.{BssView, network_of}
+use Rattle.network.specs.BssView.{BssView, network_of}
 use Rattle.bss_core.proofs.RadioChanges.{took-shown}
 use Rattle.bss_core.proofs.RadioKeeps.{radio-changed, sound-network, settings-changed, last-at, took-last}
 use Rattle.bss_core.proofs.radio.Radio.take.Goals as goal

@@ -1,5 +1,5 @@
 use Rattle.std.proofs.Common.{◌≡◌, ◌++◌, take}
-use Rattle.bss_core.specs.Radio.{items_of}
+use Rattle.events.specs.Items.{items_of}
 use Rattle.bss_core.proofs.radio.running.copy_items.Given as goal
 
 abbrev pub invariant-loop-item : goal.invariant-loop-item

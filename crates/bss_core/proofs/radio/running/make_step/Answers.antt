@@ -2,7 +2,7 @@ use Rattle.std.proofs.Common.{◌≡◌, ◌++◌, ◌∷◌, [], List, arith, r
 use Rattle.bss_core.specs.Radio.{after_steps}
 use Rattle.bss_core.specs.RadioView.{RadioView}
 use Rattle.bss_core.specs.Running.{IsAt}
-use Rattle.bss_core.specs.declared.radio.step.AirItem.{AirItem}
+use Rattle.events.specs.declared.air_item.AirItem.{AirItem}
 use Rattle.bss_core.specs.declared.radio.step.Step.{Step}
 use Rattle.bss_core.specs.declared.radio.step.Step.TheVariants.{Hand, Leave}
 use Rattle.bss_core.proofs.RunSteps.{is_at-handed, is_at-hand_nowhere, is_at-left, is_at-none_left}

@@ -1,14 +1,15 @@
 use Rattle.std.proofs.Common.{◌≡◌, ◌+◌, ◌++◌, ◌∷◌, [], List, ℕ, take, Err, sym, ap, subst, ◌∙◌}
 use Rattle.std.proofs.lemmas.List.{take_more, take_all}
 use Rattle.std.proofs.lemmas.Result.{err_from_is_err_and}
-use Rattle.bss_core.specs.Radio.{RadioState, after_steps, sections_after, items_of, waiting_at}
+use Rattle.bss_core.specs.Radio.{RadioState, after_steps, sections_after, waiting_at}
+use Rattle.events.specs.Items.{items_of}
 use Rattle.bss_core.specs.RadioView.{RadioView}
 use Rattle.bss_core.specs.Running.{IsAt, sections_with}
-use Rattle.bss_core.specs.BssView.{BssView}
-use Rattle.bss_core.specs.declared.config.RadioConfig.{RadioConfig}
-use Rattle.bss_core.specs.declared.radio.OpenFault.{OpenFault}
-use Rattle.bss_core.specs.declared.radio.OpenFault.TheVariants.{Config}
-use Rattle.bss_core.specs.declared.radio.step.AirItem.{AirItem}
+use Rattle.network.specs.BssView.{BssView}
+use Rattle.ap_config.specs.declared.config.RadioConfig.{RadioConfig}
+use Rattle.ap_config.specs.declared.open_fault.OpenFault.{OpenFault}
+use Rattle.ap_config.specs.declared.open_fault.OpenFault.TheVariants.{Config}
+use Rattle.events.specs.declared.air_item.AirItem.{AirItem}
 use Rattle.bss_core.specs.declared.radio.step.Step.{Step}
 use Rattle.bss_core.proofs.RadioFrames.{frames-alone}
 use Rattle.bss_core.proofs.RunSections.{ended-sections}

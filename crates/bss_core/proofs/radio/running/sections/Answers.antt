@@ -1,10 +1,10 @@
 use Rattle.std.proofs.Common.{◌≡◌, ◌++◌, ◌∷◌, [], List, ℕ, length, map, sym, ap, ◌∙◌}
 use Rattle.std.specs.List.{enumerate_from}
 use Rattle.std.specs.Vec.Iter.{into_iter_items}
-use Rattle.bss_core.specs.Running.{section_with, frames_of}
-use Rattle.bss_core.specs.BssView.{BssView}
-use Rattle.bss_core.specs.declared.section.Section.{Section}
-use Rattle.bss_core.specs.declared.radio.step.AirItem.{AirItem}
+use Rattle.network.specs.BssView.{section_with, BssView}
+use Rattle.bss_core.specs.Running.{frames_of}
+use Rattle.events.specs.declared.section.Section.{Section}
+use Rattle.events.specs.declared.air_item.AirItem.{AirItem}
 use Rattle.bss_core.proofs.RunSections.{ended-next}
 use Rattle.bss_core.proofs.radio.running.sections.Goals as goal
 

@@ -1,7 +1,8 @@
 use Rattle.std.proofs.Common.{◌≡◌, ◌++◌, length, map}
 use Rattle.std.specs.List.{enumerate_from}
 use Rattle.std.specs.Vec.Iter.{into_iter_items}
-use Rattle.bss_core.specs.Running.{section_with, frames_of, sections_with}
+use Rattle.network.specs.BssView.{section_with}
+use Rattle.bss_core.specs.Running.{frames_of, sections_with}
 use Rattle.bss_core.proofs.radio.running.sections.Given as goal
 
 -- the sections so far, and those of the networks that are to come

@@ -1,8 +1,9 @@
 use Rattle.std.proofs.Common.{◌≡◌, ◌≢◌, ◌++◌, ◌∷◌, [], ℕ, length, Err, arith, sym, ap, subst, ◌∙◌}
-use Rattle.bss_core.specs.Radio.{RadioState, network_at, after_steps}
+use Rattle.bss_core.specs.Radio.{RadioState, after_steps}
+use Rattle.ap_config.specs.Places.{network_at}
 use Rattle.bss_core.specs.RadioView.{RadioView, view_at, took}
 use Rattle.bss_core.specs.Running.{IsAt}
-use Rattle.bss_core.specs.declared.event.Event.{Event}
+use Rattle.events.specs.declared.event.Event.{Event}
 use Rattle.bss_core.specs.declared.radio.step.Step.TheVariants.{Take}
 use Rattle.bss_core.proofs.RunSteps.{is_at-took, is_at-full, is_at-nowhere}
 use Rattle.bss_core.proofs.radio.running.take.Goals as goal

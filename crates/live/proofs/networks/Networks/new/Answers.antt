@@ -1,5 +1,5 @@
 use Rattle.std.proofs.Common.{◌∙◌, ap, map}
-use Rattle.bss_core.specs.declared.config.NetConfig.{NetConfig}
+use Rattle.ap_config.specs.declared.config.NetConfig.{NetConfig}
 use Rattle.live.proofs.AnswerSteps.{moment-first}
 use Rattle.live.proofs.networks.Networks.new.Goals as goal
 

@@ -2,9 +2,8 @@ use Rattle.std.proofs.Common.{◌≡◌, [], ◌++◌, map, inl, inr, sym, ap, �
 use Rattle.std.specs.List.{zip}
 use Rattle.std.specs.Vec.Iter.{into_iter_items}
 use Rattle.std.proofs.lemmas.Grind.{common_steps}
-use Rattle.bss_core.specs.BssView.{BssView}
+use Rattle.network.specs.BssView.{BssView, section_with}
 use Rattle.bss_core.specs.RadioView.{shown}
-use Rattle.bss_core.specs.Running.{section_with}
 use Rattle.replay.proofs.SectionSteps.{sections_made, no_first, no_second}
 use Rattle.replay.proofs.draining.DrainedRadio.into_sections.Goals as goal
 

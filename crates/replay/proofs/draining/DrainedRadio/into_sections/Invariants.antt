@@ -1,7 +1,7 @@
 use Rattle.std.proofs.Common.{◌≡◌, ◌++◌, map}
 use Rattle.std.specs.List.{zip}
 use Rattle.std.specs.Vec.Iter.{into_iter_items}
-use Rattle.bss_core.specs.Running.{section_with}
+use Rattle.network.specs.BssView.{section_with}
 use Rattle.replay.proofs.draining.DrainedRadio.into_sections.Given as goal
 
 abbrev pub invariant-loop-network : goal.invariant-loop-network

@@ -1,7 +1,7 @@
 -- A radio of which no network took an event, and no frame that left.
 use Rattle.std.proofs.Common.{◌≡◌, length, ap, ◌∙◌}
 use Rattle.bss_core.specs.RadioView.{RadioView, fresh_radio}
-use Rattle.bss_core.specs.declared.config.RadioConfig.{RadioConfig}
+use Rattle.ap_config.specs.declared.config.RadioConfig.{RadioConfig}
 use Rattle.replay.specs.Frames.{none_sent}
 use Rattle.replay.proofs.SectionSteps.{fresh_drained}
 use Rattle.replay.proofs.draining.DrainedRadio.new.Goals as goal

@@ -1,4 +1,4 @@
-use Rattle.bss_core.specs.Radio.{setting_at}
+use Rattle.ap_config.specs.Places.{setting_at}
 use Rattle.bss_core.specs.RadioView.{RadioView, view_at}
 use Rattle.replay.proofs.TakeSteps.{took_drained, on_ok_both}
 use Rattle.replay.proofs.draining.DrainedRadio.take_event.Goals as goal

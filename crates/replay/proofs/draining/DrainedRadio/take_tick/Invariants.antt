@@ -1,4 +1,4 @@
-use Rattle.bss_core.specs.declared.line.Line.TheVariants.{Tick}
+use Rattle.events.specs.declared.line.Line.TheVariants.{Tick}
 use Rattle.replay.specs.Replay.{IsDrained}
 use Rattle.replay.proofs.LineSteps.{TakesBelow}
 use Rattle.replay.proofs.draining.DrainedRadio.take_tick.Given as goal

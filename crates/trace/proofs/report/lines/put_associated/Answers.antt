@@ -2,7 +2,7 @@
 use Rattle.std.proofs.Common.{◌≡◌, ◌∙◌, subst, append_assoc}
 use Rattle.std.specs.Fmt.{decimal}
 use Rattle.mac_frame.specs.Address.{address_text}
-use Rattle.bss_core.specs.declared.section.StationRow.{StationRow}
+use Rattle.events.specs.declared.section.StationRow.{StationRow}
 use Rattle.trace.specs.Buffers.{Puts}
 use Rattle.trace.specs.Report.{associated_line, mode_text}
 use Rattle.trace.proofs.report.lines.put_associated.Goals as goal

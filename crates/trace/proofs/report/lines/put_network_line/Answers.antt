@@ -3,7 +3,7 @@ use Rattle.std.proofs.Common.{◌≡◌, ℕ, List, [], ◌∷◌, ◌++◌, ref
 use Rattle.std.specs.Prelude.{codes}
 use Rattle.hex.specs.Hex.{encode_lower}
 use Rattle.mac_frame.specs.Address.{address_text}
-use Rattle.bss_core.specs.declared.config.NetConfig.{NetConfig}
+use Rattle.ap_config.specs.declared.config.NetConfig.{NetConfig}
 use Rattle.trace.specs.Buffers.{Puts}
 use Rattle.trace.specs.Report.{network_line}
 use Rattle.trace.proofs.BufferSteps.{Puts-err, Puts-first, Puts-then}

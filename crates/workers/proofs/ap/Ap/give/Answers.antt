@@ -1,5 +1,5 @@
 use Rattle.std.proofs.Common.{◌≡◌, ◌++◌, List, ap, ◌∙◌, arith, length}
-use Rattle.bss_core.specs.Configuration.{most_networks}
+use Rattle.ap_config.specs.Configuration.{most_networks}
 use Rattle.workers.specs.Giving.{line_of, event_of, entries_of}
 use Rattle.workers.specs.declared.caller.Entry.{Entry}
 use Rattle.workers.proofs.Offering.{networks-from, events-from, heard-from}

@@ -1,6 +1,6 @@
 use Rattle.std.proofs.Common.{◌≡◌, ◌<◌, ◌≤◌, ◌++◌, ℕ, List, length, get_or, set, Option, None, refl, sym, ap, ◌∙◌, arith, vec_len, vec_capacity}
 use Rattle.std.proofs.lemmas.List.{take_all, length-set}
-use Rattle.bss_core.specs.Configuration.{most_networks}
+use Rattle.ap_config.specs.Configuration.{most_networks}
 use Rattle.workers.specs.Giving.{entries_of}
 use Rattle.workers.specs.declared.copies.Copies.{Copies}
 use Rattle.workers.specs.declared.outcome.Outcome.{Outcome}

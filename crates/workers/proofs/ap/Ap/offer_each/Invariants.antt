@@ -1,5 +1,5 @@
 use Rattle.std.proofs.Common.{◌≡◌, ◌+◌, ◌≤◌, length, vec_len, vec_capacity}
-use Rattle.bss_core.specs.Configuration.{most_networks}
+use Rattle.ap_config.specs.Configuration.{most_networks}
 use Rattle.workers.proofs.Offering.{Offered}
 use Rattle.workers.proofs.ap.Ap.offer_each.Given as goal
 

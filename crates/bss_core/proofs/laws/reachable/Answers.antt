@@ -1,5 +1,0 @@
-use Rattle.bss_core.proofs.AloneLaws.{alone-sound}
-use Rattle.bss_core.proofs.laws.reachable.Goals as goal
-
-pub returns : goal.returns
-returns c = alone-sound

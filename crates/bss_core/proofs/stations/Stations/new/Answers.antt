@@ -1,6 +1,0 @@
-use Rattle.std.proofs.Common.{refl}
-use Rattle.bss_core.proofs.StationTables.{no-numbers}
-use Rattle.bss_core.proofs.stations.Stations.new.Goals as goal
-
-pub invariant_of-result : goal.invariant_of-result
-invariant_of-result c = rw (c.new-2.ensures, c.new.ensures.empty) (record { limit = c.requires.few; pool = no-numbers c.args.most; dozing = refl })

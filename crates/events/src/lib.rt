@@ -1,0 +1,18 @@
+//! What goes into the networks of a radio and what comes out of them, as data.
+//!
+//! Two types to know first: an [`Event`] is one thing that happened to a network, and a [`Section`] is a network with
+//! all that happened to it and all that it did. A [`Line`] is what happened to a radio; which network hears it is said
+//! here once ([`hears`], and `heard` of the definitions). An [`AirItem`] is a frame of one network on its way out.
+//!
+//! What a network makes of its events is left to the crates above.
+#![tactic(auto)]
+
+mod air_item;
+mod event;
+mod line;
+mod section;
+
+pub use air_item::{AirItem, Handed};
+pub use event::{Event, hears};
+pub use line::Line;
+pub use section::{Counts, Section, StationRow};

@@ -1,0 +1,78 @@
+-- Units one after the other, and those that are too old.
+use Rattle.std.proofs.Common.{◌≡◌, ℕ, ◌+◌, Bool, true, false, not, ◌&&◌, cond, List, [], ◌∷◌, length, Option, None, refl, ap, ◌∙◌, arith}
+use Rattle.std.specs.Prelude.{filter, nat_lt}
+use Rattle.powersave.specs.Keep.{Entry, is_for, units_for}
+use Rattle.powersave.specs.declared.unit.Whom.TheVariants.{Group}
+use Rattle.ap_config.specs.declared.setting.Setting.{Setting}
+use Rattle.network.specs.Network.{Network, has_aged, drop_lost, age_units}
+use Rattle.network.specs.Replies.{before_reply, served}
+use Rattle.stations.specs.KeptUnits.{group_is_kept, is_too_old}
+use Rattle.network.specs.declared.reply.Reply.{Reply}
+use Rattle.stations.proofs.Aging.{group-young, none-leaves}
+
+-- those that age are no units for the group
+module _ (p : Entry → Bool) (group : (e : Entry) → is_for Group e ≡ true → p e ≡ false) where
+  pub group-units : (es : List Entry) → units_for Group (filter (λ e. not (p e)) es) ≡ units_for Group es
+  group-units [] = refl
+  group-units (e ∷ es) = by (is_for Group e) refl (group-units es)
+    where
+      late : (d : Bool) → is_for Group e ≡ false → units_for Group (filter (λ e. not (p e)) es) ≡ units_for Group es → units_for Group (cond (not d) (e ∷ filter (λ e. not (p e)) es) (filter (λ e. not (p e)) es)) ≡ units_for Group (e ∷ es)
+      late true other rest = rw other rest
+      late false other rest = rw other rest
+
+      by : (b : Bool) → is_for Group e ≡ b → units_for Group (filter (λ e. not (p e)) es) ≡ units_for Group es → units_for Group (filter (λ e. not (p e)) (e ∷ es)) ≡ units_for Group (e ∷ es)
+      by true here rest = rw (group e here) (rw here (ap (λ us. e.1 ∷ us) rest))
+      by false other rest = late (p e) other rest
+
+  pub group-still_kept : (es : List Entry) → group_is_kept (filter (λ e. not (p e)) es) ≡ group_is_kept es
+  group-still_kept [] = refl
+  group-still_kept (e ∷ es) = by (is_for Group e) refl (group-still_kept es)
+    where
+      late : (d : Bool) → is_for Group e ≡ false → group_is_kept (filter (λ e. not (p e)) es) ≡ group_is_kept es → group_is_kept (cond (not d) (e ∷ filter (λ e. not (p e)) es) (filter (λ e. not (p e)) es)) ≡ group_is_kept (e ∷ es)
+      late true other rest = rw other rest
+      late false other rest = rw other rest
+
+      by : (b : Bool) → is_for Group e ≡ b → group_is_kept (filter (λ e. not (p e)) es) ≡ group_is_kept es → group_is_kept (filter (λ e. not (p e)) (e ∷ es)) ≡ group_is_kept (e ∷ es)
+      by true here rest = rw (group e here) (rw here refl)
+      by false other rest = late (p e) other rest
+
+-- in a network of whatever setting
+pub group-stays_young : (s : Setting) (n : Network) (e : Entry) → is_for Group e ≡ true → has_aged s n e ≡ false
+group-stays_young s n e h = by s.network.aging
+  where
+    by : (b : Bool) → (b && is_too_old n.clock n.stations e) ≡ false
+    by true = group-young n.clock n.stations e h
+    by false = refl
+
+-- where units don't age
+pub unaged : (s : Setting) (n : Network) → s.network.aging ≡ false → age_units s n ≡ n
+unaged s n off =
+    let stay = none-leaves (has_aged s n) n.kept (λ e. ap (λ b. b && is_too_old n.clock n.stations e) off) in
+    λ i. record n { kept = stay.0 i; lost = lost i }
+  where
+    lost : n.lost + length (filter (has_aged s n) n.kept) ≡ n.lost
+    lost =
+        let none = (none-leaves (has_aged s n) n.kept (λ e. ap (λ b. b && is_too_old n.clock n.stations e) off)).1 in
+        ap (λ (es : List Entry). n.lost + length es) none ∙ (omega arith)
+
+-- where no beacon interval begins, no unit ages
+all-stay : (s : Setting) (r : Reply) (n : Network) → r.clock ≡ 0 → drop_lost (λ e. (nat_lt 0 r.clock && s.network.aging) && is_too_old n.clock n.stations e) n ≡ n
+all-stay s r n none =
+    let stay = none-leaves leaves n.kept never in
+    λ i. record n { kept = stay.0 i; lost = (ap (λ (es : List Entry). n.lost + length es) stay.1 ∙ kept-count) i }
+  where
+    leaves : Entry → Bool
+    leaves e = (nat_lt 0 r.clock && s.network.aging) && is_too_old n.clock n.stations e
+
+    never : (e : Entry) → leaves e ≡ false
+    never e = ap (λ (c : ℕ). (nat_lt 0 c && s.network.aging) && is_too_old n.clock n.stations e) none
+
+    kept-count : n.lost + 0 ≡ n.lost
+    kept-count = omega arith
+
+pub before-none : (s : Setting) (polled : Option (List ℕ)) (r : Reply) (n : Network) → r.clock ≡ 0 → before_reply s polled r n ≡ served polled n
+before-none s polled r n none = all-stay s r (served polled n) none
+
+-- where one begins
+pub before-tick : (s : Setting) (r : Reply) (n : Network) → r.clock ≡ 1 → before_reply s None r n ≡ age_units s n
+before-tick s r n one = ap (λ (c : ℕ). drop_lost (λ e. (nat_lt 0 c && s.network.aging) && is_too_old n.clock n.stations e) n) one

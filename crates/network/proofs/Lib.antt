@@ -1,0 +1,16 @@
+pub mod Beacons
+pub mod Aging
+pub mod Samples
+pub mod Statuses
+pub mod AloneLaws
+pub mod AnswerRows
+pub mod Clocks
+pub mod FirstVersions
+pub mod Histories
+pub mod NetworkRows
+pub mod OptionRows
+pub mod RequestRows
+pub mod SentFrames
+pub mod UnitDelivery
+pub mod UnitRows
+pub mod UnitSamples

@@ -1,0 +1,193 @@
+-- How a reply goes on: a frame is sent, a unit is delivered.
+use Rattle.std.proofs.Common.{◌≡◌, ℕ, zero, suc, ◌+◌, ◌<◌, ◌≤◌, Bool, true, false, not, ◌||◌, ◌&&◌, List, [], ◌∷◌, ◌++◌, length, drop, slice_get, Option, Some, None, option_map, option_to_list, refl, sym, ap, subst, ◌∙◌, arith, rules}
+use Rattle.std.specs.Prelude.{nat_lt, if◌then◌else◌}
+use Rattle.std.specs.Str.{bytes_eq}
+use Rattle.std.proofs.lemmas.Bool.{both_ways, lt-ltb, le-ltb}
+use Rattle.std.proofs.lemmas.List.{append-nil, append_assoc, drop_more}
+use Rattle.std.proofs.lemmas.Option.{slice_get_within, get_or_from_slice_get}
+use Rattle.std.proofs.lemmas.Slice.Eq.{bytes_eq-Decides}
+use borrow.Author.Tests.{ltb-true, ltb-false}
+use Rattle.std.proofs.Math.Bool.{beq}
+use Rattle.mac_frame.specs.Address.{is_group}
+use Rattle.powersave.specs.Keep.{Entry, units_for, without_all}
+use Rattle.powersave.specs.declared.unit.Whom.{Whom}
+use Rattle.powersave.specs.declared.unit.Whom.TheVariants.{One, Group}
+use Rattle.powersave.specs.declared.unit.Unit.{Unit as DataUnit}
+use Rattle.ap_config.specs.declared.setting.Setting.{Setting}
+use Rattle.network.specs.Network.{Network, send, send_unit, send_each, change_state, drop_units, serve_poll, answer_poll, set_power_mode, deliver_by, deliver}
+use Rattle.network.specs.Replies.{after_reply, no_reply, sending, serving, served, done, IsAwake, IsFitting}
+use Rattle.stations.specs.Keeping.{without, entry_of, aid_at, aid_for, is_leaving}
+use Rattle.stations.specs.Sound.{IsKeptFor}
+use Rattle.stations.specs.Stations.{Table, link_of, is_dozing, set_mode, some_station_dozes, changed, IsModeAlone}
+use Rattle.stations.specs.declared.table.Change.{Change}
+use Rattle.stations.specs.declared.table.Change.TheVariants as changes
+use Rattle.stations.specs.declared.table.Link.{Link}
+use Rattle.stations.specs.declared.table.Link.TheVariants.{Authenticated, Associated}
+use Rattle.network.specs.Units.{may_poll, others_follow, delivery_of, delivery_with, unit_frame}
+use Rattle.stations.specs.KeptUnits.{group_is_kept}
+use Rattle.stations.specs.declared.keeping.Arriving.{Arriving}
+use Rattle.stations.specs.declared.keeping.Leaving.{Leaving}
+use Rattle.stations.specs.declared.keeping.Leaving.TheVariants as leavings
+use Rattle.network.specs.declared.reply.Reply.{Reply}
+use Rattle.network.specs.declared.reply.unit.Delivery.{Delivery}
+use Rattle.network.specs.declared.reply.unit.Delivery.TheVariants.{Now, Kept}
+use Rattle.stations.proofs.UnitsKept.{aid_for-mode, group-stays, oldest-none, set_mode-same}
+
+-- ---- a frame is sent
+
+pub after-sent : (r : Reply) (n : Network) (frame : ℕ → List ℕ) → send frame (after_reply r n) ≡ after_reply (sending r frame) n
+after-sent r n frame =
+    ap (λ (air : List (List ℕ)). record (send frame (after_reply r n)) { air = air }) (append_assoc n.air r.frames (frame r.sequence ∷ []))
+
+-- ---- nothing is done
+
+pub nothing-replied : (n : Network) → after_reply (no_reply n.sequence) n ≡ n
+nothing-replied n = search rules
+
+pub same-truth : (a b : Bool) → beq a b ≡ true → a ≡ b
+same-truth true true h = refl
+same-truth true false h = absurd (both_ways false refl h)
+same-truth false true h = absurd (both_ways false refl h)
+same-truth false false h = refl
+
+never_both : (b : Bool) → (b && not b) ≡ false
+never_both true = refl
+never_both false = refl
+
+-- a mode that stays
+pub mode-kept : (s : Setting) (from : List ℕ) (doze : Bool) (n : Network) → is_dozing from n.stations ≡ doze → set_power_mode s from doze n ≡ n
+mode-kept s from doze n is =
+    let stays : (is_dozing from n.stations && not doze) ≡ false = ap (λ (b : Bool). b && not doze) is ∙ never_both doze in
+    rw stays (ap (λ (t : Table). record n { stations = t }) (set_mode-same from doze n.stations is))
+
+-- ---- where a unit goes
+
+-- to one that dozes, while the units of another leave
+pub left-apart : (leaving : Leaving) (t : Table) (whom : Whom) → IsAwake leaving t → IsKeptFor t whom → is_leaving leaving whom ≡ false
+left-apart leavings.Nothing t whom awake for = refl
+left-apart (leavings.All (One a)) t Group awake for = refl
+left-apart (leavings.All (One a)) t (One b) awake for = by (bytes_eq b a) refl
+  where
+    by : (r : Bool) → bytes_eq b a ≡ r → bytes_eq b a ≡ false
+    by false is = is
+    by true is =
+        let same : b ≡ a = (bytes_eq-Decides b a).0 is in
+        let dozes : is_dozing a t ≡ true = ap (λ k. is_dozing k t) (sym same) ∙ for in
+        absurd (both_ways (is_dozing a t) awake dozes)
+left-apart (leavings.All Group) t whom awake for = absurd awake
+
+-- the units of a station that leave are nothing to where another goes
+delivery-left : (leaving : Leaving) (t : Table) (kept : List Entry) (to : List ℕ) → IsAwake leaving t → delivery_of to t (without leaving kept ++ []) ≡ delivery_of to t kept
+delivery-left leavings.Nothing t kept to awake = ap (delivery_of to t) (append-nil kept)
+delivery-left (leavings.All (One a)) t kept to awake =
+    let same : group_is_kept (without_all (One a) kept ++ []) ≡ group_is_kept kept = ap group_is_kept (append-nil (without_all (One a) kept)) ∙ group-stays a kept in
+    ap (λ b. if is_group to then (if some_station_dozes t || b then Kept Group else Now) else delivery_with (link_of to t) to) same
+delivery-left (leavings.All Group) t kept to awake = absurd awake
+
+pub delivery-after : (r : Reply) (n : Network) (to : List ℕ) → IsAwake r.keeping.leaving (changed r.change n.stations) → r.keeping.arriving ≡ None → delivery_of to (after_reply r n).stations (after_reply r n).kept ≡ delivery_of to (changed r.change n.stations) n.kept
+delivery-after r n to awake none =
+    ap (λ (a : Option Arriving). delivery_of to (changed r.change n.stations) (without r.keeping.leaving n.kept ++ option_to_list (option_map entry_of a))) none
+    ∙ delivery-left r.keeping.leaving (changed r.change n.stations) n.kept to awake
+
+-- a unit is delivered so
+pub delivered : (s : Setting) (u : DataUnit) (r : Reply) (n : Network) (d : Delivery) → IsAwake r.keeping.leaving (changed r.change n.stations) → r.keeping.arriving ≡ None → d ≡ delivery_of u.to (changed r.change n.stations) n.kept → deliver s u (after_reply r n) ≡ deliver_by d s u (after_reply r n)
+delivered s u r n d awake none is =
+    ap (λ (e : Delivery). deliver_by e s u (after_reply r n)) (delivery-after r n u.to awake none ∙ sym is)
+
+-- the identifier of the link that a kept unit goes by is that of its station
+identifier-of_kept : (to : List ℕ) (t : Table) (kept : List Entry) (whom : Whom) → delivery_of to t kept ≡ Kept whom → aid_at whom (link_of to t) ≡ aid_for whom t
+identifier-of_kept to t kept whom h = by (is_group to) refl
+  where
+    to_group : (b : Bool) → (if b then Kept Group else Now) ≡ Kept whom → aid_at whom (link_of to t) ≡ aid_for whom t
+    to_group true e = let is : Group ≡ whom = cc in subst (λ w. aid_at w (link_of to t) ≡ aid_for w t) is refl
+    to_group false e = absurd (cc)
+
+    to_one : (l : Option Link) → delivery_with l to ≡ Kept whom → aid_at whom (link_of to t) ≡ aid_for whom t
+    to_one None e = absurd (cc)
+    to_one (Some Authenticated) e = absurd (cc)
+    to_one (Some (Associated aid listen true)) e = let one : One to ≡ whom = cc in subst (λ w. aid_at w (link_of to t) ≡ aid_for w t) one refl
+    to_one (Some (Associated aid listen false)) e = absurd (cc)
+
+    by : (b : Bool) → is_group to ≡ b → aid_at whom (link_of to t) ≡ aid_for whom t
+    by true is = to_group (some_station_dozes t || group_is_kept kept) (sym (rw is refl) ∙ h)
+    by false is = to_one (link_of to t) (sym (rw is refl) ∙ h)
+
+-- and so it was before a mode was set
+pub identifier-told : (change : Change) (to : List ℕ) (t : Table) (kept : List Entry) (whom : Whom) (link : Option Link) → IsModeAlone change → link ≡ link_of to (changed change t) → delivery_of to (changed change t) kept ≡ Kept whom → aid_at whom link ≡ aid_for whom t
+identifier-told change to t kept whom link alone is goes =
+    ap (aid_at whom) is ∙ identifier-of_kept to (changed change t) kept whom goes ∙ aid_for-mode change whom t alone
+
+-- ---- units in order
+
+pub others_follow-after : (us : List DataUnit) (k : ℕ) → others_follow (drop k us) ≡ nat_lt k (length us)
+others_follow-after [] zero = refl
+others_follow-after [] (suc k) = sym (le-ltb (suc k) 0 (omega arith))
+others_follow-after (u ∷ us) zero = sym (lt-ltb 0 (length (u ∷ us)) (omega arith))
+others_follow-after (u ∷ us) (suc k) = others_follow-after us k ∙ shifted (nat_lt k (length us)) refl
+  where
+    shifted : (b : Bool) → nat_lt k (length us) ≡ b → nat_lt k (length us) ≡ nat_lt (suc k) (suc (length us))
+    shifted true is = is ∙ sym (lt-ltb (suc k) (suc (length us)) (omega (arith, ltb-true k (length us) is)))
+    shifted false is = is ∙ sym (le-ltb (suc k) (suc (length us)) (omega (arith, ltb-false k (length us) is)))
+
+-- one more of them is sent
+pub one-more : (s : Setting) (shows_more : Bool) (us : List DataUnit) (k : ℕ) (u : DataUnit) (r : Reply) (n : Network) → slice_get us k ≡ Some u
+    → send_each s shows_more (drop k us) (after_reply r n) ≡ send_each s shows_more (drop (k + 1) us) (after_reply (sending r (unit_frame s.network.bssid (shows_more && nat_lt (k + 1) (length us)) u)) n)
+one-more s shows_more us k u r n here =
+    let rest : List DataUnit = drop (k + 1) us in
+    let first : drop k us ≡ u ∷ rest = drop_more us k u (slice_get_within us k u here) ∙ ap (λ (x : DataUnit). x ∷ rest) (get_or_from_slice_get us k u u here) in
+    let more : others_follow rest ≡ nat_lt (k + 1) (length us) = others_follow-after us (k + 1) in
+    ap (λ (vs : List DataUnit). send_each s shows_more vs (after_reply r n)) first
+    ∙ ap (λ (b : Bool). send_each s shows_more rest (send_unit s (shows_more && b) u (after_reply r n))) more
+    ∙ ap (send_each s shows_more rest) (after-sent r n (unit_frame s.network.bssid (shows_more && nat_lt (k + 1) (length us)) u))
+
+-- none is left
+pub all-sent : (us : List DataUnit) (k : ℕ) → length us ≤ k → drop k us ≡ []
+all-sent [] zero h = refl
+all-sent [] (suc k) h = refl
+all-sent (u ∷ us) zero h = absurd (omega (arith, h))
+all-sent (u ∷ us) (suc k) h = all-sent us k (omega (arith, h))
+
+-- one stands at each place
+pub some-at : (us : List DataUnit) (k : ℕ) → k < length us → (u : DataUnit) × (slice_get us k ≡ Some u)
+some-at [] k h = absurd (omega (arith, h))
+some-at (u ∷ us) zero h = (u, refl)
+some-at (u ∷ us) (suc k) h = some-at us k (omega (arith, h))
+
+-- ---- polls
+
+-- the first of these units, where there is one, is sent and leaves
+poll-carried : (s : Setting) (from : List ℕ) (us : List DataUnit) (n : Network) → units_for (One from) n.kept ≡ us → serve_poll s from us n ≡ after_reply (serving s us (no_reply n.sequence)) (served (Some from) n)
+poll-carried s from [] n none =
+    sym (nothing-replied (served (Some from) n) ∙ ap (λ (es : List Entry). record n { kept = es }) (oldest-none (One from) n.kept none))
+poll-carried s from (u ∷ us) n is =
+    let left : Network = served (Some from) n in
+    ap (send (unit_frame s.network.bssid (others_follow us) u)) (sym (nothing-replied left))
+    ∙ after-sent (no_reply n.sequence) left (unit_frame s.network.bssid (others_follow us) u)
+
+pub poll-served : (s : Setting) (from : List ℕ) (aid : ℕ) (n : Network) → may_poll aid (link_of from n.stations) ≡ true → answer_poll s from aid n ≡ after_reply (done s n (Some from) (no_reply n.sequence)) (served (Some from) n)
+poll-served s from aid n may = rw may (poll-carried s from (units_for (One from) n.kept) n refl)
+
+pub poll-refused : (s : Setting) (from : List ℕ) (aid : ℕ) (n : Network) → may_poll aid (link_of from n.stations) ≡ false → answer_poll s from aid n ≡ after_reply (done s n None (no_reply n.sequence)) (served None n)
+poll-refused s from aid n not = rw not (sym (nothing-replied n))
+
+-- such a reply can be carried out
+pub poll-fits : (s : Setting) (n : Network) (polled : Option (List ℕ)) (sequence : ℕ) → IsFitting s (done s n polled (no_reply sequence)) (served polled n)
+poll-fits s n None sequence = record { change = tt; keeping = tt }
+poll-fits s n (Some from) sequence = by (units_for (One from) n.kept)
+  where
+    by : (us : List DataUnit) → IsFitting s (serving s us (no_reply sequence)) (served (Some from) n)
+    by [] = record { change = tt; keeping = tt }
+    by (u ∷ us) = record { change = tt; keeping = tt }
+
+-- ---- units that leave with a change
+
+pub woken-replied : (from : List ℕ) (n : Network) → after_reply (record (no_reply n.sequence) { change = changes.SetMode from false; keeping = record { leaving = leavings.All (One from); arriving = None } }) n ≡ change_state from (set_mode from false) n
+woken-replied from n = search rules
+
+pub dtim-replied : (frame : ℕ → List ℕ) (n : Network) → after_reply (record (sending (record (no_reply n.sequence) { clock = 1 }) frame) { keeping = record { leaving = leavings.All Group; arriving = None } }) n ≡ drop_units Group (send frame (record n { clock = n.clock + 1 }))
+dtim-replied frame n = search rules
+
+-- with the poll of a station no beacon interval begins
+pub polled-clock : (s : Setting) (us : List DataUnit) (sequence : ℕ) → (serving s us (no_reply sequence)).clock ≡ 0
+polled-clock s [] sequence = refl
+polled-clock s (u ∷ us) sequence = refl

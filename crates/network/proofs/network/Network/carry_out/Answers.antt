@@ -1,0 +1,94 @@
+use Rattle.std.proofs.Common.{◌≡◌, ℕ, ◌+◌, ◌*◌, ◌&&◌, Bool, true, false, not, [], length, Option, Some, None, refl, sym, ap, subst, ◌∙◌, arith}
+use Rattle.std.specs.Prelude.{filter, nat_lt}
+use Rattle.std.proofs.lemmas.Bool.{ltb-true, ltb-false}
+use Rattle.std.proofs.lemmas.Option.{none-some}
+use Rattle.ap_config.specs.declared.setting.Setting.{Setting}
+use Rattle.network.specs.Network.{Network}
+use Rattle.network.specs.NetworkView.{NetworkState, IsStill, MayFollow, carried_out, network_with, unsent}
+use Rattle.network.specs.Replies.{after_reply, before_reply}
+use Rattle.stations.specs.Keeping.{kept_after, IsWithin}
+use Rattle.stations.specs.Roster.{RosterState, is_aged}
+use Rattle.network.specs.Sound.{IsSoundNetwork}
+use Rattle.stations.specs.Stations.{StationTable, changed}
+use Rattle.network.specs.declared.reply.Reply.{Reply}
+use Rattle.stations.specs.declared.keeping.Arriving.{Arriving}
+use Rattle.network.proofs.Aging.{before-none}
+use Rattle.ap_config.proofs.Checked.{numbers_bounded}
+use Rattle.network.proofs.network.Network.carry_out.Goals as goal
+
+-- where a unit comes, no beacon interval begins
+not-begun : (r : Reply) (a : Arriving) → IsStill r → r.keeping.arriving ≡ Some a → r.clock ≡ 0
+not-begun r a still comes = by (nat_lt 0 r.clock) refl
+  where
+    by : (b : Bool) → nat_lt 0 r.clock ≡ b → r.clock ≡ 0
+    by true begins = absurd (none-some a (sym (still (ltb-true 0 r.clock begins)).1 ∙ comes))
+    by false none = let most = ltb-false 0 r.clock none in omega (arith, most)
+
+-- one that comes after units aged comes while none did
+within-now : (quota : ℕ) (s : Setting) (r : Reply) (n : Network) → IsStill r → IsWithin quota r.change r.keeping.leaving (before_reply s None r n).stations (before_reply s None r n).kept r.keeping.arriving
+    → IsWithin quota r.change r.keeping.leaving n.stations n.kept r.keeping.arriving
+within-now quota s r n still = by r.keeping.arriving refl
+  where
+    by : (o : Option Arriving) → r.keeping.arriving ≡ o → IsWithin quota r.change r.keeping.leaving (before_reply s None r n).stations (before_reply s None r n).kept o → IsWithin quota r.change r.keeping.leaving n.stations n.kept o
+    by None is within = tt
+    by (Some a) is within =
+        subst (λ (m : Network). IsWithin quota r.change r.keeping.leaving m.stations m.kept (Some a)) (before-none s None r n (not-begun r a still is)) within
+
+-- the network in the end
+ended : (n : NetworkState) (r : Reply) (last : RosterState) (ages : Bool) (aged lost unread : ℕ) → ages ≡ (nat_lt 0 r.clock && n.setting.network.aging)
+    → last.stations.table ≡ changed r.change n.network.stations → last.kept.entries ≡ kept_after r.keeping (filter (λ e. not (is_aged ages n.network.clock n.network.stations e)) n.network.kept)
+    → aged ≡ length (filter (is_aged ages n.network.clock n.network.stations) n.network.kept) → lost ≡ r.lost → unread ≡ r.unread
+    → network_with last (n.network.clock + r.clock) r.sequence (n.network.lost + aged + lost) (n.network.unread + unread) ≡ unsent (after_reply r (before_reply n.setting None r n.network))
+ended n r last ages aged lost unread is table entries count lost_is unread_is =
+    let kept : last.kept.entries ≡ kept_after r.keeping (before_reply n.setting None r n.network).kept =
+    entries ∙ ap (λ (b : Bool). kept_after r.keeping (filter (λ e. not (is_aged b n.network.clock n.network.stations e)) n.network.kept)) is in
+    let gone : n.network.lost + aged ≡ (before_reply n.setting None r n.network).lost =
+    ap (λ (k : ℕ). n.network.lost + k) (count ∙ ap (λ (b : Bool). length (filter (is_aged b n.network.clock n.network.stations) n.network.kept)) is) in
+    let all : n.network.lost + aged + lost ≡ (before_reply n.setting None r n.network).lost + r.lost = ap (λ (k : ℕ). k + lost) gone ∙ ap (λ (k : ℕ). (before_reply n.setting None r n.network).lost + k) lost_is in
+    λ i. record {
+      stations = table i;
+      kept = kept i;
+      clock = n.network.clock + r.clock;
+      sequence = r.sequence;
+      lost = all i;
+      unread = n.network.unread + unread_is i;
+      air = [];
+      wire = [];
+    }
+
+pub carry_out-requires-clause-within : goal.carry_out-requires-clause-within
+carry_out-requires-clause-within c =
+    let r : Reply = c.args.reply in
+    let n : NetworkState = record { setting = c.self.inside.setting; events = c.self.inside.events; network = network_with c.self.inside.roster c.self.inside.clock c.self.inside.sequence c.self.inside.lost c.self.inside.unread } in
+    let follows = subst (λ (k : NetworkState). MayFollow k None r) (sym c.self.view_is) c.requires.follows in
+    subst (λ (quota : ℕ). IsWithin quota r.change r.keeping.leaving n.network.stations n.network.kept r.keeping.arriving) (sym c.self.invariant.quota)
+    (within-now n.setting.network.quota n.setting r n.network follows.still follows.fitting.keeping)
+
+pub carry_out-requires-clause-few : goal.carry_out-requires-clause-few
+carry_out-requires-clause-few c =
+    let most = (numbers_bounded c.self.inside.setting.network c.self.invariant.accepted).quota in
+    omega (arith, c.self.invariant.sound.quota, most)
+
+pub invariant_of-self-2 : goal.invariant_of-self-2
+invariant_of-self-2 c =
+    let r : Reply = c.args.reply in
+    let n : NetworkState = record { setting = c.self.inside.setting; events = c.self.inside.events; network = network_with c.self.inside.roster c.self.inside.clock c.self.inside.sequence c.self.inside.lost c.self.inside.unread } in
+    let follows = subst (λ (k : NetworkState). MayFollow k None r) (sym c.self.view_is) c.requires.follows in
+    let told = c.in_ok-aged.ensures in
+    let is = ended n r c.carry_out.new.self c.units_age-ages.result c.from.result c.from-2.result c.from-3.result c.units_age-ages.ensures (ap (λ (k : StationTable). k.table) told.stations) told.entries (c.from.ensures ∙ told.count) c.from-2.ensures c.from-3.ensures in
+    record {
+      accepted = c.self.invariant.accepted;
+      sound = subst (IsSoundNetwork n.setting (n.events + 1) (2 * (n.events + 1))) (sym is) follows.sound;
+      most = ap (λ (k : StationTable). k.most) told.stations ∙ c.self.invariant.most;
+      quota = told.quota ∙ c.self.invariant.quota;
+      puts = omega (arith, told.puts, c.self.invariant.puts);
+      clock = follows.clock;
+    }
+
+pub returns-clause-after : goal.returns-clause-after
+returns-clause-after c =
+    let r : Reply = c.args.reply in
+    let n : NetworkState = record { setting = c.self.inside.setting; events = c.self.inside.events; network = network_with c.self.inside.roster c.self.inside.clock c.self.inside.sequence c.self.inside.lost c.self.inside.unread } in
+    let told = c.in_ok-aged.ensures in
+    let is = ended n r c.carry_out.new.self c.units_age-ages.result c.from.result c.from-2.result c.from-3.result c.units_age-ages.ensures (ap (λ (k : StationTable). k.table) told.stations) told.entries (c.from.ensures ∙ told.count) c.from-2.ensures c.from-3.ensures in
+    ap (λ (m : Network). record n { events = n.events + 1; network = m }) is ∙ ap (carried_out None r) c.self.view_is

@@ -1,0 +1,9 @@
+pub mod Units
+pub mod Arrivals
+pub mod Network
+pub mod Section
+pub mod FirstVersion
+pub mod Sound
+pub mod Replies
+pub mod NetworkView
+pub mod BssView

@@ -1,0 +1,77 @@
+-- What contracts see of a network that runs without its history (profile).
+use Rattle.std.specs.Prelude.{ℕ, ◌≡◌, ◌+◌, ◌*◌, ◌<◌, ◌≤◌, ◌^◌, List, [], ◌++◌, Option, None}
+use Rattle.ap_config.specs.Configuration.{network_fault}
+use Rattle.ap_config.specs.declared.setting.Setting.{Setting}
+use Rattle.network.specs.Network.{Network, empty_network, step}
+use Rattle.network.specs.Replies.{after_reply, before_reply, served, IsFitting}
+use Rattle.stations.specs.Roster.{RosterState}
+use Rattle.network.specs.Sound.{IsSoundNetwork}
+use Rattle.events.specs.declared.event.Event.{Event}
+use Rattle.network.specs.declared.reply.Reply.{Reply}
+use Rattle.stations.specs.declared.table.Change.TheVariants as changes
+
+-- its setting, how many events it took, and what these made of it but for the frames that it sent
+pub record NetworkState : Type 0 where
+  pub setting : Setting
+  pub events : ℕ
+  pub network : Network
+
+-- a network without the frames that it sent
+abbrev pub unsent : Network → Network
+unsent n = record n { air = []; wire = [] }
+
+-- a network that sent these frames before its own
+abbrev pub sent_before : (air wire : List (List ℕ)) → Network → Network
+sent_before air wire n = record n { air = air ++ n.air; wire = wire ++ n.wire }
+
+-- one that took no event
+abbrev pub new_network : Setting → NetworkState
+new_network s = record { setting = s; events = 0; network = empty_network }
+
+-- one that took an event more
+abbrev pub took_event : Event → NetworkState → NetworkState
+took_event e n = record n { events = n.events + 1; network = unsent (step n.setting n.network e) }
+
+-- one that did what a reply says, and served the poll of a station besides, if there is one, while no unit aged
+abbrev pub replied : (polled : Option (List ℕ)) → Reply → NetworkState → NetworkState
+replied polled r n = record n { events = n.events + 1; network = unsent (after_reply r (served polled n.network)) }
+
+-- one that did so where units age
+abbrev pub carried_out : (polled : Option (List ℕ)) → Reply → NetworkState → NetworkState
+carried_out polled r n =
+    record n { events = n.events + 1; network = unsent (after_reply r (before_reply n.setting polled r n.network)) }
+
+-- a reply with which a beacon interval begins changes no station, and no unit comes with it
+abbrev pub IsStill : Reply → Type 0
+IsStill r = 0 < r.clock → (r.change ≡ changes.Nothing) × (r.keeping.arriving ≡ None)
+
+-- the reply can be carried out, and leaves a network within its bounds
+pub record MayFollow (n : NetworkState) (polled : Option (List ℕ)) (r : Reply) : Type 0 where
+  pub still : IsStill r
+  pub fitting : IsFitting n.setting r (before_reply n.setting polled r n.network)
+  pub sound : IsSoundNetwork n.setting (n.events + 1) (2 * (n.events + 1))
+      (unsent (after_reply r (before_reply n.setting polled r n.network)))
+  pub clock : n.network.clock + r.clock < 2 ^ 32
+
+-- ---- what is kept of it
+
+-- of a network without the frames that it sent, its stations with their units, and its counts
+abbrev pub network_with : RosterState → (clock sequence lost unread : ℕ) → Network
+network_with r clock sequence lost unread = record {
+  stations = r.stations.table;
+  kept = r.kept.entries;
+  clock = clock;
+  sequence = sequence;
+  lost = lost;
+  unread = unread;
+  air = [];
+  wire = [];
+}
+
+pub record IsNetwork (roster : RosterState) (n : NetworkState) : Type 0 where
+  pub accepted : network_fault n.setting.network ≡ None
+  pub sound : IsSoundNetwork n.setting n.events (2 * n.events) n.network
+  pub most : roster.stations.most ≡ n.setting.network.max_stations
+  pub quota : roster.kept.quota ≡ n.setting.network.quota
+  pub puts : roster.kept.puts ≤ n.events
+  pub clock : n.network.clock < 2 ^ 32

@@ -1,0 +1,87 @@
+//! The answers of a network: what it does about an event, one file for each kind of event or request.
+
+ghost use Rattle.std.specs.Prelude.{◌≡◌, ◌<◌, IfOk, IfSome};
+ghost use Rattle.association.specs.Request.{request_of};
+ghost use Rattle.network.specs.Network.{answer};
+ghost use Rattle.network.specs.Replies.{no_reply, done, served, after_reply, IsFitting};
+
+mod authentication;
+mod data;
+mod delivery;
+mod joining;
+mod leaving;
+mod poll;
+mod probing;
+mod tick;
+mod wired;
+
+use crate::network::Network;
+use crate::reply::Reply;
+use association::{Request, class, read, sender};
+use mac_frame::{MacAddr, NoMemory};
+use station_state::fault;
+use stations::standing_with;
+
+impl Network {
+    /// Fills in what it does about a string of octets that was heard on the air, and answers whose poll is to be served
+    /// besides, if it is one that is served.
+    pub(crate) fn answer(
+        &self,
+        reply: &mut Reply,
+        frame: &[u8],
+    ) -> Result<Option<MacAddr>, NoMemory>
+        requires nothing { reply.old ≡ no_reply self.now.network.sequence }
+        requires sequence { reply.old.sequence < 4096 }
+        ensures fitting { IfOk result (λ polled. IsFitting self.now.setting
+            (done self.now.setting self.now.network polled reply.new) (served polled self.now.network)) }
+        ensures answer { IfOk result (λ polled.
+            answer self.now.setting (request_of self.now.setting.network.bssid frame.now) self.now.network
+            ≡ after_reply (done self.now.setting self.now.network polled reply.new)
+            (served polled self.now.network)) }
+        ensures alone { IfOk result (λ polled. IfSome polled (λ _. reply.new ≡ no_reply self.now.network.sequence)) }
+    {
+        let Ok(request) = read(self.setting().network.bssid, frame) else {
+            reply.unread = 1;
+            return Ok(None);
+        };
+        let from = sender(&request);
+        let link = self.stations().link_of(from);
+        if let Some(notice) = fault(standing_with(link), class(&request)) {
+            self.notify(reply, from, notice)?;
+            return Ok(None);
+        }
+        match request {
+            Request::Probe { from, ssid } => self.answer_probe(reply, from, ssid)?,
+            Request::Auth {
+                from,
+                algorithm,
+                step,
+            } => self.answer_authentication(reply, from, link, algorithm, step)?,
+            Request::Assoc {
+                from,
+                again,
+                listen,
+                elements,
+            } => self.answer_association(reply, from, link, again, listen, &elements)?,
+            Request::Disassoc { from } => self.answer_disassociation(reply, from),
+            Request::Deauth { from } => self.answer_deauthentication(reply, from),
+            Request::Msdu {
+                from,
+                doze,
+                to,
+                body,
+            } => self.answer_unit(reply, from, link, doze, to, body)?,
+            Request::Null { from, doze } => self.set_power_mode(reply, from, link, doze)?,
+            Request::Poll { from, aid } => return Ok(self.polled(&*reply, from, link, aid)),
+        }
+        Ok(None)
+    }
+
+    /// A reply that does nothing yet, for an answer to begin with.
+    pub(crate) fn no_reply(&self) -> Reply
+        ensures nothing { result ≡ no_reply self.now.network.sequence }
+        ensures sequence { result.sequence < 4096 }
+    {
+        Reply::new(self.alloc(), self.sequence())
+    }
+}

@@ -1,0 +1,50 @@
+//! What follows from the definitions of a network, for whoever stands on them.
+
+ghost use Rattle.std.specs.Prelude.{◌≡◌, ◌*◌, ◌++◌, true, false, ℕ, List, [], ◌∷◌, length, None};
+ghost use Rattle.ap_config.specs.Configuration.{network_fault};
+ghost use Rattle.ap_config.specs.declared.setting.Setting.{Setting};
+ghost use Rattle.events.specs.declared.event.Event.{Event};
+ghost use Rattle.network.specs.Network.{Network, alone, empty_network, step, table_of, counts_of};
+ghost use Rattle.network.specs.FirstVersion.{alone_in_first_version};
+ghost use Rattle.network.specs.NetworkView.{sent_before};
+ghost use Rattle.network.specs.Sound.{IsSoundNetwork};
+ghost use Rattle.network.specs.BssView.{sent_by};
+
+/// What holds of every network that events make of an empty one, where its configuration has no fault: what it keeps
+/// and what it lost are together two units at most for each event that it took.
+pub fn reachable()
+    ensures { (s : Setting) (es : List Event) → network_fault s.network ≡ None
+        → IsSoundNetwork s (length es) (2 * length es) (alone s es) }
+{}
+
+/// A network alone begins empty, and each further event is one further step.
+pub fn one_step()
+    ensures first { (s : Setting) → alone s [] ≡ empty_network }
+    ensures next { (s : Setting) (es : List Event) (e : Event) → alone s (es ++ e ∷ []) ≡ step s (alone s es) e }
+{}
+
+/// The frames that a network sent stay, in their order: those of a further event come after them.
+pub fn sent_frames()
+    ensures { (s : Setting) (es : List Event) (e : Event)
+        → (alone s (es ++ e ∷ [])).air ≡ (alone s es).air ++ sent_by s es e }
+{}
+
+/// A step adds its frames to those that the network sent before, whatever these are: what it sends, and all else that
+/// becomes of the network, is the same for one that sent nothing.
+pub fn steps_append()
+    ensures { (s : Setting) (n : Network) (e : Event) (air wire : List (List ℕ))
+        → step s (sent_before air wire n) e ≡ sent_before air wire (step s n e) }
+{}
+
+/// Where a network relays and no unit ages, its frames on the air and on the wire, its table and its counts are those
+/// of a network of the first version, whose definition knows neither option (*profile*).
+pub fn first_version()
+    ensures air { (s : Setting) (es : List Event) → s.network.relay ≡ true → s.network.aging ≡ false
+        → (alone s es).air ≡ (alone_in_first_version s es).air }
+    ensures wire { (s : Setting) (es : List Event) → s.network.relay ≡ true → s.network.aging ≡ false
+        → (alone s es).wire ≡ (alone_in_first_version s es).wire }
+    ensures table { (s : Setting) (es : List Event) → s.network.relay ≡ true → s.network.aging ≡ false
+        → table_of (alone s es) ≡ table_of (alone_in_first_version s es) }
+    ensures counts { (s : Setting) (es : List Event) → s.network.relay ≡ true → s.network.aging ≡ false
+        → counts_of (length es) (alone s es) ≡ counts_of (length es) (alone_in_first_version s es) }
+{}

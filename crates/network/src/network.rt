@@ -1,0 +1,366 @@
+//! A network as it runs, without its history.
+
+ghost use Rattle.std.specs.Prelude.{◌≡◌, ◌+◌, ◌*◌, ◌<◌, ◌≤◌, ◌^◌, ◌&&◌, nat_lt, ℕ, true, ◌↔◌, None, Some, Err, IfSome};
+ghost use Rattle.std.specs.Prelude.{IfOk, OnOk, OnErr, length, slice_get, option_to_list};
+ghost use Rattle.ap_config.specs.Configuration.{setting_fault, network_fault};
+ghost use Rattle.network.specs.Network.{step, table_of, age_units};
+ghost use Rattle.network.specs.NetworkView.{new_network, took_event, replied, carried_out, MayFollow};
+ghost use Rattle.network.specs.Sound.{IsSoundNetwork};
+ghost use Rattle.network.specs.Replies.{no_reply, done, serving, before_reply, after_reply};
+ghost use Rattle.stations.specs.Roster.{AreWaitedFor};
+ghost use Rattle.events.specs.declared.event.Event.TheVariants as events;
+ghost use Rattle.network.specs.declared.network.NetworkRefusal.TheVariants as refusals;
+ghost use Rattle.powersave.specs.Keep.{units_for};
+ghost use Rattle.powersave.specs.declared.unit.Whom.TheVariants as whoms;
+
+use crate::reply::{Frames, Reply, SEQUENCE_NUMBERS};
+use crate::shown::row_of;
+use ap_config::Setting;
+use events::{Event, StationRow};
+use mac_frame::{MacAddr, NoMemory, Octets};
+use powersave::{Keep, Whom};
+use stations::{Roster, Stations};
+use std::alloc::Global;
+use std::marker::Model;
+use tim::Bitmap;
+
+/// Why a network refused an event. Nothing of it has changed then.
+#[derive(Clone, Copy, Debug, PartialEq, Eq)]
+pub enum NetworkRefusal {
+    /// A growth was refused.
+    NoMemory,
+    /// As many beacon intervals began as its clock can count.
+    Clock,
+}
+
+impl From<NoMemory> for NetworkRefusal {
+    ghost from_gives = { λ _ refusal. refusal ≡ refusals.NoMemory };
+
+    fn from(_e: NoMemory) -> NetworkRefusal {
+        NetworkRefusal::NoMemory
+    }
+}
+
+/// What a network sent for one event.
+#[derive(Debug, Drop)]
+pub struct Sent {
+    /// The frames on the air, the first of them first.
+    pub air: Frames,
+    /// The frame on the wire, if there is one.
+    pub wire: Option<Octets>,
+}
+
+/// A network that takes events, and hands out what it sends for each.
+///
+/// Contracts see its setting, how many events it took, and the network that these made but for the frames that it sent:
+/// one event more is one `step` of that network. Nothing of it grows with the number of its events.
+#[derive(Drop)]
+pub struct Network {
+    alloc: Global,
+    setting: Setting,
+    roster: Roster,
+    events: u64,
+    clock: u32,
+    sequence: u16,
+    lost: u64,
+    unread: u64,
+}
+
+impl Model for Network {
+    ghost use Rattle.network.specs.NetworkView.{NetworkState, network_with, IsNetwork};
+
+    ghost Value = { NetworkState };
+
+    ghost view = { λ n. record {
+      setting = n.setting;
+      events = n.events;
+      network = network_with n.roster n.clock n.sequence n.lost n.unread;
+    } };
+
+    ghost invariant = { λ n. IsNetwork n.roster (record {
+      setting = n.setting;
+      events = n.events;
+      network = network_with n.roster n.clock n.sequence n.lost n.unread;
+    }) };
+}
+
+impl Network {
+    /// A network that took no event. Its setting is that of a [`crate::RadioConfig`] in which `check` finds no fault.
+    /// It takes no memory.
+    pub fn new(alloc: Global, setting: Setting) -> Network
+        requires setting { setting_fault setting.channel setting.interval ≡ None }
+        requires network { network_fault setting.network ≡ None }
+        ensures { result ≡ new_network setting }
+    {
+        Network {
+            alloc,
+            roster: Roster::new(alloc, setting.network.max_stations, setting.network.quota),
+            setting,
+            events: 0,
+            clock: 0,
+            sequence: 0,
+            lost: 0,
+            unread: 0,
+        }
+    }
+
+    /// Its configuration, with its radio's settings.
+    pub fn setting(&self) -> &Setting
+        ensures setting { result.now ≡ self.now.setting }
+        ensures sound { network_fault result.now.network ≡ None }
+    {
+        &self.setting
+    }
+
+    /// How many events it took.
+    pub fn events(&self) -> u64
+        ensures { result ≡ self.now.events }
+    {
+        self.events
+    }
+
+    /// How many beacon intervals began.
+    pub fn clock(&self) -> u32
+        ensures { result ≡ self.now.network.clock }
+    {
+        self.clock
+    }
+
+    /// How many of its events were no request that it reads (*profile*).
+    pub fn unread(&self) -> u64
+        ensures { result ≡ self.now.network.unread }
+    {
+        self.unread
+    }
+
+    /// How many units were lost (*profile*).
+    pub fn lost(&self) -> u64
+        ensures { result ≡ self.now.network.lost }
+    {
+        self.lost
+    }
+
+    /// How many units are kept now, for stations and for the group.
+    pub fn kept_len(&self) -> u32
+        ensures { result ≡ length self.now.network.kept }
+    {
+        self.roster.kept().len() as u32
+    }
+
+    /// How many stations it knows.
+    pub fn table_len(&self) -> usize
+        ensures { result ≡ length (table_of self.now.network) }
+    {
+        self.roster.stations().len()
+    }
+
+    /// The station at a place of its table, from 0 and below [`Network::table_len`], in order of first authentication
+    /// (IEEE Std 802.11-2016, 11.3.1).
+    pub fn row(&self, place: usize) -> StationRow
+        requires { place < length (table_of self.now.network) }
+        ensures { slice_get (table_of self.now.network) place ≡ Some result }
+    {
+        let (addr, link) = self.roster.stations().row(place);
+        row_of(addr, link, self.kept_for(addr))
+    }
+
+    /// How many units are kept for a station.
+    fn kept_for(&self, addr: MacAddr) -> u32
+        ensures { result ≡ length (units_for (whoms.One addr) self.now.network.kept) }
+    {
+        self.roster.kept().count_for(Whom::One(addr)) as u32
+    }
+
+    /// Takes an event, where it took fewer than 2^62 before, and hands out what it sends for it. `Clock` exactly where
+    /// 4,294,967,295 beacon intervals began and one more begins; `NoMemory` where a growth was refused. After either
+    /// nothing has changed. An air event that the network doesn't hear and a wired frame that can't be read count as
+    /// unread (*profile*).
+    pub fn take(&mut self, event: &Event) -> Result<Sent, NetworkRefusal>
+        requires countable { self.old.events < 2 ^ 62 }
+        ensures after { OnOk result (self.new ≡ took_event event.now self.old) }
+        ensures air { IfOk result (λ sent. sent.air ≡ (step self.old.setting self.old.network event.now).air) }
+        ensures wire { IfOk result (λ sent.
+            option_to_list sent.wire ≡ (step self.old.setting self.old.network event.now).wire) }
+        ensures clock { (result ≡ Err NetworkRefusal.Clock)
+            ↔ ((event.now ≡ events.Tick) × (self.old.network.clock ≡ 4294967295)) }
+        ensures err { OnErr result (self.new ≡ self.old) }
+    {
+        if matches!(event, Event::Tick) && self.clock == u32::MAX {
+            return Err(NetworkRefusal::Clock);
+        }
+        let mut reply = self.no_reply();
+        let polled = self.reply(&mut reply, event)?;
+        Ok(self.finish(reply, polled)?)
+    }
+
+    /// Fills in what it does about an event, which can be carried out, and answers whose poll is to be served besides,
+    /// if one is. It changes nothing.
+    pub(crate) fn reply(
+        &self,
+        reply: &mut Reply,
+        event: &Event,
+    ) -> Result<Option<MacAddr>, NoMemory>
+        requires nothing { reply.old ≡ no_reply self.now.network.sequence }
+        requires sequence { reply.old.sequence < 4096 }
+        requires ticks { event.now ≡ events.Tick → self.now.network.clock < 4294967295 }
+        ensures follows { IfOk result (λ polled.
+            MayFollow self.now polled (done self.now.setting self.now.network polled reply.new)) }
+        ensures step { IfOk result (λ polled. step self.now.setting self.now.network event.now
+            ≡ after_reply (done self.now.setting self.now.network polled reply.new) (before_reply self.now.setting
+            polled (done self.now.setting self.now.network polled reply.new) self.now.network)) }
+        ensures alone { IfOk result (λ polled. IfSome polled (λ _. reply.new ≡ no_reply self.now.network.sequence)) }
+    {
+        // The prover opens what the network keeps, which bounds its counts, where a field is read.
+        let _ = &self.roster;
+        match event {
+            Event::Air(frame) => self.answer(reply, frame.as_slice()),
+            Event::Wire(frame) => {
+                self.answer_wired(reply, frame.as_slice())?;
+                Ok(None)
+            }
+            Event::Tick => {
+                self.tick(reply)?;
+                Ok(None)
+            }
+        }
+    }
+
+    /// Does what a reply to an event says, or serves a poll, and hands out what is sent. After `NoMemory` nothing has
+    /// changed.
+    #[inline(always)]
+    pub(crate) fn finish(&mut self, reply: Reply, polled: Option<MacAddr>) -> Result<Sent, NoMemory>
+        requires follows { MayFollow self.old polled (done self.old.setting self.old.network polled reply) }
+        requires countable { self.old.events < 2 ^ 62 }
+        requires alone { IfSome polled (λ _. reply ≡ no_reply self.old.network.sequence) }
+        ensures after { OnOk result
+            (self.new ≡ carried_out polled (done self.old.setting self.old.network polled reply) self.old) }
+        ensures air { IfOk result (λ sent.
+            sent.air ≡ (done self.old.setting self.old.network polled reply).frames) }
+        ensures wire { IfOk result (λ sent.
+            sent.wire ≡ (done self.old.setting self.old.network polled reply).wired) }
+        ensures few { IfOk result (λ sent.
+            (room : ℕ) → 1 ≤ room → length reply.frames ≤ room → length sent.air ≤ room) }
+        ensures err { OnErr result (self.new ≡ self.old) }
+    {
+        match polled {
+            None => self.carry_out(reply),
+            Some(from) => self.serve_poll(from),
+        }
+    }
+
+    /// Serves the poll of a station: sends the unit that was kept first for it, if there is one. After `NoMemory`
+    /// nothing has changed.
+    fn serve_poll(&mut self, from: MacAddr) -> Result<Sent, NoMemory>
+        requires sound { IsSoundNetwork self.old.setting (self.old.events + 1) (2 * (self.old.events + 1))
+            (replied (Some from) (serving self.old.setting (units_for (whoms.One from) self.old.network.kept)
+            (no_reply self.old.network.sequence)) self.old).network }
+        requires countable { self.old.events < 2 ^ 62 }
+        ensures after { OnOk result (self.new ≡ replied (Some from) (serving self.old.setting
+            (units_for (whoms.One from) self.old.network.kept) (no_reply self.old.network.sequence)) self.old) }
+        ensures air { IfOk result (λ sent. sent.air ≡ (serving self.old.setting
+            (units_for (whoms.One from) self.old.network.kept) (no_reply self.old.network.sequence)).frames) }
+        ensures wire { IfOk result (λ sent. sent.wire ≡ None) }
+        ensures few { IfOk result (λ sent. length sent.air ≤ 1) }
+        ensures err { OnErr result (self.new ≡ self.old) }
+    {
+        let bssid = self.setting.network.bssid;
+        let sent = self.roster.send_oldest(from, bssid, self.sequence)?;
+        self.events += 1;
+        let Some(frame) = sent else {
+            return Ok(Sent {
+                air: Frames::new(self.alloc),
+                wire: None,
+            });
+        };
+        self.sequence = (self.sequence + 1) % SEQUENCE_NUMBERS;
+        Ok(Sent {
+            air: Frames::one(self.alloc, frame),
+            wire: None,
+        })
+    }
+
+    /// Does what a reply to an event says, and hands out what is sent. After `NoMemory` nothing has changed.
+    #[inline(always)]
+    pub(crate) fn carry_out(&mut self, reply: Reply) -> Result<Sent, NoMemory>
+        requires follows { MayFollow self.old None reply }
+        requires countable { self.old.events < 2 ^ 62 }
+        ensures after { OnOk result (self.new ≡ carried_out None reply self.old) }
+        ensures sent { IfOk result (λ sent. sent ≡ record { air = reply.frames; wire = reply.wired }) }
+        ensures err { OnErr result (self.new ≡ self.old) }
+    {
+        let ages = units_age(reply.clock, self.setting.network.aging);
+        let aged = self
+            .roster
+            .carry_out(reply.change, reply.keeping, ages, self.clock)?;
+        // All that may be refused is done.
+        self.lost += u64::from(aged);
+        self.events += 1;
+        self.clock += reply.clock;
+        self.sequence = reply.sequence;
+        self.lost += u64::from(reply.lost);
+        self.unread += u64::from(reply.unread);
+        Ok(Sent {
+            air: reply.frames,
+            wire: reply.wired,
+        })
+    }
+
+    /// Its stations.
+    pub(crate) fn stations(&self) -> &Stations
+        ensures most { result.now.most ≡ self.now.setting.network.max_stations }
+        ensures table { result.now.table ≡ self.now.network.stations }
+    {
+        self.roster.stations()
+    }
+
+    /// The units that it keeps.
+    pub(crate) fn kept(&self) -> &Keep
+        ensures entries { result.now.entries ≡ self.now.network.kept }
+        ensures quota { result.now.quota ≡ self.now.setting.network.quota }
+    {
+        self.roster.kept()
+    }
+
+    /// The association identifiers of the stations that units are kept for (IEEE Std 802.11-2016, 9.4.2.6).
+    pub(crate) fn traffic(&self) -> &Bitmap
+        ensures { AreWaitedFor result.now self.now.network.stations self.now.network.kept }
+    {
+        self.roster.traffic()
+    }
+
+    /// The same once the units that are kept have aged (*profile*), in a network that lets them.
+    pub(crate) fn traffic_after_aging(&self) -> Bitmap
+        requires { self.now.setting.network.aging ≡ true }
+        ensures { AreWaitedFor result self.now.network.stations
+            (age_units self.now.setting self.now.network).kept }
+    {
+        self.roster.traffic_after_aging(self.clock)
+    }
+
+    /// The sequence number of its next frame.
+    pub(crate) fn sequence(&self) -> u16
+        ensures sequence { result ≡ self.now.network.sequence }
+        ensures bounded { result < 4096 }
+    {
+        self.sequence
+    }
+
+    /// Where its memory comes from.
+    pub(crate) fn alloc(&self) -> Global {
+        self.alloc
+    }
+
+    /// Its configuration, where nothing else is asked for any more.
+    pub(crate) fn into_setting(self) -> Setting
+        ensures { result ≡ self.setting }
+    {
+        self.setting
+    }
+}
+
+/// Whether units age where so many beacon intervals begin: where one does, in a network that lets them.
+fn units_age(begin: u32, aging: bool) -> bool
+    ensures { result ≡ (nat_lt 0 begin && aging) }
+{
+    begin > 0 && aging
+}

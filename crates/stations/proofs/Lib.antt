@@ -1,0 +1,6 @@
+pub mod StationTables
+pub mod StationsSound
+pub mod UnitsKept
+pub mod RosterAging
+pub mod WaitedFor
+pub mod Aging

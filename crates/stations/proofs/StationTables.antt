@@ -1,0 +1,406 @@
+-- One station of a table is changed: what becomes of the identifiers.
+use Rattle.std.proofs.Common.{◌≡◌, ℕ, zero, suc, ◌+◌, ◌-◌, ◌<◌, ◌≤◌, Bool, true, false, not, ◌&&◌, ◌||◌, cond, nat_eq, List, [], ◌∷◌, ◌++◌, length, slice_get, Option, Some, None, ◌≢◌, ◌↔◌, refl, sym, ap, subst, ◌∙◌, arith, is_some, inl, inr}
+use Rattle.std.specs.Prelude.{nat_lt, IsNone, if◌then◌else◌}
+use Rattle.std.proofs.lemmas.Bool.{lt-ltb, le-ltb, eq-eqb, ne_eqb, cases_eq, both_ways}
+use Rattle.std.proofs.lemmas.List.{length-append, append-nil}
+use Rattle.std.specs.Ordering.{nat_cmp}
+use Rattle.std.specs.Cmp.{nat_cmp_total, unsigned_tied}
+use Rattle.std.specs.FinSet as set
+use Rattle.std.specs.FinSet.{FinSet, contains-empty, len-empty, contains-insert, contains-remove, len-insert, len-remove}
+use borrow.Author.Tests.{eqb-true}
+use Rattle.indexmap.specs.IndexMap.{insert_entry}
+use Rattle.stations.specs.StationsKept.{AreOut, dozing_count}
+use Rattle.std.specs.Int.{from_bool}
+use Rattle.std.specs.Map.{lookup, set_value}
+use Rattle.std.specs.Str.{bytes_eq}
+use Rattle.aid_pool.specs.LeastFree.{is_among, least_free, IsLeastFree}
+use Rattle.stations.specs.Stations.{Table, link_of, identifier_of, identifiers, aid_with, aid_of, AreIdentifiers, set_link, forget, set_mode, with_mode, dozes, is_dozing, some_station_dozes, changed, IsModeAlone, StationTable, with_table}
+use Rattle.stations.specs.declared.table.Change.{Change}
+use Rattle.stations.specs.declared.table.Change.TheVariants.{Nothing, Authenticate, Associate, Disassociate, Forget, SetMode}
+use Rattle.stations.specs.declared.table.Link.{Link}
+use Rattle.stations.specs.declared.table.Link.TheVariants.{Authenticated, Associated}
+
+abbrev pub Numbers : Type 0
+Numbers = FinSet nat_cmp
+
+-- ---- a number among others
+
+pub is_among-at : (p q : List ℕ) (i n : ℕ) → is_among (p ++ i ∷ q) n ≡ (nat_eq i n || is_among (p ++ q) n)
+is_among-at [] q i n = refl
+is_among-at (m ∷ p) q i n = rw (is_among-at p q i n) (swapped (nat_eq m n) (nat_eq i n) (is_among (p ++ q) n))
+  where
+    swapped : (a b c : Bool) → (a || (b || c)) ≡ (b || (a || c))
+    swapped true true c = refl
+    swapped true false c = refl
+    swapped false b c = refl
+
+pub neither : (a b : Bool) → (a || b) ≡ false → (a ≡ false) × (b ≡ false)
+neither true b h = absurd (both_ways true h refl)
+neither false b h = (refl, h)
+
+both_false : (a b : Bool) → a ≡ false → b ≡ false → (a || b) ≡ false
+both_false a b h k = rw h k
+
+pub eqb-flip : (a b : ℕ) → nat_eq a b ≡ nat_eq b a
+eqb-flip a b = elim (cases_eq a b) [ inl same ↦ rw same refl | inr other ↦ ne_eqb a b other ∙ sym (ne_eqb b a (λ e. other (sym e))) ]
+
+-- one number less
+pub without : (p q : List ℕ) (i : ℕ) → AreIdentifiers (p ++ i ∷ q) → AreIdentifiers (p ++ q) × (is_among (p ++ q) i ≡ false)
+without [] q i h = (h.3, h.2)
+without (m ∷ p) q i h =
+    let rest = without p q i h.3 in
+    let other = neither (nat_eq i m) (is_among (p ++ q) m) (sym (is_among-at p q i m) ∙ h.2) in
+    ((h.0, h.1, other.1, rest.0), both_false (nat_eq m i) (is_among (p ++ q) i) (eqb-flip m i ∙ other.0) rest.1)
+
+-- one number more
+pub within : (p q : List ℕ) (i : ℕ) → 1 ≤ i → i ≤ 2007 → AreIdentifiers (p ++ q) → is_among (p ++ q) i ≡ false → AreIdentifiers (p ++ i ∷ q)
+within [] q i first last h new = (first, last, new, h)
+within (m ∷ p) q i first last h new =
+    let other = neither (nat_eq m i) (is_among (p ++ q) i) new in
+    (h.0, h.1, is_among-at p q i m ∙ both_false (nat_eq i m) (is_among (p ++ q) m) (eqb-flip i m ∙ other.0) h.2, within p q i first last h.3 other.1)
+
+-- ---- a known station among the others
+
+append_assoc_of : (l : Link) (p q : List ℕ) → identifier_of l ++ (p ++ q) ≡ (identifier_of l ++ p) ++ q
+append_assoc_of Authenticated p q = refl
+append_assoc_of (Associated aid listen doze) p q = refl
+
+identifiers-append : (s t : Table) → identifiers (s ++ t) ≡ identifiers s ++ identifiers t
+identifiers-append [] t = refl
+identifiers-append (e ∷ s) t = ap (λ ns. identifier_of e.1 ++ ns) (identifiers-append s t) ∙ append_assoc_of e.1 (identifiers s) (identifiers t)
+
+-- the numbers before and after that of a station
+pub record IsParted (addr : List ℕ) (link : Link) (t : Table) (p q : List ℕ) : Type 0 where
+  pub whole : identifiers t ≡ p ++ (identifier_of link ++ q)
+  pub changed : (l : Link) → identifiers (set_link addr l t) ≡ p ++ (identifier_of l ++ q)
+  pub removed : identifiers (forget addr t) ≡ p ++ q
+
+parted-here : (addr : List ℕ) (link : Link) (e : List ℕ × Link) (t : Table) → bytes_eq addr e.0 ≡ true → e.1 ≡ link → IsParted addr link (e ∷ t) [] (identifiers t)
+parted-here addr link e t same is =
+    record { whole = ap (λ l. identifier_of l ++ identifiers t) is; changed = λ l. rw same refl; removed = rw same refl }
+
+parted-later : (addr : List ℕ) (link : Link) (e : List ℕ × Link) (t : Table) (p q : List ℕ) → bytes_eq addr e.0 ≡ false → IsParted addr link t p q → IsParted addr link (e ∷ t) (identifier_of e.1 ++ p) q
+parted-later addr link e t p q other r = record {
+  whole = ap (λ ns. identifier_of e.1 ++ ns) r.whole ∙ append_assoc_of e.1 p (identifier_of link ++ q);
+  changed = λ l. rw other (ap (λ ns. identifier_of e.1 ++ ns) (r.changed l) ∙ append_assoc_of e.1 p (identifier_of l ++ q));
+  removed = rw other (ap (λ ns. identifier_of e.1 ++ ns) r.removed ∙ append_assoc_of e.1 p q);
+}
+
+found-here : (b : Bool) (link other : Link) (rest : Option Link) → b ≡ true → cond b (Some other) rest ≡ Some link → other ≡ link
+found-here true link other rest e h = cc
+found-here false link other rest e h = absurd (both_ways false refl e)
+
+found-later : (b : Bool) (link other : Link) (rest : Option Link) → b ≡ false → cond b (Some other) rest ≡ Some link → rest ≡ Some link
+found-later true link other rest e h = absurd (both_ways true e refl)
+found-later false link other rest e h = h
+
+pub parted : (addr : List ℕ) (link : Link) (t : Table) → link_of addr t ≡ Some link → (p : List ℕ) × (q : List ℕ) × IsParted addr link t p q
+parted addr link [] h = absurd (cc)
+parted addr link (e ∷ t) h = by (bytes_eq addr e.0) refl (parted addr link t)
+  where
+    by : (b : Bool) → bytes_eq addr e.0 ≡ b → (link_of addr t ≡ Some link → (p : List ℕ) × (q : List ℕ) × IsParted addr link t p q) → (p : List ℕ) × (q : List ℕ) × IsParted addr link (e ∷ t) p q
+    by true same later = ([], identifiers t, parted-here addr link e t same (found-here _ link e.1 _ same h))
+    by false other later =
+        let rest = later (found-later _ link e.1 _ other h) in
+        (identifier_of e.1 ++ rest.0, rest.1, parted-later addr link e t rest.0 rest.1 other rest.2)
+
+-- ---- an unknown station
+
+pub set_link-unknown : (addr : List ℕ) (link : Link) (t : Table) → link_of addr t ≡ None → set_link addr link t ≡ t ++ (addr, link) ∷ []
+set_link-unknown addr link [] h = refl
+set_link-unknown addr link (e ∷ t) h = by (bytes_eq addr e.0) refl (set_link-unknown addr link t)
+  where
+    by : (b : Bool) → bytes_eq addr e.0 ≡ b → (link_of addr t ≡ None → set_link addr link t ≡ t ++ (addr, link) ∷ []) → set_link addr link (e ∷ t) ≡ e ∷ (t ++ (addr, link) ∷ [])
+    by true same later = let found : Some e.1 ≡ None = sym (rw same refl) ∙ h in absurd (cc)
+    by false other later = let none : lookup (bytes_eq addr) t ≡ None = sym (rw other refl) ∙ h in rw other (ap (λ (s : Table). e ∷ s) (later none))
+
+pub forget-unknown : (addr : List ℕ) (t : Table) → link_of addr t ≡ None → forget addr t ≡ t
+forget-unknown addr [] h = refl
+forget-unknown addr (e ∷ t) h = by (bytes_eq addr e.0) refl (forget-unknown addr t)
+  where
+    by : (b : Bool) → bytes_eq addr e.0 ≡ b → (link_of addr t ≡ None → forget addr t ≡ t) → forget addr (e ∷ t) ≡ e ∷ t
+    by true same later = let found : Some e.1 ≡ None = sym (rw same refl) ∙ h in absurd (cc)
+    by false other later = let none : lookup (bytes_eq addr) t ≡ None = sym (rw other refl) ∙ h in rw other (ap (λ (s : Table). e ∷ s) (later none))
+
+-- ---- what the station's identifier says
+
+pub link_of-associated : (addr : List ℕ) (t : Table) (aid : ℕ) → aid_of addr t ≡ Some aid → (link : Link) × (link_of addr t ≡ Some link) × (identifier_of link ≡ aid ∷ [])
+link_of-associated addr t aid h = by (link_of addr t) refl
+  where
+    by : (l : Option Link) → link_of addr t ≡ l → (link : Link) × (link_of addr t ≡ Some link) × (identifier_of link ≡ aid ∷ [])
+    by None is = let e : None ≡ Some aid = sym (ap aid_with is) ∙ h in absurd (cc)
+    by (Some Authenticated) is = let e : None ≡ Some aid = sym (ap aid_with is) ∙ h in absurd (cc)
+    by (Some (Associated n listen doze)) is =
+        let e : Some n ≡ Some aid = sym (ap aid_with is) ∙ h in
+        let same : n ≡ aid = cc in
+        (Associated n listen doze, is, ap (λ (m : ℕ). m ∷ []) same)
+
+-- the numbers of a table in which an associated station gets another link
+pub numbers-of_associated : (addr : List ℕ) (t : Table) (aid : ℕ) → aid_of addr t ≡ Some aid
+    → (p : List ℕ) × (q : List ℕ) × (identifiers t ≡ p ++ aid ∷ q) × ((l : Link) → identifiers (set_link addr l t) ≡ p ++ (identifier_of l ++ q)) × (identifiers (forget addr t) ≡ p ++ q)
+numbers-of_associated addr t aid h =
+    let found = link_of-associated addr t aid h in
+    let parts = parted addr found.0 t found.1 in
+    let p = parts.0 in
+    let q = parts.1 in
+    (p, q, parts.2.whole ∙ ap (λ ns. p ++ (ns ++ q)) found.2, parts.2.changed, parts.2.removed)
+
+-- ---- a station that is not associated has no number
+
+pub numbers-kept : (addr : List ℕ) (t : Table) → aid_of addr t ≡ None → (identifiers (set_link addr Authenticated t) ≡ identifiers t) × (identifiers (forget addr t) ≡ identifiers t)
+numbers-kept addr t h = by (link_of addr t) refl
+  where
+    by : (l : Option Link) → link_of addr t ≡ l → (identifiers (set_link addr Authenticated t) ≡ identifiers t) × (identifiers (forget addr t) ≡ identifiers t)
+    by None is =
+        (ap identifiers (set_link-unknown addr Authenticated t is) ∙ identifiers-append t ((addr, Authenticated) ∷ []) ∙ append-nil (identifiers t), ap identifiers (forget-unknown addr t is))
+    by (Some Authenticated) is =
+        let parts = parted addr Authenticated t is in
+        (parts.2.changed Authenticated ∙ sym parts.2.whole, parts.2.removed ∙ sym parts.2.whole)
+    by (Some (Associated n listen doze)) is = let e : Some n ≡ None = sym (ap aid_with is) ∙ h in absurd (cc)
+
+-- ---- the pool
+
+-- the numbers of a set, one at a time
+pub contains_inserted : (s : Numbers) (k n : ℕ) → set.contains (set.insert s k) n ≡ (nat_eq n k || set.contains s n)
+contains_inserted s k n = contains-insert nat_cmp_total s k n ∙ ap (λ b. b || set.contains s n) (unsigned_tied n k)
+
+pub contains_removed : (s : Numbers) (k n : ℕ) → set.contains (set.remove s k) n ≡ (not (nat_eq n k) && set.contains s n)
+contains_removed s k n = contains-remove nat_cmp_total s k n ∙ ap (λ b. not b && set.contains s n) (unsigned_tied n k)
+
+removed_bit : (a b c d : Bool) → (a ≡ true → c ≡ false) → b ≡ (d || c) → a ≡ d → (not a && b) ≡ c
+removed_bit true b c d none whole same = sym (none refl)
+removed_bit false b c true none whole same = absurd (both_ways false refl same)
+removed_bit false b c false none whole same = whole
+
+pub out-removed : (most : ℕ) (out : Numbers) (p q : List ℕ) (i : ℕ) → AreOut most out (p ++ i ∷ q) → AreOut most (set.remove out i) (p ++ q)
+out-removed most out p q i h =
+    let parts = without p q i h.sound in
+    let there : set.contains out i ≡ true = h.numbers i ∙ is_among-at p q i i ∙ rw (eq-eqb i i refl) refl in
+    record {
+      numbers = λ n.
+          contains_removed out i n
+          ∙ removed_bit (nat_eq n i) (set.contains out n) (is_among (p ++ q) n) (nat_eq i n)
+          (λ e. subst (λ m. is_among (p ++ q) m ≡ false) (sym (eqb-true n i e)) parts.1)
+          (h.numbers n ∙ is_among-at p q i n) (eqb-flip n i);
+      count =
+          let fewer : set.len (set.remove out i) ≡ set.len out - 1 = len-remove nat_cmp_total out i ∙ rw there refl in
+          omega (arith, fewer, h.count, length-append p (i ∷ q), length-append p q);
+      few = omega (arith, h.few, length-append p (i ∷ q), length-append p q);
+      sound = parts.0;
+    }
+
+pub out-inserted : (most : ℕ) (out : Numbers) (p q : List ℕ) (i : ℕ) → 1 ≤ i → i ≤ 2007 → set.contains out i ≡ false → set.len out < most → AreOut most out (p ++ q) → AreOut most (set.insert out i) (p ++ i ∷ q)
+out-inserted most out p q i first last free room h = record {
+  numbers = λ n. contains_inserted out i n ∙ ap (λ b. b || set.contains out n) (eqb-flip n i) ∙ ap (λ b. nat_eq i n || b) (h.numbers n) ∙ sym (is_among-at p q i n);
+  count =
+      let more : set.len (set.insert out i) ≡ set.len out + 1 = len-insert nat_cmp_total out i ∙ rw free refl in
+      omega (arith, more, h.count, length-append p (i ∷ q), length-append p q);
+  few = omega (arith, room, h.count, length-append p (i ∷ q), length-append p q);
+  sound = within p q i first last h.sound (sym (h.numbers i) ∙ free);
+}
+
+-- ---- the pool after a change of one station
+
+pub out-of_associated : (most : ℕ) (out : Numbers) (addr : List ℕ) (t : Table) (aid : ℕ) → aid_of addr t ≡ Some aid → AreOut most out (identifiers t) → set.contains out aid ≡ true
+out-of_associated most out addr t aid h o =
+    let n = numbers-of_associated addr t aid h in
+    o.numbers aid ∙ ap (λ ns. is_among ns aid) n.2 ∙ is_among-at n.0 n.1 aid aid ∙ rw (eq-eqb aid aid refl) refl
+
+pub out-freed : (most : ℕ) (out : Numbers) (addr : List ℕ) (t : Table) (aid : ℕ) → aid_of addr t ≡ Some aid → AreOut most out (identifiers t) → AreOut most (set.remove out aid) (identifiers (set_link addr Authenticated t)) × AreOut most (set.remove out aid) (identifiers (forget addr t))
+out-freed most out addr t aid h o =
+    let n = numbers-of_associated addr t aid h in
+    let less = out-removed most out n.0 n.1 aid (subst (AreOut most out) n.2 o) in
+    (subst (AreOut most (set.remove out aid)) (sym (n.3 Authenticated)) less, subst (AreOut most (set.remove out aid)) (sym n.4) less)
+
+pub out-kept : (most : ℕ) (out : Numbers) (addr : List ℕ) (t : Table) → aid_of addr t ≡ None → AreOut most out (identifiers t) → AreOut most out (identifiers (set_link addr Authenticated t)) × AreOut most out (identifiers (forget addr t))
+out-kept most out addr t h o =
+    let n = numbers-kept addr t h in
+    (subst (AreOut most out) (sym n.0) o, subst (AreOut most out) (sym n.1) o)
+
+pub out-associated_again : (most : ℕ) (out : Numbers) (addr : List ℕ) (t : Table) (aid listen : ℕ) (doze : Bool) → aid_of addr t ≡ Some aid → AreOut most out (identifiers t) → AreOut most out (identifiers (set_link addr (Associated aid listen doze) t))
+out-associated_again most out addr t aid listen doze h o =
+    let n = numbers-of_associated addr t aid h in
+    subst (AreOut most out) (n.2 ∙ sym (n.3 (Associated aid listen doze))) o
+
+pub out-associated : (most : ℕ) (out : Numbers) (addr : List ℕ) (t : Table) (aid listen : ℕ) (doze : Bool) → link_of addr t ≡ Some Authenticated → IsLeastFree (set.contains out) aid → set.len out < most → AreOut most out (identifiers t) → AreOut most (set.insert out aid) (identifiers (set_link addr (Associated aid listen doze) t))
+out-associated most out addr t aid listen doze h least room o =
+    let n = parted addr Authenticated t h in
+    let more = out-inserted most out n.0 n.1 aid least.first least.last least.free room (subst (AreOut most out) n.2.whole o) in
+    subst (AreOut most (set.insert out aid)) (sym (n.2.changed (Associated aid listen doze))) more
+
+-- the least number that is free of the pool is so of the table
+pub least-of_out : (most : ℕ) (out : Numbers) (ns : List ℕ) → AreOut most out ns → least_free (set.contains out) ≡ least_free (is_among ns)
+least-of_out most out ns o = let same : set.contains out ≡ is_among ns = λ i n. o.numbers n i in ap least_free same
+
+-- the numbers of associated stations are in their range
+pub in_range : (p q : List ℕ) (i : ℕ) → AreIdentifiers (p ++ i ∷ q) → (1 ≤ i) × (i ≤ 2007)
+in_range [] q i h = (h.0, h.1)
+in_range (m ∷ p) q i h = in_range p q i h.3
+
+pub range-of_associated : (addr : List ℕ) (t : Table) (aid : ℕ) → aid_of addr t ≡ Some aid → AreIdentifiers (identifiers t) → (1 ≤ aid) × (aid ≤ 2007)
+range-of_associated addr t aid h o = let n = numbers-of_associated addr t aid h in in_range n.0 n.1 aid (subst AreIdentifiers n.2 o)
+
+-- ---- the map's words
+
+pub insert_entry-is_set_link : (addr : List ℕ) (link : Link) (t : Table) → insert_entry bytes_eq t addr link ≡ set_link addr link t
+insert_entry-is_set_link addr link [] = refl
+insert_entry-is_set_link addr link (e ∷ t) = ap (λ (s : Table). if bytes_eq addr e.0 then (e.0, link) ∷ t else e ∷ s) (insert_entry-is_set_link addr link t)
+
+-- a known station's link is set in its place
+pub set_value-is_set_link : (addr : List ℕ) (link : Link) (t : Table) → is_some (link_of addr t) ≡ true → set_value (bytes_eq addr) t link ≡ set_link addr link t
+set_value-is_set_link addr link [] h = absurd (both_ways false refl h)
+set_value-is_set_link addr link (e ∷ t) h = by (bytes_eq addr e.0) refl (set_value-is_set_link addr link t)
+  where
+    by : (b : Bool) → bytes_eq addr e.0 ≡ b → (is_some (link_of addr t) ≡ true → set_value (bytes_eq addr) t link ≡ set_link addr link t) → set_value (bytes_eq addr) (e ∷ t) link ≡ set_link addr link (e ∷ t)
+    by true same later = rw same refl
+    by false other later =
+        let there : is_some (link_of addr t) ≡ true = sym (rw other refl) ∙ h in
+        rw other (ap (λ (s : Table). e ∷ s) (later there))
+
+pub no-numbers : (most : ℕ) → AreOut most set.empty []
+no-numbers most = record { numbers = λ n. contains-empty nat_cmp n; count = len-empty nat_cmp; few = omega arith; sound = tt }
+
+-- the stations as contracts see them, after a change
+abbrev pub stations : ℕ → Table → StationTable
+stations most table = record { most = most; table = table }
+
+pub changed_table : (f : Table → Table) (most : ℕ) (old new : Table) (s : StationTable) → stations most old ≡ s → new ≡ f old → stations most new ≡ with_table s (f s.table)
+changed_table f most old new s is change = ap (stations most) change ∙ ap (λ (k : StationTable). stations k.most (f k.table)) is
+
+-- a station that is known and has no number is authenticated
+pub authenticated-where : (addr : List ℕ) (t : Table) → is_some (link_of addr t) ≡ true → aid_of addr t ≡ None → link_of addr t ≡ Some Authenticated
+authenticated-where addr t known none = by (link_of addr t) refl
+  where
+    by : (l : Option Link) → link_of addr t ≡ l → link_of addr t ≡ Some Authenticated
+    by None is = let e : false ≡ true = sym (ap is_some is) ∙ known in absurd (both_ways false refl e)
+    by (Some Authenticated) is = is
+    by (Some (Associated n listen doze)) is = let e : Some n ≡ None = sym (ap aid_with is) ∙ none in absurd (cc)
+
+-- a number is free exactly where fewer are out than may be
+pub room-where : (most : ℕ) (out : Numbers) (ns : List ℕ) (least : Option ℕ) → (IsNone least ↔ (set.len out ≡ most)) → AreOut most out ns → is_some least ≡ nat_lt (length ns) most
+room-where most out ns None h o =
+    let full : set.len out ≡ most = h.0 refl in
+    sym (le-ltb (length ns) most (omega (arith, full, o.count)))
+room-where most out ns (Some aid) h o =
+    let some : set.len out ≢ most = λ e. both_ways true (h.1 e) refl in
+    sym (lt-ltb (length ns) most (omega (arith, some, o.count, o.few)))
+
+-- ---- how many doze
+
+-- of a station's link
+abbrev pub dozing_at : List ℕ → Table → ℕ
+dozing_at addr t = from_bool (is_dozing addr t)
+
+pub dozing-set : (addr : List ℕ) (link : Link) (t : Table) → dozing_count (set_link addr link t) + dozing_at addr t ≡ dozing_count t + from_bool (dozes link)
+dozing-set addr link [] = omega arith
+dozing-set addr link (e ∷ t) = by (bytes_eq addr e.0) refl (dozing-set addr link t)
+  where
+    by : (b : Bool) → bytes_eq addr e.0 ≡ b → dozing_count (set_link addr link t) + dozing_at addr t ≡ dozing_count t + from_bool (dozes link) → dozing_count (set_link addr link (e ∷ t)) + dozing_at addr (e ∷ t) ≡ dozing_count (e ∷ t) + from_bool (dozes link)
+    by true same later = rw same (omega arith)
+    by false other later = rw other (omega (arith, later))
+
+-- a station that dozes is counted
+pub dozing-at_most : (addr : List ℕ) (t : Table) → dozing_at addr t ≤ dozing_count t
+dozing-at_most addr t = omega (arith, dozing-set addr Authenticated t)
+
+pub dozing-forgotten : (addr : List ℕ) (t : Table) → dozing_count (forget addr t) + dozing_at addr t ≡ dozing_count t
+dozing-forgotten addr [] = refl
+dozing-forgotten addr (e ∷ t) = by (bytes_eq addr e.0) refl (dozing-forgotten addr t)
+  where
+    by : (b : Bool) → bytes_eq addr e.0 ≡ b → dozing_count (forget addr t) + dozing_at addr t ≡ dozing_count t → dozing_count (forget addr (e ∷ t)) + dozing_at addr (e ∷ t) ≡ dozing_count (e ∷ t)
+    by true same later = rw same (omega arith)
+    by false other later = rw other (omega (arith, later))
+
+-- the mode of a known station is set by its link
+pub set_mode-is_set_link : (addr : List ℕ) (doze : Bool) (link : Link) (t : Table) → link_of addr t ≡ Some link → set_mode addr doze t ≡ set_link addr (with_mode doze link) t
+set_mode-is_set_link addr doze link [] h = absurd (cc)
+set_mode-is_set_link addr doze link (e ∷ t) h = by (bytes_eq addr e.0) refl (set_mode-is_set_link addr doze link t)
+  where
+    by : (b : Bool) → bytes_eq addr e.0 ≡ b → (link_of addr t ≡ Some link → set_mode addr doze t ≡ set_link addr (with_mode doze link) t) → set_mode addr doze (e ∷ t) ≡ set_link addr (with_mode doze link) (e ∷ t)
+    by true same later = let is = found-here _ link e.1 _ same h in rw (same, is) refl
+    by false other later = let rest = later (found-later _ link e.1 _ other h) in rw (other, rest) refl
+
+pub set_mode-unknown : (addr : List ℕ) (doze : Bool) (t : Table) → link_of addr t ≡ None → set_mode addr doze t ≡ t
+set_mode-unknown addr doze [] h = refl
+set_mode-unknown addr doze (e ∷ t) h = by (bytes_eq addr e.0) refl (set_mode-unknown addr doze t)
+  where
+    by : (b : Bool) → bytes_eq addr e.0 ≡ b → (link_of addr t ≡ None → set_mode addr doze t ≡ t) → set_mode addr doze (e ∷ t) ≡ e ∷ t
+    by true same later = let found : Some e.1 ≡ None = sym (rw same refl) ∙ h in absurd (cc)
+    by false other later = let none : lookup (bytes_eq addr) t ≡ None = sym (rw other refl) ∙ h in rw other (ap (λ (s : Table). e ∷ s) (later none))
+
+-- some station dozes exactly where the count isn't 0
+pub some-dozes : (t : Table) → some_station_dozes t ≡ nat_lt 0 (dozing_count t)
+some-dozes [] = refl
+some-dozes (e ∷ t) = by (dozes e.1) refl (some-dozes t)
+  where
+    by : (b : Bool) → dozes e.1 ≡ b → some_station_dozes t ≡ nat_lt 0 (dozing_count t) → some_station_dozes (e ∷ t) ≡ nat_lt 0 (dozing_count (e ∷ t))
+    by true is later = rw is (sym (lt-ltb 0 (1 + dozing_count t) (omega arith)))
+    by false is later = let count : dozing_count t ≡ 0 + dozing_count t = omega arith in rw is (later ∙ ap (nat_lt 0) count)
+
+-- whoever dozes is associated
+pub dozing-few : (t : Table) → dozing_count t ≤ length (identifiers t)
+dozing-few [] = omega arith
+dozing-few (e ∷ t) = by e.1 (dozing-few t)
+  where
+    by : (l : Link) → dozing_count t ≤ length (identifiers t) → from_bool (dozes l) + dozing_count t ≤ length (identifier_of l ++ identifiers t)
+    by Authenticated later = omega (arith, later)
+    by (Associated aid listen true) later = omega (arith, later)
+    by (Associated aid listen false) later = omega (arith, later)
+
+pub dozing-moded : (addr : List ℕ) (doze : Bool) (t : Table) → dozing_count (set_mode addr doze t) + dozing_at addr t ≡ dozing_count t + dozing_at addr (set_mode addr doze t)
+dozing-moded addr doze [] = refl
+dozing-moded addr doze (e ∷ t) = by (bytes_eq addr e.0) refl (dozing-moded addr doze t)
+  where
+    by : (b : Bool) → bytes_eq addr e.0 ≡ b → dozing_count (set_mode addr doze t) + dozing_at addr t ≡ dozing_count t + dozing_at addr (set_mode addr doze t) → dozing_count (set_mode addr doze (e ∷ t)) + dozing_at addr (e ∷ t) ≡ dozing_count (e ∷ t) + dozing_at addr (set_mode addr doze (e ∷ t))
+    by true same later =
+        let set : set_mode addr doze (e ∷ t) ≡ (e.0, with_mode doze e.1) ∷ t = rw same refl in
+        let after : dozing_at addr ((e.0, with_mode doze e.1) ∷ t) ≡ from_bool (dozes (with_mode doze e.1)) = rw same refl in
+        let before : dozing_at addr (e ∷ t) ≡ from_bool (dozes e.1) = rw same refl in
+        omega (arith, before, ap dozing_count set, after, ap (dozing_at addr) set)
+    by false other later =
+        let set : set_mode addr doze (e ∷ t) ≡ e ∷ set_mode addr doze t = rw other refl in
+        let after : dozing_at addr (e ∷ set_mode addr doze t) ≡ dozing_at addr (set_mode addr doze t) = rw other refl in
+        let before : dozing_at addr (e ∷ t) ≡ dozing_at addr t = rw other refl in
+        omega (arith, later, before, ap dozing_count set, after, ap (dozing_at addr) set)
+
+-- a change that sets no mode, where no other change is allowed
+pub nothing-changes : (change : Change) (t : Table) → IsModeAlone change → ((a : List ℕ) (doze : Bool) → change ≡ SetMode a doze → ⊥) → changed change t ≡ t
+nothing-changes Nothing t alone other = refl
+nothing-changes (Authenticate a) t alone other = absurd alone
+nothing-changes (Associate a listen) t alone other = absurd alone
+nothing-changes (Disassociate a) t alone other = absurd alone
+nothing-changes (Forget a) t alone other = absurd alone
+nothing-changes (SetMode a doze) t alone other = absurd (other a doze refl)
+
+-- one that dozes is among those that doze
+pub dozes-some : (addr : List ℕ) (t : Table) → is_dozing addr t ≡ true → some_station_dozes t ≡ true
+dozes-some addr t h =
+    let one : dozing_at addr t ≡ 1 = ap from_bool h in
+    some-dozes t ∙ lt-ltb 0 (dozing_count t) (omega (arith, one, dozing-at_most addr t))
+
+-- once one is active, another dozes exactly where more dozed than it
+pub other-dozes : (addr : List ℕ) (doze : Bool) (t : Table) → is_dozing addr (set_mode addr doze t) ≡ false → nat_lt (dozing_at addr t) (dozing_count t) ≡ some_station_dozes (set_mode addr doze t)
+other-dozes addr doze t h =
+    let none : dozing_at addr (set_mode addr doze t) ≡ 0 = ap from_bool h in
+    shifted (dozing_at addr t) (dozing_count t) (dozing_count (set_mode addr doze t)) (omega (arith, none, dozing-moded addr doze t)) ∙ sym (some-dozes (set_mode addr doze t))
+  where
+    shifted : (at count rest : ℕ) → rest + at ≡ count → nat_lt at count ≡ nat_lt 0 rest
+    shifted at count zero sum = le-ltb at count (omega (arith, sum))
+    shifted at count (suc rest) sum = lt-ltb at count (omega (arith, sum)) ∙ sym (lt-ltb 0 (suc rest) (omega arith))
+
+-- ---- the identifier of the station at a place
+
+rest-sound : (l : Link) (ns : List ℕ) → AreIdentifiers (identifier_of l ++ ns) → AreIdentifiers ns
+rest-sound Authenticated ns h = h
+rest-sound (Associated aid listen doze) ns h = h.3
+
+pub aid-range : (t : Table) (place : ℕ) (station : List ℕ × Link) (aid : ℕ) → slice_get t place ≡ Some station → aid_with (Some station.1) ≡ Some aid → AreIdentifiers (identifiers t) → (1 ≤ aid) × (aid ≤ 2007)
+aid-range [] place station aid here is h = absurd (cc)
+aid-range (e ∷ t) zero station aid here is h =
+    let same : e ≡ station = cc in
+    of e.1 (ap (λ (k : List ℕ × Link). aid_with (Some k.1)) same ∙ is) h
+  where
+    of : (l : Link) → aid_with (Some l) ≡ Some aid → AreIdentifiers (identifier_of l ++ identifiers t) → (1 ≤ aid) × (aid ≤ 2007)
+    of Authenticated k sound = absurd (cc)
+    of (Associated n listen doze) k sound = let number : n ≡ aid = cc in subst (λ m. (1 ≤ m) × (m ≤ 2007)) number (sound.0, sound.1)
+aid-range (e ∷ t) (suc place) station aid here is h = aid-range t place station aid here is (rest-sound e.1 (identifiers t) h)

@@ -1,0 +1,17 @@
+use Rattle.std.proofs.Common.{◌∙◌, List, length, ap}
+use Rattle.std.specs.Prelude.{nat_lt}
+use Rattle.powersave.specs.Keep.{Entry, Kept, units_for, without_older}
+use Rattle.stations.proofs.roster.Roster.age_for.Goals as goal
+
+pub invariant_of-self : goal.invariant_of-self
+invariant_of-self c =
+    let es : List Entry = c.self.inside.kept.entries in
+    let whom = c.args.whom.now in
+    let limit = c.limit_for-limit.result in
+    rw c.drop_older-dropped.ensures.after (record {
+      limit = c.self.invariant.limit;
+      sound = c.self.invariant.sound;
+      traffic =
+          c.follow.ensures c.self.invariant.sound es (without_older whom limit es) (λ other apart. c.parts_stay.ensures.others_older whom other limit es apart)
+          (ap (nat_lt 0) c.count_for-waits.ensures ∙ ap (λ (k : Kept). nat_lt 0 (length (units_for whom k.entries))) c.drop_older-dropped.ensures.after) c.self.invariant.traffic;
+    })

@@ -1,0 +1,44 @@
+-- Units that are kept for the stations of a network and for the group (IEEE Std 802.11-2016, 11.2.3): who waits for
+-- some, and which are too old.
+use Rattle.std.specs.Prelude.{ℕ, ◌+◌, ◌==◌, nat_lt, Bool, false, ◌&&◌, List, [], Option}
+use Rattle.std.specs.List.{list_any}
+use Rattle.powersave.specs.Keep.{Entry, is_for}
+use Rattle.powersave.specs.declared.unit.Whom.{Whom}
+use Rattle.powersave.specs.declared.unit.Whom.TheVariants.{One, Group}
+use Rattle.stations.specs.Stations.{Table, link_of, listen_with}
+use Rattle.stations.specs.declared.table.Link.{Link}
+use Rattle.stations.specs.declared.table.Link.TheVariants.{Authenticated, Associated}
+
+-- ---- where a unit goes on the air (11.2.3.2)
+
+-- units for the group are kept, in order, until the next DTIM
+abbrev pub group_is_kept : List Entry → Bool
+group_is_kept kept = list_any (is_for Group) kept
+
+-- ---- units that are too old (profile)
+
+-- for a station with this link more beacon intervals began since a clock than its listen interval (9.4.1.6)
+abbrev pub is_late : Option Link → (at clock : ℕ) → Bool
+is_late link at clock = nat_lt (at + listen_with link) clock
+
+-- one that is kept for a station; those for the group don't age
+abbrev pub is_too_old_for : ℕ → Table → Whom → (at : ℕ) → Bool
+is_too_old_for clock table (One addr) at = is_late (link_of addr table) at clock
+is_too_old_for clock table Group at = false
+
+abbrev pub is_too_old : ℕ → Table → Entry → Bool
+is_too_old clock table entry = is_too_old_for clock table entry.0 entry.1.at
+
+-- ---- who has units waiting, for the beacon (11.2.3.3)
+
+abbrev pub has_unit : List ℕ → List Entry → Bool
+has_unit addr kept = list_any (is_for (One addr)) kept
+
+-- it has this association identifier
+abbrev pub has_aid : ℕ → Link → Bool
+has_aid aid Authenticated = false
+has_aid aid (Associated own listen doze) = aid == own
+
+-- a station with this association identifier has units waiting
+abbrev pub is_waited_for : Table → List Entry → ℕ → Bool
+is_waited_for table kept aid = list_any (λ station. has_aid aid station.1 && has_unit station.0 kept) table

@@ -1,0 +1,6 @@
+pub mod Stations
+pub mod StationsKept
+pub mod KeptUnits
+pub mod Sound
+pub mod Keeping
+pub mod Roster

@@ -1,0 +1,339 @@
+//! The stations that a network knows (IEEE Std 802.11-2016, 11.3.1).
+
+ghost use Rattle.std.specs.Prelude.{◌≡◌, ◌<◌, ◌≤◌, [], IsTrue, IsOk, OnOk, OnErr, IfSome, Some, None, option_map};
+ghost use Rattle.std.specs.Prelude.{length, slice_get, is_some, if◌then◌else◌};
+ghost use Rattle.tim.specs.Tim.{IsAid};
+ghost use Rattle.stations.specs.Stations.{with_table, link_of, standing_with, aid_of, aid_with, dozes_with};
+ghost use Rattle.stations.specs.Stations.{some_station_dozes, listen_with, may_associate, next_aid, is_associated};
+ghost use Rattle.stations.specs.Stations.{set_link, authenticate, associate, disassociate, forget, set_mode, with_mode};
+ghost use Rattle.stations.specs.Stations.{changed, IsAllowed, IsModeAlone};
+
+use aid_pool::AidPool;
+use indexmap::IndexMap;
+use mac_frame::{MAX_AID, MacAddr, NoMemory};
+use station_state::Standing;
+use std::alloc::Global;
+use std::marker::Model;
+
+/// How far a known station has come (11.3.1). A station in State 1 has no link.
+#[derive(Clone, Copy, Debug, PartialEq, Eq)]
+pub enum Link {
+    /// State 2: authenticated, not associated.
+    Authenticated,
+    /// State 4, as there is no RSNA: authenticated and associated.
+    Associated {
+        /// Its association identifier, 1 to 2007 (9.4.1.8).
+        aid: u16,
+        /// Its listen interval in beacon intervals (9.4.1.6).
+        listen: u16,
+        /// Whether it dozes (11.2.3.2).
+        doze: bool,
+    },
+}
+
+/// What becomes of one station.
+#[derive(Clone, Copy, Debug)]
+pub enum Change {
+    /// Nothing does.
+    Nothing,
+    /// It is authenticated (11.3.4.3).
+    Authenticate(MacAddr),
+    /// It is associated (11.3.5.3).
+    Associate {
+        /// The station.
+        addr: MacAddr,
+        /// Its listen interval in beacon intervals (9.4.1.6).
+        listen: u16,
+    },
+    /// It is no longer associated (11.3.5.9).
+    Disassociate(MacAddr),
+    /// It is not known any more (11.3.4.5).
+    Forget(MacAddr),
+    /// It dozes or is active, if it is associated (11.2.3.2).
+    SetMode {
+        /// The station.
+        addr: MacAddr,
+        /// Whether it dozes.
+        doze: bool,
+    },
+}
+
+/// The stations of a network, in order of first authentication. Contracts see how many may be associated at most, and
+/// the list of the stations with their links. Each is found by its address without a walk over the list.
+#[derive(Drop)]
+pub struct Stations {
+    links: IndexMap<MacAddr, Link>,
+    pool: AidPool,
+    // how many doze
+    dozing: usize,
+}
+
+impl Model for Stations {
+    ghost use Rattle.stations.specs.Stations.{StationTable};
+    ghost use Rattle.stations.specs.StationsKept.{AreCounted};
+
+    ghost Value = { StationTable };
+
+    ghost view = { λ s. record { most = s.pool.most; table = s.links.entries } };
+
+    ghost invariant = { λ s. AreCounted s.pool.most s.pool.out s.dozing s.links.entries };
+}
+
+impl Stations {
+    /// No station is known. At most `most` may be associated, 1 to 2007.
+    pub fn new(alloc: Global, most: u16) -> Stations
+        requires some { 1 ≤ most }
+        requires few { most ≤ MAX_AID }
+        ensures { result ≡ record { most = most; table = [] } }
+    {
+        Stations {
+            links: IndexMap::new(alloc),
+            pool: AidPool::new(most),
+            dozing: 0,
+        }
+    }
+
+    /// How many are known.
+    pub fn len(&self) -> usize
+        ensures { result ≡ length self.now.table }
+    {
+        self.links.len()
+    }
+
+    /// The station at a place, from 0, with its link.
+    pub fn row(&self, place: usize) -> (MacAddr, Link)
+        requires { place < length self.now.table }
+        ensures { slice_get self.now.table place ≡ Some result }
+    {
+        let (addr, link) = self.links.get_index(place).unwrap();
+        (*addr, *link)
+    }
+
+    /// How far a station has come, or `None` where it is not known.
+    pub fn link_of(&self, addr: MacAddr) -> Option<Link>
+        ensures { result ≡ link_of addr self.now.table }
+    {
+        self.links.get(&addr).copied()
+    }
+
+    /// The association identifier of a station, if it is associated.
+    pub fn aid_of(&self, addr: MacAddr) -> Option<u16>
+        ensures aid { result ≡ aid_of addr self.now.table }
+        ensures within { IfSome result IsAid }
+    {
+        // The prover opens what the table keeps, which bounds each identifier, where a field is read.
+        let _ = &self.pool;
+        aid_with(self.link_of(addr))
+    }
+
+    /// How far a station has come once the mode of one is set.
+    pub fn link_after(&self, change: Change, addr: MacAddr) -> Option<Link>
+        requires { IsModeAlone change }
+        ensures { result ≡ link_of addr (changed change self.now.table) }
+    {
+        let link = self.link_of(addr);
+        let Change::SetMode { addr: set, doze } = change else {
+            return link;
+        };
+        if set == addr {
+            link_with_mode(link, doze)
+        } else {
+            link
+        }
+    }
+
+    /// Whether a station dozes once the mode of one is set (11.2.3.2).
+    pub fn some_dozes_after(&self, change: Change) -> bool
+        requires { IsModeAlone change }
+        ensures { result ≡ some_station_dozes (changed change self.now.table) }
+    {
+        let Change::SetMode { addr, .. } = change else {
+            return self.dozing > 0;
+        };
+        let before = dozes_with(self.link_of(addr));
+        let after = dozes_with(self.link_after(change, addr));
+        after || self.dozing > usize::from(before)
+    }
+
+    /// The identifier that an association of the station with this link gives: the one that it has, or the least that
+    /// is free. `None` exactly where as many others are associated as may be.
+    pub fn next_aid(&self, addr: MacAddr, link: Option<Link>) -> Option<u16>
+        requires { link ≡ link_of addr self.now.table }
+        ensures room { is_some result ≡ may_associate self.now.most addr self.now.table }
+        ensures aid { IfSome result (λ aid. aid ≡ next_aid addr self.now.table) }
+        ensures last { IfSome result (λ aid. aid ≤ MAX_AID) }
+    {
+        match aid_with(link) {
+            Some(aid) => Some(aid),
+            None => self.pool.least(),
+        }
+    }
+
+    /// Changes one station. `NoMemory`, and no change, can come where an unknown one is authenticated.
+    pub fn change(&mut self, change: Change) -> Result<(), NoMemory>
+        requires { IsAllowed self.old.most change self.old.table }
+        ensures ok { OnOk result (self.new ≡ with_table self.old (changed change self.old.table)) }
+        ensures err { OnErr result (self.new ≡ self.old) }
+        ensures mode { IsModeAlone change → IsOk result }
+    {
+        match change {
+            Change::Nothing => {}
+            Change::Authenticate(addr) => self.authenticate(addr)?,
+            Change::Associate { addr, listen } => self.associate(addr, listen),
+            Change::Disassociate(addr) => self.disassociate(addr),
+            Change::Forget(addr) => self.forget(addr),
+            Change::SetMode { addr, doze } => self.set_mode(addr, doze),
+        }
+        Ok(())
+    }
+
+    /// Authenticates a station: an unknown one goes last, a known one keeps its place and is no longer associated, so
+    /// that its identifier is free. `NoMemory`, and no change, can come for an unknown station alone.
+    pub fn authenticate(&mut self, addr: MacAddr) -> Result<(), NoMemory>
+        ensures ok { OnOk result (self.new ≡ with_table self.old (authenticate addr self.old.table)) }
+        ensures err { OnErr result (self.new ≡ self.old) }
+        ensures unknown { OnErr result (link_of addr self.old.table ≡ None) }
+    {
+        let before = self.links.insert(addr, Link::Authenticated)?;
+        self.dozing -= usize::from(dozes_with(before));
+        if let Some(aid) = aid_with(before) {
+            self.pool.give(aid);
+        }
+        Ok(())
+    }
+
+    /// Associates a known station with this listen interval, under the identifier that [`Stations::next_aid`] tells.
+    pub fn associate(&mut self, addr: MacAddr, listen: u16)
+        requires known { IsTrue (is_some (link_of addr self.old.table)) }
+        requires room { IsTrue (may_associate self.old.most addr self.old.table) }
+        ensures { self.new ≡ with_table self.old (associate addr listen self.old.table) }
+    {
+        let before = self.link_of(addr);
+        self.dozing -= usize::from(dozes_with(before));
+        let aid = match aid_with(before) {
+            Some(aid) => aid,
+            None => self.pool.take().unwrap(),
+        };
+        let link = Link::Associated {
+            aid,
+            listen,
+            doze: false,
+        };
+        set_known(&mut self.links, addr, link);
+    }
+
+    /// Ends the association of a station, which is authenticated only from then on and whose identifier is free.
+    /// Nothing changes where it is not associated.
+    pub fn disassociate(&mut self, addr: MacAddr)
+        ensures { self.new ≡ with_table self.old (disassociate addr self.old.table) }
+    {
+        let before = self.link_of(addr);
+        let Some(aid) = aid_with(before) else {
+            return;
+        };
+        self.pool.give(aid);
+        self.dozing -= usize::from(dozes_with(before));
+        set_known(&mut self.links, addr, Link::Authenticated);
+    }
+
+    /// Forgets a station, whose identifier is free then. The others keep their order: this walks over those after it.
+    /// Nothing changes where it is not known.
+    pub fn forget(&mut self, addr: MacAddr)
+        ensures { self.new ≡ with_table self.old (forget addr self.old.table) }
+    {
+        let before = self.links.shift_remove(&addr);
+        self.dozing -= usize::from(dozes_with(before));
+        if let Some(aid) = aid_with(before) {
+            self.pool.give(aid);
+        }
+    }
+
+    /// Sets the mode of a station. Nothing changes where it is not associated.
+    pub fn set_mode(&mut self, addr: MacAddr, doze: bool)
+        ensures { self.new ≡ with_table self.old (set_mode addr doze self.old.table) }
+    {
+        let Some(known) = self.links.get_mut(&addr) else {
+            return;
+        };
+        let before = *known;
+        let link = with_mode(before, doze);
+        *known = link;
+        self.dozing -= usize::from(dozes_with(Some(before)));
+        self.dozing += usize::from(dozes_with(Some(link)));
+    }
+}
+
+/// The state of a station with this link (11.3.1).
+pub fn standing_with(link: Option<Link>) -> Standing
+    ensures { result ≡ standing_with link }
+{
+    match link {
+        None => Standing::Unknown,
+        Some(Link::Authenticated) => Standing::Authenticated,
+        Some(Link::Associated { .. }) => Standing::Associated,
+    }
+}
+
+/// Whether a station with this link dozes.
+pub fn dozes_with(link: Option<Link>) -> bool
+    ensures { result ≡ dozes_with link }
+{
+    matches!(link, Some(Link::Associated { doze: true, .. }))
+}
+
+/// The listen interval of a station with this link in beacon intervals (9.4.1.6), or 0 where it is not associated.
+pub fn listen_with(link: Option<Link>) -> u16
+    ensures { result ≡ listen_with link }
+{
+    match link {
+        Some(Link::Associated { listen, .. }) => listen,
+        _ => 0,
+    }
+}
+
+/// Whether a station with this link is associated.
+pub fn is_associated(link: Option<Link>) -> bool
+    ensures { result ≡ is_associated link }
+{
+    matches!(link, Some(Link::Associated { .. }))
+}
+
+/// The link of a station, if it is known, in another mode.
+fn link_with_mode(link: Option<Link>, doze: bool) -> Option<Link>
+    ensures { result ≡ option_map (with_mode doze) link }
+{
+    match link {
+        Some(link) => Some(with_mode(link, doze)),
+        None => None,
+    }
+}
+
+/// The link of a station in another mode; one that is not associated has none.
+fn with_mode(link: Link, doze: bool) -> Link
+    ensures { result ≡ with_mode doze link }
+{
+    match link {
+        Link::Authenticated => Link::Authenticated,
+        Link::Associated { aid, listen, .. } => Link::Associated { aid, listen, doze },
+    }
+}
+
+/// The association identifier of a station with this link, if it is associated.
+pub fn aid_with(link: Option<Link>) -> Option<u16>
+    ensures { result ≡ aid_with link }
+{
+    match link {
+        Some(Link::Associated { aid, .. }) => Some(aid),
+        _ => None,
+    }
+}
+
+/// Gives a station that is known another link.
+fn set_known(links: &mut IndexMap<MacAddr, Link>, addr: MacAddr, link: Link)
+    requires { IsTrue (is_some (link_of addr links.old.entries)) }
+    ensures { links.new.entries ≡ set_link addr link links.old.entries }
+{
+    if let Some(known) = links.get_mut(&addr) {
+        *known = link;
+    }
+}
