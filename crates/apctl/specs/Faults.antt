@@ -7,8 +7,8 @@ use Rattle.replay.specs.declared.fault.StreamFault.{StreamFault}
 use Rattle.replay.specs.declared.fault.StreamFault.TheVariants as streams
 use Rattle.live.specs.declared.fault.LiveFault.{LiveFault}
 use Rattle.live.specs.declared.fault.LiveFault.TheVariants as lives
-use Rattle.replay.specs.declared.fault.PlayTextFault.{PlayTextFault}
-use Rattle.replay.specs.declared.fault.PlayTextFault.TheVariants as plays
+use Rattle.replay_play.specs.declared.fault.PlayTextFault.{PlayTextFault}
+use Rattle.replay_play.specs.declared.fault.PlayTextFault.TheVariants as plays
 use Rattle.apctl.specs.declared.fault.Fault.{Fault}
 use Rattle.apctl.specs.declared.fault.Fault.TheVariants.{Config, Trace, InTrace, Sources, Words, Memory, Thread, Finish}
 use Rattle.apctl.specs.declared.fault.Fault.TheVariants.{File, Output}

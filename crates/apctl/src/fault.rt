@@ -8,7 +8,8 @@ ghost use Rattle.apctl.specs.declared.fault.Fault.TheVariants as faults;
 
 use ap_config::ConfigFault;
 use live::LiveFault;
-use replay::{PlayTextFault, StreamFault, TextFault};
+use replay::{StreamFault, TextFault};
+use replay_play::PlayTextFault;
 use std::alloc::{AllocError, AllocFailed, Global};
 use std::fmt;
 use thiserror::Error;

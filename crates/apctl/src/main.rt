@@ -12,13 +12,13 @@
 mod fault;
 mod files;
 mod input;
-mod words;
 
 use events::Section;
 use fault::{Fault, show_fault};
 use files::{open_file, read_file, read_traces};
 use input::{STANDARD_INPUT, run_input};
-use replay::{check_text, play_text, report_stream};
+use replay::{check_text, report_stream};
+use replay_play::play_text;
 use std::io::ErrorKind;
 use std::process::ExitCode;
 use std::sync::Wait;
@@ -56,7 +56,7 @@ fn run<T: Threads + Wait + Sync>(rt: &HostRuntime, threads: &T) -> Result<(), Fa
     let alloc = rt.alloc();
     let words = given_words(rt)?;
     let mut out = Counted::new(rt.stdout());
-    match task_of(alloc, words.as_slice())? {
+    match task_of(alloc, words.as_slice())?.ok_or(Fault::Words)? {
         Task::Joined => {
             end_with(run_input(alloc, &mut rt.stdin(), &mut out)?);
             Ok(())

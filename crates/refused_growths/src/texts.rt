@@ -4,9 +4,8 @@ use crate::asked::Asked;
 use crate::outcome::{AGAIN, ANSWER, Flaw, ROOM, grow};
 use events::Section;
 use mac_frame::Octets;
-use replay::{
-    PlayTextFault, StreamFault, TextFault, play_text, report_texts, run_stream, run_text,
-};
+use replay::{StreamFault, TextFault, report_texts, run_stream, run_text};
+use replay_play::{PlayTextFault, play_text};
 use std::alloc::Global;
 use std::sync::Wait;
 use std::thread::Threads;

@@ -13,4 +13,3 @@ pub mod AnswerLemmas
 pub mod StreamEnds
 pub mod ReplayRows
 pub mod AnswerRows
-pub mod PlayEnds

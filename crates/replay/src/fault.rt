@@ -4,15 +4,12 @@ ghost use Rattle.std.specs.Prelude.{◌≡◌};
 ghost use Rattle.replay.specs.declared.fault.TextFault.TheVariants as faults;
 ghost use Rattle.replay.specs.declared.fault.StreamFault.TheVariants as stream_faults;
 ghost use Rattle.replay.specs.Answer.{of_config, of_trace, of_report};
-ghost use Rattle.replay.specs.declared.fault.PlayTextFault.TheVariants as play_faults;
-ghost use Rattle.replay.specs.Playing.{of_play, of_config as play_config, of_report as play_report};
 ghost use Rattle.replay.specs.Stream.{of_config as stream_config, of_trace as stream_trace, of_report as stream_report};
 
 use ap_config::ConfigFault;
 use mac_frame::NoMemory;
-use std::alloc::{AllocError, AllocFailed};
+use std::alloc::AllocError;
 use trace::{ConfigTextFault, Failed, ReportFault, TraceFault, TraceTextFault};
-use workers::{FinishFault, PlayFault};
 
 /// Why a configuration's and a trace's text were not answered.
 #[derive(Clone, Copy, Debug, PartialEq, Eq)]
@@ -38,31 +35,6 @@ pub enum StreamFault {
     NoMemory,
     /// A read failed, or 4,294,967,295 were made.
     Read,
-    /// A write failed.
-    Write,
-}
-
-/// Why a configuration's text and the texts of several traces could not be played. Of several faults it is the first in
-/// this order, but `NoMemory`, which may come at any point.
-#[derive(Clone, Copy, Debug, PartialEq, Eq)]
-pub enum PlayTextFault {
-    /// The first fault of the configuration.
-    Config(ConfigFault),
-    /// Not 1 to 64 traces.
-    Sources,
-    /// The first trace that has a fault, where the configuration has none.
-    Trace {
-        /// The trace's place, from 0.
-        source: usize,
-        /// Its first fault.
-        fault: TraceFault,
-    },
-    /// A thread could not be started.
-    NoThread,
-    /// A growth was refused.
-    NoMemory,
-    /// The access point could not be finished.
-    Finish(FinishFault),
     /// A write failed.
     Write,
 }
@@ -162,49 +134,5 @@ impl From<NoMemory> for StreamFault {
 
     fn from(_e: NoMemory) -> StreamFault {
         StreamFault::NoMemory
-    }
-}
-
-impl From<ConfigTextFault> for PlayTextFault {
-    ghost from_gives = { λ fault given. given ≡ play_config fault };
-
-    fn from(fault: ConfigTextFault) -> PlayTextFault {
-        match fault {
-            ConfigTextFault::At(fault) => PlayTextFault::Config(fault),
-            ConfigTextFault::NoMemory => PlayTextFault::NoMemory,
-        }
-    }
-}
-
-impl From<PlayFault> for PlayTextFault {
-    ghost from_gives = { λ fault given. given ≡ of_play fault };
-
-    fn from(fault: PlayFault) -> PlayTextFault {
-        match fault {
-            PlayFault::Config(fault) => PlayTextFault::Config(fault),
-            PlayFault::Sources => PlayTextFault::Sources,
-            PlayFault::NoThread => PlayTextFault::NoThread,
-            PlayFault::NoMemory => PlayTextFault::NoMemory,
-            PlayFault::Finish(fault) => PlayTextFault::Finish(fault),
-        }
-    }
-}
-
-impl From<ReportFault> for PlayTextFault {
-    ghost from_gives = { λ fault given. given ≡ play_report fault };
-
-    fn from(fault: ReportFault) -> PlayTextFault {
-        match fault {
-            ReportFault::Write => PlayTextFault::Write,
-            ReportFault::NoMemory => PlayTextFault::NoMemory,
-        }
-    }
-}
-
-impl<T: Drop> From<AllocFailed<T>> for PlayTextFault {
-    ghost from_gives = { λ _ given. given ≡ play_faults.NoMemory };
-
-    fn from(_e: AllocFailed<T>) -> PlayTextFault {
-        PlayTextFault::NoMemory
     }
 }

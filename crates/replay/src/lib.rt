@@ -4,10 +4,9 @@
 //! It promises, on [`run_text`], that where it ends well, what it wrote is the report of what each network alone makes
 //! of its own events of the trace; that a fault of the configuration or of the trace is the first one, and nothing was
 //! written then; and that where memory ran out or a write failed, what was written is nothing or a prefix of that
-//! report. [`run_stream`] promises the same of a trace that it reads as it comes, a piece at a time. [`play_text`]
-//! plays several traces at once, and promises that its report is one that [`workers::play`] may make of them. A
-//! [`Replay`] makes the sections of a report, one line at a time. [`split_joined`] cuts a text in which a configuration
-//! and a trace stand, and [`check_text`] writes how many networks a configuration has, or answers its first fault.
+//! report. [`run_stream`] promises the same of a trace that it reads as it comes, a piece at a time. A [`Replay`] makes
+//! the sections of a report, one line at a time. [`split_joined`] cuts a text in which a configuration and a trace
+//! stand, and [`check_text`] writes how many networks a configuration has, or answers its first fault.
 //!
 //! Where the texts come from, and where the report goes, is left to the program.
 #![tactic(auto)]
@@ -17,16 +16,14 @@ mod draining;
 mod fault;
 mod joined;
 mod line_by_line;
-mod playing;
 mod sent;
 mod stream;
 mod taking;
 mod text;
 
 pub use checking::check_text;
-pub use fault::{PlayTextFault, StreamFault, TextFault};
+pub use fault::{StreamFault, TextFault};
 pub use joined::split_joined;
 pub use line_by_line::Replay;
-pub use playing::play_text;
 pub use stream::{report_stream, run_stream};
 pub use text::{report_texts, run_text};

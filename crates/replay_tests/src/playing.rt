@@ -2,7 +2,7 @@
 
 use fixtures::texts::{ANSWERED_REPORT, CONFIGURATION, PROBE_LINE};
 use mac_frame::Octets;
-use replay::{PlayTextFault, play_text};
+use replay_play::{PlayTextFault, play_text};
 use std::test::Fail;
 use trace::{Counted, TraceFault};
 

@@ -1,6 +1,6 @@
 use Rattle.std.proofs.Common.{map, take}
-use Rattle.replay.specs.Playing.{AreLines}
-use Rattle.replay.proofs.playing.read_traces.Given as goal
+use Rattle.replay_play.specs.Playing.{AreLines}
+use Rattle.replay_play.proofs.playing.read_traces.Given as goal
 
 -- the traces so far are read
 abbrev pub invariant-loop-trace : goal.invariant-loop-trace

@@ -20,9 +20,9 @@ use Rattle.workers.specs.Receipts.{AreGivers, histories_of}
 use Rattle.workers.specs.declared.finish.Finished.{Finished}
 use Rattle.workers.specs.declared.playing.PlayFault.{PlayFault}
 use Rattle.workers.specs.declared.playing.PlayFault.TheVariants as plays
-use Rattle.replay.specs.declared.fault.PlayTextFault.{PlayTextFault}
-use Rattle.replay.specs.declared.fault.PlayTextFault.TheVariants.{Config, Sources, Trace, NoThread, NoMemory, Finish}
-use Rattle.replay.specs.declared.fault.PlayTextFault.TheVariants.{Write}
+use Rattle.replay_play.specs.declared.fault.PlayTextFault.{PlayTextFault}
+use Rattle.replay_play.specs.declared.fault.PlayTextFault.TheVariants.{Config, Sources, Trace, NoThread, NoMemory}
+use Rattle.replay_play.specs.declared.fault.PlayTextFault.TheVariants.{Finish, Write}
 
 -- ---- the traces
 

@@ -20,9 +20,9 @@ use Rattle.workers.specs.Names.{callers_fit}
 use Rattle.workers.specs.declared.finish.Finished.{Finished}
 use Rattle.workers.specs.declared.playing.PlayFault.{PlayFault}
 use Rattle.workers.specs.declared.playing.PlayFault.TheVariants as plays
-use Rattle.replay.specs.Playing.{AreLines, IsTracesFault, IsPlayOf, ArePlayable, EndsPlay, in_trace, of_config, of_play, of_report}
-use Rattle.replay.specs.declared.fault.PlayTextFault.{PlayTextFault}
-use Rattle.replay.specs.declared.fault.PlayTextFault.TheVariants.{Config, Sources, Trace, NoThread, NoMemory, Finish, Write}
+use Rattle.replay_play.specs.Playing.{AreLines, IsTracesFault, IsPlayOf, ArePlayable, EndsPlay, in_trace, of_config, of_play, of_report}
+use Rattle.replay_play.specs.declared.fault.PlayTextFault.{PlayTextFault}
+use Rattle.replay_play.specs.declared.fault.PlayTextFault.TheVariants.{Config, Sources, Trace, NoThread, NoMemory, Finish, Write}
 
 -- ---- the traces
 

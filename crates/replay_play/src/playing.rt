@@ -3,7 +3,7 @@
 ghost use Rattle.std.specs.Prelude.{◌≡◌, ◌+◌, map, MatchResult};
 ghost use Rattle.trace.specs.Endings.{failures_of};
 ghost use Rattle.trace.specs.Sinks.{MayFail};
-ghost use Rattle.replay.specs.Playing.{AreLines, EndsPlay, IsTracesFault, in_trace, play_ending};
+ghost use Rattle.replay_play.specs.Playing.{AreLines, EndsPlay, IsTracesFault, in_trace, play_ending};
 ghost use Rattle.workers.specs.Names.{callers_fit};
 
 use crate::fault::PlayTextFault;

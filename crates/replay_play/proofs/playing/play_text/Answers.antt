@@ -7,9 +7,9 @@ use Rattle.std.specs.Prelude.{vec_len}
 use Rattle.events.specs.declared.line.Line.{Line}
 use Rattle.workers.specs.Names.{callers_fit}
 use Rattle.workers.specs.Receipts.{AreGivers, histories_of}
-use Rattle.replay.specs.Playing.{ArePlayable, IsPlayOf}
-use Rattle.replay.proofs.PlayEnds.{lines-length, config_plays, traces_play, play_fails, report_plays, whole_plays}
-use Rattle.replay.proofs.playing.play_text.Goals as goal
+use Rattle.replay_play.specs.Playing.{ArePlayable, IsPlayOf}
+use Rattle.replay_play.proofs.PlayEnds.{lines-length, config_plays, traces_play, play_fails, report_plays, whole_plays}
+use Rattle.replay_play.proofs.playing.play_text.Goals as goal
 
 pub returns-in_err-config-clause-ends : goal.returns-in_err-config-clause-ends
 returns-in_err-config-clause-ends g c =

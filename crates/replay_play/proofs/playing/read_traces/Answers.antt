@@ -2,9 +2,9 @@ use Rattle.std.proofs.Common.{◌≡◌, suc, ◌+◌, ◌++◌, ◌∷◌, [], 
 use Rattle.std.proofs.lemmas.List.{take_more, length-map, map-append}
 use Rattle.std.proofs.Math.Seq.{split_at}
 use Rattle.events.specs.declared.line.Line.{Line}
-use Rattle.replay.specs.Playing.{AreLines}
-use Rattle.replay.proofs.PlayEnds.{lines-more, fault_met}
-use Rattle.replay.proofs.playing.read_traces.Goals as goal
+use Rattle.replay_play.specs.Playing.{AreLines}
+use Rattle.replay_play.proofs.PlayEnds.{lines-more, fault_met}
+use Rattle.replay_play.proofs.playing.read_traces.Goals as goal
 
 pub returns-in-Err : goal.returns-in-Err
 returns-in-Err c =

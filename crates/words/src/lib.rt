@@ -1,6 +1,9 @@
-//! The words that the program is given after its name.
+//! The words that the program `apctl` is given after its name (*profile*).
+//!
+//! [`task_of`] answers the [`Task`] that they ask for. It promises that it ends, and nothing of its answer, which is
+//! shown by what the built program does. Files, and the fault of words that ask for nothing, are left to the program.
+#![tactic(auto)]
 
-use crate::fault::Fault;
 use clap::error::ErrorKind;
 use clap::{Arg, ArgMatches, Command};
 use std::alloc::{AllocError, Global};
@@ -54,17 +57,17 @@ pub enum Task<'a> {
     },
 }
 
-/// The task that the words ask for, of which the first is the program's own name. `Words` for any others, also where
-/// they ask for help; `Memory` where a growth was refused.
-pub fn task_of<'a>(alloc: Global, words: &'a [String]) -> Result<Task<'a>, Fault> {
+/// The task that the words ask for, of which the first is the program's own name. `None` for any others, also where
+/// they ask for help; `AllocError` where memory ran out.
+pub fn task_of<'a>(alloc: Global, words: &'a [String]) -> Result<Option<Task<'a>>, AllocError> {
     if words.len() <= 1 {
-        return Ok(Task::Joined);
+        return Ok(Some(Task::Joined));
     }
-    let matches = match command(alloc)?.try_get_matches_from(words) {
-        Ok(matches) => matches,
-        Err(error) => return Err(refusal(error.kind())),
-    };
-    matched(alloc, &matches)?.ok_or(Fault::Words)
+    match command(alloc)?.try_get_matches_from(words) {
+        Ok(matches) => matched(alloc, &matches),
+        Err(error) if error.kind() == ErrorKind::OutOfMemory => Err(AllocError),
+        Err(_) => Ok(None),
+    }
 }
 
 /// The program's subcommands with the files that each needs.
@@ -90,17 +93,8 @@ fn file<'a>(alloc: Global, id: &'a str) -> Arg<'a> {
     Arg::new(alloc, id).required(true)
 }
 
-/// The fault of words that were not accepted.
-fn refusal(kind: ErrorKind) -> Fault {
-    if kind == ErrorKind::OutOfMemory {
-        Fault::Memory
-    } else {
-        Fault::Words
-    }
-}
-
-/// The task of words that were accepted. None for another subcommand than those of [`command`]. `AllocError` where a
-/// growth was refused.
+/// The task of words that were accepted. None for another subcommand than those of [`command`]. `AllocError` where
+/// memory ran out.
 fn matched<'a>(alloc: Global, matches: &ArgMatches<'a>) -> Result<Option<Task<'a>>, AllocError> {
     let Some((name, files)) = matches.subcommand() else {
         return Ok(None);
