@@ -14,7 +14,7 @@ pub enum OpenFault {
     Config(ConfigFault),
     /// Not 1 to 64 callers (*profile*). Only an access point whose networks run at the same time has callers.
     Callers,
-    /// A growth was refused.
+    /// Memory ran out.
     NoMemory,
 }
 

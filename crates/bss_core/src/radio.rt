@@ -55,7 +55,7 @@ impl Model for Radio {
 
 impl Radio {
     /// The networks of a configuration, none of which took an event, and an empty queue. `Config` with the first fault
-    /// exactly where the configuration has one, which is tested first; `NoMemory` where a growth was refused.
+    /// exactly where the configuration has one, which is tested first; `NoMemory` where memory ran out.
     pub fn new(alloc: Global, config: RadioConfig) -> Result<Radio, OpenFault>
         ensures fault { (fault : ConfigFault)
             → (result ≡ Err (OpenFault.Config fault)) ↔ (fault_of config ≡ Some fault) }
@@ -69,7 +69,7 @@ impl Radio {
     }
 
     /// The networks of a configuration in which `check` finds no fault, none of which took an event, and an empty
-    /// queue. `NoMemory` where a growth was refused.
+    /// queue. `NoMemory` where memory ran out.
     pub fn of_checked(alloc: Global, config: RadioConfig) -> Result<Radio, NoMemory>
         requires sound { fault_of config ≡ None }
         ensures opened { IfOk result (λ radio. radio ≡ fresh_radio config) }
@@ -113,7 +113,7 @@ impl Radio {
 
     /// Lets the network at a place, below [`Radio::networks`], take an event, as [`Bss::take`] does: it answers the
     /// event's number in that network's history, from 0, and frames that it sends wait after the others. `HistoryFull`
-    /// exactly where that history is full, which is tested first; `NoMemory` where a growth was refused. After either
+    /// exactly where that history is full, which is tested first; `NoMemory` where memory ran out. After either
     /// nothing has changed. The other networks and the queue stay as they were.
     pub fn take(&mut self, place: usize, event: Event) -> Result<u32, Refusal>
         requires { place < length self.old.config.networks }

@@ -1,5 +1,5 @@
 -- Frames of several networks in one list (profile).
-use Rattle.std.specs.Prelude.{ℕ, ◌==◌, List, [], map, filter}
+use Rattle.std.specs.Prelude.{ℕ, ◌==◌, List, map, filter}
 use Rattle.events.specs.declared.air_item.AirItem.{AirItem}
 
 -- its own frames among items

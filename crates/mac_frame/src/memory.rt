@@ -4,7 +4,7 @@ use std::alloc::{AllocError, AllocFailed};
 use std::error::Error;
 use std::fmt;
 
-/// A growth was refused. Every crate of the project answers that it is out of memory by this type.
+/// Memory ran out. Every crate of the project answers that it is out of memory by this type.
 #[derive(Clone, Copy, Debug, PartialEq, Eq)]
 pub struct NoMemory;
 

@@ -35,7 +35,7 @@ impl Octets {
         Octets { octets }
     }
 
-    /// A copy of the octets. `NoMemory` where the growth was refused.
+    /// A copy of the octets. `NoMemory` where memory ran out.
     pub fn from_slice(alloc: Global, octets: &[u8]) -> Result<Octets, NoMemory>
         ensures { IfOk result (λ string. string ≡ octets.now) }
     {
@@ -44,8 +44,8 @@ impl Octets {
         })
     }
 
-    /// Makes room for so many octets more, so that a writer grows the string once. `NoMemory` where the growth was
-    /// refused; the string is as it was either way.
+    /// Makes room for so many octets more, so that a writer grows the string once. `NoMemory` where memory ran out;
+    /// the string is as it was either way.
     #[inline(always)]
     pub fn reserve(&mut self, count: usize) -> Result<(), NoMemory>
         ensures { self.new ≡ self.old }
@@ -97,7 +97,7 @@ impl Octets {
         written
     }
 
-    /// A second string of the same octets. `NoMemory` where the growth was refused.
+    /// A second string of the same octets. `NoMemory` where memory ran out.
     pub fn copy(&self, alloc: Global) -> Result<Octets, NoMemory>
         ensures { IfOk result (λ string. string ≡ self.now) }
     {

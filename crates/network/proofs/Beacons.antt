@@ -1,5 +1,5 @@
 -- Beacons whose bits are the same.
-use Rattle.std.proofs.Common.{◌≡◌, ℕ, Bool, List, [], ◌++◌, ap}
+use Rattle.std.proofs.Common.{◌≡◌, ℕ, Bool, List, ◌++◌, ap}
 use Rattle.mac_frame.specs.Address.{broadcast}
 use Rattle.mac_frame.specs.Management.{management_header}
 use Rattle.elements.specs.Rates.{extended_rates}

@@ -1,5 +1,5 @@
 -- What is known of a network in the end (profile).
-use Rattle.std.specs.Prelude.{List, length, ℕ, [], map}
+use Rattle.std.specs.Prelude.{List, length, ℕ, map}
 use Rattle.ap_config.specs.declared.setting.Setting.{Setting}
 use Rattle.network.specs.Network.{alone, table_of, counts_of}
 use Rattle.events.specs.declared.event.Event.{Event}

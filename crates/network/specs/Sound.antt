@@ -1,5 +1,5 @@
 -- What holds of every network that events make of an empty one (profile, but where a clause is named).
-use Rattle.std.specs.Prelude.{ℕ, ◌+◌, ◌<◌, ◌≤◌, [], length}
+use Rattle.std.specs.Prelude.{ℕ, ◌+◌, ◌<◌, ◌≤◌, length}
 use Rattle.ap_config.specs.declared.setting.Setting.{Setting}
 use Rattle.network.specs.Network.{Network}
 use Rattle.stations.specs.Sound.{AreKeptFor, AreSound, CameBy}

@@ -19,7 +19,7 @@ use std::marker::Model;
 /// Why a network refused an event. Nothing of it has changed then, and the event is dropped.
 #[derive(Clone, Copy, Debug, PartialEq, Eq)]
 pub enum Refusal {
-    /// N1: a growth was refused.
+    /// N1: memory ran out.
     NoMemory,
     /// N2: it has taken as many events as it may.
     HistoryFull,
@@ -195,8 +195,8 @@ impl Bss {
     }
 
     /// Takes an event, and answers its number in the history, from 0. Frames that it sends wait after the others.
-    /// `HistoryFull` exactly where the history is full, which is tested first; `NoMemory` where a growth was
-    /// refused. After either nothing has changed. An air event that the network doesn't hear and a wired frame
+    /// `HistoryFull` exactly where the history is full, which is tested first; `NoMemory` where memory ran out.
+    /// After either nothing has changed. An air event that the network doesn't hear and a wired frame
     /// that can't be read count as unread (*profile*).
     pub fn take(&mut self, event: Event) -> Result<u32, Refusal>
         ensures number { IfOk result (λ number. number ≡ length self.old.history) }

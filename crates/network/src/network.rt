@@ -27,7 +27,7 @@ use tim::Bitmap;
 /// Why a network refused an event. Nothing of it has changed then.
 #[derive(Clone, Copy, Debug, PartialEq, Eq)]
 pub enum NetworkRefusal {
-    /// A growth was refused.
+    /// Memory ran out.
     NoMemory,
     /// As many beacon intervals began as its clock can count.
     Clock,
@@ -172,7 +172,7 @@ impl Network {
     }
 
     /// Takes an event, where it took fewer than 2^62 before, and hands out what it sends for it. `Clock` exactly where
-    /// 4,294,967,295 beacon intervals began and one more begins; `NoMemory` where a growth was refused. After either
+    /// 4,294,967,295 beacon intervals began and one more begins; `NoMemory` where memory ran out. After either
     /// nothing has changed. An air event that the network doesn't hear and a wired frame that can't be read count as
     /// unread (*profile*).
     pub fn take(&mut self, event: &Event) -> Result<Sent, NetworkRefusal>

@@ -1,5 +1,5 @@
 -- What becomes of the units that are kept: some leave, and then one may come (profile).
-use Rattle.std.specs.Prelude.{ℕ, ◌<◌, ◌≡◌, Bool, false, List, [], ◌++◌, length, Option, Some, None, option_map}
+use Rattle.std.specs.Prelude.{ℕ, ◌<◌, ◌≡◌, Bool, false, List, ◌++◌, length, Option, Some, None, option_map}
 use Rattle.std.specs.Prelude.{option_to_list}
 use Rattle.powersave.specs.Keep.{Entry, is_same, room_beside, without_all}
 use Rattle.powersave.specs.declared.unit.Whom.{Whom}

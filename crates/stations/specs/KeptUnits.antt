@@ -1,6 +1,6 @@
 -- Units that are kept for the stations of a network and for the group (IEEE Std 802.11-2016, 11.2.3): who waits for
 -- some, and which are too old.
-use Rattle.std.specs.Prelude.{ℕ, ◌+◌, ◌==◌, nat_lt, Bool, false, ◌&&◌, List, [], Option}
+use Rattle.std.specs.Prelude.{ℕ, ◌+◌, ◌==◌, nat_lt, Bool, false, ◌&&◌, List, Option}
 use Rattle.std.specs.List.{list_any}
 use Rattle.powersave.specs.Keep.{Entry, is_for}
 use Rattle.powersave.specs.declared.unit.Whom.{Whom}

@@ -72,7 +72,7 @@ impl Frames {
     }
 
     /// Makes room for the frames, and for one at least, after those that wait, which stay as they are. `NoMemory` where
-    /// the growth was refused.
+    /// memory ran out.
     #[inline(always)]
     pub fn reserve_in(&self, waiting: &mut VecDeque<Octets>) -> Result<(), NoMemory>
         ensures items { waiting.new.items ≡ waiting.old.items }
