@@ -7,7 +7,7 @@ use hex::FromHexError;
 use mac_frame::Octets;
 use std::alloc::Global;
 
-mod network;
+mod one_network;
 mod radio;
 mod runs;
 
