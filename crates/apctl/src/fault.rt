@@ -52,7 +52,7 @@ pub enum Fault {
     /// The program was given words that it has no use for.
     #[error("fault words")]
     Words,
-    /// A growth was refused.
+    /// Memory ran out.
     #[error("fault memory")]
     Memory,
     /// A thread could not be started.
@@ -171,7 +171,7 @@ impl<T: Drop> From<AllocFailed<T>> for Fault {
 const MEMORY_LINE: &[u8] = b"fault memory\n";
 
 /// Writes the line of a fault, and answers the exit status that goes with it. `Write` where a write of `out`
-/// failed, `NoMemory` where a growth was refused: never of `Memory`, whose line takes no memory.
+/// failed, `NoMemory` where memory ran out: never of `Memory`, whose line takes no memory.
 pub fn show_fault<W: Sink>(alloc: Global, fault: &Fault, out: &mut W) -> Result<u8, ReportFault>
     requires { MayFail (W.failed out.old) }
     ensures status { IfOk result (λ status. status ≡ status_of fault.now) }

@@ -7,14 +7,14 @@ use std::fs::File;
 use std::io::ErrorKind;
 
 /// All that a file of this name holds, the word as it stands. `File` with its name where it can't be opened or read;
-/// `Memory` where a growth was refused.
+/// `Memory` where memory ran out.
 pub fn read_file(rt: &HostRuntime, name: &str) -> Result<Vec<u8>, Fault> {
     let mut file = open_file(rt, name)?;
     read_all(rt.alloc(), &mut file, name)
 }
 
 /// All that the files of these names hold, in their order. `File` with the name of the first that can't be opened or
-/// read; `Memory` where a growth was refused.
+/// read; `Memory` where memory ran out.
 pub fn read_traces(rt: &HostRuntime, names: &[&str]) -> Result<Vec<Octets>, Fault> {
     let mut traces = Vec::new(rt.alloc());
     for name in names {
@@ -23,8 +23,8 @@ pub fn read_traces(rt: &HostRuntime, names: &[&str]) -> Result<Vec<Octets>, Faul
     Ok(traces)
 }
 
-/// The file of this name, the word as it stands. `File` with its name where it can't be opened; `Memory` where a growth
-/// was refused.
+/// The file of this name, the word as it stands. `File` with its name where it can't be opened; `Memory` where memory
+/// ran out.
 pub fn open_file(rt: &HostRuntime, name: &str) -> Result<File, Fault> {
     match File::open(rt, name) {
         Ok(file) => Ok(file),

@@ -22,8 +22,8 @@ pub const STANDARD_INPUT: &str = "-";
 /// `out` has taken, as [`replay::run_text`] does of the two parts of the text. It hands out the sections that it
 /// reported, so that the program, which ends then, need not give back their memory.
 ///
-/// `File` comes where the reader failed, and names standard input; nothing is written then. `Memory` comes where a
-/// growth was refused: nothing is written then, or a prefix of the report. `Words` never comes.
+/// `File` comes where the reader failed, and names standard input; nothing is written then. `Memory` comes where
+/// memory ran out: nothing is written then, or a prefix of the report. `Words` never comes.
 pub fn run_input<R: Read, W: Sink>(
     alloc: Global,
     reader: &mut R,
@@ -40,7 +40,7 @@ pub fn run_input<R: Read, W: Sink>(
 }
 
 /// All that a reader gives. An interrupted read is tried again. `File` with this name where the reader failed, and
-/// `Memory` where a growth was refused.
+/// `Memory` where memory ran out.
 pub fn read_all<R: Read>(alloc: Global, reader: &mut R, name: &str) -> Result<Vec<u8>, Fault>
     ensures ok { IfOk result (λ input. IfSome (R.remaining reader.old) (λ octets. input.items ≡ octets)) }
     ensures err { IfErr result (IsOfFile name.now) }

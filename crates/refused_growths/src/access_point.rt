@@ -16,10 +16,10 @@ use workers::{Ap, ApName, Caller, FinishFault, Outcome, Parts};
 /// The address of the network at each place; none where there is no network.
 type Addresses = [Option<MacAddr>; MAX_NETWORKS];
 
-/// What callers give, after so many growths.
+/// What callers give, after this many allocations.
 #[derive(Clone, Copy)]
 struct Work<'a> {
-    growths: u32,
+    allocations: u32,
     lines: &'a [Line],
     addresses: &'a Addresses,
 }
@@ -32,7 +32,7 @@ struct Given<'a> {
     addresses: &'a Addresses,
 }
 
-/// Gives each line once to an access point with so many callers, who give the lines in turn, and ends it. Writes which
+/// Gives each line once to an access point with this many callers, who give the lines in turn, and ends it. Writes which
 /// lines were refused, as [`live::Live`] says it but for the network's place, and the report in the end, which is none
 /// where the end was refused.
 pub(crate) fn give_lines<R: Wait>(
@@ -53,7 +53,7 @@ pub(crate) fn give_lines<R: Wait>(
         return Err(Flaw::Beside);
     };
     let work = Work {
-        growths: asked.before,
+        allocations: asked.before,
         lines: lines.as_slice(),
         addresses: &addresses,
     };
@@ -93,7 +93,7 @@ fn give_lines_of<N: ApName, R: Wait>(
     }
 }
 
-/// The callers give the lines in turn, and all that waits is handed to the queue. Answers whether a growth was refused.
+/// The callers give the lines in turn, and all that waits is handed to the queue. Answers whether memory ran out.
 fn give_each<N: ApName, R: Wait>(
     rt: &R,
     alloc: Global,
@@ -102,7 +102,7 @@ fn give_each<N: ApName, R: Wait>(
     work: Work<'_>,
     report: &mut Vec<u8>,
 ) -> Result<bool, Flaw> {
-    grow(alloc, work.growths)?;
+    grow(alloc, work.allocations)?;
     let addresses = work.addresses;
     let mut was_refused = false;
     let mut number = 0_usize;
@@ -123,7 +123,7 @@ fn give_each<N: ApName, R: Wait>(
     Ok(was_refused)
 }
 
-/// A caller gives the line of a number. Answers whether a growth was refused, and writes where. A line that is refused
+/// A caller gives the line of a number. Answers whether memory ran out, and writes where. A line that is refused
 /// as a whole must leave the caller without another entry.
 fn give<N: ApName, R: Wait>(
     rt: &R,

@@ -38,12 +38,12 @@ pub(crate) fn answer_lines(
 /// Feeds each line of a trace.
 fn feed_each(
     alloc: Global,
-    growths: u32,
+    allocations: u32,
     live: &mut Live,
     trace: &str,
     report: &mut Vec<u8>,
 ) -> Result<(), Flaw> {
-    grow(alloc, growths)?;
+    grow(alloc, allocations)?;
     for line in trace.split_inclusive('\n') {
         report.extend_from_slice(b"> ")?;
         report.extend_from_slice(line.as_bytes())?;

@@ -3,12 +3,12 @@
 use replay::split_joined;
 use std::str;
 
-/// A trial, how many growths come before the calls that it tries, and its texts.
+/// A trial, how many allocations come before the calls that it tries, and its texts.
 #[derive(Drop)]
 pub struct Asked<'a> {
     /// The name of the trial.
     pub trial: &'a str,
-    /// How many growths come before the calls that it tries.
+    /// How many allocations come before the calls that it tries.
     pub before: u32,
     /// The text of a configuration.
     pub config: &'a [u8],

@@ -1,12 +1,12 @@
-//! A program for tests: calls of the libraries in a run in which one growth is refused (*profile*).
+//! A program for tests: calls of the libraries in a run in which one allocation fails (*profile*).
 //!
-//! Standard input holds a line, which names a trial and says how many growths come before its calls, and then a
-//! configuration and a trace as `apctl` takes them. Whoever runs the program has one growth of the run refused, always
-//! of the same number; so of runs with fewer and fewer growths before the calls, each refuses the next growth of them.
+//! Standard input holds a line, which names a trial and says how many allocations come before its calls, and then a
+//! configuration and a trace as `apctl` takes them. Whoever runs the program has one allocation of the run fail, always
+//! of the same number; so of runs with fewer and fewer allocations before the calls, each has the next one of them fail.
 //! Standard output then holds a line of what was refused and what the trial wrote: the report, before which the lines
-//! stand that an access point was not given, since a growth was refused; or the answers to lines as they came.
+//! stand that an access point was not given, since memory ran out; or the answers to lines as they came.
 //!
-//! Nothing is promised here beyond what the libraries promise. The trials show on the real calls that a refused growth
+//! Nothing is promised here beyond what the libraries promise. The trials show on the real calls that a failed allocation
 //! changes nothing, and that what is offered again is taken.
 #![tactic(auto)]
 
@@ -31,7 +31,7 @@ use std::sync::Wait;
 use std::thread::Threads;
 use texts::write_twice;
 
-/// Where something beside the calls failed, the trial begins anew; in a run that refuses one growth this happens once
+/// Where something beside the calls failed, the trial begins anew; in a run in which one allocation fails this happens once
 /// at most.
 fn main(rt: HostRuntime) -> ExitCode {
     let mut input = Vec::new(rt.alloc());
@@ -64,7 +64,7 @@ fn main(rt: HostRuntime) -> ExitCode {
     status
 }
 
-/// Tries the calls of a name. Answers whether a growth of one was refused.
+/// Tries the calls of a name. Answers whether memory ran out in one.
 fn trial<R: Threads + Wait + Sync>(
     rt: &R,
     alloc: Global,

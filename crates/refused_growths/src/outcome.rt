@@ -5,13 +5,13 @@ use mac_frame::NoMemory;
 use std::alloc::{AllocError, Global};
 use trace::{Counted, write_report};
 
-/// The octets of a piece of memory into which a report or another text is written, so that it takes one growth.
+/// The octets of a piece of memory into which a report or another text is written, so that it takes one allocation.
 pub const ROOM: usize = 32768;
 
 /// Why a trial is given up.
 #[derive(Clone, Copy)]
 pub enum Flaw {
-    /// A call that it doesn't try failed: a growth was refused, or the texts are not for this trial.
+    /// A call that it doesn't try failed: memory ran out, or the texts are not for this trial.
     Beside,
     /// A call that it tries did what it should not; the line of it.
     Wrong(&'static str),
@@ -23,7 +23,7 @@ pub const CHANGED: Flaw = Flaw::Wrong("wrong: a refused call changed something\n
 /// A call answered what it should not.
 pub const ANSWER: Flaw = Flaw::Wrong("wrong: another answer\n");
 
-/// A call was refused a growth though one was refused before, or answers otherwise than the first time.
+/// Memory ran out in a call though it ran out before, or answers otherwise than the first time.
 pub const AGAIN: Flaw = Flaw::Wrong("wrong: not taken when it was offered again\n");
 
 impl From<NoMemory> for Flaw {
@@ -38,7 +38,7 @@ impl From<AllocError> for Flaw {
     }
 }
 
-/// So many growths before the calls that are tried, of which nothing is left. It stops at the one that is refused.
+/// This many allocations before the calls that are tried, of which nothing is left. It stops at the one that fails.
 pub(crate) fn grow(alloc: Global, count: u32) -> Result<(), AllocError> {
     for _ in 0..count {
         let _: Vec<u8> = Vec::with_capacity(alloc, 1)?;

@@ -1,4 +1,4 @@
-//! Reports that are written, and written again where a growth was refused.
+//! Reports that are written, and written again where memory ran out.
 
 use crate::asked::Asked;
 use crate::outcome::{AGAIN, ANSWER, Flaw, ROOM, grow};
@@ -11,7 +11,7 @@ use std::sync::Wait;
 use std::thread::Threads;
 use trace::{Counted, ReportFault, write_report};
 
-/// Makes the call of the trial, and makes it again where it was refused a growth. What it had written by then must be a
+/// Makes the call of the trial, and makes it again where memory ran out. What it had written by then must be a
 /// prefix of what it writes in the end.
 pub(crate) fn write_twice<R: Threads + Wait + Sync>(
     rt: &R,
@@ -49,8 +49,8 @@ fn sections_of(alloc: Global, asked: &Asked<'_>) -> Result<Vec<Section>, Flaw> {
     }
 }
 
-/// Makes the call of the trial, which writes into a piece of memory that is there before it. Answers whether it was
-/// refused a growth.
+/// Makes the call of the trial, which writes into a piece of memory that is there before it. Answers whether
+/// memory ran out.
 fn is_refused<R: Threads + Wait + Sync>(
     rt: &R,
     alloc: Global,

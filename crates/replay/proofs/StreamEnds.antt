@@ -1,108 +1,167 @@
 -- What a run of a stream leaves, by how it ended.
-use Rattle.std.proofs.Common.{◌≡◌, ℕ, List, [], Option, Ok, Err, refl, inl, inr}
+use Rattle.std.proofs.Common.{◌≡◌, ℕ, ◌+◌, List, [], Ok, Err, refl, inl, inr, arith}
 use Rattle.std.proofs.KnownBytes.{Consumes-nil, Keeps-refl}
 use Rattle.std.specs.Io.KnownBytes.{Appends}
 use Rattle.ap_config.specs.declared.config.RadioConfig.{RadioConfig}
 use Rattle.ap_config.specs.declared.config.ConfigFault.{ConfigFault}
 use Rattle.events.specs.declared.section.Section.{Section}
 use Rattle.trace.specs.ConfigurationText.{configuration_of}
-use Rattle.trace.specs.Endings.{IsFaultOf, Ends}
-use Rattle.trace.specs.Faults.{read_ending}
+use Rattle.trace.specs.Endings.{Well, Refused, OutOfMemory, IsFaultOf, Ends, failures_of}
+use Rattle.trace.specs.Faults.{read_as, read_ending, report_as}
 use Rattle.trace.specs.Report.{report_text}
 use Rattle.trace.specs.Sinks.{report_ending}
+use Rattle.trace.specs.Streams.{SourceView, SinkView, Streams, Reads}
 use Rattle.trace.specs.TraceText.{lines_of}
 use Rattle.trace.specs.declared.fault.TraceFault.{TraceFault}
 use Rattle.trace.specs.declared.read_fault.ReadFault.{ReadFault}
 use Rattle.trace.specs.declared.read_fault.ReadFault.TheVariants as reads
 use Rattle.trace.specs.declared.report.ReportFault.{ReportFault}
 use Rattle.trace.specs.declared.report.ReportFault.TheVariants as reports
-use Rattle.trace.proofs.EndingLemmas.{whole_written}
-use Rattle.replay.specs.Stream.{of_config, of_trace, of_report, ReplaysStream, RunsStream, IsStreamFault, FailsWith}
+use Rattle.trace.proofs.EndingLemmas.{part_written, whole_written}
+use Rattle.replay.specs.Answer.{answer_of}
+use Rattle.replay.specs.Stream.{ReplaysStream, RunsStream, IsStreamFault, StopsIn, max_reads, stream_ending}
 use Rattle.replay.specs.declared.fault.StreamFault.{StreamFault}
 use Rattle.replay.specs.declared.fault.StreamFault.TheVariants.{Config, Trace, NoMemory, Read, Write}
-use Rattle.replay.proofs.AnswerLemmas.{config_ends, trace_ends, answer_of-sections, report_ends}
+use Rattle.replay.proofs.AnswerLemmas.{config_ends, trace_ends, answer_of-sections}
+use Rattle.replay.proofs.StreamSteps.{counted-none}
 
--- ---- a fault of the trace
+-- ---- the reads
 
-pub of_trace-is : (c : RadioConfig) (text : List ℕ) (e : ReadFault TraceFault)
-    → IsFaultOf (lines_of c text) (read_ending e) → IsStreamFault c text (of_trace e)
-of_trace-is c text (reads.At fault) h = h
-of_trace-is c text reads.NoMemory h = tt
+-- none was made, since memory ran out
+pub unread : {F : Type 0} (source : SourceView) → Reads {F = F} OutOfMemory max_reads source source []
+unread source = record {
+  taken = Consumes-nil source.left;
+  made = 0;
+  within = omega arith;
+  counted = counted-none source.reads;
+  failed = refl;
+}
 
-pub of_trace-fails : (text : List ℕ) (old new : ℕ) (e : ReadFault TraceFault) → new ≡ old
-    → FailsWith (of_trace e) text old new
-of_trace-fails text old new (reads.At fault) same = same
-of_trace-fails text old new reads.NoMemory same = same
+-- none was made, since a fault came before
+pub unread-fault : {F : Type 0} (fault : F) (source : SourceView) → Reads (Refused fault) max_reads source source []
+unread-fault fault source = record {
+  taken = Consumes-nil source.left;
+  made = 0;
+  within = omega arith;
+  counted = counted-none source.reads;
+  failed = refl;
+}
+
+-- all were made, and the trace has a fault, or memory ran out
+pub reads-then : {F : Type 0} (e : ReadFault TraceFault) (old new : SourceView) (text : List ℕ)
+    → Reads {F = F} Well max_reads old new text
+    → Reads (stream_ending (read_as Trace NoMemory e)) max_reads old new text
+reads-then (reads.At fault) old new text r =
+    record { taken = r.taken; made = r.made; within = r.within; counted = r.counted; failed = r.failed }
+reads-then reads.NoMemory old new text r =
+    record { taken = r.taken; made = r.made; within = r.within; counted = r.counted; failed = r.failed }
+
+-- the fault is that of the trace
+pub is_fault : (c : RadioConfig) (text : List ℕ) (e : ReadFault TraceFault) → StopsIn c text
+    → IsFaultOf (lines_of c text) (read_ending e) → IsStreamFault c text (read_as Trace NoMemory e)
+is_fault c text (reads.At fault) stops h = (h, stops)
+is_fault c text reads.NoMemory stops h = tt
 
 -- ---- a run
 
+-- no write failed
+none_failed : (failed : ℕ) → failed ≡ failed + 0
+none_failed failed = omega arith
+
 -- a fault of the configuration: nothing was read
-pub config_runs : (e : ReadFault ConfigFault) (ct : List ℕ) (left : Option (List ℕ)) (failed : ℕ)
-    (taken : Option (List ℕ)) → IsFaultOf (configuration_of ct) (read_ending e)
-    → RunsStream (Err (of_config e)) ct left left failed failed taken taken
-config_runs (reads.At fault) ct left failed taken h = record {
+pub config_runs : (e : ReadFault ConfigFault) (ct : List ℕ) (old : Streams)
+    → IsFaultOf (configuration_of ct) (read_ending e) → RunsStream (Err (read_as Config NoMemory e)) ct old old
+config_runs (reads.At fault) ct old h = record {
   text = [];
-  read = Consumes-nil left;
-  fails = refl;
-  end = (refl, config_ends (reads.At fault) ct [] taken h);
+  reads = unread-fault (Config fault) old.source;
+  stops = tt;
+  end = ((config_ends (reads.At fault) ct [] old.sink.taken h).0, refl, Keeps-refl old.sink.taken);
+  failures = none_failed old.sink.failed;
 }
-config_runs reads.NoMemory ct left failed taken h =
-    record { text = []; read = Consumes-nil left; fails = refl; end = inl (Keeps-refl taken) }
+config_runs reads.NoMemory ct old h = record {
+  text = [];
+  reads = unread old.source;
+  stops = tt;
+  end = inl (Keeps-refl old.sink.taken);
+  failures = none_failed old.sink.failed;
+}
 
 -- reading ended before the source did, or the last line is at fault
 pub fault_runs : {A : Type 0} (items : A → List Section) (e : StreamFault) (c : RadioConfig) (ct : List ℕ)
-    (left left' : Option (List ℕ)) (failed failed' : ℕ) (taken : Option (List ℕ)) → configuration_of ct ≡ Ok c
-    → ReplaysStream items (Err e) c left left' failed failed'
-    → RunsStream (Err e) ct left left' failed failed' taken taken
-fault_runs items (Config fault) c ct left left' failed failed' taken is s = absurd s.end
-fault_runs items (Trace fault) c ct left left' failed failed' taken is s = record {
+    (old new : SourceView) (sink : SinkView) → configuration_of ct ≡ Ok c → ReplaysStream items (Err e) c old new
+    → RunsStream (Err e) ct (record { source = old; sink = sink }) (record { source = new; sink = sink })
+fault_runs items (Config fault) c ct old new sink is s = absurd s.end
+fault_runs items (Trace fault) c ct old new sink is s = record {
   text = s.text;
-  read = s.read;
-  fails = s.fails;
-  end = trace_ends (reads.At fault) c ct s.text taken is s.end;
+  reads = s.reads;
+  stops = (c, is, s.end.1);
+  end = ((trace_ends (reads.At fault) c ct s.text sink.taken is s.end.0).0, Keeps-refl sink.taken);
+  failures = none_failed sink.failed;
 }
-fault_runs items NoMemory c ct left left' failed failed' taken is s =
-    record { text = s.text; read = s.read; fails = s.fails; end = inl (Keeps-refl taken) }
-fault_runs items Read c ct left left' failed failed' taken is s =
-    record { text = s.text; read = s.read; fails = s.fails; end = Keeps-refl taken }
-fault_runs items Write c ct left left' failed failed' taken is s = absurd s.end
+fault_runs items NoMemory c ct old new sink is s = record {
+  text = s.text;
+  reads = s.reads;
+  stops = tt;
+  end = inl (Keeps-refl sink.taken);
+  failures = none_failed sink.failed;
+}
+fault_runs items Read c ct old new sink is s = record {
+  text = s.text;
+  reads = s.reads;
+  stops = tt;
+  end = Keeps-refl sink.taken;
+  failures = none_failed sink.failed;
+}
+fault_runs items Write c ct old new sink is s = absurd s.end
 
 -- the report was cut short
 pub report_runs : {A : Type 0} (items : A → List Section) (made : A) (e : ReportFault) (c : RadioConfig) (ct : List ℕ)
-    (left left' : Option (List ℕ)) (failed failed' : ℕ) (old new : Option (List ℕ)) → configuration_of ct ≡ Ok c
-    → ReplaysStream items (Ok made) c left left' failed failed'
-    → Ends {A = Unit} report_ending (Err e) (Ok (report_text (items made))) old new
-    → RunsStream (Err (of_report e)) ct left left' failed failed' old new
-report_runs items made reports.Write c ct left left' failed failed' old new is s part =
-    let answer =
-    answer_of-sections c s.end.1.0 (items made) ct s.text is s.end.1.1 s.end.1.2 in
+    (old new : Streams) → configuration_of ct ≡ Ok c → ReplaysStream items (Ok made) c old.source new.source
+    → Ends {A = Unit} report_ending (Err e) (Ok (report_text (items made))) old.sink.taken new.sink.taken
+    → new.sink.failed ≡ old.sink.failed + failures_of {A = Unit} report_ending (Err e)
+    → RunsStream (Err (report_as Write NoMemory e)) ct old new
+report_runs items made reports.Write c ct old new is s part failures =
+    let answer = answer_of-sections c (items made) ct s.text is s.end.1 in
     record {
       text = s.text;
-      read = s.read;
-      fails = s.fails;
-      end = (s.end.0, report_ends reports.Write _ _ old new answer part);
+      reads = record {
+        taken = s.reads.taken;
+        made = s.reads.made;
+        within = s.reads.within;
+        counted = s.reads.counted;
+        failed = s.reads.failed;
+      };
+      stops = tt;
+      end = (s.end.0, part_written (answer_of ct s.text) _ _ _ answer part);
+      failures = failures;
     }
-report_runs items made reports.NoMemory c ct left left' failed failed' old new is s part =
-    let answer =
-    answer_of-sections c s.end.1.0 (items made) ct s.text is s.end.1.1 s.end.1.2 in
+report_runs items made reports.NoMemory c ct old new is s part failures =
+    let answer = answer_of-sections c (items made) ct s.text is s.end.1 in
     record {
       text = s.text;
-      read = s.read;
-      fails = s.fails;
-      end = inr (s.end.0, report_ends reports.NoMemory _ _ old new answer part);
+      reads = record {
+        taken = s.reads.taken;
+        made = s.reads.made;
+        within = s.reads.within;
+        counted = s.reads.counted;
+        failed = s.reads.failed;
+      };
+      stops = tt;
+      end = inr (s.end.0, part_written (answer_of ct s.text) _ _ _ answer part);
+      failures = failures;
     }
 
 -- the whole report was written
 pub whole_runs : {A : Type 0} (items : A → List Section) (made : A) (u : Unit {0}) (c : RadioConfig) (ct : List ℕ)
-    (left left' : Option (List ℕ)) (failed failed' : ℕ) (old new : Option (List ℕ)) → configuration_of ct ≡ Ok c
-    → ReplaysStream items (Ok made) c left left' failed failed' → Appends old new (report_text (items made))
-    → RunsStream (Ok u) ct left left' failed failed' old new
-whole_runs items made u c ct left left' failed failed' old new is s written =
-    let answer =
-    answer_of-sections c s.end.1.0 (items made) ct s.text is s.end.1.1 s.end.1.2 in
+    (old new : Streams) → configuration_of ct ≡ Ok c → ReplaysStream items (Ok made) c old.source new.source
+    → Appends old.sink.taken new.sink.taken (report_text (items made)) → new.sink.failed ≡ old.sink.failed + 0
+    → RunsStream (Ok u) ct old new
+whole_runs items made u c ct old new is s written failures =
+    let answer = answer_of-sections c (items made) ct s.text is s.end.1 in
     record {
       text = s.text;
-      read = s.read;
-      fails = s.fails;
-      end = (s.end.0, whole_written _ _ old new answer written);
+      reads = s.reads;
+      stops = tt;
+      end = (s.end.0, whole_written (answer_of ct s.text) _ _ _ answer written);
+      failures = failures;
     }

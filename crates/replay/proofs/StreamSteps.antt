@@ -1,6 +1,7 @@
 -- What the steps of reading a stream rest on.
-use Rattle.std.proofs.Common.{◌≡◌, ℕ, ◌+◌, ◌≤◌, List, [], ◌++◌, length, take, drop, Option, Some, Result, Ok, Err, refl, ap, sym, subst, ◌∙◌, arith, append_assoc, append-nil, length-append}
+use Rattle.std.proofs.Common.{◌≡◌, ℕ, ◌+◌, ◌≤◌, List, [], ◌++◌, length, take, drop, Option, Some, Result, Ok, Err, refl, ap, sym, subst, ◌∙◌, arith, append_assoc, append-nil}
 use Rattle.std.proofs.KnownBytes.{Consumes-nil, Consumes-trans}
+use Rattle.std.specs.Prelude.{◌-◌, ◌^◌, max, min}
 use Rattle.std.specs.Io.KnownBytes.{Consumes}
 use Rattle.std.proofs.lemmas.List.Quantifiers.{position-Some}
 use Rattle.std.specs.List.{position}
@@ -10,11 +11,12 @@ use Rattle.ap_config.specs.declared.config.RadioConfig.{RadioConfig}
 use Rattle.events.specs.declared.line.Line.{Line}
 use Rattle.trace.specs.Faults.{◌>>=◌}
 use Rattle.trace.specs.Pieces.{ReaderView, said_after, answer_to_end, answer_to_all}
+use Rattle.trace.specs.Streams.{SourceView, reads_after}
 use Rattle.trace.specs.Texts.{is_line_feed, LacksLineFeed, ended}
 use Rattle.trace.specs.TraceText.{lines_of}
 use Rattle.trace.specs.declared.fault.TraceFault.{TraceFault}
 use Rattle.trace.proofs.TextLemmas.{around_line_feed, prefix_lacks}
-use Rattle.replay.specs.Stream.{HasReplayed}
+use Rattle.replay.specs.Stream.{HasReplayed, StopsIn}
 
 -- ---- the end of a trace
 
@@ -37,30 +39,71 @@ said_at_end c text said r last law e =
 
 -- ---- what was read so far
 
--- the lines of a text were taken that a source no longer has, which so many reads gave
-pub record SoFar (c : RadioConfig) (left left' : Option (List ℕ)) (count : ℕ) (lines : ReaderView)
-    (replay : Option RadioView) : Type 0 where
+-- the lines of a text were taken that a source gave in this many reads, none of which failed
+pub record SoFar (c : RadioConfig) (old new : SourceView) (count : ℕ) (lines : ReaderView) (replay : Option RadioView) :
+    Type 0 where
   pub text : List ℕ
-  pub read : Consumes left left' text
-  pub many : count ≤ length text
+  pub read : Consumes old.left new.left text
+  pub counted : new.reads ≡ reads_after old.reads count
+  pub failed : new.failed ≡ old.failed
   pub replayed : HasReplayed c text lines replay
 
-pub so_far-none : (c : RadioConfig) (left : Option (List ℕ)) (lines : ReaderView) (replay : Option RadioView)
-    → HasReplayed c [] lines replay → SoFar c left left 0 lines replay
-so_far-none c left lines replay h =
-    record { text = []; read = Consumes-nil left; many = omega arith; replayed = h }
+-- no read is counted, and then one more
+none_more : (most reads : ℕ) → reads ≡ max reads (min (reads + 0) most)
+none_more most reads = omega arith
 
--- a piece of one octet at least
-pub so_far-more : (c : RadioConfig) (left left' left'' : Option (List ℕ)) (count : ℕ) (piece : List ℕ)
-    (lines : ReaderView) (replay : Option RadioView) (lines' : ReaderView) (replay' : Option RadioView)
-    (s : SoFar c left left' count lines replay)
-    → Consumes left' left'' piece → 1 ≤ length piece → HasReplayed c (s.text ++ piece) lines' replay'
-    → SoFar c left left'' (count + 1) lines' replay'
-so_far-more c left left' left'' count piece lines replay lines' replay' s took some h = record {
-  text = s.text ++ piece;
-  read = Consumes-trans left left' left'' s.text piece s.read took;
-  many = omega (arith, s.many, length-append s.text piece);
+one_more : (most old mid new count : ℕ) → mid ≡ max old (min (old + count) most) → new ≡ max mid (min (mid + 1) most)
+    → new ≡ max old (min (old + (count + 1)) most)
+one_more most old mid new count before here = omega (arith, before, here)
+
+pub counted-none : (reads : ℕ) → reads ≡ reads_after reads 0
+counted-none reads = none_more (2 ^ 64 - 1) reads
+
+pub counted-more : (old mid new count : ℕ) → mid ≡ reads_after old count → new ≡ reads_after mid 1
+    → new ≡ reads_after old (count + 1)
+counted-more old mid new count before here = one_more (2 ^ 64 - 1) old mid new count before here
+
+pub so_far-none : (c : RadioConfig) (source : SourceView) (lines : ReaderView) (replay : Option RadioView)
+    → HasReplayed c [] lines replay → SoFar c source source 0 lines replay
+so_far-none c source lines replay h = record {
+  text = [];
+  read = Consumes-nil source.left;
+  counted = counted-none source.reads;
+  failed = refl;
   replayed = h;
+}
+
+-- a read more, and its piece
+pub so_far-more : (c : RadioConfig) (old mid new : SourceView) (count : ℕ) (piece : List ℕ) (lines : ReaderView)
+    (replay : Option RadioView) (lines' : ReaderView) (replay' : Option RadioView) (s : SoFar c old mid count lines replay)
+    → Consumes mid.left new.left piece → new.reads ≡ reads_after mid.reads 1 → new.failed ≡ mid.failed
+    → HasReplayed c (s.text ++ piece) lines' replay' → SoFar c old new (count + 1) lines' replay'
+so_far-more c old mid new count piece lines replay lines' replay' s took counted same h = record {
+  text = s.text ++ piece;
+  read = Consumes-trans old.left mid.left new.left s.text piece s.read took;
+  counted = counted-more old.reads mid.reads new.reads count s.counted counted;
+  failed = same ∙ s.failed;
+  replayed = h;
+}
+
+-- ---- where reading stops
+
+-- a fault was met in this piece
+pub stops_in : (c : RadioConfig) (text piece : List ℕ) (lines : ReaderView) (replay : Option RadioView)
+    → HasReplayed c text lines replay → length piece ≤ 4096 → StopsIn c (text ++ piece)
+stops_in c text piece lines replay h short =
+    record { before = text; piece = piece; said = h.0; in_order = refl; short = short; sound = h.1.answered }
+
+-- or at the end
+pub stops_at_end : (c : RadioConfig) (text : List ℕ) (lines : ReaderView) (replay : Option RadioView)
+    → HasReplayed c text lines replay → StopsIn c text
+stops_at_end c text lines replay h = record {
+  before = text;
+  piece = [];
+  said = h.0;
+  in_order = sym (append-nil text);
+  short = omega arith;
+  sound = h.1.answered;
 }
 
 -- ---- one piece, line by line

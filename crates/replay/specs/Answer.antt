@@ -9,10 +9,6 @@ use Rattle.trace.specs.Endings.{Ending, Refused, WriteFailed, OutOfMemory}
 use Rattle.trace.specs.Report.{report_text}
 use Rattle.trace.specs.TraceText.{lines_of}
 use Rattle.trace.specs.declared.fault.TraceFault.{TraceFault}
-use Rattle.trace.specs.declared.read_fault.ReadFault.{ReadFault}
-use Rattle.trace.specs.declared.read_fault.ReadFault.TheVariants as reads
-use Rattle.trace.specs.declared.report.ReportFault.{ReportFault}
-use Rattle.trace.specs.declared.report.ReportFault.TheVariants as reports
 use Rattle.replay.specs.declared.fault.TextFault.{TextFault}
 use Rattle.replay.specs.declared.fault.TextFault.TheVariants.{Config, Trace, NoMemory, Write}
 
@@ -36,17 +32,3 @@ text_ending (Config fault) = Refused (Config fault)
 text_ending (Trace fault) = Refused (Trace fault)
 text_ending NoMemory = OutOfMemory
 text_ending Write = WriteFailed
-
--- ---- a fault of a part, as that of the whole
-
-abbrev pub of_config : ReadFault ConfigFault → TextFault
-of_config (reads.At fault) = Config fault
-of_config reads.NoMemory = NoMemory
-
-abbrev pub of_trace : ReadFault TraceFault → TextFault
-of_trace (reads.At fault) = Trace fault
-of_trace reads.NoMemory = NoMemory
-
-abbrev pub of_report : ReportFault → TextFault
-of_report reports.Write = Write
-of_report reports.NoMemory = NoMemory

@@ -1,15 +1,11 @@
 -- What the program answers to the octets of a configuration alone.
-use Rattle.std.specs.Prelude.{ℕ, List, ◌++◌, length, codes, decimal, Result, Ok, Err}
+use Rattle.std.specs.Prelude.{ℕ, List, length, Result, Ok, Err}
 use Rattle.ap_config.specs.declared.config.RadioConfig.{RadioConfig}
 use Rattle.ap_config.specs.declared.config.ConfigFault.{ConfigFault}
 use Rattle.trace.specs.ConfigurationText.{configuration_of}
-use Rattle.trace.specs.Texts.{ended}
+use Rattle.trace.specs.Report.{count_line}
 use Rattle.replay.specs.declared.fault.TextFault.{TextFault}
 use Rattle.replay.specs.declared.fault.TextFault.TheVariants.{Config}
-
--- how many networks there are
-unfoldable pub count_line : ℕ → List ℕ
-count_line count = ended (codes "ok " ++ decimal count)
 
 abbrev pub checked : Result RadioConfig ConfigFault → Result (List ℕ) TextFault
 checked (Ok c) = Ok (count_line (length c.networks))

@@ -1,25 +1,24 @@
 -- What is answered to the octets of a configuration and to a trace that is read as it comes.
-use Rattle.std.specs.Prelude.{◌≡◌, ℕ, ◌+◌, ◌-◌, ◌^◌, ◌≤◌, ◌⊎◌, List, [], length, Option, Result, Ok, Err, MatchResult}
+use Rattle.std.specs.Prelude.{◌≡◌, ℕ, ◌+◌, ◌-◌, ◌^◌, ◌≤◌, ◌++◌, ◌⊎◌, List, length, Option, Result, Ok, Err, MatchResult}
+use Rattle.std.specs.Prelude.{IsOkAnd}
 use Rattle.std.specs.Option.{IsSomeAnd}
-use Rattle.std.specs.Io.KnownBytes.{Consumes, IsAtEnd, Keeps}
+use Rattle.std.specs.Io.KnownBytes.{Appends, IsAtEnd, Keeps}
 use Rattle.network.specs.Section.{sections_of_lines}
 use Rattle.bss_core.specs.RadioView.{RadioView}
 use Rattle.ap_config.specs.declared.config.RadioConfig.{RadioConfig}
-use Rattle.ap_config.specs.declared.config.ConfigFault.{ConfigFault}
 use Rattle.events.specs.declared.line.Line.{Line}
 use Rattle.events.specs.declared.section.Section.{Section}
-use Rattle.trace.specs.Endings.{Ending, Refused, WriteFailed, OutOfMemory, Ends}
-use Rattle.trace.specs.Pieces.{ReaderView, HasRead}
-use Rattle.trace.specs.TraceText.{lines_of}
-use Rattle.trace.specs.declared.fault.TraceFault.{TraceFault}
-use Rattle.trace.specs.declared.read_fault.ReadFault.{ReadFault}
-use Rattle.trace.specs.declared.read_fault.ReadFault.TheVariants as reads
-use Rattle.trace.specs.declared.report.ReportFault.{ReportFault}
-use Rattle.trace.specs.declared.report.ReportFault.TheVariants as reports
-use Rattle.replay.specs.Answer.{answer_of, text_ending}
+use Rattle.trace.specs.ConfigurationText.{configuration_of}
+use Rattle.trace.specs.Endings.{Ending, Refused, ReadFailed, WriteFailed, OutOfMemory, AppendsPrefix, ending_of}
+use Rattle.trace.specs.Endings.{failures_of}
+use Rattle.trace.specs.Pieces.{ReaderView, HasRead, whole_lines}
+use Rattle.trace.specs.Streams.{SourceView, Streams, Reads}
+use Rattle.trace.specs.TraceText.{bssids_of, lines_from, lines_of}
+use Rattle.replay.specs.Answer.{answer_of}
 use Rattle.replay.specs.Replay.{HasTaken}
 use Rattle.replay.specs.declared.fault.StreamFault.{StreamFault}
 use Rattle.replay.specs.declared.fault.StreamFault.TheVariants.{Config, Trace, NoMemory, Read, Write}
+use Rattle.replay.specs.declared.fault.TextFault.{TextFault}
 use Rattle.replay.specs.declared.fault.TextFault.TheVariants as texts
 
 -- ---- a trace that is being read
@@ -33,34 +32,43 @@ HasReplayed c text lines replay = (said : List Line) × HasRead c text said line
 abbrev pub max_reads : ℕ
 max_reads = 2 ^ 32 - 1
 
--- How often reading failed where it ended with this fault: it stops at the first failure, and after the most reads,
--- each of which gave an octet at least.
-abbrev pub FailsWith : StreamFault → List ℕ → ℕ → ℕ → Type 0
-FailsWith Read text old new = (new ≡ old + 1) ⊎ ((new ≡ old) × (max_reads ≤ length text))
-FailsWith fault text old new = new ≡ old
+-- the most octets that one read gives
+abbrev pub piece_len : ℕ
+piece_len = 4096
 
--- how often reading failed that ended so
-abbrev pub ReadsFail : {A : Type 0} → Result A StreamFault → List ℕ → ℕ → ℕ → Type 0
-ReadsFail result text old new = MatchResult result (λ _. new ≡ old) (λ fault. FailsWith fault text old new)
+-- how a call ends that reads a stream
+abbrev pub stream_ending : StreamFault → Ending StreamFault
+stream_ending NoMemory = OutOfMemory
+stream_ending Read = ReadFailed
+stream_ending Write = WriteFailed
+stream_ending fault = Refused fault
 
 -- ---- why it ended
 
+-- Reading stopped with the piece in which a fault was met: the lines that ended before that piece have none.
+pub record StopsIn (c : RadioConfig) (text : List ℕ) : Type 0 where
+  pub before : List ℕ
+  pub piece : List ℕ
+  pub said : List Line
+  pub in_order : text ≡ before ++ piece
+  pub short : length piece ≤ piece_len
+  pub sound : lines_from (bssids_of c) 1 (whole_lines before) ≡ Ok said
+
 -- the fault is that of what was read
 abbrev pub IsStreamFault : RadioConfig → List ℕ → StreamFault → Type 0
-IsStreamFault c text (Trace fault) = lines_of c text ≡ Err fault
+IsStreamFault c text (Trace fault) = (lines_of c text ≡ Err fault) × StopsIn c text
 IsStreamFault c text NoMemory = Unit {0}
 IsStreamFault c text Read = Unit {0}
 IsStreamFault c text (Config fault) = ⊥
 IsStreamFault c text Write = ⊥
 
 -- all of a trace was taken by the networks, or reading it ended before
-pub record TakesStream (result : Result Unit StreamFault) (c : RadioConfig) (left left' : Option (List ℕ))
-    (failed failed' : ℕ) (lines : ReaderView) (replay : Option RadioView) : Type 0 where
+pub record TakesStream (result : Result Unit StreamFault) (c : RadioConfig) (old new : SourceView) (lines : ReaderView)
+    (replay : Option RadioView) : Type 0 where
   pub text : List ℕ
-  pub read : Consumes left left' text
-  pub fails : ReadsFail result text failed failed'
+  pub reads : Reads (ending_of stream_ending result) max_reads old new text
   pub end : MatchResult result
-      (λ _. IsAtEnd left' × HasReplayed c text lines replay)
+      (λ _. IsAtEnd new.left × HasReplayed c text lines replay)
       (λ fault. IsStreamFault c text fault)
 
 -- the sections are those of a trace
@@ -70,55 +78,49 @@ AreSectionsOf c text sections =
 
 -- the sections of all that a source had left, or why reading it ended before
 pub record ReplaysStream {A : Type 0} (items : A → List Section) (result : Result A StreamFault) (c : RadioConfig)
-    (left left' : Option (List ℕ)) (failed failed' : ℕ) : Type 0 where
+    (old new : SourceView) : Type 0 where
   pub text : List ℕ
-  pub read : Consumes left left' text
-  pub fails : ReadsFail result text failed failed'
+  pub reads : Reads (ending_of stream_ending result) max_reads old new text
   pub end : MatchResult result
-      (λ made. IsAtEnd left' × AreSectionsOf c text (items made))
+      (λ made. IsAtEnd new.left × AreSectionsOf c text (items made))
       (λ fault. IsStreamFault c text fault)
 
--- What a run of what was read did that ended so, and what its output took meanwhile. Nothing is written before the
--- source came to its end, and then it is the run of the two texts.
-abbrev pub EndsStream : Result Unit StreamFault → List ℕ → List ℕ → Option (List ℕ) → Option (List ℕ)
-    → Option (List ℕ) → Type 0
-EndsStream (Ok u) config_text text left' old new =
-    IsAtEnd left' × Ends text_ending (Ok u) (answer_of config_text text) old new
-EndsStream (Err (Config fault)) config_text text left' old new =
-    (text ≡ []) × Ends {A = Unit} text_ending (Err (texts.Config fault)) (answer_of config_text text) old new
-EndsStream (Err (Trace fault)) config_text text left' old new =
-    Ends {A = Unit} text_ending (Err (texts.Trace fault)) (answer_of config_text text) old new
-EndsStream (Err NoMemory) config_text text left' old new =
-    Keeps old new
-    ⊎ (IsAtEnd left' × Ends {A = Unit} text_ending (Err texts.NoMemory) (answer_of config_text text) old new)
-EndsStream (Err Read) config_text text left' old new = Keeps old new
-EndsStream (Err Write) config_text text left' old new =
-    IsAtEnd left' × Ends {A = Unit} text_ending (Err texts.Write) (answer_of config_text text) old new
+-- ---- the whole
 
--- a run of a configuration's text and of what was read of a source, and what became of both
-pub record RunsStream (result : Result Unit StreamFault) (config_text : List ℕ) (left left' : Option (List ℕ))
-    (failed failed' : ℕ) (old new : Option (List ℕ)) : Type 0 where
+-- What a run did that ended so, where this is the answer to the two texts, the configuration's and what was read of the
+-- trace. Nothing is written before the source came to its end, and nothing is read where the configuration has a fault.
+abbrev pub EndsStream : Result Unit StreamFault → Result (List ℕ) TextFault → Streams → Streams → Type 0
+EndsStream (Ok u) answer old new =
+    IsAtEnd new.source.left × IsOkAnd answer (λ report. Appends old.sink.taken new.sink.taken report)
+EndsStream (Err (Config fault)) answer old new =
+    (answer ≡ Err (texts.Config fault)) × (new.source ≡ old.source) × Keeps old.sink.taken new.sink.taken
+EndsStream (Err (Trace fault)) answer old new =
+    (answer ≡ Err (texts.Trace fault)) × Keeps old.sink.taken new.sink.taken
+EndsStream (Err NoMemory) answer old new =
+    Keeps old.sink.taken new.sink.taken
+    ⊎ (IsAtEnd new.source.left × IsOkAnd answer (λ report. AppendsPrefix old.sink.taken new.sink.taken report))
+EndsStream (Err Read) answer old new = Keeps old.sink.taken new.sink.taken
+EndsStream (Err Write) answer old new =
+    IsAtEnd new.source.left × IsOkAnd answer (λ report. AppendsPrefix old.sink.taken new.sink.taken report)
+
+-- where the trace has a fault, reading stopped with the piece in which it was met
+abbrev pub StopsAtFault : Result Unit StreamFault → List ℕ → List ℕ → Type 0
+StopsAtFault (Err (Trace fault)) config_text text =
+    (c : RadioConfig) × (configuration_of config_text ≡ Ok c) × StopsIn c text
+StopsAtFault result config_text text = Unit {0}
+
+-- A run of a configuration's text and of what was read of a source ended so.
+pub record RunsStream (result : Result Unit StreamFault) (config_text : List ℕ) (old new : Streams) : Type 0 where
   pub text : List ℕ
-  pub read : Consumes left left' text
-  pub fails : ReadsFail result text failed failed'
-  pub end : EndsStream result config_text text left' old new
+  pub reads : Reads (ending_of stream_ending result) max_reads old.source new.source text
+  pub stops : StopsAtFault result config_text text
+  pub end : EndsStream result (answer_of config_text text) old new
+  pub failures : new.sink.failed ≡ old.sink.failed + failures_of stream_ending result
 
--- how a call ends that reads a stream
-abbrev pub stream_ending : StreamFault → Ending StreamFault
-stream_ending NoMemory = OutOfMemory
-stream_ending Write = WriteFailed
-stream_ending fault = Refused fault
+-- ---- streams as contracts name them
 
--- ---- a fault of a part, as that of the whole
+abbrev pub seen : Option (List ℕ) → ℕ → ℕ → SourceView
+seen left failed reads = record { left = left; failed = failed; reads = reads }
 
-abbrev pub of_config : ReadFault ConfigFault → StreamFault
-of_config (reads.At fault) = Config fault
-of_config reads.NoMemory = NoMemory
-
-abbrev pub of_trace : ReadFault TraceFault → StreamFault
-of_trace (reads.At fault) = Trace fault
-of_trace reads.NoMemory = NoMemory
-
-abbrev pub of_report : ReportFault → StreamFault
-of_report reports.Write = Write
-of_report reports.NoMemory = NoMemory
+abbrev pub streams : SourceView → Option (List ℕ) → ℕ → Streams
+streams source taken failed = record { source = source; sink = record { taken = taken; failed = failed } }

@@ -1,15 +1,13 @@
 //! Why a text was not answered.
 
 ghost use Rattle.std.specs.Prelude.{◌≡◌};
-ghost use Rattle.replay.specs.declared.fault.TextFault.TheVariants as faults;
-ghost use Rattle.replay.specs.declared.fault.StreamFault.TheVariants as stream_faults;
-ghost use Rattle.replay.specs.Answer.{of_config, of_trace, of_report};
-ghost use Rattle.replay.specs.Stream.{of_config as stream_config, of_trace as stream_trace, of_report as stream_report};
+ghost use Rattle.trace.specs.Faults.{read_as, report_as};
+ghost use Rattle.replay.specs.declared.fault.StreamFault.TheVariants as streams;
+ghost use Rattle.replay.specs.declared.fault.TextFault.TheVariants as texts;
 
 use ap_config::ConfigFault;
 use mac_frame::NoMemory;
-use std::alloc::AllocError;
-use trace::{ConfigTextFault, Failed, ReportFault, TraceFault, TraceTextFault};
+use trace::{ConfigTextFault, ReportFault, TraceFault, TraceTextFault};
 
 /// Why a configuration's and a trace's text were not answered.
 #[derive(Clone, Copy, Debug, PartialEq, Eq)]
@@ -18,7 +16,7 @@ pub enum TextFault {
     Config(ConfigFault),
     /// The first fault of the trace, where the configuration has none.
     Trace(TraceFault),
-    /// A growth was refused.
+    /// Memory ran out.
     NoMemory,
     /// A write failed.
     Write,
@@ -29,18 +27,18 @@ pub enum TextFault {
 pub enum StreamFault {
     /// The first fault of the configuration. Nothing was read.
     Config(ConfigFault),
-    /// The first fault of what was read of the trace, where the configuration has none.
+    /// The first fault of what was read of the trace, where the configuration has none. Reading stopped there.
     Trace(TraceFault),
-    /// A growth was refused.
+    /// Memory ran out.
     NoMemory,
-    /// A read failed, or 4,294,967,295 were made.
+    /// A read failed, or 4,294,967,295 reads were made and the trace had not ended.
     Read,
     /// A write failed.
     Write,
 }
 
 impl From<ConfigTextFault> for TextFault {
-    ghost from_gives = { λ fault given. given ≡ of_config fault };
+    ghost from_gives = { λ fault given. given ≡ read_as texts.Config texts.NoMemory fault };
 
     fn from(fault: ConfigTextFault) -> TextFault {
         match fault {
@@ -51,7 +49,7 @@ impl From<ConfigTextFault> for TextFault {
 }
 
 impl From<TraceTextFault> for TextFault {
-    ghost from_gives = { λ fault given. given ≡ of_trace fault };
+    ghost from_gives = { λ fault given. given ≡ read_as texts.Trace texts.NoMemory fault };
 
     fn from(fault: TraceTextFault) -> TextFault {
         match fault {
@@ -62,7 +60,7 @@ impl From<TraceTextFault> for TextFault {
 }
 
 impl From<ReportFault> for TextFault {
-    ghost from_gives = { λ fault given. given ≡ of_report fault };
+    ghost from_gives = { λ fault given. given ≡ report_as texts.Write texts.NoMemory fault };
 
     fn from(fault: ReportFault) -> TextFault {
         match fault {
@@ -72,32 +70,8 @@ impl From<ReportFault> for TextFault {
     }
 }
 
-impl From<AllocError> for TextFault {
-    ghost from_gives = { λ _ given. given ≡ faults.NoMemory };
-
-    fn from(_e: AllocError) -> TextFault {
-        TextFault::NoMemory
-    }
-}
-
-impl From<Failed> for TextFault {
-    ghost from_gives = { λ _ given. given ≡ faults.Write };
-
-    fn from(_e: Failed) -> TextFault {
-        TextFault::Write
-    }
-}
-
-impl From<NoMemory> for TextFault {
-    ghost from_gives = { λ _ given. given ≡ faults.NoMemory };
-
-    fn from(_e: NoMemory) -> TextFault {
-        TextFault::NoMemory
-    }
-}
-
 impl From<ConfigTextFault> for StreamFault {
-    ghost from_gives = { λ fault given. given ≡ stream_config fault };
+    ghost from_gives = { λ fault given. given ≡ read_as streams.Config streams.NoMemory fault };
 
     fn from(fault: ConfigTextFault) -> StreamFault {
         match fault {
@@ -108,7 +82,7 @@ impl From<ConfigTextFault> for StreamFault {
 }
 
 impl From<TraceTextFault> for StreamFault {
-    ghost from_gives = { λ fault given. given ≡ stream_trace fault };
+    ghost from_gives = { λ fault given. given ≡ read_as streams.Trace streams.NoMemory fault };
 
     fn from(fault: TraceTextFault) -> StreamFault {
         match fault {
@@ -119,7 +93,7 @@ impl From<TraceTextFault> for StreamFault {
 }
 
 impl From<ReportFault> for StreamFault {
-    ghost from_gives = { λ fault given. given ≡ stream_report fault };
+    ghost from_gives = { λ fault given. given ≡ report_as streams.Write streams.NoMemory fault };
 
     fn from(fault: ReportFault) -> StreamFault {
         match fault {
@@ -130,7 +104,7 @@ impl From<ReportFault> for StreamFault {
 }
 
 impl From<NoMemory> for StreamFault {
-    ghost from_gives = { λ _ given. given ≡ stream_faults.NoMemory };
+    ghost from_gives = { λ _ given. given ≡ streams.NoMemory };
 
     fn from(_e: NoMemory) -> StreamFault {
         StreamFault::NoMemory

@@ -11,17 +11,17 @@
 //! Where the texts come from, and where the report goes, is left to the program.
 #![tactic(auto)]
 
-mod checking;
-mod draining;
+mod check;
+mod drained_radio;
 mod fault;
 mod joined;
 mod line_by_line;
+mod lines;
 mod sent;
 mod stream;
-mod taking;
 mod text;
 
-pub use checking::check_text;
+pub use check::check_text;
 pub use fault::{StreamFault, TextFault};
 pub use joined::split_joined;
 pub use line_by_line::Replay;

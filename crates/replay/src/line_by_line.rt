@@ -5,7 +5,7 @@ ghost use Rattle.ap_config.specs.Configuration.{fault_of};
 ghost use Rattle.bss_core.specs.RadioView.{fresh_radio};
 ghost use Rattle.replay.specs.Replay.{TakesLine, sections_at};
 
-use crate::draining::DrainedRadio;
+use crate::drained_radio::DrainedRadio;
 use ap_config::RadioConfig;
 use events::{Line, Section};
 use mac_frame::NoMemory;
@@ -36,8 +36,8 @@ impl Model for Replay {
 }
 
 impl Replay {
-    /// The networks of a configuration without a fault, none of which took an event. `NoMemory` where a growth was
-    /// refused.
+    /// The networks of a configuration without a fault, none of which took an event. `NoMemory` where memory
+    /// ran out.
     pub fn new(alloc: Global, config: RadioConfig) -> Result<Replay, NoMemory>
         requires { fault_of config ≡ None }
         ensures { IfOk result (λ replay. replay ≡ Some (fresh_radio config)) }
@@ -47,8 +47,8 @@ impl Replay {
     }
 
     /// Lets each network take what it hears of a line, in order of place, and their frames leave. A network whose
-    /// history is full takes no more. `NoMemory` where a growth was refused, now or for an earlier line; what the
-    /// networks took is given up then.
+    /// history is full takes no more. `NoMemory` where memory ran out, now or for an earlier line; what the networks
+    /// took is given up then.
     pub fn take(&mut self, line: Line) -> Result<(), NoMemory>
         ensures taken { OnOk result (IsSomeAnd self.old (λ old. IsSomeAnd self.new (λ new. TakesLine line old new))) }
         ensures err { OnErr result (self.new ≡ None) }
@@ -63,8 +63,8 @@ impl Replay {
         taken
     }
 
-    /// The section of each network, in order of place, with what it took and the frames that left. `NoMemory` where a
-    /// growth was refused, now or for a line.
+    /// The section of each network, in order of place, with what it took and the frames that left. `NoMemory` where
+    /// memory ran out, now or for a line.
     pub fn into_sections(self) -> Result<Vec<Section>, NoMemory>
         ensures { IfOk result (λ sections. IsSomeAnd self (λ radio. sections.items ≡ sections_at radio)) }
     {

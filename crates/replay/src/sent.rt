@@ -25,7 +25,7 @@ impl Model for SentFrames {
 }
 
 impl SentFrames {
-    /// No frame of so many networks. `NoMemory` where a growth was refused.
+    /// No frame of this many networks. `NoMemory` where memory ran out.
     pub fn new(alloc: Global, networks: usize) -> Result<SentFrames, NoMemory>
         ensures { IfOk result (λ sent. sent ≡ none_sent networks) }
     {
@@ -36,7 +36,7 @@ impl SentFrames {
         Ok(SentFrames { frames })
     }
 
-    /// A frame of the network at its place left after the others. `NoMemory` where a growth was refused.
+    /// A frame of the network at its place left after the others. `NoMemory` where memory ran out.
     pub fn push(&mut self, item: AirItem) -> Result<(), NoMemory>
         requires { item.place < length self.old }
         ensures { OnOk result (self.new ≡ sends_more self.old item.place (item.octets ∷ [])) }

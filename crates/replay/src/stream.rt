@@ -1,20 +1,20 @@
 //! A trace that is read as it comes, and the report of it.
 
-ghost use Rattle.std.specs.Prelude.{◌≡◌, ◌+◌, ◌++◌, List, [], ℕ, None, Ok, IfOk, MatchResult};
+ghost use Rattle.std.specs.Prelude.{◌≡◌, ◌++◌, List, [], ℕ, None, Ok, IfOk, MatchResult};
 ghost use Rattle.ap_config.specs.Configuration.{fault_of};
 ghost use Rattle.ap_config.specs.declared.config.RadioConfig.{RadioConfig};
 ghost use Rattle.trace.specs.ConfigurationText.{configuration_of};
-ghost use Rattle.trace.specs.Endings.{IsFaultOf, failures_of, outcome_of};
+ghost use Rattle.trace.specs.Endings.{IsFaultOf, outcome_of};
 ghost use Rattle.trace.specs.Faults.{read_ending};
 ghost use Rattle.trace.specs.Sinks.{MayFail};
 ghost use Rattle.trace.specs.Texts.{LacksLineFeed, ended};
 ghost use Rattle.trace.specs.TraceText.{lines_of};
-ghost use Rattle.replay.specs.Stream.{HasReplayed, TakesStream, ReplaysStream, RunsStream, AreSectionsOf};
-ghost use Rattle.replay.specs.Stream.{stream_ending};
+ghost use Rattle.replay.specs.Stream.{HasReplayed, TakesStream, ReplaysStream, RunsStream, AreSectionsOf, seen};
+ghost use Rattle.replay.specs.Stream.{streams};
 
 use crate::fault::StreamFault;
 use crate::line_by_line::Replay;
-use crate::taking::{take_all, take_last};
+use crate::lines::{take_all, take_last};
 use ap_config::RadioConfig;
 use events::Section;
 use std::alloc::Global;
@@ -33,9 +33,9 @@ const MAX_READS: u32 = u32::MAX;
 /// taken. It is what [`crate::run_text`] appends for the same texts.
 ///
 /// A fault of the configuration is the first one, and nothing is read then. A fault of the trace is the first of what
-/// was read, and ends reading. `Read` comes where a read of the source failed, or 4,294,967,295 were made. Nothing is
-/// written by then. `Write` comes exactly where a write of `out` failed, and `NoMemory` where a growth was refused;
-/// what was written by then is nothing or, once all was read, a prefix of the report.
+/// was read, and ends reading. `Read` comes where a read of the source failed, or 4,294,967,295 reads were made. Nothing
+/// is written by then. `Write` comes exactly where a write of `out` failed, and `NoMemory` where memory ran out; what was
+/// written by then is nothing or, once all was read, a prefix of the report.
 pub fn run_stream<R: Source, W: Sink>(
     alloc: Global,
     config: &[u8],
@@ -44,9 +44,10 @@ pub fn run_stream<R: Source, W: Sink>(
 ) -> Result<(), StreamFault>
     requires source { MayFail (R.failed source.old) }
     requires sink { MayFail (W.failed out.old) }
-    ensures ends { RunsStream result config.now (R.left source.old) (R.left source.new)
-        (R.failed source.old) (R.failed source.new) (W.taken out.old) (W.taken out.new) }
-    ensures failures { W.failed out.new ≡ W.failed out.old + failures_of stream_ending result }
+    ensures { RunsStream result config.now
+        (streams (seen (R.left source.old) (R.failed source.old) (R.reads source.old)) (W.taken out.old) (W.failed out.old))
+        (streams (seen (R.left source.new) (R.failed source.new) (R.reads source.new)) (W.taken out.new)
+        (W.failed out.new)) }
 {
     report_stream(alloc, config, source, out)?;
     Ok(())
@@ -62,12 +63,14 @@ pub fn report_stream<R: Source, W: Sink>(
 ) -> Result<Vec<Section>, StreamFault>
     requires source { MayFail (R.failed source.old) }
     requires sink { MayFail (W.failed out.old) }
-    ensures ends { RunsStream (outcome_of result) config.now (R.left source.old) (R.left source.new)
-        (R.failed source.old) (R.failed source.new) (W.taken out.old) (W.taken out.new) }
+    ensures runs { RunsStream (outcome_of result) config.now
+        (streams (seen (R.left source.old) (R.failed source.old) (R.reads source.old)) (W.taken out.old) (W.failed out.old))
+        (streams (seen (R.left source.new) (R.failed source.new) (R.reads source.new)) (W.taken out.new)
+        (W.failed out.new)) }
     ensures sections { IfOk result (λ _. (c : RadioConfig) × (configuration_of config.now ≡ Ok c)
-        × ReplaysStream (λ sections. sections.items) result c (R.left source.old) (R.left source.new)
-        (R.failed source.old) (R.failed source.new)) }
-    ensures failures { W.failed out.new ≡ W.failed out.old + failures_of stream_ending result }
+        × ReplaysStream (λ sections. sections.items) result c
+        (seen (R.left source.old) (R.failed source.old) (R.reads source.old))
+        (seen (R.left source.new) (R.failed source.new) (R.reads source.new))) }
 {
     let config = read_config(alloc, config)?;
     let sections = replay_stream(alloc, config, source)?;
@@ -83,8 +86,9 @@ fn replay_stream<R: Source>(
 ) -> Result<Vec<Section>, StreamFault>
     requires config { fault_of config ≡ None }
     requires source { MayFail (R.failed source.old) }
-    ensures { ReplaysStream (λ sections. sections.items) result config (R.left source.old) (R.left source.new)
-        (R.failed source.old) (R.failed source.new) }
+    ensures { ReplaysStream (λ sections. sections.items) result config
+        (seen (R.left source.old) (R.failed source.old) (R.reads source.old))
+        (seen (R.left source.new) (R.failed source.new) (R.reads source.new)) }
 {
     piece_by_piece();
     let mut lines = LineReader::new(alloc, &config)?;
@@ -101,7 +105,8 @@ fn take_stream<R: Source>(
 ) -> Result<(), StreamFault>
     requires { MayFail (R.failed source.old) }
     ensures { (c : RadioConfig) → HasReplayed c [] lines.old replay.old → TakesStream result c
-        (R.left source.old) (R.left source.new) (R.failed source.old) (R.failed source.new) lines.new replay.new }
+        (seen (R.left source.old) (R.failed source.old) (R.reads source.old))
+        (seen (R.left source.new) (R.failed source.new) (R.reads source.new)) lines.new replay.new }
 {
     let mut buffer = [0; PIECE_LEN];
     for _ in 0..MAX_READS {

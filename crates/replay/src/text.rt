@@ -1,30 +1,30 @@
 //! The two texts, and the report of them.
 
-ghost use Rattle.std.specs.Prelude.{◌≡◌, ◌+◌, None, Ok, IfOk};
+ghost use Rattle.std.specs.Prelude.{◌≡◌, ◌+◌, None, Ok, IfOk, MatchResult};
 ghost use Rattle.ap_config.specs.Configuration.{fault_of};
-ghost use Rattle.network.specs.Section.{sections_of_lines};
 ghost use Rattle.ap_config.specs.declared.config.RadioConfig.{RadioConfig};
 ghost use Rattle.trace.specs.ConfigurationText.{configuration_of};
-ghost use Rattle.trace.specs.Endings.{Ends, failures_of};
+ghost use Rattle.trace.specs.Endings.{Ends, IsFaultOf, failures_of};
+ghost use Rattle.trace.specs.Faults.{read_ending};
 ghost use Rattle.trace.specs.Sinks.{MayFail};
+ghost use Rattle.trace.specs.TraceText.{lines_of};
 ghost use Rattle.replay.specs.Answer.{answer_of, text_ending};
 ghost use Rattle.replay.specs.Stream.{AreSectionsOf};
 
 use crate::fault::TextFault;
 use crate::line_by_line::Replay;
-use crate::taking::take_all;
+use crate::lines::take_all;
 use ap_config::RadioConfig;
-use events::{Line, Section};
-use mac_frame::NoMemory;
+use events::Section;
 use std::alloc::Global;
-use trace::{Sink, read_config, read_trace, write_report};
+use trace::{Sink, TraceTextFault, read_config, read_trace, write_report};
 
 /// Reads a configuration and a trace, lets each network take what it hears of the trace's lines, in order, and
 /// lets every frame leave as soon as it waits; then appends the report of all networks to what `out` has taken.
 ///
 /// A fault of the configuration or of the trace is the first one, and nothing is written then. `Write` comes exactly
-/// where a write of `out` failed, and `NoMemory` where a growth was refused; what was written by then is nothing or
-/// a prefix of the report.
+/// where a write of `out` failed, and `NoMemory` where memory ran out; what was written by then is nothing or a prefix
+/// of the report.
 pub fn run_text<W: Sink>(
     alloc: Global,
     config: &[u8],
@@ -54,22 +54,24 @@ pub fn report_texts<W: Sink>(
     ensures failures { W.failed out.new ≡ W.failed out.old + failures_of text_ending result }
 {
     let config = read_config(alloc, config)?;
-    let lines = read_trace(alloc, &config, trace)?;
-    let sections = replay_lines(alloc, config, lines)?;
+    let sections = replay_text(alloc, config, trace)?;
     write_report(alloc, sections.as_slice(), out)?;
     Ok(sections)
 }
 
-/// The section of each network, in order of place: each takes what it hears of the lines.
-fn replay_lines(
+/// The section of each network, in order of place: each takes what it hears of the lines of a trace.
+fn replay_text(
     alloc: Global,
     config: RadioConfig,
-    lines: Vec<Line>,
-) -> Result<Vec<Section>, NoMemory>
+    trace: &[u8],
+) -> Result<Vec<Section>, TraceTextFault>
     requires { fault_of config ≡ None }
-    ensures { IfOk result (λ sections. sections.items ≡ sections_of_lines config lines.items) }
+    ensures { MatchResult result
+        (λ sections. AreSectionsOf config trace.now sections.items)
+        (λ fault. IsFaultOf (lines_of config trace.now) (read_ending fault)) }
 {
+    let lines = read_trace(alloc, &config, trace)?;
     let mut replay = Replay::new(alloc, config)?;
     take_all(&mut replay, lines)?;
-    replay.into_sections()
+    Ok(replay.into_sections()?)
 }

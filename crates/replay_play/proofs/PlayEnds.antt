@@ -7,7 +7,7 @@ use Rattle.ap_config.specs.declared.config.ConfigFault.{ConfigFault}
 use Rattle.events.specs.declared.line.Line.{Line}
 use Rattle.trace.specs.ConfigurationText.{configuration_of}
 use Rattle.trace.specs.Endings.{IsFaultOf, Ends}
-use Rattle.trace.specs.Faults.{read_ending}
+use Rattle.trace.specs.Faults.{read_as, read_ending, report_as}
 use Rattle.trace.specs.Report.{report_text}
 use Rattle.trace.specs.Sinks.{report_ending}
 use Rattle.trace.specs.TraceText.{lines_of}
@@ -20,7 +20,7 @@ use Rattle.workers.specs.Names.{callers_fit}
 use Rattle.workers.specs.declared.finish.Finished.{Finished}
 use Rattle.workers.specs.declared.playing.PlayFault.{PlayFault}
 use Rattle.workers.specs.declared.playing.PlayFault.TheVariants as plays
-use Rattle.replay_play.specs.Playing.{AreLines, IsTracesFault, IsPlayOf, ArePlayable, EndsPlay, in_trace, of_config, of_play, of_report}
+use Rattle.replay_play.specs.Playing.{AreLines, IsTracesFault, IsPlayOf, ArePlayable, EndsPlay, in_trace, of_play}
 use Rattle.replay_play.specs.declared.fault.PlayTextFault.{PlayTextFault}
 use Rattle.replay_play.specs.declared.fault.PlayTextFault.TheVariants.{Config, Sources, Trace, NoThread, NoMemory, Finish, Write}
 
@@ -63,7 +63,7 @@ fault_met c traces before text after sources n reads.NoMemory parts read count i
 
 -- a fault of the configuration
 pub config_plays : (e : ReadFault ConfigFault) (ct : List ℕ) (traces : List (List ℕ)) (old : Option (List ℕ))
-    → IsFaultOf (configuration_of ct) (read_ending e) → EndsPlay (Err (of_config e)) ct traces old old
+    → IsFaultOf (configuration_of ct) (read_ending e) → EndsPlay (Err (read_as Config NoMemory e)) ct traces old old
 config_plays (reads.At fault) ct traces old h =
     record { answer = Err (Config fault); allowed = h; taken = (refl, Keeps-refl old) }
 config_plays reads.NoMemory ct traces old h =
@@ -107,7 +107,7 @@ play_fails (plays.Finish fault) c ct traces sources old able config count =
 pub report_plays : (e : ReportFault) (c : RadioConfig) (ct : List ℕ) (traces : List (List ℕ)) (sources : List (List Line))
     (end : Finished) (old new : Option (List ℕ)) → ArePlayable ct traces c sources → IsPlayOf c sources end
     → Ends {A = Unit} report_ending (Err e) (Ok (report_text end.sections)) old new
-    → EndsPlay (Err (of_report e)) ct traces old new
+    → EndsPlay (Err (report_as Write NoMemory e)) ct traces old new
 report_plays reports.Write c ct traces sources end old new able play part = record {
   answer = Ok (report_text end.sections);
   allowed = record { c = c; sources = sources; playable = able; end = end; play = play; text = refl };

@@ -6,13 +6,11 @@ use Rattle.ap_config.specs.declared.config.ConfigFault.{ConfigFault}
 use Rattle.events.specs.declared.line.Line.{Line}
 use Rattle.trace.specs.ConfigurationText.{configuration_of}
 use Rattle.trace.specs.Endings.{Ending, Refused, WriteFailed, OutOfMemory, Ends}
+use Rattle.trace.specs.Faults.{read_as}
 use Rattle.trace.specs.Report.{report_text}
 use Rattle.trace.specs.TraceText.{lines_of}
 use Rattle.trace.specs.declared.fault.TraceFault.{TraceFault}
 use Rattle.trace.specs.declared.read_fault.ReadFault.{ReadFault}
-use Rattle.trace.specs.declared.read_fault.ReadFault.TheVariants as reads
-use Rattle.trace.specs.declared.report.ReportFault.{ReportFault}
-use Rattle.trace.specs.declared.report.ReportFault.TheVariants as reports
 use Rattle.workers.specs.Ending.{AreSections, HaveLeft, ArePlaced}
 use Rattle.workers.specs.Names.{callers_fit}
 use Rattle.workers.specs.Playing.{ArePlayed}
@@ -42,7 +40,7 @@ pub record IsFirstFault (c : RadioConfig) (traces : List (List ℕ)) (source : �
 
 -- ---- what is played
 
--- What an access point of this configuration ended with that so many sources of lines fed: each section is that of the
+-- What an access point of this configuration ended with that these sources of lines fed: each section is that of the
 -- network alone, with as many events at most as it may take; what left of a network is all that it sent, and nothing
 -- else left; each event was given by one source; and what a source gave a network are the first of those events that
 -- the network hears of the source's lines, all of them where the network is not full.
@@ -122,13 +120,4 @@ IsTracesFault c traces _ = ⊥
 
 -- a fault of the trace at this place
 abbrev pub in_trace : ℕ → ReadFault TraceFault → PlayTextFault
-in_trace source (reads.At fault) = Trace source fault
-in_trace source reads.NoMemory = NoMemory
-
-abbrev pub of_config : ReadFault ConfigFault → PlayTextFault
-of_config (reads.At fault) = Config fault
-of_config reads.NoMemory = NoMemory
-
-abbrev pub of_report : ReportFault → PlayTextFault
-of_report reports.Write = Write
-of_report reports.NoMemory = NoMemory
+in_trace source fault = read_as (Trace source) NoMemory fault

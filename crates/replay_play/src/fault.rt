@@ -1,7 +1,8 @@
 //! Why several texts could not be played.
 
 ghost use Rattle.std.specs.Prelude.{◌≡◌};
-ghost use Rattle.replay_play.specs.Playing.{of_play, of_config, of_report};
+ghost use Rattle.trace.specs.Faults.{read_as, report_as};
+ghost use Rattle.replay_play.specs.Playing.{of_play};
 ghost use Rattle.replay_play.specs.declared.fault.PlayTextFault.TheVariants as faults;
 
 use ap_config::ConfigFault;
@@ -26,7 +27,7 @@ pub enum PlayTextFault {
     },
     /// A thread could not be started.
     NoThread,
-    /// A growth was refused.
+    /// Memory ran out.
     NoMemory,
     /// The access point could not be finished.
     Finish(FinishFault),
@@ -35,7 +36,7 @@ pub enum PlayTextFault {
 }
 
 impl From<ConfigTextFault> for PlayTextFault {
-    ghost from_gives = { λ fault given. given ≡ of_config fault };
+    ghost from_gives = { λ fault given. given ≡ read_as faults.Config faults.NoMemory fault };
 
     fn from(fault: ConfigTextFault) -> PlayTextFault {
         match fault {
@@ -60,7 +61,7 @@ impl From<PlayFault> for PlayTextFault {
 }
 
 impl From<ReportFault> for PlayTextFault {
-    ghost from_gives = { λ fault given. given ≡ of_report fault };
+    ghost from_gives = { λ fault given. given ≡ report_as faults.Write faults.NoMemory fault };
 
     fn from(fault: ReportFault) -> PlayTextFault {
         match fault {

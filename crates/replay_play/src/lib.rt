@@ -8,7 +8,7 @@
 #![tactic(auto)]
 
 mod fault;
-mod playing;
+mod play;
 
 pub use fault::PlayTextFault;
-pub use playing::play_text;
+pub use play::play_text;

@@ -8,7 +8,7 @@ use Rattle.toml.specs.declared.value.Value.{Value}
 use Rattle.toml.proofs.Views.{items_view-drop}
 use Rattle.ap_config.specs.declared.config.NetConfig.{NetConfig}
 use Rattle.ap_config.specs.declared.config.ConfigFault.{ConfigFault}
-use Rattle.trace.specs.Endings.{Ending, Well, Refused, WriteFailed, OutOfMemory, IsFaultOf}
+use Rattle.trace.specs.Endings.{Ending, Well, Refused, ReadFailed, WriteFailed, OutOfMemory, IsFaultOf}
 use Rattle.trace.specs.Faults.{◌>>=◌}
 use Rattle.trace.specs.ConfigurationText.{tables_in, network_of, networks_of}
 use Rattle.trace.specs.declared.configuration.version.Version.{Version}
@@ -70,5 +70,6 @@ module _ (version : Version) (vs : List Value) (i : ℕ) (v : Value) (within : i
   unfolding so_far
   so_far-fault done ms (Refused fault) is read = rw (from_here, tables_in-table _ _ ms (sym is), read) refl
   so_far-fault done ms Well is read = tt
+  so_far-fault done ms ReadFailed is read = tt
   so_far-fault done ms WriteFailed is read = tt
   so_far-fault done ms OutOfMemory is read = tt

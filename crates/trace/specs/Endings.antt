@@ -4,10 +4,11 @@
 use Rattle.std.specs.Prelude.{ℕ, ◌≡◌, List, ◌++◌, Option, Result, Ok, Err, MatchResult, IsOkAnd}
 use Rattle.std.specs.Io.KnownBytes.{Appends, Keeps}
 
--- well, or refused by a fault of what it was given; a write failed; memory ran out
+-- well, or refused by a fault of what it was given; a read or a write failed; memory ran out
 pub data Ending (F : Type 0) : Type 0 where
   Well : Ending F
   Refused : F → Ending F
+  ReadFailed : Ending F
   WriteFailed : Ending F
   OutOfMemory : Ending F
 
@@ -42,11 +43,12 @@ pub record AppendsPrefix (old new : Option (List ℕ)) (text : List ℕ) : Type 
   pub taken : Appends old new written
 
 -- What the sink took of a call that ends so and is to write a text, unless a fault refuses it. Where it ended well, the
--- whole text and nothing else; where a fault refused it, nothing; where a write failed, a prefix of the text; and where
--- memory ran out, a prefix of it or, where there is none, nothing.
+-- whole text and nothing else; where a fault refused it or a read failed, nothing; where a write failed, a prefix of the
+-- text; and where memory ran out, a prefix of it or, where there is none, nothing.
 abbrev pub EndsSo : {F : Type 0} → Ending F → Result (List ℕ) F → Option (List ℕ) → Option (List ℕ) → Type 0
 EndsSo Well answer old new = IsOkAnd answer (λ text. Appends old new text)
 EndsSo (Refused fault) answer old new = (answer ≡ Err fault) × Keeps old new
+EndsSo ReadFailed answer old new = Keeps old new
 EndsSo WriteFailed answer old new = IsOkAnd answer (λ text. AppendsPrefix old new text)
 EndsSo OutOfMemory answer old new = MatchResult answer (λ text. AppendsPrefix old new text) (λ _. Keeps old new)
 

@@ -1,8 +1,10 @@
--- Faults of a text that is read.
+-- Faults of a text that is read, and what becomes of them in a call of which reading it is a part.
 use Rattle.std.specs.Prelude.{Result, Ok, Err}
 use Rattle.trace.specs.Endings.{Ending, Refused, OutOfMemory}
 use Rattle.trace.specs.declared.read_fault.ReadFault.{ReadFault}
 use Rattle.trace.specs.declared.read_fault.ReadFault.TheVariants.{At, NoMemory}
+use Rattle.trace.specs.declared.report.ReportFault.{ReportFault}
+use Rattle.trace.specs.declared.report.ReportFault.TheVariants as reports
 
 -- one step of reading after another, up to the first fault
 infixl 10 ◌>>=◌
@@ -14,3 +16,15 @@ Err fault >>= next = Err fault
 abbrev pub read_ending : {F : Type 0} → ReadFault F → Ending F
 read_ending (At fault) = Refused fault
 read_ending NoMemory = OutOfMemory
+
+-- ---- a fault of a part, as that of the whole call, which has its own names for them
+
+-- a text was not read: it has this fault, or memory ran out
+abbrev pub read_as : {F G : Type 0} → (F → G) → G → ReadFault F → G
+read_as at no_memory (At fault) = at fault
+read_as at no_memory NoMemory = no_memory
+
+-- a report was not written: a write failed, or memory ran out
+abbrev pub report_as : {G : Type 0} → G → G → ReportFault → G
+report_as write no_memory reports.Write = write
+report_as write no_memory reports.NoMemory = no_memory

@@ -6,5 +6,6 @@ pub mod ConfigurationText
 pub mod TraceText
 pub mod Pieces
 pub mod Sinks
+pub mod Streams
 pub mod Report
 pub mod Buffers

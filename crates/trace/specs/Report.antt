@@ -1,4 +1,4 @@
--- The text of a report.
+-- The text of a report, and the line of a configuration alone.
 use Rattle.std.specs.Prelude.{ℕ, Bool, if◌then◌else◌, List, [], ◌++◌, length, codes, decimal, flat_map}
 use Rattle.hex.specs.Hex.{encode_lower}
 use Rattle.mac_frame.specs.Address.{address_text}
@@ -10,6 +10,10 @@ use Rattle.events.specs.declared.section.Section.{Section}
 use Rattle.events.specs.declared.section.StationRow.{StationRow}
 use Rattle.trace.specs.Texts.{ended}
 use Rattle.trace.specs.declared.report.lines.Totals.{Totals}
+
+-- how many networks a configuration has
+unfoldable pub count_line : ℕ → List ℕ
+count_line count = ended (codes "ok " ++ decimal count)
 
 -- which network it is: its address, and its name as octets
 unfoldable pub network_line : NetConfig → List ℕ

@@ -4,10 +4,11 @@ use Rattle.trace.specs.Endings.{Ending, WriteFailed, OutOfMemory}
 use Rattle.trace.specs.declared.report.ReportFault.{ReportFault}
 use Rattle.trace.specs.declared.report.ReportFault.TheVariants.{Write, NoMemory}
 
--- a writer or reader, and how often it failed
+-- a writer or reader, how often it failed, and how many reads were made of it, as far as 64 bits count
 pub record CountedStream (T : Type 0) : Type 0 where
   pub inner : T
   pub failures : ℕ
+  pub reads : ℕ
 
 -- What each call on a sink or a source asks for: fewer than 2 ^ 63 failures so far. Their number is a u64, and a call
 -- stops at its first failure, so that there is room to count that one.

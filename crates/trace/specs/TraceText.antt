@@ -1,6 +1,6 @@
 -- What a trace text says: its lines, or the first fault with the number of its line.
-use Rattle.std.specs.Prelude.{ℕ, ◌+◌, ◌-◌, Bool, true, not, nat_lt, ◌==◌, List, [], ◌∷◌, ◌++◌, length, take, drop}
-use Rattle.std.specs.Prelude.{filter, map, position, codes, Option, Some, None, Result, Ok, Err, if◌then◌else◌}
+use Rattle.std.specs.Prelude.{ℕ, ◌+◌, ◌-◌, Bool, true, not, ◌&&◌, ◌||◌, nat_lt, ◌==◌, List, [], ◌∷◌, ◌++◌, length, take}
+use Rattle.std.specs.Prelude.{drop, filter, map, position, codes, Option, Some, None, Result, Ok, Err, if◌then◌else◌}
 use Rattle.std.specs.List.{prefix_len, suffix_len, before_first, after_first}
 use Rattle.std.specs.Option.{ok_or, option_to_list}
 use Rattle.std.specs.Str.{bytes_eq}
@@ -129,6 +129,14 @@ abbrev pub content_of : List (List ℕ) → List ℕ → Result (Option Line) Li
 content_of bssids line =
     if is_skipped line then Ok None
     else (line_with bssids (first_word line) (after_first_word line) >>= λ said. Ok (Some said))
+
+-- A string that was heard, or a frame that came over the wire, follows this word.
+abbrev pub has_octets : List ℕ → Bool
+has_octets word = bytes_eq word (codes "A") || bytes_eq word (codes "W")
+
+-- Only such a line takes memory: one that is skipped, a tick, and one of another word never do.
+abbrev pub takes_memory : List ℕ → Bool
+takes_memory line = not (is_skipped line) && has_octets (first_word line)
 
 -- what a line without its LF and a CR before that says, whatever its number
 abbrev pub said_by : List (List ℕ) → List ℕ → Result (Option Line) LineFault

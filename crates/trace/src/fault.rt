@@ -44,7 +44,7 @@ pub enum LineFault {
 
 impl LineFault {
     /// The number of its code, as a user meets it: 1 to 5, for `L1` to `L5`.
-    fn code(self) -> u8
+    pub fn code(self) -> u8
         ensures { result ≡ code_of self }
     {
         match self {

@@ -10,6 +10,7 @@
 #![tactic(auto)]
 
 mod configuration;
+mod count;
 mod counted;
 mod fault;
 mod laws;
@@ -23,10 +24,11 @@ mod source;
 mod text;
 
 pub use configuration::{ConfigTextFault, read_config};
+pub use count::write_count;
 pub use counted::Counted;
 pub use fault::{LineFault, TraceFault, TraceTextFault};
 pub use laws::{cut_anywhere, piece_by_piece};
-pub use line::read_line;
+pub use line::{bssids_of, read_content, read_line};
 pub use line_reader::LineReader;
 pub use read::read_trace;
 pub use read_fault::ReadFault;
@@ -36,4 +38,4 @@ pub use report::{
 };
 pub use sink::{Failed, Sink, write_all};
 pub use source::Source;
-pub use text::place_of;
+pub use text::{place_of, without_carriage_return, without_spaces_at_end};

@@ -1,23 +1,33 @@
 //! One line of a trace text.
 
-ghost use Rattle.std.specs.Prelude.{◌≡◌, IfOk, position};
+ghost use Rattle.std.specs.Prelude.{◌≡◌, ◌≢◌, false, map, Err, IfOk, position};
 ghost use Rattle.trace.specs.Endings.{Gives};
 ghost use Rattle.trace.specs.Faults.{read_ending};
 ghost use Rattle.mac_frame.specs.Address.{address_of};
 ghost use Rattle.trace.specs.TraceText.{is_skipped, is_space, first_word, without_spaces_at_end};
 ghost use Rattle.trace.specs.TraceText.{without_spaces_at_start, after_first_word, digits_of, octets_of, within_limit};
 ghost use Rattle.trace.specs.TraceText.{place_with, place_named, wired_line, line_with, content_of, said_by};
+ghost use Rattle.trace.specs.TraceText.{has_octets, takes_memory};
 ghost use Rattle.hex.specs.Hex.{decode_of};
 
 use crate::fault::LineFault;
 use crate::read_fault::ReadFault;
+use crate::text::without_spaces_at_end;
+use ap_config::NetConfig;
 use events::Line;
-use mac_frame::{MacAddr, Octets};
+use mac_frame::{MacAddr, NoMemory, Octets};
 use std::alloc::{AllocError, Global};
 use std::str;
 
 /// The most octets of a string.
 const MAX_OCTETS: usize = 4096;
+
+/// The address of each network, in order of place. `NoMemory` where memory ran out.
+pub fn bssids_of(alloc: Global, networks: &[NetConfig]) -> Result<Vec<MacAddr>, NoMemory>
+    ensures { IfOk result (λ bssids. bssids.items ≡ map (λ n. n.bssid) networks.now) }
+{
+    Ok(networks.iter().map(|network| network.bssid).collect(alloc)?)
+}
 
 /// What a line says to the networks that have these addresses, in order of place: nothing where it is skipped. It is
 /// taken without its LF, and without a CR directly before that.
@@ -29,37 +39,28 @@ const MAX_OCTETS: usize = 4096;
 ///
 /// A line with a fault gives the first, in this order: a first word that is none of these, also an empty one, or
 /// something after `T` (`L1`); a second word of `W` that is missing or no address (`L3`), or an address that no network
-/// has (`L4`); an odd number of digits, or another character (`L2`); more than 4096 octets (`L5`).
+/// has (`L4`); an odd number of digits, or another character (`L2`); more than 4096 octets (`L5`). `NoMemory` where memory
+/// ran out, which only a line of the words `A` and `W` takes.
 pub fn read_line(
     alloc: Global,
     bssids: &[MacAddr],
     line: &[u8],
 ) -> Result<Option<Line>, ReadFault<LineFault>>
-    ensures { Gives (λ said. said) read_ending result (said_by bssids.now line.now) }
+    ensures exact { Gives (λ said. said) read_ending result (said_by bssids.now line.now) }
+    ensures memory { takes_memory (without_spaces_at_end line.now) ≡ false → result ≢ Err ReadFault.NoMemory }
 {
     read_content(alloc, bssids, without_spaces_at_end(line))
 }
 
-/// A line less the spaces at its end.
+/// What a line less the spaces at its end says, as [`read_line`] tells it of the whole line.
 #[inline]
-fn without_spaces_at_end(line: &[u8]) -> &[u8]
-    ensures { result.now ≡ without_spaces_at_end line.now }
-{
-    let mut end = line.len();
-    while end > 0 && line[end - 1] == b' ' {
-        end -= 1;
-    }
-    &line[..end]
-}
-
-/// What a line less the spaces at its end says: nothing where it is skipped.
-#[inline]
-fn read_content(
+pub fn read_content(
     alloc: Global,
     bssids: &[MacAddr],
     line: &[u8],
 ) -> Result<Option<Line>, ReadFault<LineFault>>
-    ensures { Gives (λ said. said) read_ending result (content_of bssids.now line.now) }
+    ensures exact { Gives (λ said. said) read_ending result (content_of bssids.now line.now) }
+    ensures memory { takes_memory line.now ≡ false → result ≢ Err ReadFault.NoMemory }
 {
     if is_skipped(line) {
         return Ok(None);
@@ -76,7 +77,8 @@ fn line_with(
     word: &[u8],
     text: &[u8],
 ) -> Result<Line, ReadFault<LineFault>>
-    ensures { Gives (λ line. line) read_ending result (line_with bssids.now word.now text.now) }
+    ensures exact { Gives (λ line. line) read_ending result (line_with bssids.now word.now text.now) }
+    ensures memory { has_octets word.now ≡ false → result ≢ Err ReadFault.NoMemory }
 {
     match word {
         b"A" => Ok(Line::Air(read_octets(alloc, text)?)),

@@ -2,7 +2,7 @@
 //!
 //! A [`LineReader`] gives the lines that end in each piece; the pieces may be cut anywhere.
 
-ghost use Rattle.std.specs.Prelude.{◌≡◌, ◌+◌, ◌<◌, ◌≤◌, ◌++◌, ◌∷◌, [], length, map, IfOk, OnOk, OnErr};
+ghost use Rattle.std.specs.Prelude.{◌≡◌, ◌+◌, ◌<◌, ◌≤◌, ◌++◌, ◌∷◌, [], length, Err, IfOk, IfSome, OnOk, OnErr};
 ghost use Rattle.std.specs.Option.{option_to_list};
 ghost use Rattle.std.specs.Str.Lines.{strip_carriage_return};
 ghost use Rattle.trace.specs.Endings.{Gives};
@@ -14,10 +14,10 @@ ghost use Rattle.trace.specs.Pieces.{said_by_next, past_next, answer_to, answer_
 ghost use Rattle.trace.specs.Pieces.{past_end, Leaves, keeping, said_after};
 
 use crate::fault::{LineFault, TraceFault, TraceTextFault, in_text};
-use crate::line::read_line;
+use crate::line::{bssids_of, read_line};
 use crate::read_fault::ReadFault;
-use crate::text::place_of;
-use ap_config::{NetConfig, RadioConfig};
+use crate::text::{place_of, without_carriage_return};
+use ap_config::RadioConfig;
 use events::Line;
 use mac_frame::{MacAddr, NoMemory};
 use std::alloc::{AllocFailed, Global};
@@ -59,8 +59,8 @@ impl Model for LineReader {
 }
 
 impl LineReader {
-    /// The reader of a text of which nothing came, for the networks of a configuration. `NoMemory` where a growth was
-    /// refused.
+    /// The reader of a text of which nothing came, for the networks of a configuration. `NoMemory` where memory ran
+    /// out.
     pub fn new(alloc: Global, config: &RadioConfig) -> Result<LineReader, NoMemory>
         ensures { IfOk result (λ reader. reader ≡ new_reader (bssids_of config.now)) }
     {
@@ -78,11 +78,12 @@ impl LineReader {
     ///
     /// A piece is judged whole: where a line that ends in it has a fault, that is the answer, and the lines before it
     /// are not given. An octet after 1,000,000 lines is `L5` in the line after them, whatever it is. From then on each
-    /// call answers the same fault. `NoMemory` where a growth was refused; the reader is then as it was, and the piece
-    /// counts as not taken.
+    /// call answers the same fault, and takes no memory. `NoMemory` where memory ran out; the reader is then as it was,
+    /// and the piece counts as not taken.
     pub fn feed(&mut self, piece: &[u8]) -> Result<Vec<Line>, TraceTextFault>
         ensures exact { Gives (λ lines. lines.items) read_ending result (answer_to self.old piece.now) }
         ensures after { Leaves result self.old (after_piece self.old piece.now) self.new }
+        ensures met { IfSome self.old.fault (λ met. result ≡ Err (ReadFault.At met)) }
     {
         if let Some(fault) = self.fault {
             return Err(ReadFault::At(fault));
@@ -99,6 +100,7 @@ impl LineReader {
         requires { LacksLineFeed octets.now }
         ensures exact { Gives option_to_list read_ending result (answer_to self.old (ended octets.now)) }
         ensures after { Leaves result self.old (after_piece self.old (ended octets.now)) self.new }
+        ensures met { IfSome self.old.fault (λ met. result ≡ Err (ReadFault.At met)) }
     {
         if let Some(fault) = self.fault {
             return Err(ReadFault::At(fault));
@@ -111,11 +113,12 @@ impl LineReader {
     /// Ends the text, and gives what the unfinished line says, of which no CR is dropped; nothing where it is empty or
     /// skipped. It is empty then, and where it was not it counts as one more that ended.
     ///
-    /// A line with a fault gives its first, and so does each call from then on. `NoMemory` where a growth was refused;
-    /// the reader is then as it was.
+    /// A line with a fault gives its first, and so does each call from then on, which takes no memory. `NoMemory` where
+    /// memory ran out; the reader is then as it was.
     pub fn end(&mut self) -> Result<Option<Line>, TraceTextFault>
         ensures exact { Gives (λ said. said) read_ending result (answer_to_end self.old) }
         ensures after { Leaves result self.old (after_end self.old) self.new }
+        ensures met { IfSome self.old.fault (λ met. result ≡ Err (ReadFault.At met)) }
     {
         if let Some(fault) = self.fault {
             return Err(ReadFault::At(fault));
@@ -251,7 +254,7 @@ impl LineReader {
         Ok(Vec::new(self.alloc))
     }
 
-    /// Goes on to the line after so many that have ended, of which these octets came.
+    /// Goes on to the line after those that have ended, of which these octets came.
     fn begin(&mut self, ended_lines: u32, octets: &[u8]) -> Result<(), TraceTextFault>
         requires limit { ended_lines ≤ MAX_LINES }
         requires lacks { LacksLineFeed octets.now }
@@ -316,15 +319,8 @@ pub fn add(lines: &mut Vec<Line>, said: Option<Line>) -> Result<(), AllocFailed<
     Ok(())
 }
 
-/// The address of each network, in order of place.
-fn bssids_of(alloc: Global, networks: &[NetConfig]) -> Result<Vec<MacAddr>, NoMemory>
-    ensures { IfOk result (λ bssids. bssids.items ≡ map (λ n. n.bssid) networks.now) }
-{
-    Ok(networks.iter().map(|network| network.bssid).collect(alloc)?)
-}
-
-/// Whether a line may begin with these octets after so many that have ended: the fault of a line too many, where there
-/// is an octet.
+/// Whether a line may begin with these octets after those that have ended: the fault of a line too many, where there is
+/// an octet.
 #[inline]
 fn may_begin(ended_lines: u32, octets: &[u8]) -> Result<(), TraceTextFault>
     requires { ended_lines ≤ MAX_LINES }
@@ -335,15 +331,4 @@ fn may_begin(ended_lines: u32, octets: &[u8]) -> Result<(), TraceTextFault>
         return Err(ReadFault::At(LineFault::TooMany.at(ended_lines + 1)));
     }
     Ok(())
-}
-
-/// A line less the CR at its end, if it has one.
-#[inline]
-fn without_carriage_return(line: &[u8]) -> &[u8]
-    ensures { result.now ≡ strip_carriage_return line.now }
-{
-    match line {
-        [prefix @ .., b'\r'] => prefix,
-        _ => line,
-    }
 }

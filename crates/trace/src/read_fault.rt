@@ -11,7 +11,7 @@ use std::alloc::{AllocError, AllocFailed};
 pub enum ReadFault<F> {
     /// The text has this fault, and none before it.
     At(F),
-    /// A growth was refused, which says nothing of the text.
+    /// Memory ran out, which says nothing of the text.
     NoMemory,
 }
 

@@ -41,7 +41,7 @@ use std::alloc::{AllocError, Global};
 pub enum ReportFault {
     /// A write failed.
     Write,
-    /// A growth was refused.
+    /// Memory ran out.
     NoMemory,
 }
 

@@ -1,6 +1,8 @@
-//! Where an octet stands in a text, which each reader of lines asks.
+//! Texts by their octets: what each reader of lines asks.
 
 ghost use Rattle.std.specs.Prelude.{◌≡◌, ◌==◌, position};
+ghost use Rattle.std.specs.Str.Lines.{strip_carriage_return};
+ghost use Rattle.trace.specs.TraceText.{without_spaces_at_end};
 
 use memchr::memchr;
 
@@ -9,4 +11,27 @@ pub fn place_of(octet: u8, text: &[u8]) -> Option<usize>
     ensures { result ≡ position (λ c. c == octet) text.now }
 {
     memchr(octet, text)
+}
+
+/// A line less the CR at its end, if it has one.
+#[inline]
+pub fn without_carriage_return(line: &[u8]) -> &[u8]
+    ensures { result.now ≡ strip_carriage_return line.now }
+{
+    match line {
+        [prefix @ .., b'\r'] => prefix,
+        _ => line,
+    }
+}
+
+/// A line less the spaces at its end.
+#[inline]
+pub fn without_spaces_at_end(line: &[u8]) -> &[u8]
+    ensures { result.now ≡ without_spaces_at_end line.now }
+{
+    let mut end = line.len();
+    while end > 0 && line[end - 1] == b' ' {
+        end -= 1;
+    }
+    &line[..end]
 }

@@ -89,7 +89,7 @@ fn failing_writer(rt: HostRuntime) -> Result<(), Fail> {
     Ok(())
 }
 
-/// So many frames, each with its number, and their lines.
+/// Frames, each with its number, and their lines.
 fn numbered_frames(alloc: Global, count: u32) -> Result<(Vec<Octets>, String), Fail> {
     let mut frames = Vec::new(alloc);
     let mut lines = String::new(alloc);

@@ -186,7 +186,7 @@ const LONG: [Long; 8] = [
     ),
 ];
 
-/// What a reader gives for a first piece of so many octets, then pieces of a length, and the end.
+/// What a reader gives for a first piece of this length, then pieces of another, and the end.
 fn read_in_pieces(
     alloc: Global,
     config: &RadioConfig,

@@ -72,20 +72,42 @@ pub fn task_of<'a>(alloc: Global, words: &'a [String]) -> Result<Option<Task<'a>
 
 /// The program's subcommands with the files that each needs.
 fn command<'a>(alloc: Global) -> Result<Command<'a>, AllocError> {
-    let check = Command::new(alloc, CHECK).arg(file(alloc, CONFIG))?;
-    let run = Command::new(alloc, RUN)
+    let root = Command::new(alloc, "apctl").subcommand_required(true);
+    let root = with_check(alloc, root)?;
+    let root = with_run(alloc, root)?;
+    let root = with_play(alloc, root)?;
+    with_live(alloc, root)
+}
+
+/// `check CONFIG`, after the subcommands that are there.
+fn with_check<'a>(alloc: Global, root: Command<'a>) -> Result<Command<'a>, AllocError> {
+    root.subcommand(Command::new(alloc, CHECK).arg(file(alloc, CONFIG))?)
+}
+
+/// `run CONFIG TRACE`, after the subcommands that are there.
+fn with_run<'a>(alloc: Global, root: Command<'a>) -> Result<Command<'a>, AllocError> {
+    root.subcommand(with_traces(alloc, RUN, file(alloc, TRACE))?)
+}
+
+/// `play CONFIG TRACE...`, after the subcommands that are there.
+fn with_play<'a>(alloc: Global, root: Command<'a>) -> Result<Command<'a>, AllocError> {
+    root.subcommand(with_traces(alloc, PLAY, file(alloc, TRACE).num_args(1..))?)
+}
+
+/// `live CONFIG`, after the subcommands that are there.
+fn with_live<'a>(alloc: Global, root: Command<'a>) -> Result<Command<'a>, AllocError> {
+    root.subcommand(Command::new(alloc, LIVE).arg(file(alloc, CONFIG))?)
+}
+
+/// A subcommand of a configuration and traces.
+fn with_traces<'a>(
+    alloc: Global,
+    name: &'a str,
+    traces: Arg<'a>,
+) -> Result<Command<'a>, AllocError> {
+    Command::new(alloc, name)
         .arg(file(alloc, CONFIG))?
-        .arg(file(alloc, TRACE))?;
-    let play = Command::new(alloc, PLAY)
-        .arg(file(alloc, CONFIG))?
-        .arg(file(alloc, TRACE).num_args(1..))?;
-    let live = Command::new(alloc, LIVE).arg(file(alloc, CONFIG))?;
-    Command::new(alloc, "apctl")
-        .subcommand_required(true)
-        .subcommand(check)?
-        .subcommand(run)?
-        .subcommand(play)?
-        .subcommand(live)
+        .arg(traces)
 }
 
 /// The name of a file, which must be there.

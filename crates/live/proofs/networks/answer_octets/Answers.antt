@@ -21,7 +21,7 @@ pub returns-in-Ok-None : goal.returns-in-Ok-None
 returns-in-Ok-None g c lines count =
     let not : asks_for_tables c.args.line.now ≡ false = sym c.asks_for_tables.ensures ∙ c.if-asks_for_tables.false in
     let says : said_by c.args.bssids.now c.args.line.now ≡ Ok None =
-    rw c.in-Ok-None.field-0-is at c.in-Ok-None.ensures in
+    rw c.in-Ok-None.field-0-is at c.in-Ok-None.ensures.exact in
     answered-octets _ _ lines c.args.number c.args.networks.now _ c.args.line.now (Says (Ok None)) Nothing _ _ count
     (asks-said c.args.bssids.now c.args.networks.now c.args.line.now (Ok None) c.requires.addresses not says)
     refl
@@ -33,7 +33,7 @@ returns-in-Ok-Some g c lines count =
     let not : asks_for_tables c.args.line.now ≡ false = sym c.asks_for_tables.ensures ∙ c.if-asks_for_tables.false in
     let said : Line = line_as c.new.result.place c.new.result.event in
     let says : said_by c.args.bssids.now c.args.line.now ≡ Ok (Some said) =
-    rw c.in-Ok-Some.field-0-is at c.in-Ok-Some.ensures ∙ ap (λ (l : Line). Ok (Some l)) (sym c.new.ensures) in
+    rw c.in-Ok-Some.field-0-is at c.in-Ok-Some.ensures.exact ∙ ap (λ (l : Line). Ok (Some l)) (sym c.new.ensures) in
     let r = c.reply_all.ensures in
     answered-octets _ _ lines c.args.number c.args.networks.now _ c.args.line.now (Says (Ok (Some said)))
     (Replies r.replies) _ _ count
@@ -46,7 +46,7 @@ pub returns-in-Err-At : goal.returns-in-Err-At
 returns-in-Err-At g c lines count =
     let not : asks_for_tables c.args.line.now ≡ false = sym c.asks_for_tables.ensures ∙ c.if-asks_for_tables.false in
     let says : said_by c.args.bssids.now c.args.line.now ≡ Err c.in-Err-At.fault =
-    rw c.in-Err-At.field-0-is at c.in-Err-At.ensures in
+    rw c.in-Err-At.field-0-is at c.in-Err-At.ensures.exact in
     answered-octets _ _ lines c.args.number c.args.networks.now _ c.args.line.now (Says (Err c.in-Err-At.fault))
     (Faulty c.in-Err-At.fault) _ _ count
     (asks-said c.args.bssids.now c.args.networks.now c.args.line.now (Err c.in-Err-At.fault) c.requires.addresses not says)

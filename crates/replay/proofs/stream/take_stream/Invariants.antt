@@ -1,6 +1,6 @@
-use Rattle.std.proofs.Common.{◌≡◌, []}
+use Rattle.std.proofs.Common.{◌≡◌, [], length}
 use Rattle.ap_config.specs.declared.config.RadioConfig.{RadioConfig}
-use Rattle.replay.specs.Stream.{HasReplayed}
+use Rattle.replay.specs.Stream.{HasReplayed, seen}
 use Rattle.replay.proofs.StreamSteps.{SoFar}
 use Rattle.replay.proofs.stream.take_stream.Given as goal
 
@@ -9,6 +9,10 @@ invariant-loop g l = record {
   so_far :
       (c : RadioConfig)
       → HasReplayed c [] l.initial.lines l.initial.replay
-      → SoFar c (g.R.Source.left l.initial.source) (g.R.Source.left l.source) l.counter l.lines l.replay;
+      → SoFar c
+      (seen (g.R.Source.left l.initial.source) (g.R.Source.failed l.initial.source) (g.R.Source.reads l.initial.source))
+      (seen (g.R.Source.left l.source) (g.R.Source.failed l.source) (g.R.Source.reads l.source))
+      l.counter l.lines l.replay;
   none_failed : g.R.Source.failed l.source ≡ g.R.Source.failed l.initial.source;
+  whole : length l.buffer ≡ 4096;
 }

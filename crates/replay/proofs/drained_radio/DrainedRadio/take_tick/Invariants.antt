@@ -1,0 +1,10 @@
+use Rattle.events.specs.declared.line.Line.TheVariants.{Tick}
+use Rattle.replay.specs.Replay.{IsDrained}
+use Rattle.replay.proofs.LineSteps.{TakesBelow}
+use Rattle.replay.proofs.drained_radio.DrainedRadio.take_tick.Given as goal
+
+abbrev pub invariant-loop-place : goal.invariant-loop-place
+invariant-loop-place l = record {
+  drained : IsDrained l.self.radio l.self.sent;
+  taken : TakesBelow l.place Tick l.initial.self.radio l.self.radio;
+}

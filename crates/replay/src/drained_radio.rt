@@ -1,0 +1,181 @@
+//! A radio whose frames all leave before the next line.
+
+ghost use Rattle.std.specs.Prelude.{◌≡◌, ◌<◌, ◌+◌, [], None, IsTrue, IfSome, IfNone, IfOk, OnOk, length};
+ghost use Rattle.ap_config.specs.Configuration.{fault_of};
+ghost use Rattle.bss_core.specs.RadioView.{fresh_radio, view_at};
+ghost use Rattle.events.specs.declared.line.Line.TheVariants as Lines;
+ghost use Rattle.replay.specs.Frames.{sends_more};
+ghost use Rattle.replay.specs.Replay.{IsDrained, TakesAt, TakesLine, sections_at, is_heard_at, IsUnheardFrom, emptied};
+ghost use Rattle.replay.specs.Replay.{SendsFirst};
+
+use crate::sent::SentFrames;
+use ap_config::RadioConfig;
+use bss_core::Radio;
+use events::{Event, Handed, Line, Section, hears};
+use mac_frame::{List, NoMemory, Octets};
+use network::{Refusal, sent_frames};
+use std::alloc::Global;
+
+/// A radio, and the frames that left it. It is drained: nothing waits and nothing is queued, but while it takes a line.
+#[derive(Drop)]
+pub struct DrainedRadio {
+    alloc: Global,
+    radio: Radio,
+    sent: SentFrames,
+}
+
+impl DrainedRadio {
+    /// The radio of a configuration without a fault, of which no network took an event. `NoMemory` where memory ran
+    /// out.
+    pub fn new(alloc: Global, config: RadioConfig) -> Result<DrainedRadio, NoMemory>
+        requires { fault_of config ≡ None }
+        ensures { IfOk result (λ drained. (drained.radio ≡ fresh_radio config) × IsDrained drained.radio drained.sent) }
+    {
+        let radio = Radio::of_checked(alloc, config)?;
+        let sent = SentFrames::new(alloc, radio.networks())?;
+        Ok(DrainedRadio { alloc, radio, sent })
+    }
+
+    /// Takes a line in each network that hears it, in order of place, and lets their frames leave.
+    pub fn take_line(&mut self, line: Line) -> Result<(), NoMemory>
+        requires { IsDrained self.old.radio self.old.sent }
+        ensures { OnOk result (IsDrained self.new.radio self.new.sent
+            × TakesLine line self.old.radio self.new.radio) }
+    {
+        match line {
+            Line::Air(octets) => self.take_octets(octets),
+            Line::Wire { place, octets } => self.take_wired(place, octets),
+            Line::Tick => self.take_tick(),
+        }
+    }
+
+    /// Takes a string of octets that was heard on the air in each network that hears it, in order of place, and lets
+    /// their frames leave. It is copied for each of them but the last, into which it moves.
+    fn take_octets(&mut self, octets: Octets) -> Result<(), NoMemory>
+        requires { IsDrained self.old.radio self.old.sent }
+        ensures { OnOk result (IsDrained self.new.radio self.new.sent
+            × TakesLine (Lines.Air octets) self.old.radio self.new.radio) }
+    {
+        let Some(last) = self.last_hearer(octets.as_slice()) else {
+            return Ok(());
+        };
+        for place in 0..last {
+            if self.is_heard_at(place, octets.as_slice()) {
+                let copy = octets.copy(self.alloc)?;
+                self.take_event(place, Event::Air(copy))?;
+            }
+        }
+        self.take_event(last, Event::Air(octets))
+    }
+
+    /// Takes a frame that came over the wire in the network at a place, into which it moves, and lets its frames leave.
+    /// Nothing happens where there is no network.
+    fn take_wired(&mut self, place: usize, octets: Octets) -> Result<(), NoMemory>
+        requires { IsDrained self.old.radio self.old.sent }
+        ensures { OnOk result (IsDrained self.new.radio self.new.sent
+            × TakesLine (Lines.Wire place octets) self.old.radio self.new.radio) }
+    {
+        if place >= self.radio.networks() {
+            return Ok(());
+        }
+        self.take_event(place, Event::Wire(octets))
+    }
+
+    /// Begins a beacon interval in each network, in order of place, and lets their frames leave.
+    fn take_tick(&mut self) -> Result<(), NoMemory>
+        requires { IsDrained self.old.radio self.old.sent }
+        ensures { OnOk result (IsDrained self.new.radio self.new.sent
+            × TakesLine Lines.Tick self.old.radio self.new.radio) }
+    {
+        for place in 0..self.radio.networks() {
+            self.take_event(place, Event::Tick)?;
+        }
+        Ok(())
+    }
+
+    /// Whether the network at a place hears a string of octets.
+    fn is_heard_at(&self, place: usize, octets: &[u8]) -> bool
+        requires { place < length self.now.radio.config.networks }
+        ensures { result ≡ is_heard_at self.now.radio place octets.now }
+    {
+        hears(self.radio.bss(place).config().bssid, octets)
+    }
+
+    /// The last network in order of place that hears a string of octets, if one does.
+    fn last_hearer(&self, octets: &[u8]) -> Option<usize>
+        ensures last { IfSome result (λ last. (last < length self.now.radio.config.networks)
+            × IsTrue (is_heard_at self.now.radio last octets.now)
+            × IsUnheardFrom self.now.radio (last + 1) octets.now) }
+        ensures none { IfNone result (IsUnheardFrom self.now.radio 0 octets.now) }
+    {
+        let mut after = self.radio.networks();
+        while after > 0 {
+            after -= 1;
+            if self.is_heard_at(after, octets) {
+                return Some(after);
+            }
+        }
+        None
+    }
+
+    /// Lets the network at a place take an event, and its frames leave. A full history takes no more.
+    fn take_event(&mut self, place: usize, event: Event) -> Result<(), NoMemory>
+        requires there { place < length self.old.radio.config.networks }
+        requires drained { IsDrained self.old.radio self.old.sent }
+        ensures { OnOk result (IsDrained self.new.radio self.new.sent
+            × TakesAt place event self.old.radio self.new.radio) }
+    {
+        sent_frames();
+        match self.radio.take(place, event) {
+            Ok(_) => self.drain(place),
+            Err(Refusal::HistoryFull) => Ok(()),
+            Err(Refusal::NoMemory) => Err(NoMemory),
+        }
+    }
+
+    /// Hands the frames that wait at a place to the air queue, one at a time, and lets each leave.
+    fn drain(&mut self, place: usize) -> Result<(), NoMemory>
+        requires sound { fault_of self.old.radio.config ≡ None }
+        requires there { place < length self.old.radio.config.networks }
+        requires whole { length self.old.sent ≡ length self.old.radio.config.networks }
+        requires queue { self.old.radio.queue ≡ [] }
+        ensures radio { OnOk result (self.new.radio ≡ emptied place self.old.radio) }
+        ensures sent { OnOk result (self.new.sent
+            ≡ sends_more self.old.sent place (view_at self.old.radio place).waiting) }
+    {
+        while self.send_first(place)? {}
+        Ok(())
+    }
+
+    /// Lets the first frame that waits at a place leave through the air queue, which is empty. Answers whether there
+    /// was one.
+    fn send_first(&mut self, place: usize) -> Result<bool, NoMemory>
+        requires sound { fault_of self.old.radio.config ≡ None }
+        requires there { place < length self.old.radio.config.networks }
+        requires whole { length self.old.sent ≡ length self.old.radio.config.networks }
+        requires queue { self.old.radio.queue ≡ [] }
+        ensures { IfOk result (λ sent.
+            SendsFirst sent place self.old.radio self.old.sent self.new.radio self.new.sent) }
+    {
+        if self.radio.hand(place) != Handed::Moved {
+            return Ok(false);
+        }
+        if let Some(item) = self.radio.leave() {
+            self.sent.push(item)?;
+        }
+        Ok(true)
+    }
+
+    /// The section of each network, in order of place, with the frames that left.
+    pub fn into_sections(self) -> Result<Vec<Section>, NoMemory>
+        requires { IsDrained self.radio self.sent }
+        ensures { IfOk result (λ sections. sections.items ≡ sections_at self.radio) }
+    {
+        let (networks, _) = self.radio.into_parts();
+        let mut sections = Vec::new(self.alloc);
+        for (network, air) in networks.into_vec().into_iter().zip(self.sent.into_vec()) {
+            sections.push(network.into_section(List::from_vec(air))?)?;
+        }
+        Ok(sections)
+    }
+}
