@@ -7,9 +7,9 @@
 #![tactic(auto)]
 
 mod access_point;
-mod network;
+mod one_network;
 mod radio;
 
 pub use access_point::run_two;
-pub use network::take_all;
+pub use one_network::take_all;
 pub use radio::{sections, serve};

@@ -14,7 +14,7 @@ mod access_point;
 mod answered;
 mod asked;
 mod lines;
-mod network;
+mod one_network;
 mod outcome;
 mod texts;
 
@@ -22,7 +22,7 @@ use access_point::give_lines;
 use answered::answer_lines;
 use asked::{Asked, asked_of};
 use lines::feed_pieces;
-use network::take_each;
+use one_network::take_each;
 use outcome::{Flaw, ROOM};
 use std::alloc::Global;
 use std::io::{Read, Write};

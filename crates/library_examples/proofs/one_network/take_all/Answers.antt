@@ -6,7 +6,7 @@ use Rattle.events.specs.declared.event.Event.{Event}
 use Rattle.ap_config.specs.declared.setting.Setting.{Setting}
 use Rattle.library_examples.specs.Settings.{setting}
 use Rattle.library_examples.proofs.NetworkSection.{section_by, no_items}
-use Rattle.library_examples.proofs.network.take_all.Goals as goal
+use Rattle.library_examples.proofs.one_network.take_all.Goals as goal
 
 pub loop-event-init : goal.loop-event-init
 loop-event-init c =

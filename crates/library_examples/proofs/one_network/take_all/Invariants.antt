@@ -1,7 +1,7 @@
 use Rattle.std.proofs.Common.{◌≡◌, ◌++◌, []}
 use Rattle.std.specs.Vec.Iter.{into_iter_items}
 use Rattle.network.specs.BssView.{network_of}
-use Rattle.library_examples.proofs.network.take_all.Given as goal
+use Rattle.library_examples.proofs.one_network.take_all.Given as goal
 
 -- of the events so far, all frames left
 abbrev pub invariant-loop-event : goal.invariant-loop-event

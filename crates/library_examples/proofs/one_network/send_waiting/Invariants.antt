@@ -1,5 +1,5 @@
 use Rattle.std.proofs.Common.{◌≡◌, ◌++◌, length}
-use Rattle.library_examples.proofs.network.send_waiting.Given as goal
+use Rattle.library_examples.proofs.one_network.send_waiting.Given as goal
 
 abbrev pub invariant-loop-frame : goal.invariant-loop-frame
 invariant-loop-frame l = record {
