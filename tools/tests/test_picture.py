@@ -3,7 +3,7 @@ import os
 import re
 import xml.etree.ElementTree as tree
 
-from common import (DEVICES, EXAMPLES, GUEST, OFFICE, PROGRAM, ROOT, THREE, ToolTest, input_of, needs_program,
+from common import (CASES, DEVICES, GUEST, OFFICE, PROGRAM, ROOT, THREE, ToolTest, input_of, needs_program,
                     report_of, run_program, tool, with_report)
 from story import stories
 from texts import read_config, read_report, read_text
@@ -113,11 +113,11 @@ class Picture(ToolTest):
 
     def test_refusals_are_shown(self):
         """Refused requests stand with their status, and those of a class that isn't allowed with their reason."""
-        folder = os.path.join(EXAMPLES, "statuses_in_order")
+        folder = CASES["statuses_in_order"]
         words = self.shapes(os.path.join(folder, "input"), os.path.join(folder, "stdout")).words
         refused = sorted((int(name.split("-")[-2]), text) for name, text in words.items() if "-refused-" in name)
         self.assertEqual([text for _, text in refused], ["13", "14", "1", "1", "18", "17", "1", "1"])
-        folder = os.path.join(EXAMPLES, "frames_of_unknown_stations")
+        folder = CASES["frames_of_unknown_stations"]
         words = self.shapes(os.path.join(folder, "input"), os.path.join(folder, "stdout")).words
         self.assertEqual({text for name, text in words.items() if "-turned-away-" in name}, {"6", "7"})
 
@@ -154,7 +154,7 @@ class Picture(ToolTest):
         self.refused("picture", self.path("none"), report, says="No such file")
         self.refused("picture", trace, trace, says="can't be read")
         self.refused("picture", report, report, says="line 1 of the trace is none")
-        empty = os.path.join(EXAMPLES, "empty_trace")
+        empty = CASES["empty_trace"]
         self.refused("picture", os.path.join(empty, "input"), os.path.join(empty, "stdout"), says="no line to show")
 
 
@@ -193,7 +193,7 @@ class Stories(ToolTest):
 
     def with_change(self, name, old, new):
         """The input of an example with another text in it."""
-        text = input_of(os.path.join(EXAMPLES, name))[0]
+        text = input_of(CASES[name])[0]
         self.assertIn(old, text)
         return text.replace(old, new)
 
@@ -201,13 +201,13 @@ class Stories(ToolTest):
         """The tools refuse the report of an example with this input."""
         with open(self.path("input"), "w", encoding="ascii") as file:
             file.write(text)
-        report = os.path.join(EXAMPLES, name, "stdout")
+        report = os.path.join(CASES[name], "stdout")
         self.refused("picture", self.path("input"), report, says=says)
         self.refused("capture-from-run", self.path("input"), report, "--out", self.path("out"), says=says)
 
     def test_units_that_age_are_lost_in_their_interval(self):
         """Of units that are kept for too long the loss stands at the beacon interval that ends their time."""
-        folder = os.path.join(EXAMPLES, "units_of_stations_that_doze_too_long")
+        folder = CASES["units_of_stations_that_doze_too_long"]
         text, lines = input_of(folder)
         ticks = {line.number for line in lines if line.kind == "T"}
         told = stories(report_of(folder), lines, read_config(text))
@@ -222,7 +222,7 @@ class Stories(ToolTest):
         for name in ("three_networks_over_some_intervals", "leaving_drops_kept_units", "one_event_loses_two",
                      "waking_makes_room_for_the_group", "station_roams_between_two_networks", "guests_are_kept_apart",
                      "units_of_stations_that_doze_too_long", "keeping_between_two_networks_where_units_age"):
-            folder = os.path.join(EXAMPLES, name)
+            folder = CASES[name]
             text, lines = input_of(folder)
             told = stories(report_of(folder), lines, read_config(text))
             config, trace = text.split("\n---\n")
