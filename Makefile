@@ -2,8 +2,8 @@
 # GNU make, bash, coreutils, diffutils, grep and sed; `wrong`, `bench`, `bench-limits`, `stress`, `fuzz`, `documents` and
 # the gate need python3 too. What stands after `##` is what `make help` says of a target.
 
-.PHONY: help run try try-check test wrong refused bench bench-limits stress fuzz apctl documents test-tools test-live \
-    picture captures install uninstall
+.PHONY: help run try try-check test wrong refused bench bench-limits stress fuzz apctl documents library test-tools \
+    test-live picture captures install uninstall
 
 # Begins nothing: says what there is to make.
 help: ## says this
@@ -77,6 +77,11 @@ apctl: ## proves the program and builds it, as build/apctl
 # 'N passed, M failed'.
 documents: ## checks links, paths and names in the documents
 	@.ci/documents
+
+# Tries the whole programs of docs/LIBRARY.md as they stand there, without any proof. The last line is
+# 'N passed, M failed'.
+library: ## tries the programs of docs/LIBRARY.md, without any proof
+	@tests/library
 
 # Tests the tools for captures and pictures, tools/, beside the gate. Takes Debian's packages of tools/install, and
 # installs those that are missing. The last line is 'N passed, M failed'.
