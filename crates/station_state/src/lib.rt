@@ -4,21 +4,30 @@
 //! what is sent to the station where one is not.
 //!
 //! Which requests move a station from one state to another, and which class a request has, is left to the crates above.
-//!
-//! ```text
-//!   Unknown ──authentication──▶ Authenticated ──association──▶ Associated
-//!      ▲                          │       ▲                        │
-//!      └─────deauthentication─────┘       └────disassociation or───┘
-//!      ▲                                       authentication      │
-//!      └──────────────────────deauthentication─────────────────────┘
-//! ```
 #![tactic(auto)]
 
 mod class;
 
 pub use class::{Class, INVALID_CLASS_2_FRAME, INVALID_CLASS_3_FRAME, Notice, fault};
 
-/// The state that the network keeps of a station (11.3.1).
+/// The state that the network keeps of a station (11.3.1). What moves it, where it is answered with status 0:
+///
+/// ```text
+///                 authentication                   (re)association
+///   ┌─────────┐ ────────────────▶ ┌───────────────┐ ───────────────▶ ┌─ Associated ───────────────────────┐
+///   │ Unknown │                   │ Authenticated │                  │ ┌────────┐       1       ┌───────┐ │
+///   │         │ ◀──────────────── │               │ ◀─────────────── │ │ active │ ────────────▶ │ dozes │ │
+///   └─────────┘  deauthentication └───────────────┘  disassociation, │ │        │ ◀──────────── │       │ │
+///        ▲                                           authentication  │ └────────┘       0       └───────┘ │
+///        │                                                           │      ▲                       │     │
+///        │                                                           │      └─── (re)association ───┘     │
+///        │                                                           └──────────────────┬─────────────────┘
+///        └───────────────────────────── deauthentication ───────────────────────────────┘
+/// ```
+///
+/// Here 1 and 0 are the Power Management of a Data or Null frame. An authentication leaves a station that is
+/// authenticated as it is. Whether one dozes, its identifier and its listen interval are kept by the network.
+/// `docs/station_states.svg` is the same picture.
 #[derive(Clone, Copy, Debug, PartialEq, Eq)]
 pub enum Standing {
     /// State 1: not authenticated.
