@@ -10,7 +10,7 @@ mod class;
 
 pub use class::{Class, INVALID_CLASS_2_FRAME, INVALID_CLASS_3_FRAME, Notice, fault};
 
-/// The state that the network keeps of a station (11.3.1). What moves it, where it is answered with status 0:
+/// The state that the network keeps of a station (11.3.1), and what moves it. A refused request moves nothing:
 ///
 /// ```text
 ///                 authentication                   (re)association
