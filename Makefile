@@ -1,6 +1,6 @@
 # The targets of this repository. All but `help` and `documents` need the Rattle toolchain's command `rt` on the path,
-# GNU make, bash, coreutils, diffutils, grep and sed; `wrong`, `bench`, `bench-limits`, `stress`, `fuzz`, `documents` and
-# the gate need python3 too. What stands after `##` is what `make help` says of a target.
+# GNU make, bash, coreutils, diffutils, grep and sed; `wrong`, `bench`, `bench-limits`, `stress`, `fuzz`, `documents`
+# and the gate need python3 too. What stands after `##` is what `make help` says of a target.
 
 .PHONY: help run try try-check test wrong refused bench bench-limits stress fuzz apctl documents library test-tools \
     test-live picture captures install uninstall
@@ -28,9 +28,9 @@ try-check: ## reads the configuration CONFIG=FILE without any proof
 	@.ci/try "$(CONFIG)"
 
 # The gate. Proves every crate from nothing, tries each edit of crates/*/must-fail, runs each test, runs the program
-# that was built of what was proved over the examples, with more and more memory, over files and streams that fail and
-# over lines that it answers as they come, refuses each growth of some calls in turn, and finds edits of wrong/ that
-# can't be applied. The last line is 'N passed, M failed'.
+# that was built of what was proved over examples/ and tests/, with more and more memory, over files and streams that
+# fail and over lines that it answers as they come, lets each allocation of some calls fail in turn, and finds edits of
+# wrong/ that can't be applied, and names in the documents that aren't there. The last line is 'N passed, M failed'.
 test: ## the gate: proves all from nothing, tries wrong bodies, runs all tests
 	@.ci/gate
 
@@ -39,9 +39,9 @@ test: ## the gate: proves all from nothing, tries wrong bodies, runs all tests
 wrong: ## tries the wrong bodies beside the gate, all or those of NAME=CRATE
 	@JOBS="$(JOBS)" wrong/try $(NAME)
 
-# Refuses each growth of some calls in turn, one in each run: those of which the gate does so, and those of lines that
-# are answered as they come. The last line is 'N passed, M failed'.
-refused: apctl ## refuses each growth of some calls in turn
+# Lets each allocation of some calls fail in turn, one in each run: those of which the gate does so, and those of lines
+# that are answered as they come. The last line is 'N passed, M failed'.
+refused: apctl ## lets each allocation of some calls fail in turn
 	@.ci/refused build/apctl
 
 # Measures the program on long traces: of probes, of stations that join, doze, poll and wake, of units between air and
