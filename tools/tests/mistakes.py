@@ -259,7 +259,7 @@ LINES = [
     traced("fault L1 line 2", "T\nT\r", "my.trace:2:2", "no LF follows"),
     traced("fault L1 line 1", f"\ufeff{PROBE}\n", "my.trace:1:1", "byte order mark"),
     traced("fault L1 line 2", f"{PROBE}\n---\n{PROBE}\n", "my.trace:2:1", "a second line `---`"),
-    traced("fault L1 line 1", PCAPNG, "this is a capture", "tools/trace-from-capture"),
+    traced("fault L1 line 2", PCAPNG, "this is a capture", "tools/trace-from-capture"),
     traced("fault L1 line 1", PCAP, "this is a capture", "tools/trace-from-capture"),
     traced("fault L1 line 1", CONFIG, "my.trace:1:1", "a line of a configuration"),
     traced("fault L1 line 1", "network 02:00:00:00:00:01 ssid 6c6162\n", "my.trace:1:1", "a line of a report"),

@@ -282,8 +282,12 @@ class Mutations(ToolTest):
     def mutated(draw, text):
         """A text with up to three changes."""
         text = bytearray(text)
+        # three of four changes are within the values of the configuration, or in the trace
+        begin = text.find(b"\n---\n") if draw.randrange(2) else 0
         for _ in range(draw.randrange(1, 4)):
-            at = draw.randrange(len(text) + 1)
+            at = draw.randrange(max(0, begin), len(text) + 1)
+            if begin == 0 and draw.randrange(2):
+                at = max(at, text.find(b"= ", at) + 2)
             end = min(len(text), at + draw.choice((1, 1, 2, 5, 20)))
             kind = draw.randrange(5)
             if kind == 0:

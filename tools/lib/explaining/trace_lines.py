@@ -16,7 +16,7 @@ def explain(source: Source, fault: Fault, bssids: list[str], is_live: bool = Fal
     """The reason for a fault of a line; none where nothing was found. `bssids` are the networks' addresses as the
     configuration has them, `is_live` where lines are answered as they come."""
     number = fault.line or 0
-    finding = other_file(source) if number == 1 else None
+    finding = other_file(source)
     if finding:
         return [finding]
     if fault.code == "L5" and number > MOST_LINES and not is_live:
