@@ -10,7 +10,9 @@ from svg import text_width
 
 BEACONS, OTHERS = "beacons", "others"
 SMALL, LETTER_SIZE = 9.5, 10
-SLOT, CIRCLE_SLOT, PAD, LEAST_COLUMN, LEAST_QUIET = 13, 18, 4, 18, 30
+SLOT, CIRCLE_SLOT, PAD, LEAST_COLUMN, LEAST_QUIET = 13, 18, 4, 18, 6
+# Shorter quiet stretches have no words.
+LEAST_NAMED = 4
 CIRCLED = ("answered", "refused", "turned away", "left")
 BEACON_KINDS = ("beacon", "DTIM beacon")
 
@@ -18,7 +20,7 @@ BEACON_KINDS = ("beacon", "DTIM beacon")
 @dataclass
 class Item:
     """Something that lines brought about in a network: a mark in a row, perhaps with an arrow from another row to it.
-    `x` is where it stands in its column."""
+    `x` is where it stands in its column, from the left."""
 
     what: str
     row: object
@@ -34,10 +36,14 @@ class Item:
         return " ".join(filter(None, [self.text, f"{self.count}×" if self.count > 1 else ""]))
 
     @property
+    def slot(self):
+        """How much room its mark takes."""
+        return CIRCLE_SLOT if self.what in CIRCLED else SLOT
+
+    @property
     def width(self):
-        """How much room it takes."""
-        slot = CIRCLE_SLOT if self.what in CIRCLED else SLOT
-        return slot + (text_width(self.label, SMALL) + 3 if self.label else 0)
+        """How much room it takes with its words."""
+        return self.slot + (text_width(self.label, SMALL) + 3 if self.label else 0)
 
 
 @dataclass
@@ -52,15 +58,16 @@ class Column:
 
     @property
     def width(self):
-        """How wide it has to be."""
-        widths = [sum(item.width for item in items) for items in self.items.values()]
-        if self.is_quiet:
-            widths += [text_width(label, SMALL) + 6 for label in self.labels] + [LEAST_QUIET]
-        return max([LEAST_COLUMN, *widths]) + PAD
+        """How wide it is, but for words, which may reach over the columns behind it."""
+        marks = [item.x + item.slot for items in self.items.values() for item in items]
+        names = [text_width(label, SMALL) + 6 for label in self.labels]
+        return max([LEAST_QUIET if self.is_quiet else LEAST_COLUMN, *marks, *names]) + PAD
 
-    def holds(self, number):
-        """Whether a line stands here."""
-        return self.lines[0].number <= number <= self.lines[-1].number
+    @property
+    def end(self):
+        """Where its last word ends, from the strip's left."""
+        ends = [item.x + item.width + PAD for items in self.items.values() for item in items]
+        return self.x + max([self.width, *ends])
 
 
 class Clock:
@@ -89,10 +96,25 @@ class Clock:
         return self.seconds[lines[-1].number] - self.seconds[lines[0].number]
 
 
+def place_items(items):
+    """Places items of one column and network: beside each other those of one row, and each with an arrow beside all
+    before it."""
+    taken, every = {}, 0.0
+    for item in items:
+        item.x = every if item.sender is None else max([every, *taken.values()])
+        item.x = max(item.x, taken.get(item.row, 0.0))
+        taken[item.row] = item.x + item.width
+        if item.sender is not None:
+            every = item.x + SLOT
+    return items
+
+
 def items_of(marks, rows_of):
     """The items of one line in one network: marks of one kind for one row are one."""
     counts = Counter()
     for mark in marks:
+        if mark.what in BEACON_KINDS and not mark.text:
+            continue
         row, sender = rows_of(mark)
         counts[mark.what, row, sender, mark.letter, mark.text] += 1
     return [Item(*key, count) for key, count in counts.items()]
@@ -108,7 +130,8 @@ def row_of(mark):
 
 
 def is_quiet(mark):
-    """Whether a mark says nothing new: a beacon without units that wait, a frame that isn't read."""
+    """Whether a mark says nothing new: a beacon without units that wait, or that says what the one before said; a frame
+    that isn't read."""
     return mark.what == "unread" or mark.what in BEACON_KINDS and not mark.text
 
 
@@ -119,7 +142,8 @@ def columns_of(lanes, lines, clock):
         if any(lane.is_lively(line.number) for lane in lanes):
             columns += quiet_column(lanes, stretch, clock)
             stretch = []
-            items = {place: items_of(lane.marks_at(line.number), lane.rows_of) for place, lane in enumerate(lanes)}
+            items = {place: place_items(items_of(lane.marks_at(line.number), lane.rows_of))
+                     for place, lane in enumerate(lanes)}
             columns.append(Column([line], False, {place: found for place, found in items.items() if found}))
         else:
             stretch.append(line)
@@ -136,21 +160,38 @@ def quiet_column(lanes, lines, clock):
         if count:
             items[place] = [Item("unread", OTHERS, None, "", "", count)]
     taken = clock.length(lines) if clock.is_known else 0
-    labels = (f"⋯ {taken:.1f} s" if taken >= 0.05 else "⋯", "1 line" if len(lines) == 1 else f"{len(lines)} lines")
+    labels = (f"⋯ {taken:.1f} s" if taken >= 0.05 else "⋯", f"{len(lines)} lines")
+    labels = labels if len(lines) >= LEAST_NAMED else ()
     return [Column(lines, True, items, labels)]
 
 
 def strips_of(columns, width):
     """Columns as strips that are at most so wide; within each, `x` of each column from the left."""
-    strips, at = [], 0.0
+    strips, free = [], {}
     for column in columns:
-        if not strips or at + column.width > width:
+        if strips:
+            column.x = left_of(column, strips[-1][-1], free)
+        if not strips or column.end > width:
             strips.append([])
-            at = 0.0
-        column.x = at
-        at += column.width
+            column.x, free = 0.0, {}
+        for place, items in column.items.items():
+            rows = free.setdefault(place, {})
+            for item in items:
+                rows[item.row] = column.x + item.x + item.width + PAD
         strips[-1].append(column)
     return [Strip(strip) for strip in strips]
+
+
+def left_of(column, before, free):
+    """Where a column begins: after the one before it, and so that none of its marks, nor an arrow, stands in words of an
+    earlier one. `free` has for each row of each network where its words end."""
+    x = before.x + before.width
+    for place, items in column.items.items():
+        rows = free.get(place, {})
+        for item in items:
+            ends = rows.values() if item.sender is not None else [rows.get(item.row, 0.0)]
+            x = max([x, *(end - item.x for end in ends)])
+    return x
 
 
 class Strip:
@@ -160,7 +201,7 @@ class Strip:
         self.columns = columns
         self.firsts = [column.lines[0].number for column in columns]
         self.first, self.last = columns[0].lines[0].number, columns[-1].lines[-1].number
-        self.width = columns[-1].x + columns[-1].width
+        self.width = max(column.end for column in columns)
 
     def x_of(self, number):
         """How far from the left a line stands: those before at the left edge, those after at the right, as is the
@@ -171,6 +212,10 @@ class Strip:
             return 0.0
         column = self.columns[bisect.bisect_right(self.firsts, number) - 1]
         return column.x + (0.0 if column.is_quiet else PAD / 2 + SLOT / 2)
+
+    def has(self, number):
+        """Whether a line stands here."""
+        return number is not None and self.first <= number <= self.last
 
     def overlaps(self, begins, ends):
         """Whether something that holds from one line up to another is seen here."""
@@ -188,9 +233,21 @@ class Lane:
         for mark in story.marks:
             if not chosen or mark.whom in chosen or mark.sender in chosen:
                 self.marks.setdefault(mark.line, []).append(mark)
+        self.drop_old_news()
         self.changes = {span.begins for span in self.spans} | {span.ends for span in self.spans}
         refused = {mark.whom for mark in story.marks if mark.what in ("refused", "turned away")}
         self.own = {span.station for span in story.spans} | {whom for whom in refused if whom != GROUP}
+
+    def drop_old_news(self):
+        """Takes the words off beacons that say what the one before said, while nothing is delivered after them."""
+        before = None
+        for line in sorted(self.marks):
+            marks = self.marks[line]
+            beacon = next((mark for mark in marks if mark.what in BEACON_KINDS), None)
+            if beacon is not None:
+                if beacon.text == before and len(marks) == 1:
+                    self.marks[line] = [beacon._replace(text="")]
+                before = beacon.text
 
     @property
     def name(self):

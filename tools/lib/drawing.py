@@ -1,15 +1,17 @@
 """The picture of a run: strips of a page's width, in each a lane for each network and a row for each station, and the
 lines of the trace from left to right. Each shape says what it is by attributes, so that a program can read the picture
 as well."""
-from columns import BEACON_KINDS, BEACONS, CIRCLED, OTHERS, PAD, SLOT, SMALL, Clock, Lane, columns_of, strips_of
+from columns import (BEACON_KINDS, BEACONS, CIRCLE_SLOT, CIRCLED, OTHERS, PAD, SLOT, SMALL, Clock, Lane, columns_of,
+                     strips_of)
 from story import ASSOCIATED, AUTHENTICATED, DOZING, GROUP, WIRE
 from svg import Canvas, text_width
 
-WIDTH, MARGIN, LEFT = 1000, 12, 142
+WIDTH, MARGIN, LEFT = 1000, 12, 146
 BODY = WIDTH - LEFT - MARGIN
-ROW, TITLE, AXIS, STRIP_GAP, LANE_GAP = 28, 17, 27, 18, 5
-MIDDLE, BAR, KEPT_AT, KEPT_BAR, KEPT_PITCH, TRACKS = 10, 12, 17.5, 2.6, 3.3, 3
+ROW, TITLE, AXIS, STRIP_GAP, LANE_GAP = 24, 17, 27, 18, 4
+MIDDLE, BAR, KEPT_AT, KEPT_BAR, KEPT_PITCH, TRACKS = 8, 11, 14.5, 2.4, 3.0, 3
 TEXT, HEAD, RADIUS, MARK = 10.5, 13, 7, 4.5
+NAME_END, BRACKETS = 14, 3
 PAGE_HEIGHT = 1414
 COLOURS = {AUTHENTICATED: "#d9dde3", ASSOCIATED: "#a9d3f0", DOZING: "#9aa9de"}
 DARK, PALE, GRID, RED, PURPLE, ORANGE, GREEN, YELLOW, GREY = ("#333333", "#777777", "#e6e8eb", "#c8202d", "#7a48d0",
@@ -32,21 +34,31 @@ class Roaming:
         self.station, self.places, self.begins, self.ends = station, places, begins, ends
 
 
+def joined_spans(lanes):
+    """From which line up to which each station was associated in each network, dozing or not: by station, triples of
+    the network's place and both lines."""
+    found = {}
+    for place, lane in enumerate(lanes):
+        for span in lane.spans:
+            if span.state in (ASSOCIATED, DOZING):
+                mine = found.setdefault(span.station, [])
+                if mine and mine[-1][0] == place and mine[-1][2] == span.begins:
+                    mine[-1] = place, mine[-1][1], span.ends
+                else:
+                    mine.append((place, span.begins, span.ends))
+    return found
+
+
 def roaming_of(lanes):
     """Each time at which a station is associated in two of these networks."""
-    joined = [(place, span) for place, lane in enumerate(lanes) for span in lane.spans
-              if span.state in (ASSOCIATED, DOZING)]
-    by_station = {}
-    for place, span in joined:
-        by_station.setdefault(span.station, []).append((place, span))
     found = []
-    for station, spans in by_station.items():
-        for place, span in spans:
-            for other, second in spans:
-                begins = max(span.begins, second.begins)
-                ends = min((end for end in (span.ends, second.ends) if end is not None), default=None)
-                if place < other and (ends is None or begins < ends):
-                    found.append(Roaming(station, (place, other), begins, ends))
+    for station, spans in joined_spans(lanes).items():
+        for number, (place, begins, ends) in enumerate(spans):
+            for other, second_begins, second_ends in spans[number + 1:]:
+                first = max(begins, second_begins)
+                last = min((end for end in (ends, second_ends) if end is not None), default=None)
+                if place != other and (last is None or first < last):
+                    found.append(Roaming(station, (place, other), first, last))
     return found
 
 
@@ -109,8 +121,10 @@ class Picture:
     def headline(self):
         """What the picture is of."""
         ticks = sum(line.kind == "T" for line in self.lines)
-        taken = f", {self.clock.length(self.lines):.1f} s" if self.clock.is_known else ""
-        text = f"Lines {self.lines[0].number} to {self.lines[-1].number} of the trace{taken}, {ticks} beacon intervals"
+        length = self.clock.length(self.lines) if self.clock.is_known else 0
+        taken = f", {length:.1f} s" if length else ""
+        begun = "1 beacon interval" if ticks == 1 else f"{ticks} beacon intervals"
+        text = f"Lines {self.lines[0].number} to {self.lines[-1].number} of the trace{taken}, {begun}"
         self.canvas.text(MARGIN, self.y + HEAD, text, HEAD, weight="bold")
         self.y += HEAD + 10
         for lane in self.lanes:
@@ -128,7 +142,8 @@ class Picture:
         states = {span.state for lane in self.lanes for span in lane.spans}
         entries = [("state", state, state) for state in COLOURS if state in states]
         entries += [("letter", letter, name) for letter, name in LETTERS if letter in letters]
-        entries += [("mark", what, name) for what, name in MEANINGS.items() if what in used and what != "answered"]
+        entries += [("mark", what, name) for what, name in MEANINGS.items()
+                    if what in used and what not in ("answered", "left")]
         entries += [("kept bar", "", "as long as it is kept")] * ("kept" in used)
         entries += [("roaming", "", "in two networks")] * bool(self.roaming)
         entries += [("quiet", "", "quiet: nothing new")] * any(column.is_quiet for strip in self.strips
@@ -149,7 +164,7 @@ class Picture:
             if kind == "state":
                 self.canvas.rectangle(x, y - BAR / 2, 17, BAR, COLOURS[what])
             elif kind == "letter":
-                self.circle(x + 8, y, what, "answered")
+                self.circle(x + 8, y, what, "left" if what == "D" else "answered")
             elif kind == "kept bar":
                 self.canvas.rectangle(x, y - 1.5, 17, KEPT_BAR, ORANGE)
             elif kind == "roaming":
@@ -157,23 +172,28 @@ class Picture:
             elif kind == "quiet":
                 self.canvas.rectangle(x, y - 7, 17, 14, "#f0f0f0")
             elif what in CIRCLED:
-                self.circle(x + 8, y, "A" if what != "left" else "D", what)
+                self.circle(x + 8, y, "A", what)
             else:
                 if what in ARROWS:
                     self.canvas.line(x, y, x + 8, y, ARROWS[what], 1.2)
                 self.shape(x + 9, y, what, 0)
 
     def rows_of(self, lane, place, strip):
-        """The rows of a network in a strip, from top to bottom, and how many stations have none."""
+        """The rows of a network in a strip, from top to bottom: those in which something happens; how many stations
+        have none though they are known, and how many more have none for want of room."""
         used = {row for column in strip.columns for item in column.items.get(place, ())
                 for row in (item.row, item.sender) if row is not None}
+        used |= {kept.whom for kept in lane.keepings if lane.shows(kept.whom) and strip.overlaps(kept.begins, kept.ends)}
+        here = [span for span in lane.spans if strip.overlaps(span.begins, span.ends)]
+        used |= {span.station for span in here if strip.has(span.begins) or strip.has(span.ends)}
+        if strip is self.strips[0] or lane.chosen:
+            used |= {span.station for span in here}
         stations = {row for row in used if isinstance(row, bytes)}
-        stations |= {span.station for span in lane.spans if strip.overlaps(span.begins, span.ends)}
-        used |= {GROUP for kept in lane.keepings if kept.whom == GROUP and strip.overlaps(kept.begins, kept.ends)}
         shown = sorted(stations)[:self.most_stations]
         left_out = len(stations) - len(shown)
         rows = [BEACONS] * (BEACONS in used) + shown + [row for row in (GROUP, WIRE) if row in used]
-        return rows + [OTHERS] * (OTHERS in used or left_out > 0), left_out
+        rows += [OTHERS] * (OTHERS in used or left_out > 0)
+        return rows, len({span.station for span in here} - stations), left_out
 
     def height_of(self, strip):
         """How high a strip is."""
@@ -191,16 +211,16 @@ class Picture:
         self.background(strip, top + AXIS, sum(heights))
         for place, lane in enumerate(self.lanes):
             where.append(self.lane(lane, place, strip))
-        for roaming in self.roaming:
-            self.join(roaming, strip, where)
+        for number, roaming in enumerate(self.roaming):
+            self.join(roaming, strip, where, LEFT - 4 - 3 * (number % BRACKETS))
         self.y += STRIP_GAP
 
     def axis(self, strip):
         """Times, and the numbers of lines, as many as have room; a quiet stretch says how long it is."""
         y = self.y
         name = self.clock.name if self.clock.is_known else ""
-        for baseline, label in ((y + 9, name), (y + 20, "line")):
-            self.canvas.text(LEFT - 8, baseline, label, SMALL, anchor="end", fill=PALE)
+        for baseline, label in ((y + 9, name), (y + 20, "line"))[not name:]:
+            self.canvas.text(LEFT - NAME_END, baseline, label, SMALL, anchor="end", fill=PALE)
         taken = [[], []]
         for column in strip.columns:
             if column.is_quiet:
@@ -241,9 +261,14 @@ class Picture:
 
     def lane(self, lane, place, strip):
         """One network in a strip: the height of the middle of each of its rows."""
-        rows, left_out = self.rows_of(lane, place, strip)
-        more = f" · {left_out} stations not shown" if left_out else "" if rows else " · nothing here"
-        self.canvas.text(MARGIN, self.y + 12, f"{lane.name}{more}", TEXT, weight="bold")
+        rows, without_news, left_out = self.rows_of(lane, place, strip)
+        self.canvas.text(MARGIN, self.y + 12, lane.name, TEXT, weight="bold")
+        more = [f"{without_news} stations without news"] * (without_news > 0)
+        more += [f"{left_out} stations not shown"] * (left_out > 0)
+        more = ", ".join(more or ["nothing here"] * (not rows))
+        if more:
+            x = max(LEFT + 6, MARGIN + text_width(lane.name, TEXT, "bold") + 10)
+            self.canvas.text(x, self.y + 12, more, SMALL, fill=PALE)
         self.canvas.line(MARGIN, self.y + 0.5, WIDTH - MARGIN, self.y + 0.5, "#c9ced6", 0.8)
         middles = {row: self.y + TITLE + ROW * number + MIDDLE for number, row in enumerate(rows)}
         roaming = {other.station for other in self.roaming if strip.overlaps(other.begins, other.ends)
@@ -251,17 +276,14 @@ class Picture:
         for row, y in middles.items():
             self.canvas.line(LEFT, y, LEFT + strip.width, y, GRID)
             name = FIXED_ROWS.get(row) or row.hex(":")
-            self.canvas.text(LEFT - 8, y + 4, name, TEXT, anchor="end", fill=PURPLE if row in roaming else DARK)
+            self.canvas.text(LEFT - NAME_END, y + 4, name, TEXT, anchor="end", fill=PURPLE if row in roaming else DARK)
         for span in lane.spans:
             if span.station in middles and strip.overlaps(span.begins, span.ends):
                 self.state(lane, span, strip, middles[span.station])
         self.kept_bars(lane, strip, middles)
         for column in strip.columns:
-            x = LEFT + column.x + PAD / 2
             for item in column.items.get(place, ()):
-                item.x = x
                 self.item(lane, column, item, middles)
-                x += item.width
         self.y += TITLE + ROW * len(rows) + LANE_GAP
         return middles
 
@@ -298,7 +320,8 @@ class Picture:
     def item(self, lane, column, item, middles):
         """A mark, the arrow to it, and the words beside it."""
         row = item.row if item.row in middles else OTHERS
-        y, x = middles[row], item.x + (SLOT if item.what not in CIRCLED else 16) / 2
+        y, left = middles[row], LEFT + column.x + PAD / 2 + item.x
+        x = left + (SLOT if item.what not in CIRCLED else CIRCLE_SLOT - 2) / 2
         first, last = column.lines[0].number, column.lines[-1].number
         lines = str(first) if first == last else f"{first}-{last}"
         title = f"line {lines}: {MEANINGS[item.what]}{' ' + item.label if item.label else ''}"
@@ -316,7 +339,7 @@ class Picture:
             else:
                 self.shape(x, y, item.what, from_above)
             if item.label:
-                place = item.x + item.width - text_width(item.label, SMALL) - 2
+                place = left + item.width - text_width(item.label, SMALL) - 2
                 self.canvas.text(place, y + 3.5, item.label, SMALL,
                                  fill={"refused": RED, "turned away": PURPLE}.get(item.what, DARK))
 
@@ -349,17 +372,20 @@ class Picture:
             self.canvas.path(f"M{x - 4:.1f} {y:.1f} H{x + 4:.1f} M{x - 2:.1f} {y - 3.5:.1f} L{x + 2:.1f} {y + 3.5:.1f} "
                              f"M{x - 2:.1f} {y + 3.5:.1f} L{x + 2:.1f} {y - 3.5:.1f}", "none", GREY, stroke_width=1.3)
 
-    def join(self, roaming, strip, where):
-        """A station's rows in two networks, as long as it is associated in both."""
+    def join(self, roaming, strip, where, left):
+        """A station's rows in two networks, as long as it is associated in both; `left` is where this is shown beside
+        their names."""
         rows = [where[place].get(roaming.station) for place in roaming.places]
         if None in rows or not strip.overlaps(roaming.begins, roaming.ends):
             return
-        at = [LEFT - 4] + [LEFT + strip.x_of(roaming.begins)] * (strip.first <= roaming.begins <= strip.last)
+        top, bottom = min(rows), max(rows)
         title = f"{roaming.station.hex(':')} is associated in both networks from line {roaming.begins}"
         with self.canvas.group(title, data_what="roaming", data_row=roaming.station.hex(),
                                data_span=f"{roaming.begins}-{roaming.ends or 'end'}"):
-            for x in at:
-                self.canvas.line(x, rows[0], x, rows[1], PURPLE, 1.6, stroke_dasharray="3 2")
+            self.canvas.line(left, top, left, bottom, PURPLE, 1.6, stroke_dasharray="3 2")
+            if strip.has(roaming.begins):
+                x = LEFT + strip.x_of(roaming.begins)
+                self.canvas.line(x, top + RADIUS, x, bottom - RADIUS, PURPLE, 1.6, stroke_dasharray="3 2")
 
 
 def name_of(row):

@@ -25,6 +25,7 @@ g.asked > * {{ stroke: #c8202d; stroke-width: 2.5; }}
 goes from one find to the next.</p><div id="lines"></div></div>
 <script>
 "use strict";
+const WORDS = {words};
 const LINES = {lines};
 const MOST = 40;
 const told = document.getElementById("lines"), found = document.getElementById("found");
@@ -35,12 +36,15 @@ function add(into, kind, text) {{
   into.appendChild(made);
   return made;
 }}
-function frame(into, head, fields) {{
+function frame(into, head, told) {{
   add(into, "h3", head);
   const table = add(into, "table");
-  for (const field of fields) {{
+  let at = 0;
+  for (let place = 0; place < told.fields.length; place += 3) {{
+    const [name, digits, meaning] = told.fields.slice(place, place + 3);
     const row = add(table, "tr");
-    for (const cell of field) add(row, "td", cell);
+    for (const cell of [WORDS[name], told.octets.slice(at, at + digits), WORDS[meaning]]) add(row, "td", cell);
+    at += digits;
   }}
 }}
 function show(first, last) {{
@@ -48,10 +52,10 @@ function show(first, last) {{
   const numbers = Object.keys(LINES).map(Number).filter(number => number >= first && number <= last);
   for (const number of numbers.slice(0, MOST)) {{
     const line = LINES[number];
-    add(told, "h2", "line " + number + (line.time ? ", " + line.time + " s" : "") + ": " + line.kind);
-    add(told, "code", line.text);
-    if (line.fields.length) frame(told, "came in", line.fields);
-    for (const answer of line.sent) frame(told, answer.by, answer.fields);
+    add(told, "h2", "line " + number + (line.time ? ", " + line.time + " s" : "") + ": " + WORDS[line.kind]);
+    add(told, "code", [line.word, line.bssid, line.came.octets].filter(Boolean).join(" "));
+    if (line.came.octets) frame(told, "came in", line.came);
+    for (const answer of line.sent) frame(told, WORDS[answer.by], answer);
   }}
   if (numbers.length > MOST) add(told, "p", "and " + (numbers.length - MOST) + " lines more");
 }}
@@ -80,8 +84,7 @@ function matches(group, words) {{
   const digits = words.toLowerCase().replace(/[^0-9a-f]/g, "");
   for (let number = first; number <= last; number++) {{
     const line = LINES[number];
-    if (line && digits && (line.text.replace(/[^0-9A-Fa-f]/g, "").toLowerCase().includes(digits)
-        || line.sent.some(answer => answer.fields.some(field => field[1].includes(digits))))) return true;
+    if (line && digits && [line.came, ...line.sent].some(told => told.octets.includes(digits))) return true;
   }}
   return false;
 }}
@@ -100,33 +103,52 @@ document.getElementById("picture").addEventListener("click", point);
 """
 
 
+class Words:
+    """Words that occur often, each of which a page has once: by their places."""
+
+    def __init__(self):
+        self.places = {}
+
+    def place(self, text):
+        """The place of some words."""
+        return self.places.setdefault(text, len(self.places))
+
+    def frame(self, octets, fields):
+        """A frame: its octets, and of each field its name's place, how many digits it has, and its meaning's place."""
+        flat = [part for field in fields
+                for part in (self.place(field.name), 2 * len(field.octets), self.place(field.meaning))]
+        return {"octets": octets.hex(), "fields": flat}
+
+
 def page_of(picture, lines, stories, clock, title):
     """The page of a picture, of these lines and of what the networks sent for them."""
-    told = {line.number: line_told(line, clock) for line in lines}
+    words = Words()
+    told = {line.number: line_told(line, clock, words) for line in lines}
     for story in stories:
-        for medium, frames, fields in (("the air", story.frames, fields_on_air), ("the wire", story.wires,
-                                                                                  fields_on_wire)):
-            for number, octets in frames:
-                if number in told:
-                    kind = f"{kind_of(octets)} " if medium == "the air" else ""
-                    told[number]["sent"].append({"by": f"{story.section.name} sent {kind}on {medium}",
-                                                 "fields": rows_of(fields(octets))})
-    text = json.dumps(told, ensure_ascii=True, separators=(",", ":")).replace("</", "<\\/")
-    return PAGE.format(picture=picture, lines=text, title=title.replace("&", "&amp;").replace("<", "&lt;"))
+        for number, octets in story.frames:
+            if number in told:
+                by = words.place(f"{story.section.name} sent on the air: {kind_of(octets)}")
+                told[number]["sent"].append({"by": by, **words.frame(octets, fields_on_air(octets))})
+        for number, octets in story.wires:
+            if number in told:
+                by = words.place(f"{story.section.name} put on the wire")
+                told[number]["sent"].append({"by": by, **words.frame(octets, fields_on_wire(octets))})
+    return PAGE.format(picture=picture, lines=as_script(told), words=as_script(list(words.places)),
+                       title=title.replace("&", "&amp;").replace("<", "&lt;"))
 
 
-def line_told(line, clock):
+def as_script(data):
+    """Data as a script has it; no text in it ends the script."""
+    return json.dumps(data, separators=(",", ":")).replace("<", "\\u003c")
+
+
+def line_told(line, clock, words):
     """A line of the trace, for the page."""
     if line.kind == "T":
-        kind, text, fields = "a beacon interval begins", "T", []
+        kind, fields = "a beacon interval begins", []
     elif line.kind == "A":
-        kind, text, fields = f"{kind_of(line.octets)} on the air", f"A {line.octets.hex()}", fields_on_air(line.octets)
+        kind, fields = f"{kind_of(line.octets)} on the air", fields_on_air(line.octets)
     else:
-        kind = "a frame on the wire"
-        text, fields = f"W {line.bssid.hex(':')} {line.octets.hex()}", fields_on_wire(line.octets)
-    return {"kind": kind, "text": text, "time": clock.text(line), "fields": rows_of(fields), "sent": []}
-
-
-def rows_of(fields):
-    """Fields as rows of a table."""
-    return [[field.name, field.octets.hex(), field.meaning] for field in fields]
+        kind, fields = "a frame on the wire", fields_on_wire(line.octets)
+    return {"word": line.kind, "kind": words.place(kind), "bssid": line.bssid.hex(":") if line.bssid else "",
+            "time": clock.text(line), "came": words.frame(line.octets, fields), "sent": []}

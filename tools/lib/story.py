@@ -121,7 +121,7 @@ class Story:
 
     def end_keeping(self, kept, how):
         """A unit isn't kept any more."""
-        self.mark(how, kept.whom, sender=kept.sender)
+        self.mark(how, kept.whom)
         self.keepings.append(Keeping(kept.whom, kept.line, self.line, how, kept.sender))
 
     def count_unread(self, station):
@@ -327,7 +327,7 @@ class Story:
 def told_of(aids, group):
     """For whom a TIM says that units wait, in a few words."""
     first = [str(aid) for aid in sorted(aids)[:MOST_NAMED]]
-    more = [f"{len(aids) - MOST_NAMED} more"] if len(aids) > MOST_NAMED else []
+    more = [f"+{len(aids) - MOST_NAMED}"] if len(aids) > MOST_NAMED else []
     names = ["aid " + ", ".join(first + more)] if aids else []
     return ", ".join(names + ["group"] * group)
 

@@ -3,10 +3,12 @@ import os
 import random
 import re
 import subprocess
+import tomllib
+import zlib
 from collections import Counter
 
 import mistakes
-from common import EXAMPLES, PROGRAM, ROOT, THREE, ToolTest, input_of, needs_program, tool, with_report
+from common import EXAMPLES, PROGRAM, ROOT, THREE, ToolTest, heard, input_of, needs_program, tool, with_report
 from explaining import whole
 from explaining.answers import Answer, read_fault, run_program
 from explaining.source import Source
@@ -20,7 +22,7 @@ LEAST_ROWS, LEAST_OF_EACH, MUTATIONS = 100, 4, 10_000
 TEXT_CODES = [f"C{number}" for number in range(1, 14)] + [f"L{number}" for number in range(1, 6)]
 OTHER_FAULT = re.compile(r"\b(?:C\d+|L\d|F[234])\b")
 LAB, GUEST = "02:00:00:00:00:01", "02:00:00:00:00:02"
-STATION, OTHER = "02aa00000001", "02aa00000002"
+STATION = "02aa00000001"
 OURS = LAB.replace(":", "")
 # Words of the program that are wrong, files that can't be read, and what has to be said of them. my.toml, my.trace and
 # folder are there.
@@ -60,19 +62,13 @@ def octets_of(text):
     return text if isinstance(text, bytes) or text is None else text.encode()
 
 
-def frame(control, body="", receiver=OURS, sender=STATION, third=OURS, sequence="0000"):
-    """A line of a trace."""
-    return f"A {control} {receiver} {sender} {third} {sequence} {body}".rstrip()
-
-
-JOIN = [frame("b0000000", "0000 0100 0000"), frame("00000000", "0100 0a00 00036c6162 010482840b16")]
+JOIN = [heard("b0000000", "0000 0100 0000"), heard("00000000", "0100 0a00 00036c6162 010482840b16")]
 DATA, QOS = "08010000", "88010000"
 UNIT = "aaaa030000000800 01"
 
 
 def with_fcs(line):
     """A line with the frame check sequence at its end."""
-    import zlib
     octets = bytes.fromhex("".join(line.split()[1:]))
     return f"{line} {zlib.crc32(octets).to_bytes(4, 'little').hex()}"
 
@@ -87,26 +83,26 @@ RUNS = [
     ([PROBE.replace("ffffffffffff", "029900000001")], ["no frame of this trace is to a network", LAB, GUEST,
                                                        "02:99:00:00:00:01 (1)"]),
     (JOIN, ["network 02:00:00:00:00:02 (guest) heard nothing but beacon intervals", "no line `T`"]),
-    (JOIN + [frame(QOS, f"0000 {UNIT}")] * 3, ["all of its data is of QoS", "my.trace:3:1"]),
-    (JOIN + [frame(QOS, f"0000 {UNIT}"), frame(DATA, UNIT)], ["1 of its 2 data frames is of QoS"]),
+    (JOIN + [heard(QOS, f"0000 {UNIT}")] * 3, ["all of its data is of QoS", "my.trace:3:1"]),
+    (JOIN + [heard(QOS, f"0000 {UNIT}"), heard(DATA, UNIT)], ["1 of its 2 data frames is of QoS"]),
     (["T"] * 101, ["its history is full, `max_events = 100`", "my.trace:101:1", "1 in all"]),
-    ([frame("b0000000", "0000 0100 0000", sender=f"02aa000000{number:02x}") for number in range(17)],
+    ([heard("b0000000", "0000 0100 0000", sender=f"02aa000000{number:02x}") for number in range(17)],
      ["1 authentications were refused (status 1): `max_known = 16` is reached"]),
     ([line.replace(STATION, f"02aa000000{number:02x}") for number in range(9) for line in JOIN],
      ["1 associations were refused (status 17): `max_stations = 8` is reached"]),
     ([JOIN[0], JOIN[1].replace("010482840b16", "010102")], ["status 18", "hasn't a basic rate"]),
     ([JOIN[0], JOIN[1].replace("6c6162", "4c6162")], ["they named another SSID, `Lab`, than `lab`"]),
     ([JOIN[0].replace("0000 0100 0000", "0100 0100 0000")], ["status 13", "Open System"]),
-    (list(map(with_fcs, [*JOIN, frame(DATA, UNIT)])), ["the last four octets of 3 of 3 frames", "my.trace:1:",
+    (list(map(with_fcs, [*JOIN, heard(DATA, UNIT)])), ["the last four octets of 3 of 3 frames", "my.trace:1:",
                                                        "tools/trace-from-capture"]),
     (list(map(with_radiotap, JOIN)), ["radiotap", "tools/trace-from-capture takes it off"]),
-    ([frame(DATA, UNIT)], ["reason 7", "joined before the trace begins"]),
-    (JOIN + [frame("08410000", "0100002000000000 a1b2")], ["1 of 3 events are unread (U4): encrypted"]),
-    (JOIN + [frame("08010000", UNIT, sequence="1000"), frame("08090000", UNIT, sequence="1000")],
+    ([heard(DATA, UNIT)], ["reason 7", "joined before the trace begins"]),
+    (JOIN + [heard("08410000", "0100002000000000 a1b2")], ["1 of 3 events are unread (U4): encrypted"]),
+    (JOIN + [heard("08010000", UNIT, sequence="1000"), heard("08090000", UNIT, sequence="1000")],
      ["1 frames were sent again", "my.trace:4:1"]),
-    (JOIN + [frame("48110000")] + [f"W {LAB} {STATION} 02bb00000001 0800 01"] * 9, ["1 units were lost", "quota = 8"]),
-    ([frame("80000000", "00" * 12, "ffffffffffff", OURS)], ["unread (U3)"]),
-    ([frame("40000000", "0000", "ffffffffffff", OURS)], ["were sent by the network itself"]),
+    (JOIN + [heard("48110000")] + [f"W {LAB} {STATION} 02bb00000001 0800 01"] * 9, ["1 units were lost", "quota = 8"]),
+    ([heard("80000000", "00" * 12, "ffffffffffff", OURS)], ["unread (U3)"]),
+    ([heard("40000000", "0000", "ffffffffffff", OURS)], ["were sent by the network itself"]),
     (JOIN + [line.replace(OURS, GUEST.replace(":", "")).replace("00036c6162", "00056775657374") for line in JOIN],
      ["is associated in several networks: lab, guest"]),
     (["# nothing"], ["the trace has no line"]),
@@ -265,7 +261,7 @@ class GoodRuns(ToolTest):
         draw = random.Random(7)
         bssid = bytes.fromhex(OURS)
         for _ in range(5000):
-            octets = bytearray(bytes.fromhex("".join(draw.choice([*JOIN, PROBE, frame(DATA, UNIT)]).split()[1:])))
+            octets = bytearray(bytes.fromhex("".join(draw.choice([*JOIN, PROBE, heard(DATA, UNIT)]).split()[1:])))
             for _ in range(draw.randrange(3)):
                 octets[draw.randrange(len(octets))] = draw.randrange(256)
             octets = bytes(octets[:draw.randrange(10, len(octets) + 1)])
@@ -282,7 +278,7 @@ class Mutations(ToolTest):
     def mutated(draw, text):
         """A text with up to three changes."""
         text = bytearray(text)
-        # three of four changes are within the values of the configuration, or in the trace
+        # half of the texts are changed in the trace alone, half of the others mostly in values
         begin = text.find(b"\n---\n") if draw.randrange(2) else 0
         for _ in range(draw.randrange(1, 4)):
             at = draw.randrange(max(0, begin), len(text) + 1)
@@ -344,7 +340,6 @@ class Mutations(ToolTest):
 
     def test_scanner_agrees_with_the_library(self):
         """What is TOML for the scanner is TOML for Python's own reader, but for what version 1.1 has more."""
-        import tomllib
         draw, different = random.Random(54), []
         seeds = [text.split(b"\n---\n")[0] + b"\n" for text in self.seeds()]
         for _ in range(MUTATIONS):
