@@ -223,10 +223,12 @@ class Strip:
 
 
 class Lane:
-    """One network in a picture: its story, and of which stations it is shown (all where none are chosen)."""
+    """One network in a picture: its story, of which stations it is shown (all where none are chosen), and whether its
+    SSID names it alone."""
 
-    def __init__(self, story, chosen):
+    def __init__(self, story, chosen, has_own_name=True):
         self.story, self.section, self.chosen = story, story.section, chosen
+        self.name = story.section.name if has_own_name else f"{story.section.name} {story.section.bssid.hex(':')}"
         self.spans = [span for span in story.spans if self.shows(span.station)]
         self.keepings = [kept for kept in story.keepings if not chosen or kept.whom in chosen or kept.sender in chosen]
         self.marks = {}
@@ -248,11 +250,6 @@ class Lane:
                 if beacon.text == before and len(marks) == 1:
                     self.marks[line] = [beacon._replace(text="")]
                 before = beacon.text
-
-    @property
-    def name(self):
-        """The network, for a person."""
-        return self.section.name
 
     def shows(self, station):
         """Whether a station is shown."""

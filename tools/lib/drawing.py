@@ -66,7 +66,8 @@ class Picture:
     """All that is asked for of a run. `chosen` are the stations that are shown, all where it is empty."""
 
     def __init__(self, stories, lines, origins, interval, chosen=(), most_stations=40):
-        self.lanes = [Lane(story, frozenset(chosen)) for story in stories]
+        names = [story.section.name for story in stories]
+        self.lanes = [Lane(story, frozenset(chosen), names.count(story.section.name) == 1) for story in stories]
         self.most_stations = most_stations
         self.roaming = roaming_of(self.lanes)
         self.name_roaming()

@@ -269,6 +269,19 @@ class Picture(PictureTest):
         shapes = self.of_example("station_leaves_before_it_roams")
         self.assertEqual(shapes.of(what="roaming"), [])
 
+    def test_networks_of_one_name_are_told_apart(self):
+        """Networks with the same SSID are named with their BSSIDs."""
+        texts = [read_text(os.path.join(EXAMPLES, "station_roams_between_two_networks", name))
+                 for name in ("input", "stdout")]
+        office, guest = "office".encode().hex(), "guest".encode().hex()
+        for name, text in zip(("input", "report"), texts):
+            text = text.replace('"office"', '"guest"').replace(f"0006{office}", f"0005{guest}")
+            with open(self.path(name), "w", encoding="ascii") as file:
+                file.write(text.replace(f"ssid {office}", f"ssid {guest}"))
+        words = self.shapes(self.path("input"), self.path("report")).words()
+        self.assertLessEqual({"guest 02:00:00:00:00:01", "guest 02:00:00:00:00:02",
+                              "aid 1, also in guest 02:00:00:00:00:01"}, words)
+
     def test_changed_octet_is_seen(self):
         """Where an octet of the report or the trace is changed, the pair is refused, or the picture another one."""
         texts = {name: read_text(os.path.join(THREE, name)) for name in ("input", "stdout")}
