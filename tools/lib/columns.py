@@ -64,6 +64,12 @@ class Column:
         return max([LEAST_QUIET if self.is_quiet else LEAST_COLUMN, *marks, *names]) + PAD
 
     @property
+    def numbers(self):
+        """The numbers of its first line and its last, or of its one."""
+        first, last = self.lines[0].number, self.lines[-1].number
+        return str(first) if first == last else f"{first}-{last}"
+
+    @property
     def end(self):
         """Where its last word ends, from the strip's left."""
         ends = [item.x + item.width + PAD for items in self.items.values() for item in items]
@@ -183,8 +189,8 @@ def strips_of(columns, width):
 
 
 def left_of(column, before, free):
-    """Where a column begins: after the one before it, and so that none of its marks, nor an arrow, stands in words of an
-    earlier one. `free` has for each row of each network where its words end."""
+    """Where a column begins: after the one before it, and so that none of its marks, nor an arrow, stands in words of
+    an earlier one. `free` has for each row of each network where its words end."""
     x = before.x + before.width
     for place, items in column.items.items():
         rows = free.get(place, {})

@@ -130,7 +130,7 @@ class Picture:
         self.y += HEAD + 10
         for lane in self.lanes:
             section = lane.section
-            text = (f"{lane.name} · {section.bssid.hex(':')} · events {section.events}, clock {section.clock}, "
+            text = (f"{section.name} · {section.bssid.hex(':')} · events {section.events}, clock {section.clock}, "
                     f"unread {section.unread}, lost {section.lost}, kept {section.kept}")
             self.canvas.text(MARGIN, self.y + TEXT, text, TEXT)
             self.y += TEXT + 5
@@ -184,7 +184,8 @@ class Picture:
         have none though they are known, and how many more have none for want of room."""
         used = {row for column in strip.columns for item in column.items.get(place, ())
                 for row in (item.row, item.sender) if row is not None}
-        used |= {kept.whom for kept in lane.keepings if lane.shows(kept.whom) and strip.overlaps(kept.begins, kept.ends)}
+        used |= {kept.whom for kept in lane.keepings
+                 if lane.shows(kept.whom) and strip.overlaps(kept.begins, kept.ends)}
         here = [span for span in lane.spans if strip.overlaps(span.begins, span.ends)]
         used |= {span.station for span in here if strip.has(span.begins) or strip.has(span.ends)}
         if strip is self.strips[0] or lane.chosen:
@@ -253,8 +254,8 @@ class Picture:
         for column in strip.columns:
             x = LEFT + column.x
             if column.is_quiet:
-                numbers = f"{column.lines[0].number}-{column.lines[-1].number}"
-                with self.canvas.group(f"lines {numbers}: nothing new", data_lines=numbers, data_what="quiet"):
+                with self.canvas.group(f"lines {column.numbers}: nothing new", data_lines=column.numbers,
+                                       data_what="quiet"):
                     self.canvas.rectangle(x + 1, top, column.width - 2, height, "#f0f0f0")
             elif column.lines[0].kind == "T":
                 x += PAD / 2 + SLOT / 2
@@ -323,12 +324,10 @@ class Picture:
         row = item.row if item.row in middles else OTHERS
         y, left = middles[row], LEFT + column.x + PAD / 2 + item.x
         x = left + (SLOT if item.what not in CIRCLED else CIRCLE_SLOT - 2) / 2
-        first, last = column.lines[0].number, column.lines[-1].number
-        lines = str(first) if first == last else f"{first}-{last}"
-        title = f"line {lines}: {MEANINGS[item.what]}{' ' + item.label if item.label else ''}"
+        title = f"line {column.numbers}: {MEANINGS[item.what]}{' ' + item.label if item.label else ''}"
         sender = item.sender if item.sender in middles and item.sender != row else None
         with self.canvas.group(title, data_network=lane.section.bssid.hex(), data_what=item.what,
-                               data_row=name_of(item.row), data_lines=lines, data_letter=item.letter,
+                               data_row=name_of(item.row), data_lines=column.numbers, data_letter=item.letter,
                                data_sender=name_of(sender) if sender is not None else ""):
             from_above = 0
             if sender is not None and item.what in ARROWS:
@@ -355,7 +354,8 @@ class Picture:
     def shape(self, x, y, what, from_above):
         """A mark that isn't a circle."""
         m = MARK
-        diamond = f"M{x:.1f} {y - m - 1:.1f} L{x + m + 1:.1f} {y:.1f} L{x:.1f} {y + m + 1:.1f} L{x - m - 1:.1f} {y:.1f} Z"
+        corners = (x, y - m - 1), (x + m + 1, y), (x, y + m + 1), (x - m - 1, y)
+        diamond = f"M{' L'.join(f'{across:.1f} {down:.1f}' for across, down in corners)} Z"
         tip = y + (m if from_above >= 0 else -m)
         base = y - (m if from_above >= 0 else -m)
         triangle = f"M{x - m:.1f} {base:.1f} L{x + m:.1f} {base:.1f} L{x:.1f} {tip:.1f} Z"

@@ -102,7 +102,8 @@ def body_fields(frame):
     if frame.to_ds and frame.from_ds:
         before, body = [Field("Address 4", body[:6], f"source: {address_meaning(body[:6])}")], body[6:]
     if frame.is_qos:
-        before, body = [*before, Field("QoS Control", body[:2], f"traffic identifier {number(body[:2]) & 0xF}")], body[2:]
+        before.append(Field("QoS Control", body[:2], f"traffic identifier {number(body[:2]) & 0xF}"))
+        body = body[2:]
     return before + unit_fields(body)
 
 

@@ -18,7 +18,7 @@ body {{ margin: 0; font: 14px "DejaVu Sans", Verdana, sans-serif; color: #222; d
 #told code {{ word-break: break-all; font-size: 12px; }}
 #ask {{ width: 100%; box-sizing: border-box; font: inherit; margin-top: 12px; padding: 4px; }}
 g[data-lines], g[data-span] {{ cursor: pointer; }}
-g.asked > * {{ stroke: #c8202d; stroke-width: 2.5; }}
+g.asked > circle, g.asked > rect, g.asked > path {{ stroke: #c8202d; stroke-width: 3; }}
 </style></head><body><div id="picture">{picture}</div><div id="told">
 <input id="ask" placeholder="a line's number, or an address or digits">
 <p id="found">Point at a shape: its line and its frames are shown here. A click holds them, a second one lets go. Enter

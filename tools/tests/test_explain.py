@@ -271,6 +271,11 @@ class GoodRuns(ToolTest):
                          [None, "U1", "U7"])
 
 
+# What is put into a text that is changed.
+PIECES = (b"\n", b'"', b"=", b"[", b"]", b"#", b"\r", b"\t", b" ", b"0", b"\xff", b"T", b"A ", b"W ", b"---\n", b"{", b"}",
+          b"'", b",", b".", b":", b"\\", b"-", b"9")
+
+
 class Mutations(ToolTest):
     """Texts that are changed at random."""
 
@@ -289,8 +294,7 @@ class Mutations(ToolTest):
             if kind == 0:
                 del text[at:end]
             elif kind == 1:
-                text[at:at] = draw.choice((b"\n", b'"', b"=", b"[", b"]", b"#", b"\r", b"\t", b" ", b"0", b"\xff", b"T",
-                                           b"A ", b"W ", b"---\n", b"{", b"}", b"'", b",", b".", b":", b"\\", b"-", b"9"))
+                text[at:at] = draw.choice(PIECES)
             elif kind == 2:
                 text[at:end] = bytes([draw.randrange(256)])
             elif kind == 3:

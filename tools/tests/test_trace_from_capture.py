@@ -154,8 +154,8 @@ class Sample(ToolTest):
         write_pcap(self.path("missing"), PLAIN_80211, frames)
         found, told = self.trace(self.path("missing"), *WIRES)
         self.assertEqual(essence(found), essence(input_of(THREE)[1]))
-        self.assertIn("beacon intervals: 4, by the beacons of 02:00:00:00:01:01; 1 line T was made, where no beacon was "
-                      "captured", told)
+        self.assertIn("beacon intervals: 4, by the beacons of 02:00:00:00:01:01; 1 line T was made, where no beacon "
+                      "was captured", told)
 
     def test_choices(self):
         """--beacons-of, --every, --network and --heard-only do what they say."""

@@ -198,7 +198,8 @@ def unlisted(config: Config, entry: Entry, here: tuple[str, ...], there: tuple[s
     like = meant(key, here)
     if like:
         is_there = like in (config.top if network is None else config.networks[network].entries)
-        return Finding(text, place, f"write `{like}`" + (", which is there already: leave this out" if is_there else ""))
+        more = ", which is there already: leave this out" if is_there else ""
+        return Finding(text, place, f"write `{like}`{more}")
     if is_of_encryption(key):
         return Finding(text, place, "these networks don't encrypt: leave it out")
     if key in HOSTAPD:

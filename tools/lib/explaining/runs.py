@@ -8,7 +8,8 @@ from explaining.config import Config, NetworkTable
 from explaining.source import Finding, Source, quoted
 from explaining.toml_scan import NoToml
 from frames import (ASSOCIATION_REQUEST, ASSOCIATION_RESPONSE, AUTHENTICATION, DATA, DEAUTHENTICATION,
-                    DISASSOCIATION, HEADER_LEN, MANAGEMENT, REASSOCIATION_REQUEST, REASSOCIATION_RESPONSE, SSID, Frame, address_text, elements, first_of, number)
+                    DISASSOCIATION, HEADER_LEN, MANAGEMENT, REASSOCIATION_REQUEST, REASSOCIATION_RESPONSE, SSID,
+                    Frame, address_text, elements, first_of, number)
 from reading import hears, unread_kind, wired_unread_kind
 from texts import Line, Section, TextError, read_report, trace_line
 
@@ -16,7 +17,8 @@ FCS_LEN, MOST_NAMED = 4, 3
 FIXED_BEFORE_ELEMENTS = {ASSOCIATION_REQUEST: 4, REASSOCIATION_REQUEST: 10}
 KINDS = {"U1": "shorter than a header", "U2": "of another version of the protocol",
          "U3": "of a kind that isn't read (beacons, control and action frames)",
-         "U4": "encrypted, fragments, or with an HT Control field", "U5": "not to the access point by To DS and From DS",
+         "U4": "encrypted, fragments, or with an HT Control field",
+         "U5": "not to the access point by To DS and From DS",
          "U6": "with addresses that aren't those of a station and this network",
          "U7": "whose body hasn't the fields of its kind", "U8": "longer than a frame may be"}
 
@@ -124,8 +126,8 @@ def of_trace(lines: list[Line], hearings: list[Hearing], has_separator: bool, tr
     if with_fcs and 2 * len(with_fcs) > len(frames):
         findings.append(Finding(f"the last four octets of {len(with_fcs)} of {len(frames)} frames on the air are their "
                                 "frame check sequence, and a trace has frames without it",
-                                last_octets(traces, with_fcs[0]), "tools/trace-from-capture takes it off; a probe or an "
-                                "association request with it is unread, and a unit is passed on with it"))
+                                last_octets(traces, with_fcs[0]), "tools/trace-from-capture takes it off; a probe or "
+                                "an association request with it is unread, and a unit is passed on with it"))
     if not any(line.kind == "T" for line in lines):
         findings.append(Finding("no line `T` begins a beacon interval: no beacon is sent, and units for the group that "
                                 "are kept stay so"))
@@ -220,8 +222,8 @@ def of_statuses(hearing: Hearing) -> list[Finding]:
     sent = Counter(answer for answer in map(answer_of, section.air) if answer)
     known, stations = hearing.limit("max_known"), hearing.limit("max_stations")
     texts = {
-        (AUTHENTICATION, 1): f"authentications were refused (status 1): `max_known = {known}` is reached, and a station "
-                             "stays known until it deauthenticates",
+        (AUTHENTICATION, 1): f"authentications were refused (status 1): `max_known = {known}` is reached, and a "
+                             "station stays known until it deauthenticates",
         (AUTHENTICATION, 13): "authentications were refused (status 13): they weren't Open System (WEP, SAE, FT)",
         (AUTHENTICATION, 14): "authentications were refused (status 14): their sequence number wasn't 1",
         (ASSOCIATION_RESPONSE, 17): f"associations were refused (status 17): `max_stations = {stations}` is reached",
@@ -237,8 +239,8 @@ def of_statuses(hearing: Hearing) -> list[Finding]:
     if sent[ASSOCIATION_RESPONSE, 1]:
         names = Counter(name for name in map(name_asked_for, hearing.heard) if name not in (None, section.ssid))
         asked = ", ".join(quoted(name.decode("utf-8", "replace")) for name, _ in names.most_common(MOST_NAMED))
-        findings.append(Finding(f"{hearing.name}: {sent[ASSOCIATION_RESPONSE, 1]} associations were refused (status 1): "
-                                f"they named another SSID{f', {asked},' if asked else ''} than "
+        findings.append(Finding(f"{hearing.name}: {sent[ASSOCIATION_RESPONSE, 1]} associations were refused (status "
+                                f"1): they named another SSID{f', {asked},' if asked else ''} than "
                                 f"{quoted(section.ssid.decode('utf-8', 'replace'))}"))
     return findings
 

@@ -9,8 +9,9 @@ from dataclasses import dataclass, field
 
 BARE_KEY = re.compile(r"[A-Za-z0-9_-]+")
 BLANK = " \t"
-INTEGER = re.compile(r"[+-]?(?:0|[1-9](?:_?[0-9])*)|0x[0-9A-Fa-f](?:_?[0-9A-Fa-f])*|0o[0-7](?:_?[0-7])*|0b[01](?:_?[01])*")
-FLOAT = re.compile(r"[+-]?(?:0|[1-9](?:_?[0-9])*)(?:\.[0-9](?:_?[0-9])*)?(?:[eE][+-]?[0-9](?:_?[0-9])*)?|[+-]?(?:inf|nan)")
+DECIMAL, DIGITS = r"[+-]?(?:0|[1-9](?:_?[0-9])*)", r"[0-9](?:_?[0-9])*"
+INTEGER = re.compile(DECIMAL + r"|0x[0-9A-Fa-f](?:_?[0-9A-Fa-f])*|0o[0-7](?:_?[0-7])*|0b[01](?:_?[01])*")
+FLOAT = re.compile(rf"{DECIMAL}(?:\.{DIGITS})?(?:[eE][+-]?{DIGITS})?|[+-]?(?:inf|nan)")
 TIME = re.compile(r"\d{4}-\d{2}-\d{2}(?:[Tt ]\d{2}:\d{2}(?::\d{2}(?:\.\d+)?)?(?:[Zz]|[+-]\d{2}:\d{2})?)?"
                   r"|\d{2}:\d{2}(?::\d{2}(?:\.\d+)?)?")
 ESCAPES = 'btnfre"\\'

@@ -97,7 +97,8 @@ def of_other_text(source: Source, number: int, line: str) -> Finding | None:
     if re.match(r"[AW][0-9A-Fa-f]", line):
         return Finding(f"a space stands after `{line[0]}`", place, f"write {quoted(f'{line[0]} {line[1:]}')}")
     if re.match(r";|//|--|!|%", line):
-        return Finding("a remark begins with `#`", source.place(number, 1, 2), f"write {quoted('# ' + line.strip(';/-!% '))}")
+        return Finding("a remark begins with `#`", source.place(number, 1, 2),
+                       f"write {quoted('# ' + line.strip(';/-!% '))}")
     if REPORT_LINE.fullmatch(line) or re.match(r"station [0-9a-f:]{17} |end$", line):
         return Finding("this is a line of a report, and no trace", place)
     if re.match(r"[a-z_]+ *= *\S|\[\[?network", line):
