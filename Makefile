@@ -16,7 +16,8 @@ run: apctl
 try:
 	@.ci/try < "$(INPUT)"
 
-# Reads the configuration of the file CONFIG alone, without any proof: how many networks it has, or its first fault.
+# Reads the configuration of the file CONFIG alone, without any proof: how many networks it has, or its first fault,
+# and what tools/explain says of it.
 try-check:
 	@.ci/try "$(CONFIG)"
 
@@ -79,10 +80,12 @@ test-live: apctl
 	@tools/test live
 	@tools/test-live
 
-# Draws the example of three networks: the picture of README.md.
+# Draws the example of three networks, the picture of README.md, and those of docs/EXAMPLES.md.
 picture:
 	@tools/install
 	@tools/picture $(THREE)/input $(THREE)/stdout --out docs/three_networks.svg
+	@for name in $(DRAWN); do \
+	    tools/picture examples/$$name/input examples/$$name/stdout --out docs/$$name.svg || exit 1; done
 
 # Makes the captures beside the example of three networks.
 captures:
@@ -90,3 +93,4 @@ captures:
 	@tools/capture-from-run $(THREE)/input $(THREE)/stdout --clutter --out $(THREE)
 
 THREE = examples/three_networks_over_some_intervals
+DRAWN = station_roams_between_two_networks units_of_stations_that_doze_too_long

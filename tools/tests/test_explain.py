@@ -272,8 +272,8 @@ class GoodRuns(ToolTest):
 
 
 # What is put into a text that is changed.
-PIECES = (b"\n", b'"', b"=", b"[", b"]", b"#", b"\r", b"\t", b" ", b"0", b"\xff", b"T", b"A ", b"W ", b"---\n", b"{", b"}",
-          b"'", b",", b".", b":", b"\\", b"-", b"9")
+PIECES = (b"\n", b'"', b"=", b"[", b"]", b"#", b"\r", b"\t", b" ", b"0", b"\xff", b"T", b"A ", b"W ", b"---\n",
+          b"{", b"}", b"'", b",", b".", b":", b"\\", b"-", b"9")
 
 
 class Mutations(ToolTest):

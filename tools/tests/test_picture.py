@@ -236,13 +236,18 @@ class Picture(PictureTest):
             self.assertAlmostEqual(right, middle_of(delivered)[0], delta=3)
             self.assertGreater(height, middle_of(kept)[1] + 4)
 
-    def test_stored_picture_is_that_of_the_example(self):
-        """The picture of the README is the one that is made now."""
-        stored, made = Shapes(read_text(STORED)), self.of_three()
-        self.assertEqual([attributes for attributes, _ in stored.groups], [attributes for attributes, _ in made.groups])
-        self.assertEqual(stored.words(), made.words())
-        self.assertEqual([[round(part) for part in middle_of(group)] for group in stored.marks()],
-                         [[round(part) for part in middle_of(group)] for group in made.marks()])
+    def test_stored_pictures_are_those_of_the_examples(self):
+        """The pictures of the documents are those that are made now."""
+        names = [name for name in os.listdir(os.path.join(ROOT, "docs")) if name.endswith(".svg")]
+        self.assertGreaterEqual(len(names), 3)
+        for name in names:
+            stored = Shapes(read_text(os.path.join(ROOT, "docs", name)))
+            made = self.of_three() if name == "three_networks.svg" else self.of_example(name.removesuffix(".svg"))
+            self.assertEqual([attributes for attributes, _ in stored.groups],
+                             [attributes for attributes, _ in made.groups])
+            self.assertEqual(stored.words(), made.words())
+            self.assertEqual([[round(part) for part in middle_of(group)] for group in stored.marks()],
+                             [[round(part) for part in middle_of(group)] for group in made.marks()])
 
     def test_refusals_are_shown(self):
         """Refused requests stand with their status, and those of a class that isn't allowed with their reason."""
