@@ -23,7 +23,8 @@ run: apctl ## proves what the program stands on, builds it, and runs it on an ex
 try: ## runs the program without any proof on an example or on INPUT=FILE, in a minute
 	@.ci/try < "$(INPUT)"
 
-# Reads the configuration of the file CONFIG alone, without any proof: how many networks it has, or its first fault.
+# Reads the configuration of the file CONFIG alone, without any proof: how many networks it has, or its first fault,
+# and what tools/explain says of it.
 try-check: ## reads the configuration CONFIG=FILE without any proof
 	@.ci/try "$(CONFIG)"
 
@@ -96,10 +97,12 @@ test-live: apctl ## tests the bridge with real stations in a guest; takes root
 	@tools/test live
 	@tools/test-live
 
-# Draws the example of three networks: the picture of README.md.
-picture: ## draws the picture of README.md
+# Draws the example of three networks, the picture of README.md, and those of docs/EXAMPLES.md.
+picture: ## draws the pictures of README.md and docs/
 	@tools/install
 	@tools/picture $(THREE)/input $(THREE)/stdout --out docs/three_networks.svg
+	@for name in $(DRAWN); do \
+	    tools/picture examples/$$name/input examples/$$name/stdout --out docs/$$name.svg || exit 1; done
 
 # Makes the captures beside the example of three networks.
 captures: ## makes the captures beside the example of three networks
@@ -107,6 +110,7 @@ captures: ## makes the captures beside the example of three networks
 	@tools/capture-from-run $(THREE)/input $(THREE)/stdout --clutter --out $(THREE)
 
 THREE = examples/three_networks_over_some_intervals
+DRAWN = station_roams_between_two_networks units_of_stations_that_doze_too_long
 
 # Installs what was built, with man pages, tools, a sample configuration and shell completion, below PREFIX, and takes
 # it away again.

@@ -71,4 +71,9 @@ class ToolTest(unittest.TestCase):
         self.assertNotIn("Traceback", stderr)
 
 
+def heard(control, body="", receiver="020000000001", sender="02aa00000001", third=None, sequence="0000"):
+    """A line of a trace: a frame of a station to a network."""
+    return " ".join(filter(None, ["A", control, receiver, sender, third or receiver, sequence, body]))
+
+
 needs_program = unittest.skipUnless(os.path.exists(PROGRAM), "build/apctl isn't there (make apctl builds it)")
