@@ -39,6 +39,7 @@ WORDS = [
     (["check", "-v"], "fault words", ["begins with `-`", "check -- -v"]),
     (["play", "my.toml"], "fault words", ["TRACE is missing"]),
     (["--", "explode"], "fault words", ["no word `explode`"]),
+    (["check", b"\xff.toml"], "fault words", ["isn't UTF-8"]),
 ]
 FILES = [
     (["check", "my.tmol"], "fault file my.tmol", ["isn't there", "`my.toml` is there, and may be meant"]),
@@ -82,7 +83,12 @@ def with_radiotap(line):
 RUNS = [
     ([PROBE.replace("ffffffffffff", "029900000001")], ["no frame of this trace is to a network", LAB, GUEST,
                                                        "02:99:00:00:00:01 (1)"]),
-    (JOIN, ["network 02:00:00:00:00:02 (guest) heard nothing but beacon intervals", "no line `T`"]),
+    ([heard("80000000", "00" * 12, "ffffffffffff"), JOIN[0].replace(OURS, "029900000001")],
+     ["no frame of this trace is to a network", LAB, "02:99:00:00:00:01 (1)"]),
+    (JOIN + [PROBE], ["network 02:00:00:00:00:02 (guest): no frame of this trace is to it", "heard 1 frames to all",
+                      "no line `T`"]),
+    ([heard("b0000000", "0000 0100 0000", sender=f"02aa000000{number:02x}") for number in range(16)],
+     ["it knows as many stations as it may, `max_known = 16`"]),
     (JOIN + [heard(QOS, f"0000 {UNIT}")] * 3, ["all of its data is of QoS", "my.trace:3:1"]),
     (JOIN + [heard(QOS, f"0000 {UNIT}"), heard(DATA, UNIT)], ["1 of its 2 data frames is of QoS"]),
     (["T"] * 101, ["its history is full, `max_events = 100`", "my.trace:101:1", "1 in all"]),
@@ -208,6 +214,7 @@ class Mistakes(ToolTest):
                             (["check", "my.toml"], "ok 2"), (["my.input"], "my.input:31:3"),
                             (["play", "my.toml", "my.trace", "my.trace"], "the program ended well")):
             self.assertIn(says, self.run_tool(*words)[1], words)
+        self.assertIn("can't be read a second time", self.run_tool("my.toml", "/dev/stdin", given=TRACE)[1])
         self.assertIn("standard input:31:3", self.run_tool(given=f"{CONFIG}---\nT\nA 4\n")[1])
         found = self.run_tool("live", "my.toml", given="T\nA 4\ntick\n")[1]
         self.assertIn("fault L2 line 2\nstandard input:2:3", found)

@@ -9,9 +9,9 @@ from explaining.source import Finding, Source, quoted
 from explaining.toml_scan import NoToml
 from frames import (ASSOCIATION_REQUEST, ASSOCIATION_RESPONSE, AUTHENTICATION, DATA, DEAUTHENTICATION,
                     DISASSOCIATION, HEADER_LEN, MANAGEMENT, REASSOCIATION_REQUEST, REASSOCIATION_RESPONSE, SSID,
-                    Frame, address_text, elements, first_of, number)
+                    Frame, address_text, elements, first_of, is_group, number)
 from reading import hears, unread_kind, wired_unread_kind
-from texts import Line, Section, TextError, read_report, trace_line
+from texts import Line, Section, read_report, trace_line
 
 FCS_LEN, MOST_NAMED = 4, 3
 FIXED_BEFORE_ELEMENTS = {ASSOCIATION_REQUEST: 4, REASSOCIATION_REQUEST: 10}
@@ -43,6 +43,15 @@ class Hearing:
         entry = self.table.entries.get(key) if self.table else None
         return entry.value.worth if entry and entry.value.kind == "integer" else None
 
+    def has_frames_of_its_own(self) -> bool:
+        """Whether it took a frame that is to it and not to all."""
+        return any(line.kind == "W" or line.kind == "A" and line.octets[4:10] == self.section.bssid
+                   for line in self.heard)
+
+    def count(self, kind: str) -> int:
+        """How many lines of a kind it took."""
+        return sum(line.kind == kind for line in self.heard)
+
     def take(self, line: Line) -> None:
         """Counts a line, where the network takes it."""
         bssid = self.section.bssid
@@ -59,11 +68,8 @@ class Hearing:
 
 
 def odd(config: Source, traces: list[Source], output: str, has_separator: bool) -> list[Finding]:
-    """What is odd, the weightiest first; nothing where all is as it should be."""
-    try:
-        sections, lines = read_report(output), [line for trace in traces for line in lines_of(trace)]
-    except TextError:
-        return []
+    """What is odd, the weightiest first; nothing where all is as it should be. TextError where a text can't be read."""
+    sections, lines = read_report(output), [line for trace in traces for line in lines_of(trace)]
     tables = networks_of(config)
     hearings = [Hearing(section, tables.get(section.bssid)) for section in sections]
     for line in lines:
@@ -114,14 +120,8 @@ def of_trace(lines: list[Line], hearings: list[Hearing], has_separator: bool, tr
     if front and sum(has_radiotap(line.octets) for line in frames) * 2 > len(frames):
         findings.append(Finding("the frames begin with the capture's own header (radiotap), and a trace has frames "
                                 "without it", place_of(traces, front), "tools/trace-from-capture takes it off"))
-    elif frames and not any(hearing.heard for hearing in hearings if any(
-            line.kind == "A" for line in hearing.heard)):
-        findings.append(of_unheard(frames, hearings, traces))
-    unheard = [hearing for hearing in hearings if not any(line.kind != "T" for line in hearing.heard)]
-    if frames and len(unheard) < len(hearings):
-        findings += [Finding(f"{hearing.name} heard nothing but beacon intervals: no frame of this trace is to "
-                             f"{address_text(hearing.section.bssid)}, on the air or on its wire", None)
-                     for hearing in unheard]
+    else:
+        findings += of_unheard(frames, hearings, traces)
     with_fcs = [line for line in frames if ends_with_fcs(line.octets)]
     if with_fcs and 2 * len(with_fcs) > len(frames):
         findings.append(Finding(f"the last four octets of {len(with_fcs)} of {len(frames)} frames on the air are their "
@@ -134,14 +134,22 @@ def of_trace(lines: list[Line], hearings: list[Hearing], has_separator: bool, tr
     return findings
 
 
-def of_unheard(frames: list[Line], hearings: list[Hearing], traces: list[Source]) -> Finding:
-    """No frame is to any of these networks."""
-    receivers = Counter(line.octets[4:10] for line in frames if len(line.octets) >= 10)
+def of_unheard(frames: list[Line], hearings: list[Hearing], traces: list[Source]) -> list[Finding]:
+    """No frame is to any of these networks, or none to some of them."""
+    to_one = [line for line in frames if not is_group(line.octets[4:10])]
+    alone = [hearing for hearing in hearings if not hearing.has_frames_of_its_own()]
+    if len(alone) < len(hearings):
+        return [Finding(f"{hearing.name}: no frame of this trace is to it, on the air or on its wire; it heard "
+                        f"{hearing.count('A')} frames to all, and {hearing.count('T')} beacon intervals")
+                for hearing in alone]
+    if not to_one:
+        return []
+    receivers = Counter(line.octets[4:10] for line in to_one if len(line.octets) >= 10)
     to = ", ".join(f"{address_text(address)} ({count})" for address, count in receivers.most_common(MOST_NAMED))
-    bssids = ", ".join(address_text(hearing.section.bssid) for hearing in hearings[:8])
-    return Finding(f"no frame of this trace is to a network of this configuration: its BSSIDs are {bssids}",
-                   place_of(traces, frames[0]),
-                   f"the trace's frames are to {to}" if to else "the trace's frames have fewer than 10 octets")
+    bssids = ", ".join(address_text(hearing.section.bssid) for hearing in hearings)
+    return [Finding(f"no frame of this trace is to a network of this configuration: its BSSIDs are {bssids}",
+                    place_of(traces, to_one[0]),
+                    f"the trace's frames are to {to}" if to else "the trace's frames have fewer than 10 octets")]
 
 
 def has_radiotap(octets: bytes) -> bool:
@@ -236,6 +244,9 @@ def of_statuses(hearing: Hearing) -> list[Finding]:
     for answer, text in texts.items():
         if sent[answer]:
             findings.append(Finding(f"{hearing.name}: {sent[answer]} {text}"))
+    if known == len(section.stations) and not sent[AUTHENTICATION, 1]:
+        findings.append(Finding(f"{hearing.name}: it knows as many stations as it may, `max_known = {known}`: each new "
+                                "one will be refused (status 1)"))
     if sent[ASSOCIATION_RESPONSE, 1]:
         names = Counter(name for name in map(name_asked_for, hearing.heard) if name not in (None, section.ssid))
         asked = ", ".join(quoted(name.decode("utf-8", "replace")) for name, _ in names.most_common(MOST_NAMED))
