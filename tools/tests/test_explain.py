@@ -39,6 +39,7 @@ WORDS = [
     (["check", "-v"], "fault words", ["begins with `-`", "check -- -v"]),
     (["play", "my.toml"], "fault words", ["TRACE is missing"]),
     (["--", "explode"], "fault words", ["no word `explode`"]),
+    (["check", b"\xff.toml"], "fault words", ["isn't UTF-8"]),
 ]
 FILES = [
     (["check", "my.tmol"], "fault file my.tmol", ["isn't there", "`my.toml` is there, and may be meant"]),
@@ -82,27 +83,32 @@ def with_radiotap(line):
 RUNS = [
     ([PROBE.replace("ffffffffffff", "029900000001")], ["no frame of this trace is to a network", LAB, GUEST,
                                                        "02:99:00:00:00:01 (1)"]),
-    (JOIN, ["network 02:00:00:00:00:02 (guest) heard nothing but beacon intervals", "no line `T`"]),
-    (JOIN + [heard(QOS, f"0000 {UNIT}")] * 3, ["all of its data is of QoS", "my.trace:3:1"]),
-    (JOIN + [heard(QOS, f"0000 {UNIT}"), heard(DATA, UNIT)], ["1 of its 2 data frames is of QoS"]),
-    (["T"] * 101, ["its history is full, `max_events = 100`", "my.trace:101:1", "1 in all"]),
+    ([heard("80000000", "00" * 12, "ffffffffffff"), JOIN[0].replace(OURS, "029900000001")],
+     ["no frame of this trace is to a network", LAB, "02:99:00:00:00:01 (1)"]),
+    (JOIN + [PROBE], ["network 02:00:00:00:00:02 (guest): no frame of this trace is to it", "it took 1 frame to all",
+                      "no line `T`"]),
+    ([heard("b0000000", "0000 0100 0000", sender=f"02aa000000{number:02x}") for number in range(16)],
+     ["it knows as many stations as it may, `max_known = 16`"]),
+    (JOIN + [heard(QOS, f"0000 {UNIT}")] * 3, ["data frames of QoS (WMM), unread (U3): all", "my.trace:3:1"]),
+    (JOIN + [heard(QOS, f"0000 {UNIT}"), heard(DATA, UNIT)], ["data frames of QoS (WMM), unread (U3): 1 of 2"]),
+    (["T"] * 101, ["its history is full, `max_events = 100`", "my.trace:101:1", "left out: 1"]),
     ([heard("b0000000", "0000 0100 0000", sender=f"02aa000000{number:02x}") for number in range(17)],
-     ["1 authentications were refused (status 1): `max_known = 16` is reached"]),
+     ["refused with status 1: 1 (`max_known = 16` is reached"]),
     ([line.replace(STATION, f"02aa000000{number:02x}") for number in range(9) for line in JOIN],
-     ["1 associations were refused (status 17): `max_stations = 8` is reached"]),
+     ["refused with status 17: 1 (`max_stations = 8` is reached"]),
     ([JOIN[0], JOIN[1].replace("010482840b16", "010102")], ["status 18", "hasn't a basic rate"]),
     ([JOIN[0], JOIN[1].replace("6c6162", "4c6162")], ["they named another SSID, `Lab`, than `lab`"]),
     ([JOIN[0].replace("0000 0100 0000", "0100 0100 0000")], ["status 13", "Open System"]),
     (list(map(with_fcs, [*JOIN, heard(DATA, UNIT)])), ["the last four octets of 3 of 3 frames", "my.trace:1:",
                                                        "tools/trace-from-capture"]),
     (list(map(with_radiotap, JOIN)), ["radiotap", "tools/trace-from-capture takes it off"]),
-    ([heard(DATA, UNIT)], ["reason 7", "joined before the trace begins"]),
-    (JOIN + [heard("08410000", "0100002000000000 a1b2")], ["1 of 3 events are unread (U4): encrypted"]),
+    ([heard(DATA, UNIT)], ["reason 7", "it joined before the trace begins"]),
+    (JOIN + [heard("08410000", "0100002000000000 a1b2")], ["events unread (U4): 1 of 3 (encrypted"]),
     (JOIN + [heard("08010000", UNIT, sequence="1000"), heard("08090000", UNIT, sequence="1000")],
-     ["1 frames were sent again", "my.trace:4:1"]),
-    (JOIN + [heard("48110000")] + [f"W {LAB} {STATION} 02bb00000001 0800 01"] * 9, ["1 units were lost", "quota = 8"]),
+     ["frames sent again: 1", "my.trace:4:1"]),
+    (JOIN + [heard("48110000")] + [f"W {LAB} {STATION} 02bb00000001 0800 01"] * 9, ["units lost: 1", "quota = 8"]),
     ([heard("80000000", "00" * 12, "ffffffffffff", OURS)], ["unread (U3)"]),
-    ([heard("40000000", "0000", "ffffffffffff", OURS)], ["were sent by the network itself"]),
+    ([heard("40000000", "0000", "ffffffffffff", OURS)], ["frames that it sent itself, unread (U6): 1"]),
     (JOIN + [line.replace(OURS, GUEST.replace(":", "")).replace("00036c6162", "00056775657374") for line in JOIN],
      ["is associated in several networks: lab, guest"]),
     (["# nothing"], ["the trace has no line"]),
@@ -208,6 +214,7 @@ class Mistakes(ToolTest):
                             (["check", "my.toml"], "ok 2"), (["my.input"], "my.input:31:3"),
                             (["play", "my.toml", "my.trace", "my.trace"], "the program ended well")):
             self.assertIn(says, self.run_tool(*words)[1], words)
+        self.assertIn("can't be read a second time", self.run_tool("my.toml", "/dev/stdin", given=TRACE)[1])
         self.assertIn("standard input:31:3", self.run_tool(given=f"{CONFIG}---\nT\nA 4\n")[1])
         found = self.run_tool("live", "my.toml", given="T\nA 4\ntick\n")[1]
         self.assertIn("fault L2 line 2\nstandard input:2:3", found)

@@ -1,10 +1,12 @@
 """What a fault C1 comes of: octets that are no UTF-8, a text that is no TOML, or one that isn't a configuration at
 all."""
+import difflib
 import re
 import tomllib
 
 from explaining import values
-from explaining.keys import HOSTAPD, RADIO_KEYS, NETWORK_KEYS, SAMPLES, TEXT_KEYS
+from explaining.keys import (HOSTAPD, NETWORK_KEYS, NETWORK_LIMITS, OPTIONS, RADIO_KEYS, RADIO_LIMITS, SAMPLES,
+                             TEXT_KEYS)
 from explaining.source import Finding, Place, Source, quoted
 from explaining.toml_scan import NoToml, scan
 
@@ -50,7 +52,7 @@ def other_file(source: Source) -> Finding | None:
                  "picture": "a picture"}
         return Finding(f"{source.name}: this file is {names[kind]}, and no text", None,
                        "`gunzip` unpacks it" if kind == "gzip" else None)
-    if octets.startswith(UTF_16) or octets[1:2] == b"\0" or octets[:1] == b"\0" and len(octets) > 1:
+    if octets.startswith(UTF_16) or b"\0\0" in (octets[1:4:2], octets[0:3:2]):
         return Finding(f"{source.name}: this text is in UTF-16, and a configuration is in UTF-8", None,
                        "`iconv -f UTF-16 -t UTF-8` writes it anew")
     return None
@@ -184,6 +186,10 @@ def of_value(place: Place, line: str, fault: NoToml, source: Source) -> Finding:
     if text.rstrip(",;") != text and key not in TEXT_KEYS:
         return Finding(f"nothing stands after a value, and here `{text[-1]}` does", place,
                        f"write `{name} = {text.rstrip(',;')}`")
+    if key in OPTIONS and text.lower() not in TRUTHS:
+        close = difflib.get_close_matches(text.lower(), ("true", "false"), 1, 0.5)
+        return Finding(f"`{key}` is `true` or `false`, and {quoted(text)} is neither", place,
+                       f"write `{key} = {close[0] if close else SAMPLES[key]}`")
     if text.lower() in TRUTHS and key not in TEXT_KEYS:
         return Finding(f"{quoted(text)} is no truth value: TOML has `true` and `false`, in small letters", place,
                        f"write `{name} = {TRUTHS[text.lower()]}`")
@@ -204,8 +210,11 @@ def of_number(place: Place, text: str, name: str) -> Finding:
     if unit:
         return Finding(f"a number has no unit after it, and here {quoted(unit[2])} stands", place,
                        f"write `{name} = {unit[1]}`")
-    if re.fullmatch(r"\d+([_.,' ]\d+)+_?", text):
+    if re.fullmatch(r"\d+([_.,']\d+)+_?", text):
         return Finding("this is no number of TOML", place, f"write `{name} = {re.sub('[^0-9]', '', text)}`")
+    if name in RADIO_LIMITS or name in NETWORK_LIMITS:
+        return Finding(f"`{name}` is a whole number, and {quoted(text)} is none", place,
+                       f"write `{name} = {SAMPLES[name]}`")
     if re.match(r"[A-Za-z]", text):
         return Finding(f"{quoted(text)} is no value: a text stands in quotes", place,
                        f"write `{name} = {SAMPLES[name]}`" if name in SAMPLES else f'write `{name} = "{text}"`')

@@ -9,9 +9,9 @@ from explaining.source import Finding, Source, quoted
 from explaining.toml_scan import NoToml
 from frames import (ASSOCIATION_REQUEST, ASSOCIATION_RESPONSE, AUTHENTICATION, DATA, DEAUTHENTICATION,
                     DISASSOCIATION, HEADER_LEN, MANAGEMENT, REASSOCIATION_REQUEST, REASSOCIATION_RESPONSE, SSID,
-                    Frame, address_text, elements, first_of, number)
+                    Frame, address_text, elements, first_of, is_group, number)
 from reading import hears, unread_kind, wired_unread_kind
-from texts import Line, Section, TextError, read_report, trace_line
+from texts import Line, Section, frames_text, read_report, trace_line
 
 FCS_LEN, MOST_NAMED = 4, 3
 FIXED_BEFORE_ELEMENTS = {ASSOCIATION_REQUEST: 4, REASSOCIATION_REQUEST: 10}
@@ -43,6 +43,15 @@ class Hearing:
         entry = self.table.entries.get(key) if self.table else None
         return entry.value.worth if entry and entry.value.kind == "integer" else None
 
+    def has_frames_of_its_own(self) -> bool:
+        """Whether it took a frame that is to it and not to all."""
+        return any(line.kind == "W" or line.kind == "A" and line.octets[4:10] == self.section.bssid
+                   for line in self.heard)
+
+    def count(self, kind: str) -> int:
+        """How many lines of a kind it took."""
+        return sum(line.kind == kind for line in self.heard)
+
     def take(self, line: Line) -> None:
         """Counts a line, where the network takes it."""
         bssid = self.section.bssid
@@ -59,11 +68,8 @@ class Hearing:
 
 
 def odd(config: Source, traces: list[Source], output: str, has_separator: bool) -> list[Finding]:
-    """What is odd, the weightiest first; nothing where all is as it should be."""
-    try:
-        sections, lines = read_report(output), [line for trace in traces for line in lines_of(trace)]
-    except TextError:
-        return []
+    """What is odd, the weightiest first; nothing where all is as it should be. TextError where a text can't be read."""
+    sections, lines = read_report(output), [line for trace in traces for line in lines_of(trace)]
     tables = networks_of(config)
     hearings = [Hearing(section, tables.get(section.bssid)) for section in sections]
     for line in lines:
@@ -114,14 +120,8 @@ def of_trace(lines: list[Line], hearings: list[Hearing], has_separator: bool, tr
     if front and sum(has_radiotap(line.octets) for line in frames) * 2 > len(frames):
         findings.append(Finding("the frames begin with the capture's own header (radiotap), and a trace has frames "
                                 "without it", place_of(traces, front), "tools/trace-from-capture takes it off"))
-    elif frames and not any(hearing.heard for hearing in hearings if any(
-            line.kind == "A" for line in hearing.heard)):
-        findings.append(of_unheard(frames, hearings, traces))
-    unheard = [hearing for hearing in hearings if not any(line.kind != "T" for line in hearing.heard)]
-    if frames and len(unheard) < len(hearings):
-        findings += [Finding(f"{hearing.name} heard nothing but beacon intervals: no frame of this trace is to "
-                             f"{address_text(hearing.section.bssid)}, on the air or on its wire", None)
-                     for hearing in unheard]
+    else:
+        findings += of_unheard(frames, hearings, traces)
     with_fcs = [line for line in frames if ends_with_fcs(line.octets)]
     if with_fcs and 2 * len(with_fcs) > len(frames):
         findings.append(Finding(f"the last four octets of {len(with_fcs)} of {len(frames)} frames on the air are their "
@@ -134,14 +134,22 @@ def of_trace(lines: list[Line], hearings: list[Hearing], has_separator: bool, tr
     return findings
 
 
-def of_unheard(frames: list[Line], hearings: list[Hearing], traces: list[Source]) -> Finding:
-    """No frame is to any of these networks."""
-    receivers = Counter(line.octets[4:10] for line in frames if len(line.octets) >= 10)
+def of_unheard(frames: list[Line], hearings: list[Hearing], traces: list[Source]) -> list[Finding]:
+    """No frame is to any of these networks, or none to some of them."""
+    to_one = [line for line in frames if not is_group(line.octets[4:10])]
+    alone = [hearing for hearing in hearings if not hearing.has_frames_of_its_own()]
+    if len(alone) < len(hearings):
+        return [Finding(f"{hearing.name}: no frame of this trace is to it, on the air or on its wire; it took "
+                        f"{frames_text(hearing.count('A'))} to all, and lines T: {hearing.count('T')}")
+                for hearing in alone]
+    if not to_one:
+        return []
+    receivers = Counter(line.octets[4:10] for line in to_one if len(line.octets) >= 10)
     to = ", ".join(f"{address_text(address)} ({count})" for address, count in receivers.most_common(MOST_NAMED))
-    bssids = ", ".join(address_text(hearing.section.bssid) for hearing in hearings[:8])
-    return Finding(f"no frame of this trace is to a network of this configuration: its BSSIDs are {bssids}",
-                   place_of(traces, frames[0]),
-                   f"the trace's frames are to {to}" if to else "the trace's frames have fewer than 10 octets")
+    bssids = ", ".join(address_text(hearing.section.bssid) for hearing in hearings)
+    return [Finding(f"no frame of this trace is to a network of this configuration: its BSSIDs are {bssids}",
+                    place_of(traces, to_one[0]),
+                    f"the trace's frames are to {to}" if to else "the trace's frames have fewer than 10 octets")]
 
 
 def has_radiotap(octets: bytes) -> bool:
@@ -174,17 +182,18 @@ def of_network(hearing: Hearing, traces: list[Source]) -> list[Finding]:
     if hearing.past_history:
         first = hearing.past_history[0]
         findings.append(Finding(f"{hearing.name}: its history is full, `max_events = {section.events}`: it takes "
-                                f"nothing more from this line on, {len(hearing.past_history)} in all",
+                                f"nothing more from this line on; left out: {len(hearing.past_history)}",
                                 place_of(traces, first), "as many as the trace has lines are always enough"))
     findings += of_unread(hearing, traces)
     findings += of_statuses(hearing)
     if section.lost:
-        findings.append(Finding(f"{hearing.name}: {section.lost} units were lost: above `quota = "
-                                f"{hearing.limit('quota')}`, too old where units age, or without a wired form"))
+        quota = hearing.limit("quota")
+        findings.append(Finding(f"{hearing.name}: units lost: {section.lost} (above `quota = {quota}`, too old where "
+                                "units age, or without a wired form)"))
     again = repeated(hearing.heard)
     if again:
-        findings.append(Finding(f"{hearing.name}: {len(again)} frames were sent again, with Retry 1 and the sequence "
-                                "number that came before, and are taken a second time", place_of(traces, again[0]),
+        findings.append(Finding(f"{hearing.name}: frames sent again: {len(again)} (with Retry 1 and the sequence "
+                                "number that came before: they are taken a second time)", place_of(traces, again[0]),
                                 "tools/trace-from-capture leaves them out"))
     return findings
 
@@ -199,20 +208,20 @@ def of_unread(hearing: Hearing, traces: list[Source]) -> list[Finding]:
     data = [line for line in frames if Frame(line.octets).type == DATA]
     qos = [line for line in hearing.unread.get("U3", []) if line.kind == "A" and Frame(line.octets).is_qos]
     if qos:
-        all_data = "all of its data" if len(qos) == len(data) else f"{len(qos)} of its {len(data)} data frames"
-        findings.append(Finding(f"{hearing.name}: {all_data} is of QoS (WMM), and unread (U3)",
+        all_data = "all" if len(qos) == len(data) else f"{len(qos)} of {len(data)}"
+        findings.append(Finding(f"{hearing.name}: data frames of QoS (WMM), unread (U3): {all_data}",
                                 place_of(traces, qos[0]), "the program has no QoS: let the stations do without it"))
     own = [line for line in hearing.unread.get("U6", []) if line.kind == "A"
            and Frame(line.octets).transmitter == hearing.section.bssid]
     if own:
-        findings.append(Finding(f"{hearing.name}: {len(own)} frames were sent by the network itself, and unread (U6)",
+        findings.append(Finding(f"{hearing.name}: frames that it sent itself, unread (U6): {len(own)}",
                                 place_of(traces, own[0]), "a trace has what the access point heard alone"))
     rest = {kind: [line for line in lines if line not in qos and line not in own]
             for kind, lines in hearing.unread.items()} if len(qos) + len(own) < count else {}
     for kind, lines in sorted(rest.items()):
         if lines:
-            findings.append(Finding(f"{hearing.name}: {len(lines)} of {len(hearing.heard)} events are unread ({kind}): "
-                                    f"{KINDS[kind]}", place_of(traces, lines[0])))
+            findings.append(Finding(f"{hearing.name}: events unread ({kind}): {len(lines)} of {len(hearing.heard)} "
+                                    f"({KINDS[kind]})", place_of(traces, lines[0])))
     return findings
 
 
@@ -222,26 +231,29 @@ def of_statuses(hearing: Hearing) -> list[Finding]:
     sent = Counter(answer for answer in map(answer_of, section.air) if answer)
     known, stations = hearing.limit("max_known"), hearing.limit("max_stations")
     texts = {
-        (AUTHENTICATION, 1): f"authentications were refused (status 1): `max_known = {known}` is reached, and a "
-                             "station stays known until it deauthenticates",
-        (AUTHENTICATION, 13): "authentications were refused (status 13): they weren't Open System (WEP, SAE, FT)",
-        (AUTHENTICATION, 14): "authentications were refused (status 14): their sequence number wasn't 1",
-        (ASSOCIATION_RESPONSE, 17): f"associations were refused (status 17): `max_stations = {stations}` is reached",
-        (ASSOCIATION_RESPONSE, 18): "associations were refused (status 18): the station hasn't a basic rate of "
-                                    "`rates`, whose high bit makes it basic",
-        (DEAUTHENTICATION, 6): "requests of unknown stations were answered by a deauthentication (reason 6)",
-        (DEAUTHENTICATION, 7): "frames of unknown stations were answered by a deauthentication (reason 7): they joined "
-                               "before the trace begins, or not at all",
-        (DISASSOCIATION, 7): "frames of stations that aren't associated were answered by a disassociation (reason 7)"}
-    for answer, text in texts.items():
+        (AUTHENTICATION, 1): ("authentications refused with status 1", f"`max_known = {known}` is reached, and a "
+                              "station stays known until it deauthenticates"),
+        (AUTHENTICATION, 13): ("authentications refused with status 13", "they weren't Open System (WEP, SAE, FT)"),
+        (AUTHENTICATION, 14): ("authentications refused with status 14", "their sequence number wasn't 1"),
+        (ASSOCIATION_RESPONSE, 17): ("associations refused with status 17", f"`max_stations = {stations}` is reached"),
+        (ASSOCIATION_RESPONSE, 18): ("associations refused with status 18", "the station hasn't a basic rate of "
+                                     "`rates`, whose high bit makes it basic"),
+        (DEAUTHENTICATION, 6): ("requests answered by a deauthentication, reason 6", "the station is unknown"),
+        (DEAUTHENTICATION, 7): ("frames answered by a deauthentication, reason 7", "the station is unknown: it joined "
+                                "before the trace begins, or not at all"),
+        (DISASSOCIATION, 7): ("frames answered by a disassociation, reason 7", "the station isn't associated")}
+    for answer, (what, reason) in texts.items():
         if sent[answer]:
-            findings.append(Finding(f"{hearing.name}: {sent[answer]} {text}"))
+            findings.append(Finding(f"{hearing.name}: {what}: {sent[answer]} ({reason})"))
+    if known == len(section.stations) and not sent[AUTHENTICATION, 1]:
+        findings.append(Finding(f"{hearing.name}: it knows as many stations as it may, `max_known = {known}`: each new "
+                                "one will be refused (status 1)"))
     if sent[ASSOCIATION_RESPONSE, 1]:
         names = Counter(name for name in map(name_asked_for, hearing.heard) if name not in (None, section.ssid))
         asked = ", ".join(quoted(name.decode("utf-8", "replace")) for name, _ in names.most_common(MOST_NAMED))
-        findings.append(Finding(f"{hearing.name}: {sent[ASSOCIATION_RESPONSE, 1]} associations were refused (status "
-                                f"1): they named another SSID{f', {asked},' if asked else ''} than "
-                                f"{quoted(section.ssid.decode('utf-8', 'replace'))}"))
+        findings.append(Finding(f"{hearing.name}: associations refused with status 1: {sent[ASSOCIATION_RESPONSE, 1]} "
+                                f"(they named another SSID{f', {asked},' if asked else ''} than "
+                                f"{quoted(section.ssid.decode('utf-8', 'replace'))})"))
     return findings
 
 

@@ -5,6 +5,7 @@ Python's `tomllib` reads values and says nothing of places; this finds the exten
 """
 import re
 import tomllib
+from collections.abc import Iterator
 from dataclasses import dataclass, field
 
 BARE_KEY = re.compile(r"[A-Za-z0-9_-]+")
@@ -203,32 +204,32 @@ class Scanner:
     def array(self, key: str) -> Value:
         """An array, which may stand in several lines."""
         begin, items = self.at, []
-        self.enter()
-        while True:
-            self.skip_lines()
-            if self.accept("]"):
-                return Value("array", [item.worth for item in items], begin, self.at, items)
-            if self.at >= len(self.text):
-                raise NoToml("`]` at the end of an array", begin, begin + 1, key)
+        for _ in self.parts("]", "an array", key):
             items.append(self.value(key))
-            self.skip_lines()
-            if not self.accept(",") and self.peek() != "]":
-                raise NoToml("`,` between the values of an array", *self.rest_of_line(), key)
+        return Value("array", [item.worth for item in items], begin, self.at, items)
 
     def inline_table(self) -> Value:
         """A table between braces, which may stand in several lines."""
         begin, entries = self.at, []
+        for _ in self.parts("}", "a table", ""):
+            self.entry(entries)
+        return Value("table", {entry.key: entry.value.worth for entry in entries}, begin, self.at, entries)
+
+    def parts(self, closing: str, whole: str, key: str) -> Iterator[None]:
+        """Steps over brackets and the commas between them; whoever asks for the next part steps over that."""
+        begin, is_due = self.at, True
         self.enter()
         while True:
             self.skip_lines()
-            if self.accept("}"):
-                return Value("table", {entry.key: entry.value.worth for entry in entries}, begin, self.at, entries)
+            if self.accept(closing):
+                return
             if self.at >= len(self.text):
-                raise NoToml("`}` at the end of a table", begin, begin + 1)
-            self.entry(entries)
+                raise NoToml(f"`{closing}` at the end of {whole}", begin, begin + 1, key)
+            if not is_due:
+                raise NoToml(f"`,` between the parts of {whole}", *self.rest_of_line(), key)
+            yield
             self.skip_lines()
-            if not self.accept(",") and self.peek() != "}":
-                raise NoToml("`,` between the keys of a table", *self.rest_of_line())
+            is_due = self.accept(",")
 
     def enter(self) -> None:
         """Steps over an opening bracket; not too deep."""

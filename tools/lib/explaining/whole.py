@@ -6,6 +6,7 @@ from explaining import config, no_toml, runs, trace_lines, words
 from explaining.answers import Answer, Fault, read_fault
 from explaining.source import Finding, Source
 from explaining.toml_scan import NoToml
+from texts import TextError
 
 SEPARATOR = b"---"
 STANDARD_INPUT = "standard input"
@@ -58,7 +59,9 @@ def texts_of(given_words: list[str], given: bytes | None, name: str = STANDARD_I
 
 
 def source_of(name: str) -> Source | None:
-    """A file's text, or None where it can't be read."""
+    """A file's text, or None where it can't be read, or only once, as a pipe."""
+    if not os.path.isfile(name):
+        return None
     try:
         with open(name, "rb") as file:
             return Source(name, file.read())
@@ -115,8 +118,19 @@ def of_good_run(texts: Texts, answer: Answer) -> list[str]:
         return [output.strip()]
     if texts.words[:1] == ["live"]:
         return of_live(texts, output)
-    odd = runs.odd(texts.config, texts.traces, output, texts.has_separator) if texts.config else []
-    return ["the program ended well", *of_findings(odd or [Finding("nothing odd was found in this run")])]
+    return ["the program ended well", *of_findings(odd_in(texts, output))]
+
+
+def odd_in(texts: Texts, output: str) -> list[Finding]:
+    """What is odd in a run, or that nothing was found, or that it couldn't be looked at."""
+    names = [word for word in texts.words[1:] if word != "--"]
+    if texts.config is None or not texts.is_joined and len(texts.traces) < len(names) - 1:
+        return [Finding("a text of this run can't be read a second time, so what is odd in it wasn't looked for")]
+    try:
+        odd = runs.odd(texts.config, texts.traces, output, texts.has_separator)
+    except TextError as fault:
+        return [Finding(f"what is odd in this run wasn't looked for: {fault}")]
+    return odd or [Finding("nothing odd was found in this run")]
 
 
 def of_live(texts: Texts, output: str) -> list[str]:
