@@ -14,19 +14,23 @@ help: ## says this
 # runs.
 INPUT = examples/three_networks_over_some_intervals/input
 
+# The names as they were given, so that a `$` in one is no variable.
+export INPUT_NAME := $(value INPUT)
+export CONFIG_NAME := $(value CONFIG)
+
 # Proves what the program stands on, builds it and runs it. Lines on standard error tell how far it is; the report is
 # all that stands on standard output, and comes last.
 run: apctl ## proves what the program stands on, builds it, and runs it on an example or on INPUT=FILE
-	@build/apctl < "$(INPUT)"
+	@build/apctl < "$$INPUT_NAME"
 
 # Runs the program without any proof, and says so on standard error: the same report, where it has 1 MiB at most.
 try: ## runs the program without any proof on an example or on INPUT=FILE, in a minute
-	@.ci/try < "$(INPUT)"
+	@.ci/try < "$$INPUT_NAME"
 
 # Reads the configuration of the file CONFIG alone, without any proof: how many networks it has, or its first fault,
 # and what tools/explain says of it.
 try-check: ## reads the configuration CONFIG=FILE without any proof
-	@.ci/try "$(CONFIG)"
+	@.ci/try "$$CONFIG_NAME"
 
 # The gate. Proves every crate from nothing, tries each edit of crates/*/must-fail, runs each test, runs the program
 # that was built of what was proved over examples/ and tests/, with more and more memory, over files and streams that
