@@ -1,46 +1,58 @@
-# The targets of this repository. All need the Rattle toolchain's command `rt` on the path, GNU make, bash, coreutils,
-# diffutils, grep and sed; `wrong`, `bench`, `bench-limits`, `stress` and `fuzz` need python3 too.
+# The targets of this repository. All but `help` and `documents` need the Rattle toolchain's command `rt` on the path,
+# GNU make, bash, coreutils, diffutils, grep and sed; `wrong`, `bench`, `bench-limits`, `stress`, `fuzz`, `documents`
+# and the gate need python3 too. What stands after `##` is what `make help` says of a target.
 
-.PHONY: run try try-check test wrong refused bench bench-limits stress fuzz apctl test-tools test-live picture captures
+.PHONY: help run try try-check test wrong refused bench bench-limits stress fuzz apctl documents library test-tools \
+    test-live picture captures install uninstall
+
+# Begins nothing: says what there is to make.
+help: ## says this
+	@echo 'make TARGET, where TARGET is one of'
+	@sed -n 's/^\([a-z-]*\):[^#]*## \(.*\)/\1\t\2/p' Makefile | expand -t 16 | sed 's/^/  /'
 
 # What `run` and `try` give to the program, a configuration and a trace: a file, named from the folder in which make
 # runs.
 INPUT = examples/three_networks_over_some_intervals/input
 
+# The names as they were given, so that a `$` in one is no variable.
+export INPUT_NAME := $(value INPUT)
+export CONFIG_NAME := $(value CONFIG)
+
 # Proves what the program stands on, builds it and runs it. Lines on standard error tell how far it is; the report is
 # all that stands on standard output, and comes last.
-run: apctl
-	@build/apctl < "$(INPUT)"
+run: apctl ## proves what the program stands on, builds it, and runs it on an example or on INPUT=FILE
+	@build/apctl < "$$INPUT_NAME"
 
 # Runs the program without any proof, and says so on standard error: the same report, where it has 1 MiB at most.
-try:
-	@.ci/try < "$(INPUT)"
+try: ## runs the program without any proof on an example or on INPUT=FILE, in a minute
+	@.ci/try < "$$INPUT_NAME"
 
-# Reads the configuration of the file CONFIG alone, without any proof: how many networks it has, or its first fault.
-try-check:
-	@.ci/try "$(CONFIG)"
+# Reads the configuration of the file CONFIG alone, without any proof: how many networks it has, or its first fault,
+# and what tools/explain says of it.
+try-check: ## reads the configuration CONFIG=FILE without any proof
+	@.ci/try "$$CONFIG_NAME"
 
 # The gate. Proves every crate from nothing, tries each edit of crates/*/must-fail, runs each test, runs the program
-# that was built of what was proved over the examples, with more and more memory, over files and streams that fail and
-# over lines that it answers as they come, refuses each growth of some calls in turn, and finds edits of wrong/ that
-# can't be applied. The last line is 'N passed, M failed'.
-test:
+# that was built of what was proved over examples/ and tests/, with more and more memory, over files and streams that
+# fail and over lines that it answers as they come, lets each allocation of some calls fail in turn, and finds edits of
+# wrong/ that can't be applied, and names in the documents that aren't there. The last line is 'N passed, M failed'.
+test: ## the gate: proves all from nothing, tries wrong bodies, runs all tests
 	@.ci/gate
 
 # Tries the wrong bodies of wrong/, which the gate doesn't try: all, or with NAME=bss_core those of one crate, as many
 # at a time as there are processors, or with JOBS=2 two. The last line is 'N refused, M not'.
-wrong:
+wrong: ## tries the wrong bodies beside the gate, all or those of NAME=CRATE
 	@JOBS="$(JOBS)" wrong/try $(NAME)
 
-# Refuses each growth of some calls in turn, one in each run: those of which the gate does so, and those of lines that
-# are answered as they come. The last line is 'N passed, M failed'.
-refused: apctl
+# Lets each allocation of some calls fail in turn, one in each run: those of which the gate does so, and those of lines
+# that are answered as they come. The last line is 'N passed, M failed'.
+refused: apctl ## lets each allocation of some calls fail in turn
 	@.ci/refused build/apctl
 
 # Measures the program on long traces: of probes, of stations that join, doze, poll and wake, of units between air and
 # wire, of beacons, and of all these in four networks; then on several traces that are played at once, and on lines that
 # it answers as they come.
-bench: apctl
+bench: apctl ## measures the program on long traces
 	@bench/measure
 	@bench/stations
 	@bench/playing
@@ -48,45 +60,67 @@ bench: apctl
 
 # Runs the program where its tables are as large as a configuration and a trace allow, and compares each report with
 # that of the model of the rules, bench/model.py; prints the seconds and the peak memory.
-bench-limits: apctl
+bench-limits: apctl ## measures it where its tables are full
 	@bench/limits
 
 # Plays four traces of 20,000 lines at once over eight networks, a hundred times or with TIMES=5 five, and compares the
 # section of each network with what `run` writes of the lines in the order that its frames name. The last line is
 # 'N times, M sections compared, 0 differ'.
-stress: apctl
+stress: apctl ## plays four traces at once, a hundred times or TIMES=N times
 	@bench/stress $(TIMES)
 
 # Runs the program over hostile frames, wired frames and traces, each drawn from a fixed seed, and compares each answer
 # with that of the model, octet for octet. The last line is 'N compared, M differ'.
-fuzz: apctl
+fuzz: apctl ## compares the program with a model of the rules over hostile input
 	@bench/fuzz
 
 # The built program, build/apctl, of proved crates.
-apctl:
+apctl: ## proves the program and builds it, as build/apctl
 	@.ci/build
+
+# Checks what the documents name: links, paths, sections, functions. A part of the gate. The last line is
+# 'N passed, M failed'.
+documents: ## checks links, paths and names in the documents
+	@.ci/documents
+
+# Tries the whole programs of docs/LIBRARY.md as they stand there, without any proof. The last line is
+# 'N passed, M failed'.
+library: ## tries the programs of docs/LIBRARY.md, without any proof
+	@tests/library
 
 # Tests the tools for captures and pictures, tools/, beside the gate. Takes Debian's packages of tools/install, and
 # installs those that are missing. The last line is 'N passed, M failed'.
-test-tools:
+test-tools: ## tests the tools for captures and pictures
 	@tools/install
 	@tools/test
 
 # Tests tools/live beside the gate: first its parts, then, in a guest, unmodified Linux stations that join the networks
 # of the built program. Takes root and Debian's packages debootstrap, e2fsprogs, qemu-system-x86 and python3. The last
 # line is 'N passed, M failed'.
-test-live: apctl
+test-live: apctl ## tests the bridge with real stations in a guest; takes root
 	@tools/test live
 	@tools/test-live
 
-# Draws the example of three networks: the picture of README.md.
-picture:
+# Draws the example of three networks, the picture of README.md, and those of docs/EXAMPLES.md.
+picture: ## draws the pictures of README.md and docs/
 	@tools/install
 	@tools/picture $(THREE)/input $(THREE)/stdout --out docs/three_networks.svg
+	@for name in $(DRAWN); do \
+	    tools/picture examples/$$name/input examples/$$name/stdout --out docs/$$name.svg || exit 1; done
 
 # Makes the captures beside the example of three networks.
-captures:
+captures: ## makes the captures beside the example of three networks
 	@tools/install
 	@tools/capture-from-run $(THREE)/input $(THREE)/stdout --clutter --out $(THREE)
 
 THREE = examples/three_networks_over_some_intervals
+DRAWN = station_roams_between_two_networks units_of_stations_that_doze_too_long
+
+# Installs what was built, with man pages, tools, a sample configuration and shell completion, below PREFIX, and takes
+# it away again.
+PREFIX = /usr/local
+install: ## installs build/apctl, man pages and tools below PREFIX=/usr/local
+	@DESTDIR="$(DESTDIR)" share/install "$(PREFIX)"
+
+uninstall: ## takes away what was installed below PREFIX
+	@DESTDIR="$(DESTDIR)" share/install --uninstall "$(PREFIX)"

@@ -57,7 +57,7 @@ def frame_controls():
 
 
 def filler(size):
-    """Elements without meaning that take exactly so many octets: none, or at least two."""
+    """Elements without meaning that take exactly this many octets: none, or at least two."""
     octets = b""
     while size:
         part = min(size, MOST_ELEMENT + 2)
@@ -68,7 +68,7 @@ def filler(size):
 
 
 def edge_elements(name, most):
-    """Elements and what is nearly elements, with lengths at the edges: of one element, and of so many octets."""
+    """Elements and what is nearly elements, with lengths at the edges: of one element, and of this many octets."""
     good = element(0, name) + RATES
     for identifier in (0, 1, 3, 5, 50, UNKNOWN_ELEMENT):
         for length in (0, 1, 2, 3, 31, 32, 33, 254, 255):
@@ -313,7 +313,7 @@ def put(octets, place, others):
 
 
 def drawn_lines(seed, count):
-    """So many lines in traces of up to 200, of which about half are made to break."""
+    """This many lines in traces of up to 200, of which about half are made to break."""
     draw = random.Random(f"lines {seed}")
     while count > 0:
         story = Story(draw)
@@ -358,7 +358,7 @@ def changed_text(draw, text):
 
 
 def drawn_texts(seed, count):
-    """So many short trace texts, each changed as a text."""
+    """This many short trace texts, each changed as a text."""
     draw = random.Random(f"texts {seed}")
     for _ in range(count):
         story = Story(draw)

@@ -15,7 +15,7 @@ SENDERS = 200
 
 
 def radio_config(count, **limits):
-    """A configuration of so many networks with these limits."""
+    """A configuration of this many networks with these limits."""
     return RadioConfig([NetworkConfig(bytes([2, 0, 0, 0, 0, number]), **limits) for number in range(1, count + 1)])
 
 
@@ -87,7 +87,7 @@ def ticking(_networks, count):
 
 
 def aging(networks, count):
-    """So many lines: stations that doze and never poll, and units that come for them in turn; each 100th begins a
+    """This many lines: stations that doze and never poll, and units that come for them in turn; each 100th begins a
     beacon interval, so that units age where the network is so configured."""
     [network] = networks
     yield from joining(networks, SENDERS)
@@ -111,7 +111,7 @@ def passing(networks, count):
 
 
 def mixing(networks, count):
-    """So many lines of all kinds, drawn with a fixed seed; each 100th begins a beacon interval."""
+    """This many lines of all kinds, drawn with a fixed seed; each 100th begins a beacon interval."""
     yield from joining(networks, SENDERS)
     draw = random.Random(1)
     for number in range(2 * SENDERS * len(networks), count):

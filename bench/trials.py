@@ -20,7 +20,7 @@ class Trial(NamedTuple):
 
 
 def prepare(work, trace, count, networks, limits):
-    """Writes the files `input` and `wanted` of a trace over so many networks with these limits."""
+    """Writes the files `input` and `wanted` of a trace over this many networks with these limits."""
     config = radio_config(networks, **limits)
     radio = Radio(config)
     lines = 0
@@ -36,7 +36,7 @@ def prepare(work, trace, count, networks, limits):
 
 
 def measure(work, *row, runs):
-    """Prepares a trace, and runs the program over it so many times: what was prepared, and what each run took. Ends the
+    """Prepares a trace, and runs the program over it this many times: what was prepared, and what each run took. Ends the
     script where a run's status isn't 0 or its report isn't the wanted one."""
     trial = in_a_child(prepare, work, *row)
     names = [os.path.join(work, name) for name in ("input", "report", "wanted")]

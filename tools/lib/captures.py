@@ -4,6 +4,7 @@ import os
 import sys
 import zlib
 from fractions import Fraction
+from itertools import count
 from typing import NamedTuple, Optional
 
 logging.getLogger("scapy").setLevel(logging.CRITICAL)
@@ -43,23 +44,26 @@ class Watched:
 
 
 class Captured(NamedTuple):
-    """A frame of a capture file: when, in seconds, what kind of header it has, and whether the capture has all of
-    it."""
+    """A frame of a capture file: when, in seconds, what kind of header it has, whether the capture has all of it, and
+    its number in the file, from 1, as Wireshark shows it."""
 
     time: Fraction
     link: int
     octets: bytes
     is_whole: bool
+    number: int
 
 
 class Heard(NamedTuple):
-    """A frame without radiotap: whether a check sequence is at its end (None: not said), and whether it is damaged."""
+    """A frame without radiotap: whether a check sequence is at its end (None: not said), whether it is damaged, and its
+    number in the file."""
 
     time: Fraction
     octets: bytes
     is_whole: bool
     has_fcs: Optional[bool]
     is_damaged: bool
+    number: int
 
 
 def read_capture(path):
@@ -71,7 +75,7 @@ def read_capture(path):
         reason = fault.strerror if isinstance(fault, OSError) else "it is no pcap or pcapng file"
         raise CaptureError(f"{path}: {reason}") from None
     reader.f = Watched(reader.f)
-    while True:
+    for number in count(1):
         try:
             octets, told = reader._read_packet()
         except EOFError as end:
@@ -81,10 +85,10 @@ def read_capture(path):
                 print(f"{path}: the file ends within a frame: those before it were read", file=sys.stderr)
             reader.close()
             return
-        yield captured(path, reader, octets, told)
+        yield captured(path, reader, octets, told, number)
 
 
-def captured(path, reader, octets, told):
+def captured(path, reader, octets, told, number):
     """One frame, of what scapy tells of it."""
     if hasattr(told, "tshigh"):
         if told.tshigh is None:
@@ -94,7 +98,7 @@ def captured(path, reader, octets, told):
     else:
         time = told.sec + Fraction(told.usec, 1_000_000_000 if reader.nano else 1_000_000)
         link = reader.linktype & 0x3FFFFFF
-    return Captured(time, link, octets, len(octets) >= told.wirelen)
+    return Captured(time, link, octets, len(octets) >= told.wirelen, number)
 
 
 def read_air(path):
@@ -103,7 +107,7 @@ def read_air(path):
         if frame.link == RADIOTAP:
             yield without_radiotap(path, frame)
         elif frame.link == PLAIN_80211:
-            yield Heard(frame.time, frame.octets, frame.is_whole, None, False)
+            yield Heard(frame.time, frame.octets, frame.is_whole, None, False, frame.number)
         else:
             raise CaptureError(f"{path}: {link_name(frame.link)}: it is no capture in monitor mode with radiotap or "
                                "plain 802.11 headers")
@@ -129,13 +133,13 @@ def without_radiotap(path, frame):
     length = int.from_bytes(octets[2:4], "little")
     if len(octets) < 8 or octets[0] != 0 or not 8 <= length <= len(octets):
         if not frame.is_whole:
-            return Heard(frame.time, b"", False, None, False)
+            return Heard(frame.time, b"", False, None, False, frame.number)
         raise CaptureError(f"{path}: a frame has no radiotap header, though the file says so")
     header = RadioTap(octets[:length])
     flags = None if header.Flags is None else int(header.Flags)
     damaged = bool((flags or 0) & BAD_FCS) or bool(int(header.RXFlags or 0) & BAD_PLCP)
     has_fcs = None if flags is None else bool(flags & HAS_FCS)
-    return Heard(frame.time, octets[length:], frame.is_whole, has_fcs, damaged)
+    return Heard(frame.time, octets[length:], frame.is_whole, has_fcs, damaged, frame.number)
 
 
 def fcs_of(octets):

@@ -1,193 +1,394 @@
-"""The picture of a run, drawn by matplotlib: a lane for each network, a row for each station, and the lines of the
-trace from left to right. Each shape has an id that says what it is, so that the picture can be read by a program as
-well."""
-from collections import Counter, defaultdict
+"""The picture of a run: strips of a page's width, in each a lane for each network and a row for each station, and the
+lines of the trace from left to right. Each shape says what it is by attributes, so that a program can read the picture
+as well."""
+from columns import (BEACON_KINDS, BEACONS, CIRCLE_SLOT, CIRCLED, OTHERS, PAD, SLOT, SMALL, Clock, Lane, columns_of,
+                     strips_of)
+from story import ASSOCIATED, AUTHENTICATED, DOZING, GROUP, WIRE
+from svg import Canvas, text_width
 
-try:
-    import matplotlib
-except ImportError:
-    raise SystemExit("python3-matplotlib is missing: tools/install installs what the tools need") from None
-from story import ASSOCIATED, AUTHENTICATED, DOZING, GROUP
-
-matplotlib.use("svg")
-matplotlib.rcParams.update({"svg.fonttype": "none", "svg.hashsalt": "waltigon", "font.family": "sans-serif",
-                            "font.sans-serif": ["DejaVu Sans", "Verdana", "sans-serif"], "font.size": 9})
-from matplotlib import pyplot  # noqa: E402
-from matplotlib.lines import Line2D  # noqa: E402
-from matplotlib.patches import Patch, Rectangle  # noqa: E402
-
-BEACONS, WIRE, UNREAD = "beacons", "wire", "unread"
-COLOURS = {AUTHENTICATED: "#c9ced6", ASSOCIATED: "#79bde8", DOZING: "#27527d"}
-HEIGHT = 0.5
-LOOKS = {
-    "beacon": ("beacon", "D", "white", "#333333"),
-    "DTIM beacon": ("beacon with a DTIM", "D", "#333333", "#333333"),
-    "answered": ("request answered", "o", "white", "#333333"),
-    "refused": ("request refused: its status", "X", "#d1242f", "white"),
-    "turned away": ("class not allowed: its reason", "X", "#8250df", "white"),
-    "left": ("station leaves", "|", "#333333", "#d1242f"),
-    "sent": ("unit sent at once", "^", "#f2c744", "#333333"),
-    "kept": ("unit kept", "s", "white", "#c2571a"),
-    "delivered": ("kept unit delivered", "s", "#f08a3c", "#333333"),
-    "dropped": ("kept unit dropped", "v", "#8a8f98", "#333333"),
-    "lost": ("unit lost", "P", "#d1242f", "white"),
-    "wired": ("unit put on the wire", ">", "#4a9d5b", "#333333"),
-    "unread": ("frame not read", "*", "#8a8f98", "#333333"),
-}
-SIZES = {"D": 6, "|": 16}
-MOST_WIDTH, MOST_LABELS = 80, 60
-LEAST_WIDTH, ROW, GAP, BOTTOM, COLUMN, BESIDE = 10, 0.34, 0.42, 1.1, 0.34, 0.36
+WIDTH, MARGIN, LEFT = 1000, 12, 146
+BODY = WIDTH - LEFT - MARGIN
+ROW, TITLE, AXIS, STRIP_GAP, LANE_GAP = 24, 17, 27, 18, 4
+MIDDLE, BAR, KEPT_AT, KEPT_BAR, KEPT_PITCH, TRACKS = 8, 11, 14.5, 2.4, 3.0, 3
+TEXT, HEAD, RADIUS, MARK = 10.5, 13, 7, 4.5
+NAME_END, BRACKETS = 14, 3
+PAGE_HEIGHT = 1414
+COLOURS = {AUTHENTICATED: "#d9dde3", ASSOCIATED: "#a9d3f0", DOZING: "#9aa9de"}
+DARK, PALE, GRID, RED, PURPLE, ORANGE, GREEN, YELLOW, GREY = ("#333333", "#777777", "#e6e8eb", "#c8202d", "#7a48d0",
+                                                             "#e07b2a", "#3f9152", "#f2c744", "#8a8f98")
+ARROWS = {"sent": DARK, "kept": ORANGE, "lost": RED, "wired": GREEN}
+LETTERS = (("P", "probe request"), ("A", "authentication"), ("J", "association (joins)"), ("R", "reassociation"),
+           ("D", "departure"), ("U", "data"), ("S", "PS-Poll"))
+MEANINGS = {
+    "answered": "request answered", "refused": "refused: its status", "turned away": "class not allowed: its reason",
+    "left": "station leaves", "beacon": "beacon, for whom units wait", "DTIM beacon": "beacon with a DTIM",
+    "sent": "unit sent at once, from whom to whom", "kept": "unit kept", "delivered": "kept unit delivered",
+    "dropped": "kept unit dropped", "lost": "unit lost", "wired": "unit put on the wire", "unread": "frames not read"}
+FIXED_ROWS = {BEACONS: "beacons", GROUP: "for the group", WIRE: "the wire", OTHERS: "others"}
 
 
-class Lane:
-    """One network: its rows from top to bottom, and what stands in them."""
+class Roaming:
+    """A station that is associated in two networks, from one line up to another."""
 
-    def __init__(self, story, most_stations):
-        self.story, self.section = story, story.section
-        shown = []
-        refused = [mark.whom for mark in story.marks if mark.what in ("refused", "turned away")]
-        for station in [span.station for span in story.spans] + refused:
-            if station not in shown:
-                shown.append(station)
-        self.left_out = max(0, len(shown) - most_stations)
-        self.stations = sorted(shown[:most_stations])
-        used = {self.row(mark) for mark in story.marks}
-        self.rows = [*self.stations, *(row for row in (GROUP, WIRE, UNREAD, None) if row in used)]
-        if BEACONS in used or not self.rows:
-            self.rows.insert(0, BEACONS)
+    def __init__(self, station, places, begins, ends):
+        self.station, self.places, self.begins, self.ends = station, places, begins, ends
 
-    def row(self, mark):
-        """In which row a mark stands; None is that of the stations that have none of their own."""
-        fixed = {"beacon": BEACONS, "DTIM beacon": BEACONS, "wired": WIRE, "unread": UNREAD}
-        if mark.what in fixed:
-            return fixed[mark.what]
-        if mark.what == "lost" and mark.whom is None:
-            return WIRE
-        return mark.whom if mark.whom == GROUP or mark.whom in self.stations else None
 
-    def name(self, row):
-        """What stands beside a row."""
-        if isinstance(row, bytes):
-            return row.hex(":")
-        return {BEACONS: "beacons", GROUP: "for the group", WIRE: "to the wire", UNREAD: "unread", None: "others"}[row]
+def joined_spans(lanes):
+    """From which line up to which each station was associated in each network, dozing or not: by station, triples of
+    the network's place and both lines."""
+    found = {}
+    for place, lane in enumerate(lanes):
+        for span in lane.spans:
+            if span.state in (ASSOCIATED, DOZING):
+                mine = found.setdefault(span.station, [])
+                if mine and mine[-1][0] == place and mine[-1][2] == span.begins:
+                    mine[-1] = place, mine[-1][1], span.ends
+                else:
+                    mine.append((place, span.begins, span.ends))
+    return found
 
-    def begins_association(self, span):
-        """Whether a station got its identifier with this span, and didn't only wake."""
-        begun = span.station, span.aid, span.begins
-        before = ((other.station, other.aid, other.ends) for other in self.story.spans)
-        return span.state == ASSOCIATED and begun not in before
 
-    def title(self):
-        """What stands above the lane."""
-        section = self.section
-        more = f" · {self.left_out} stations not shown" if self.left_out else ""
-        return (f"{section.name} · {section.bssid.hex(':')} · events {section.events}, clock {section.clock}, "
-                f"unread {section.unread}, lost {section.lost}, kept {section.kept}{more}")
+def roaming_of(lanes):
+    """Each time at which a station is associated in two of these networks."""
+    found = []
+    for station, spans in joined_spans(lanes).items():
+        for number, (place, begins, ends) in enumerate(spans):
+            for other, second_begins, second_ends in spans[number + 1:]:
+                first = max(begins, second_begins)
+                last = min((end for end in (ends, second_ends) if end is not None), default=None)
+                if place != other and (last is None or first < last):
+                    found.append(Roaming(station, (place, other), first, last))
+    return found
 
 
 class Picture:
-    """All networks, over the same lines of a trace."""
+    """All that is asked for of a run. `chosen` are the stations that are shown, all where it is empty."""
 
-    def __init__(self, stories, lines, most_stations):
-        self.lanes = [Lane(story, most_stations) for story in stories]
+    def __init__(self, stories, lines, origins, interval, chosen=(), most_stations=40):
+        names = [story.section.name for story in stories]
+        self.lanes = [Lane(story, frozenset(chosen), names.count(story.section.name) == 1) for story in stories]
+        self.most_stations = most_stations
+        self.roaming = roaming_of(self.lanes)
+        self.name_roaming()
+        self.clock = Clock(lines, origins, interval)
+        self.lines, self.strips = lines, []
+        self.canvas, self.y, self.height = None, 0.0, 0.0
+
+    def show(self, lines):
+        """Chooses these lines of the trace alone; states are those that the lines before left."""
         self.lines = lines
-        self.places = {line.number: place for place, line in enumerate(lines)}
-        rows = [len(lane.rows) for lane in self.lanes]
-        width = min(MOST_WIDTH, max(LEAST_WIDTH, 2.4 + COLUMN * len(lines)))
-        height = ROW * sum(rows) + GAP * len(rows) + BOTTOM
-        self.figure, axes = pyplot.subplots(len(rows), 1, sharex=True, squeeze=False, figsize=(width, height),
-                                            height_ratios=rows)
-        self.axes = axes[:, 0]
-        self.figure.subplots_adjust(left=1.55 / width, right=1 - 0.15 / width, bottom=BOTTOM / height,
-                                    top=1 - GAP / height, hspace=GAP / (ROW * sum(rows) / len(rows)))
+        self.strips = strips_of(columns_of(self.lanes, lines, self.clock), BODY)
 
-    def place(self, line):
-        """How far from the left a line of the trace stands; those before and after the lines that are shown are at the
-        edges."""
-        if line is None or line > self.lines[-1].number:
-            return len(self.lines) + 0.4
-        return self.places.get(line, -0.6)
+    def name_roaming(self):
+        """Where a station joins a second network, its mark says so."""
+        for roaming in self.roaming:
+            for place, other in (roaming.places, roaming.places[::-1]):
+                lane = self.lanes[place]
+                lane.marks[roaming.begins] = [
+                    mark._replace(text=f"{mark.text}, also in {self.lanes[other].name}")
+                    if mark.letter in ("J", "R") and mark.what == "answered" and mark.whom == roaming.station and
+                    "also in" not in mark.text else mark for mark in lane.marks_at(roaming.begins)]
 
-    def draw(self):
-        """Draws everything."""
-        for lane, axes in zip(self.lanes, self.axes):
-            self.frame(lane, axes)
-            for span in lane.story.spans:
-                if span.station in lane.stations:
-                    self.bar(lane, axes, span)
-            self.marks(lane, axes)
-        self.axes[-1].set_xlabel("line of the trace", labelpad=2)
-        self.legend()
+    def whole(self):
+        """One picture, as an SVG."""
+        self.begin()
+        for strip in self.strips:
+            self.strip(strip)
+        self.height = self.y + MARGIN
+        return self.canvas.written(self.height)
 
-    def frame(self, lane, axes):
-        """Rows, lines and the title of a lane."""
-        axes.set_title(lane.title(), loc="left", fontsize=9.5, fontweight="bold",
-                       gid=f"lane-{lane.section.bssid.hex()}")
-        axes.set_ylim(len(lane.rows) - 0.5, -0.5)
-        axes.set_yticks(range(len(lane.rows)), [lane.name(row) for row in lane.rows])
-        axes.set_xlim(-0.6, len(self.lines) + 0.4)
-        step = -(-len(self.lines) // MOST_LABELS) or 1
-        shown = self.lines[::step]
-        axes.set_xticks([self.places[line.number] for line in shown], [str(line.number) for line in shown])
-        axes.tick_params(length=0, labelsize=8.5)
-        for line in self.lines:
-            if line.kind == "T":
-                axes.axvline(self.places[line.number], color="#333333", alpha=0.25, linewidth=0.8, zorder=0)
-        for row in range(len(lane.rows)):
-            axes.axhline(row, color="#e6e8eb", linewidth=0.8, zorder=0)
-        for spine in axes.spines.values():
-            spine.set_color("#c9ced6")
+    def pages(self):
+        """The picture as pages of a sheet's form, as many strips on each as fit; the legend stands on the first."""
+        pages, before = [], None
+        for strip in self.strips:
+            height = self.height_of(strip)
+            if before is None or self.y + height > PAGE_HEIGHT:
+                if before is not None:
+                    pages.append(self.canvas.written(max(self.y + MARGIN, PAGE_HEIGHT)))
+                self.begin(with_legend=before is None)
+            self.strip(strip)
+            before = strip
+        return [*pages, self.canvas.written(max(self.y + MARGIN, PAGE_HEIGHT))]
 
-    def bar(self, lane, axes, span):
-        """A station's state, from one line up to another."""
-        begins, ends = self.place(span.begins), self.place(span.ends)
-        row = lane.rows.index(span.station)
-        gid = f"state-{lane.section.bssid.hex()}-{span.station.hex()}-{span.state}-{span.begins}-{span.ends or 'end'}"
-        axes.add_patch(Rectangle((begins, row - HEIGHT / 2), ends - begins, HEIGHT, facecolor=COLOURS[span.state],
-                                 edgecolor="none", gid=gid, zorder=1))
-        if lane.begins_association(span) and span.begins in self.places and ends - begins >= 1:
-            axes.annotate(f"aid {span.aid}", (begins, row), (6, 0), textcoords="offset points", fontsize=7, va="center",
-                          gid=f"{gid}-text", zorder=2)
+    def begin(self, with_legend=True):
+        """A new canvas, with the words above all."""
+        self.canvas, self.y = Canvas(WIDTH), float(MARGIN)
+        self.canvas.rectangle(0, 0, WIDTH, 100_000, "white")
+        if with_legend:
+            self.headline()
+            self.legend()
 
-    def marks(self, lane, axes):
-        """What the lines brought about; several things in one place stand beside each other."""
-        cells = defaultdict(Counter)
-        texts = {}
-        for mark in lane.story.marks:
-            if mark.line not in self.places:
-                continue
-            cells[mark.line, lane.row(mark)][mark.what] += 1
-            texts.setdefault((mark.line, lane.row(mark), mark.what), mark.text)
-        for (line, row), whats in cells.items():
-            for number, (what, count) in enumerate(whats.items()):
-                x = self.places[line] + BESIDE * (number - (len(whats) - 1) / 2)
-                y = lane.rows.index(row)
-                _, shape, face, edge = LOOKS[what]
-                name = row.hex() if isinstance(row, bytes) else row or "others"
-                gid = f"mark-{lane.section.bssid.hex()}-{what.replace(' ', '-')}-{name}-{line}"
-                axes.plot([x], [y], shape, markersize=SIZES.get(shape, 8), markerfacecolor=face, markeredgecolor=edge,
-                          markeredgewidth=2.5 if shape == "|" else 1, gid=gid, zorder=3, clip_on=False)
-                self.label(axes, x, y, what, count, texts[line, row, what], gid)
-
-    @staticmethod
-    def label(axes, x, y, what, count, text, gid):
-        """The words beside a mark: a TIM's bits, a status, or how many."""
-        words = " ".join(filter(None, [text, f"{count}×" if count > 1 else ""]))
-        if words:
-            axes.annotate(words, (x, y), (6, 0), textcoords="offset points", fontsize=7.5, va="center",
-                          gid=f"{gid}-text", zorder=4,
-                          bbox={"facecolor": "white", "edgecolor": "none", "pad": 0.6, "alpha": 0.85})
+    def headline(self):
+        """What the picture is of."""
+        ticks = sum(line.kind == "T" for line in self.lines)
+        length = self.clock.length(self.lines) if self.clock.is_known else 0
+        taken = f", {length:.1f} s" if length else ""
+        begun = "1 beacon interval" if ticks == 1 else f"{ticks} beacon intervals"
+        text = f"Lines {self.lines[0].number} to {self.lines[-1].number} of the trace{taken}, {begun}"
+        self.canvas.text(MARGIN, self.y + HEAD, text, HEAD, weight="bold")
+        self.y += HEAD + 10
+        for lane in self.lanes:
+            section = lane.section
+            text = (f"{section.name} · {section.bssid.hex(':')} · events {section.events}, clock {section.clock}, "
+                    f"unread {section.unread}, lost {section.lost}, kept {section.kept}")
+            self.canvas.text(MARGIN, self.y + TEXT, text, TEXT)
+            self.y += TEXT + 5
+        self.y += 4
 
     def legend(self):
         """What the shapes mean: those that occur."""
-        used = {mark.what for lane in self.lanes for mark in lane.story.marks if mark.line in self.places}
-        states = {span.state for lane in self.lanes for span in lane.story.spans}
-        handles = [Patch(facecolor=COLOURS[state], label=state) for state in COLOURS if state in states]
-        handles += [Line2D([], [], linestyle="", marker=shape, markersize=7, markerfacecolor=face, markeredgecolor=edge,
-                           markeredgewidth=2.5 if shape == "|" else 1, label=name)
-                    for what, (name, shape, face, edge) in LOOKS.items() if what in used]
-        self.figure.legend(handles=handles, loc="lower center", ncol=5, frameon=False, fontsize=8.5)
+        used = {mark.what for lane in self.lanes for line in self.lines for mark in lane.marks_at(line.number)}
+        letters = {mark.letter for lane in self.lanes for line in self.lines for mark in lane.marks_at(line.number)}
+        states = {span.state for lane in self.lanes for span in lane.spans}
+        entries = [("state", state, state) for state in COLOURS if state in states]
+        entries += [("letter", letter, name) for letter, name in LETTERS if letter in letters]
+        entries += [("mark", what, name) for what, name in MEANINGS.items()
+                    if what in used and what not in ("answered", "left")]
+        entries += [("kept bar", "", "as long as it is kept")] * ("kept" in used)
+        entries += [("roaming", "", "in two networks")] * bool(self.roaming)
+        entries += [("quiet", "", "quiet: nothing new")] * any(column.is_quiet for strip in self.strips
+                                                               for column in strip.columns)
+        x = float(MARGIN)
+        for kind, what, name in entries:
+            width = 22 + text_width(name, SMALL) + 14
+            if x + width > WIDTH - MARGIN:
+                x, self.y = float(MARGIN), self.y + 19
+            self.legend_entry(x, self.y + 8, kind, what)
+            self.canvas.text(x + 22, self.y + 11.5, name, SMALL)
+            x += width
+        self.y += 19 + STRIP_GAP
 
-    def save(self, path):
-        """Writes the picture as SVG, the same octets each time."""
-        self.figure.savefig(path, format="svg", facecolor="white", metadata={"Date": None, "Creator": None})
+    def legend_entry(self, x, y, kind, what):
+        """One shape of the legend."""
+        with self.canvas.group(data_legend=what or kind):
+            if kind == "state":
+                self.canvas.rectangle(x, y - BAR / 2, 17, BAR, COLOURS[what])
+            elif kind == "letter":
+                self.circle(x + 8, y, what, "left" if what == "D" else "answered")
+            elif kind == "kept bar":
+                self.canvas.rectangle(x, y - 1.5, 17, KEPT_BAR, ORANGE)
+            elif kind == "roaming":
+                self.canvas.line(x + 8, y - 7, x + 8, y + 7, PURPLE, 1.6, stroke_dasharray="3 2")
+            elif kind == "quiet":
+                self.canvas.rectangle(x, y - 7, 17, 14, "#f0f0f0")
+            elif what in CIRCLED:
+                self.circle(x + 8, y, "A", what)
+            else:
+                if what in ARROWS:
+                    self.canvas.line(x, y, x + 8, y, ARROWS[what], 1.2)
+                self.shape(x + 9, y, what, 0)
+
+    def rows_of(self, lane, place, strip):
+        """The rows of a network in a strip, from top to bottom: those in which something happens; how many stations
+        have none though they are known, and how many more have none for want of room."""
+        used = {row for column in strip.columns for item in column.items.get(place, ())
+                for row in (item.row, item.sender) if row is not None}
+        used |= {kept.whom for kept in lane.keepings
+                 if lane.shows(kept.whom) and strip.overlaps(kept.begins, kept.ends)}
+        here = [span for span in lane.spans if strip.overlaps(span.begins, span.ends)]
+        used |= {span.station for span in here if strip.has(span.begins) or strip.has(span.ends)}
+        if strip is self.strips[0] or lane.chosen:
+            used |= {span.station for span in here}
+        stations = {row for row in used if isinstance(row, bytes)}
+        shown = sorted(stations)[:self.most_stations]
+        left_out = len(stations) - len(shown)
+        rows = [BEACONS] * (BEACONS in used) + shown + [row for row in (GROUP, WIRE) if row in used]
+        rows += [OTHERS] * (OTHERS in used or left_out > 0)
+        return rows, len({span.station for span in here} - stations), left_out
+
+    def height_of(self, strip):
+        """How high a strip is."""
+        rows = [len(self.rows_of(lane, place, strip)[0]) for place, lane in enumerate(self.lanes)]
+        return AXIS + sum(TITLE + ROW * count + LANE_GAP for count in rows) + STRIP_GAP
+
+    def strip(self, strip):
+        """One strip: its axis, its lanes, and what joins them."""
+        top = self.y
+        self.axis(strip)
+        self.y += AXIS
+        where = []
+        heights = [TITLE + ROW * len(self.rows_of(lane, place, strip)[0]) + LANE_GAP
+                   for place, lane in enumerate(self.lanes)]
+        self.background(strip, top + AXIS, sum(heights))
+        for place, lane in enumerate(self.lanes):
+            where.append(self.lane(lane, place, strip))
+        for number, roaming in enumerate(self.roaming):
+            self.join(roaming, strip, where, LEFT - 4 - 3 * (number % BRACKETS))
+        self.y += STRIP_GAP
+
+    def axis(self, strip):
+        """Times, and the numbers of lines, as many as have room; a quiet stretch says how long it is."""
+        y = self.y
+        name = self.clock.name if self.clock.is_known else ""
+        for baseline, label in ((y + 9, name), (y + 20, "line"))[not name:]:
+            self.canvas.text(LEFT - NAME_END, baseline, label, SMALL, anchor="end", fill=PALE)
+        taken = [[], []]
+        for column in strip.columns:
+            if column.is_quiet:
+                x = LEFT + column.x + column.width / 2
+                for place, label in enumerate(column.labels):
+                    half = text_width(label, SMALL) / 2
+                    taken[place].append((x - half - 4, x + half + 4))
+                    self.canvas.text(x, y + 9 + 11 * place, label, SMALL, anchor="middle", fill=PALE)
+        before = None
+        for column in strip.columns:
+            if column.is_quiet:
+                continue
+            x, time = LEFT + column.x + 2, self.clock.text(column.lines[0])
+            if time != before and self.label(x, y + 9, time, taken[0]):
+                before = time
+            self.label(x, y + 20, str(column.lines[0].number), taken[1])
+
+    def label(self, x, y, text, taken):
+        """A label of the axis, where there is room for it."""
+        end = x + text_width(text, SMALL)
+        if not text or end > WIDTH - 2 or any(begin < end + 4 and x < other for begin, other in taken):
+            return False
+        taken.append((x, end + 4))
+        self.canvas.text(x, y, text, SMALL)
+        return True
+
+    def background(self, strip, top, height):
+        """Quiet stretches, and where beacon intervals begin."""
+        for column in strip.columns:
+            x = LEFT + column.x
+            if column.is_quiet:
+                with self.canvas.group(f"lines {column.numbers}: nothing new", data_lines=column.numbers,
+                                       data_what="quiet"):
+                    self.canvas.rectangle(x + 1, top, column.width - 2, height, "#f0f0f0")
+            elif column.lines[0].kind == "T":
+                x += PAD / 2 + SLOT / 2
+                self.canvas.line(x, top, x, top + height, "#c9ced6", 0.8)
+
+    def lane(self, lane, place, strip):
+        """One network in a strip: the height of the middle of each of its rows."""
+        rows, without_news, left_out = self.rows_of(lane, place, strip)
+        self.canvas.text(MARGIN, self.y + 12, lane.name, TEXT, weight="bold")
+        more = [f"{without_news} stations without news"] * (without_news > 0)
+        more += [f"{left_out} stations not shown"] * (left_out > 0)
+        more = ", ".join(more or ["nothing here"] * (not rows))
+        if more:
+            x = max(LEFT + 6, MARGIN + text_width(lane.name, TEXT, "bold") + 10)
+            self.canvas.text(x, self.y + 12, more, SMALL, fill=PALE)
+        self.canvas.line(MARGIN, self.y + 0.5, WIDTH - MARGIN, self.y + 0.5, "#c9ced6", 0.8)
+        middles = {row: self.y + TITLE + ROW * number + MIDDLE for number, row in enumerate(rows)}
+        roaming = {other.station for other in self.roaming if strip.overlaps(other.begins, other.ends)
+                   and place in other.places}
+        for row, y in middles.items():
+            self.canvas.line(LEFT, y, LEFT + strip.width, y, GRID)
+            name = FIXED_ROWS.get(row) or row.hex(":")
+            self.canvas.text(LEFT - NAME_END, y + 4, name, TEXT, anchor="end", fill=PURPLE if row in roaming else DARK)
+        for span in lane.spans:
+            if span.station in middles and strip.overlaps(span.begins, span.ends):
+                self.state(lane, span, strip, middles[span.station])
+        self.kept_bars(lane, strip, middles)
+        for column in strip.columns:
+            for item in column.items.get(place, ()):
+                self.item(lane, column, item, middles)
+        self.y += TITLE + ROW * len(rows) + LANE_GAP
+        return middles
+
+    def state(self, lane, span, strip, y):
+        """A station's state, from one line up to another."""
+        begins, ends = strip.x_of(span.begins), strip.x_of(span.ends)
+        until = span.ends or "the end"
+        with self.canvas.group(f"{span.station.hex(':')}: {span.state}, lines {span.begins} to {until}",
+                               data_network=lane.section.bssid.hex(), data_what=span.state,
+                               data_row=span.station.hex(), data_span=f"{span.begins}-{span.ends or 'end'}"):
+            self.canvas.rectangle(LEFT + begins, y - BAR / 2, ends - begins, BAR, COLOURS[span.state])
+
+    def kept_bars(self, lane, strip, middles):
+        """A bar for each unit that is kept, below its row's middle, in a few tracks."""
+        free = {}
+        for kept in lane.keepings:
+            if not strip.overlaps(kept.begins, kept.ends):
+                continue
+            row = kept.whom if kept.whom in middles else OTHERS
+            if row not in middles:
+                continue
+            tracks = free.setdefault(row, [0.0] * TRACKS)
+            begins, ends = strip.x_of(kept.begins), strip.x_of(kept.ends)
+            track = next((place for place, end in enumerate(tracks) if end <= begins), TRACKS - 1)
+            tracks[track] = max(tracks[track], ends)
+            y = middles[row] - MIDDLE + KEPT_AT + KEPT_PITCH * track
+            sender = kept.sender.hex(":") if isinstance(kept.sender, bytes) else kept.sender
+            with self.canvas.group(f"unit from {sender}, kept from line {kept.begins} to {kept.ends or 'the end'}"
+                                   f"{', then ' + kept.how if kept.how else ''}",
+                                   data_network=lane.section.bssid.hex(), data_what="keeping",
+                                   data_row=name_of(kept.whom), data_span=f"{kept.begins}-{kept.ends or 'end'}"):
+                self.canvas.rectangle(LEFT + begins, y, max(ends - begins, 2), KEPT_BAR, ORANGE)
+
+    def item(self, lane, column, item, middles):
+        """A mark, the arrow to it, and the words beside it."""
+        row = item.row if item.row in middles else OTHERS
+        y, left = middles[row], LEFT + column.x + PAD / 2 + item.x
+        x = left + (SLOT if item.what not in CIRCLED else CIRCLE_SLOT - 2) / 2
+        title = f"line {column.numbers}: {MEANINGS[item.what]}{' ' + item.label if item.label else ''}"
+        sender = item.sender if item.sender in middles and item.sender != row else None
+        with self.canvas.group(title, data_network=lane.section.bssid.hex(), data_what=item.what,
+                               data_row=name_of(item.row), data_lines=column.numbers, data_letter=item.letter,
+                               data_sender=name_of(sender) if sender is not None else ""):
+            from_above = 0
+            if sender is not None and item.what in ARROWS:
+                from_above = 1 if middles[sender] < y else -1
+                self.canvas.line(x, middles[sender], x, y - from_above * MARK, ARROWS[item.what], 1.2)
+                self.canvas.add("circle", cx=x, cy=middles[sender], r=2.2, fill=ARROWS[item.what])
+            if item.what in CIRCLED:
+                self.circle(x, y, item.letter, item.what)
+            else:
+                self.shape(x, y, item.what, from_above)
+            if item.label:
+                place = left + item.width - text_width(item.label, SMALL) - 2
+                self.canvas.text(place, y + 3.5, item.label, SMALL,
+                                 fill={"refused": RED, "turned away": PURPLE}.get(item.what, DARK))
+
+    def circle(self, x, y, letter, what):
+        """A request, by its letter."""
+        face, edge = {"refused": (RED, RED), "turned away": (PURPLE, PURPLE), "left": ("white", RED)}.get(
+            what, ("white", DARK))
+        self.canvas.add("circle", cx=x, cy=y, r=RADIUS, fill=face, stroke=edge, stroke_width=1.2)
+        self.canvas.text(x, y + 3.5, letter, 9.5, anchor="middle", weight="bold",
+                         fill="white" if face != "white" else edge)
+
+    def shape(self, x, y, what, from_above):
+        """A mark that isn't a circle."""
+        m = MARK
+        corners = (x, y - m - 1), (x + m + 1, y), (x, y + m + 1), (x - m - 1, y)
+        diamond = f"M{' L'.join(f'{across:.1f} {down:.1f}' for across, down in corners)} Z"
+        tip = y + (m if from_above >= 0 else -m)
+        base = y - (m if from_above >= 0 else -m)
+        triangle = f"M{x - m:.1f} {base:.1f} L{x + m:.1f} {base:.1f} L{x:.1f} {tip:.1f} Z"
+        if what in BEACON_KINDS:
+            self.canvas.path(diamond, DARK if what == "DTIM beacon" else "white", DARK)
+        elif what in ("sent", "wired"):
+            self.canvas.path(triangle, YELLOW if what == "sent" else GREEN, DARK, stroke_width=0.8)
+        elif what in ("kept", "delivered"):
+            self.canvas.rectangle(x - m + 0.5, y - m + 0.5, 2 * m - 1, 2 * m - 1,
+                                  "white" if what == "kept" else ORANGE, stroke=ORANGE, stroke_width=1.4)
+        elif what in ("lost", "dropped"):
+            self.canvas.path(f"M{x - 4:.1f} {y - 4:.1f} L{x + 4:.1f} {y + 4:.1f} M{x - 4:.1f} {y + 4:.1f} "
+                             f"L{x + 4:.1f} {y - 4:.1f}", "none", RED if what == "lost" else GREY, stroke_width=2.4)
+        else:
+            self.canvas.path(f"M{x - 4:.1f} {y:.1f} H{x + 4:.1f} M{x - 2:.1f} {y - 3.5:.1f} L{x + 2:.1f} {y + 3.5:.1f} "
+                             f"M{x - 2:.1f} {y + 3.5:.1f} L{x + 2:.1f} {y - 3.5:.1f}", "none", GREY, stroke_width=1.3)
+
+    def join(self, roaming, strip, where, left):
+        """A station's rows in two networks, as long as it is associated in both; `left` is where this is shown beside
+        their names."""
+        rows = [where[place].get(roaming.station) for place in roaming.places]
+        if None in rows or not strip.overlaps(roaming.begins, roaming.ends):
+            return
+        top, bottom = min(rows), max(rows)
+        title = f"{roaming.station.hex(':')} is associated in both networks from line {roaming.begins}"
+        with self.canvas.group(title, data_what="roaming", data_row=roaming.station.hex(),
+                               data_span=f"{roaming.begins}-{roaming.ends or 'end'}"):
+            self.canvas.line(left, top, left, bottom, PURPLE, 1.6, stroke_dasharray="3 2")
+            if strip.has(roaming.begins):
+                x = LEFT + strip.x_of(roaming.begins)
+                self.canvas.line(x, top + RADIUS, x, bottom - RADIUS, PURPLE, 1.6, stroke_dasharray="3 2")
+
+
+def name_of(row):
+    """A row, as an attribute has it."""
+    return row.hex() if isinstance(row, bytes) else str(row)

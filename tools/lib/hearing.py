@@ -21,11 +21,25 @@ PASSED_ON = "passed on by the access point, from a station on the air"
 
 
 class Entry(NamedTuple):
-    """A line of a trace to be, with its time in seconds; ticks come before frames of the same time."""
+    """A line of a trace to be, with its time in seconds; ticks come before frames of the same time. `origin` says which
+    captured frame it is."""
 
     time: object
     rank: int
     text: str
+    origin: str
+
+    def remark(self, first):
+        """The remark that tells where the line came from; `first` is the time of the capture's first frame."""
+        return f"# {self.origin}, {float(self.time - first):.3f} s"
+
+
+class Came(NamedTuple):
+    """A captured frame that is looked at: its time in seconds, and its number in its file."""
+
+    time: object
+    frame: Frame
+    number: int
 
 
 class AirCapture:
@@ -47,20 +61,22 @@ class AirCapture:
         for frame in frames:
             self.count += 1
             octets, reason = whole_frame(frame, self.fcs, assumed)
-            reason = reason or self.reason(Frame(octets), frame.time, networks, heard_only)
+            came = Came(frame.time, Frame(octets), frame.number)
+            reason = reason or self.reason(came, networks, heard_only)
             if reason:
                 self.left_out[reason] += 1
             else:
-                self.heard.append((frame.time, Frame(octets)))
-                self.note(Frame(octets))
+                self.heard.append(came)
+                self.note(came.frame)
 
-    def reason(self, frame, time, networks, heard_only):
+    def reason(self, came, networks, heard_only):
         """Why a frame is left out, or None."""
+        frame = came.frame
         if frame.type == CONTROL and frame.subtype != PS_POLL:
             return CONTROLS
         if frame.transmitter in networks:
             if frame.is_management(BEACON):
-                self.own_beacons.append((time, frame))
+                self.own_beacons.append(came)
             return OWN
         if self.is_repeated(frame):
             return AGAIN
@@ -126,7 +142,7 @@ class WireCapture:
             if reason:
                 self.left_out[reason] += 1
             else:
-                self.came.append((frame.time, frame.octets))
+                self.came.append(frame)
 
     def reason(self, frame, whereabouts):
         """Why a frame is left out, or None."""
@@ -147,7 +163,7 @@ class Whereabouts:
 
     def __init__(self, heard, networks):
         self.moves = {}
-        for time, frame in heard:
+        for time, frame, _ in heard:
             if frame.receiver in networks and frame.type != CONTROL:
                 moves = self.moves.setdefault(frame.transmitter, [])
                 if not moves or moves[-1][1] != frame.receiver:

@@ -44,22 +44,38 @@ def hears(bssid, octets):
 
 def request_of(bssid, octets):
     """The request of a string of octets that a network hears, or None where it counts as unread."""
+    if unread_kind(bssid, octets):
+        return None
     frame = Frame(octets)
-    is_poll = frame.type == CONTROL and frame.subtype == PS_POLL
-    if len(octets) < POLL_LEN or frame.type != CONTROL and len(octets) < HEADER_LEN or octets[0] & 3:
-        return None
-    if not is_poll and not is_kind(frame):
-        return None
-    if octets[1] & 0xC4 or (frame.to_ds, frame.from_ds) != (frame.type == DATA, False):
-        return None
-    if is_group(frame.transmitter) or frame.transmitter == bssid:
-        return None
-    if is_poll:
-        aid = number(octets[2:4]) & 0x3FFF
-        return Request(POLL, frame.transmitter, aid=aid) if frame.receiver == bssid else None
-    if frame.sequence_control & 0xF or not is_addressed(bssid, frame) or len(frame.body) > MOST_BODY:
-        return None
+    if is_poll(frame):
+        return Request(POLL, frame.transmitter, aid=number(octets[2:4]) & 0x3FFF)
     return data_of(frame) if frame.type == DATA else management_of(frame)
+
+
+def unread_kind(bssid, octets):
+    """Why a network that hears a string of octets can't read it, `U1` to `U8`; None where it can."""
+    frame = Frame(octets)
+    poll = is_poll(frame)
+    if len(octets) < POLL_LEN or frame.type != CONTROL and len(octets) < HEADER_LEN:
+        return "U1"
+    if octets[0] & 3:
+        return "U2"
+    if not poll and not is_kind(frame):
+        return "U3"
+    if octets[1] & 0xC4 or not poll and frame.sequence_control & 0xF:
+        return "U4"
+    if (frame.to_ds, frame.from_ds) != (frame.type == DATA, False):
+        return "U5"
+    if is_group(frame.transmitter) or frame.transmitter == bssid or not is_addressed(bssid, frame):
+        return "U6"
+    if not poll and len(frame.body) > MOST_BODY:
+        return "U8"
+    return None if frame.type != MANAGEMENT or management_of(frame) else "U7"
+
+
+def is_poll(frame):
+    """Whether it is a PS-Poll."""
+    return frame.type == CONTROL and frame.subtype == PS_POLL
 
 
 def is_kind(frame):
@@ -72,7 +88,7 @@ def is_kind(frame):
 def is_addressed(bssid, frame):
     """Whether Address 1, and Address 3 of a management frame, are the network's, or all of a probe request."""
     own = {bssid, BROADCAST} if frame.is_management(PROBE_REQUEST) else {bssid}
-    return frame.receiver in own and (frame.type == DATA or frame.third in own)
+    return frame.receiver in own and (frame.type != MANAGEMENT or frame.third in own)
 
 
 def data_of(frame):
@@ -88,6 +104,15 @@ def management_of(frame):
     if len(frame.body) < fixed or listed is None:
         return None
     return Request(frame.subtype, frame.transmitter, names=first_of(listed, SSID), listen=number(frame.body[2:4]))
+
+
+def wired_unread_kind(octets):
+    """Why a wired frame can't be read, `U1`, `U7` or `U8`; None where it can."""
+    if len(octets) < 14:
+        return "U1"
+    if unit_from_wire(octets):
+        return None
+    return "U8" if int.from_bytes(octets[12:14], "big") >= LEAST_TYPE else "U7"
 
 
 def unit_from_wire(octets):

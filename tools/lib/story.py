@@ -11,14 +11,17 @@ from typing import NamedTuple
 from frames import (ASSOCIATION_REQUEST, ASSOCIATION_RESPONSE, AUTHENTICATION, BEACON, BEACON_FIXED_LEN, DATA,
                     DEAUTHENTICATION, DISASSOCIATION, PROBE_REQUEST, PROBE_RESPONSE, REASSOCIATION_REQUEST,
                     REASSOCIATION_RESPONSE, TIM, Frame, elements, first_of, is_group, number, tim_bits)
-from reading import POLL, Unit, hears, request_of, unit_from_wire, wired_form
+from reading import MODE, POLL, Unit, hears, request_of, unit_from_wire, wired_form
 from texts import Options, options_of
 
-GROUP = "group"
+GROUP, WIRE = "group", "wire"
 AUTHENTICATED, ASSOCIATED, DOZING = "authenticated", "associated", "dozing"
 MOST_NAMED = 3
 # What a configuration may say of relaying and aging, the most usual first.
 CHOICES = ((True, False), (False, False), (True, True), (False, True))
+# What stands for a request in a picture: probe, authentication, joining, reassociation, departure, data, poll.
+LETTERS = {PROBE_REQUEST: "P", AUTHENTICATION: "A", ASSOCIATION_REQUEST: "J", REASSOCIATION_REQUEST: "R",
+           DISASSOCIATION: "D", DEAUTHENTICATION: "D", MODE: "U", POLL: "S"}
 RESPONSES = {ASSOCIATION_REQUEST: ASSOCIATION_RESPONSE, REASSOCIATION_REQUEST: REASSOCIATION_RESPONSE}
 
 
@@ -27,12 +30,15 @@ class Mismatch(Exception):
 
 
 class Mark(NamedTuple):
-    """Something that a line brought about: `whom` is a station's address, `GROUP`, or None for the network itself."""
+    """Something that a line brought about: `whom` is a station's address, `GROUP`, or None for the network itself. Of a
+    request `letter` says which; of a unit `sender` is the station that sent it, or `WIRE`."""
 
     line: int
     what: str
     whom: object
     text: str = ""
+    letter: str = ""
+    sender: object = None
 
 
 class Span(NamedTuple):
@@ -46,11 +52,24 @@ class Span(NamedTuple):
 
 
 class Kept(NamedTuple):
-    """A unit that is kept for a station or the group, and the clock at which it came."""
+    """A unit that is kept for a station or the group, and the clock and the line at which it came."""
 
     whom: object
     unit: Unit
     clock: int
+    line: int
+    sender: object
+
+
+class Keeping(NamedTuple):
+    """A unit that was kept from one line up to another, or to the end where that is None, and how that ended:
+    `delivered`, `dropped`, `lost`, or nothing."""
+
+    whom: object
+    begins: int
+    ends: object
+    how: str
+    sender: object
 
 
 class Link:
@@ -75,7 +94,7 @@ class Story:
         self.clock = self.events = self.unread = self.lost = self.most_kept = 0
         self.sent = self.wired = 0
         self.line = None
-        self.marks, self.spans, self.open = [], [], {}
+        self.marks, self.spans, self.open, self.keepings = [], [], {}, []
         self.frames, self.wires = [], []
 
     def take(self, line):
@@ -96,9 +115,14 @@ class Story:
             self.answer(request) if request else self.count_unread(line.octets[10:16])
         self.note_states()
 
-    def mark(self, what, whom=None, text=""):
+    def mark(self, what, whom=None, text="", letter="", sender=None):
         """Remembers what this line brought about."""
-        self.marks.append(Mark(self.line, what, whom, text))
+        self.marks.append(Mark(self.line, what, whom, text, letter, sender))
+
+    def end_keeping(self, kept, how):
+        """A unit isn't kept any more."""
+        self.mark(how, kept.whom)
+        self.keepings.append(Keeping(kept.whom, kept.line, self.line, how, kept.sender))
 
     def count_unread(self, station):
         """A frame that isn't read."""
@@ -142,19 +166,19 @@ class Story:
         for kept in old:
             self.kept.remove(kept)
             self.lost += 1
-            self.mark("lost", kept.whom)
+            self.end_keeping(kept, "lost")
 
     def release(self, whom, most=None):
         """Units that were kept for somebody are sent, in order of arrival."""
         for kept in [kept for kept in self.kept if kept.whom == whom][:most]:
             self.pop_unit(kept.unit)
             self.kept.remove(kept)
-            self.mark("delivered", whom)
+            self.end_keeping(kept, "delivered")
 
     def drop(self, station):
         """No unit is kept for a station any more."""
-        for _ in [kept for kept in self.kept if kept.whom == station]:
-            self.mark("dropped", station)
+        for kept in [kept for kept in self.kept if kept.whom == station]:
+            self.end_keeping(kept, "dropped")
         self.kept = [kept for kept in self.kept if kept.whom != station]
 
     def answer(self, request):
@@ -163,7 +187,7 @@ class Story:
         if request.kind == PROBE_REQUEST:
             if request.names in (b"", self.section.ssid):
                 self.pop_management(PROBE_RESPONSE, station, "a probe response")
-                self.mark("answered", station)
+                self.mark("answered", station, letter=LETTERS[PROBE_REQUEST])
         elif request.kind == AUTHENTICATION:
             self.authenticate(station)
         elif request.kind == DEAUTHENTICATION:
@@ -184,43 +208,43 @@ class Story:
         """A request of a class that the station's state doesn't allow."""
         subtype = DEAUTHENTICATION if link is None else DISASSOCIATION
         frame = self.pop_management(subtype, request.station, "a refusal")
-        self.mark("turned away", request.station, str(number(frame.body[:2])))
+        self.mark("turned away", request.station, str(number(frame.body[:2])), LETTERS[request.kind])
 
     def authenticate(self, station):
         """An authentication: the status stands in the answer."""
         frame = self.pop_management(AUTHENTICATION, station, "an authentication")
-        status = number(frame.body[4:6])
+        status, letter = number(frame.body[4:6]), LETTERS[AUTHENTICATION]
         if status:
-            self.mark("refused", station, str(status))
+            self.mark("refused", station, str(status), letter)
             return
-        self.mark("answered", station)
+        self.mark("answered", station, letter=letter)
         self.drop(station)
         self.links.setdefault(station, Link()).__init__()
 
     def associate(self, request, link):
         """An association or a reassociation: the status and the identifier stand in the answer."""
         frame = self.pop_management(RESPONSES[request.kind], request.station, "an association response")
-        status = number(frame.body[2:4])
+        status, letter = number(frame.body[2:4]), LETTERS[request.kind]
         if status:
-            self.mark("refused", request.station, str(status))
+            self.mark("refused", request.station, str(status), letter)
             return
-        self.mark("answered", request.station)
         self.drop(request.station)
         link.aid, link.listen, link.doze = number(frame.body[4:6]) & 0x3FFF, request.listen, False
+        self.mark("answered", request.station, f"aid {link.aid}", letter)
 
     def leave(self, station, is_known):
         """A deauthentication."""
         self.drop(station)
         if is_known:
             del self.links[station]
-            self.mark("left", station)
+            self.mark("left", station, letter="D")
 
     def disassociate(self, station, link):
         """A disassociation."""
         self.drop(station)
         if link.aid is not None:
             link.__init__()
-            self.mark("left", station)
+            self.mark("left", station, letter="D")
 
     def set_mode(self, request, link):
         """A data frame of an associated station: its mode, then its unit."""
@@ -234,42 +258,42 @@ class Story:
 
     def deliver(self, unit, from_air):
         """A unit on its way: at once, kept or lost, and on the wire."""
-        link = self.links.get(unit.destination)
+        link, sender = self.links.get(unit.destination), unit.source if from_air else WIRE
         if link and link.aid is not None:
-            self.keep_or_send(unit, unit.destination, link.doze)
+            self.keep_or_send(unit, unit.destination, link.doze, sender)
             return
         if is_group(unit.destination):
             waits = any(other.doze for other in self.links.values()) or any(kept.whom == GROUP for kept in self.kept)
-            self.keep_or_send(unit, GROUP, waits)
+            self.keep_or_send(unit, GROUP, waits, sender)
         if from_air:
             self.put_on_wire(unit)
 
-    def keep_or_send(self, unit, whom, waits):
+    def keep_or_send(self, unit, whom, waits, sender):
         """A unit for somebody on the air."""
         quota = self.options.quota
         if not waits:
             self.pop_unit(unit)
-            self.mark("sent", whom)
+            self.mark("sent", whom, sender=sender)
         elif quota is not None and len(self.kept) >= quota:
             self.lost += 1
-            self.mark("lost", whom)
+            self.mark("lost", whom, sender=sender)
         else:
-            self.kept.append(Kept(whom, unit, self.clock))
+            self.kept.append(Kept(whom, unit, self.clock, self.line, sender))
             self.most_kept = max(self.most_kept, len(self.kept))
-            self.mark("kept", whom)
+            self.mark("kept", whom, sender=sender)
 
     def put_on_wire(self, unit):
         """A unit for the wire."""
         octets = wired_form(unit)
         if octets is None:
             self.lost += 1
-            self.mark("lost", None)
+            self.mark("lost", None, sender=unit.source)
             return
         if self.section.wire[self.wired:self.wired + 1] != [octets]:
             raise Mismatch(f"line {self.line} of the trace puts a unit on the wire, and the section's next isn't that")
         self.wired += 1
         self.wires.append((self.line, octets))
-        self.mark("wired")
+        self.mark("wired", sender=unit.source)
 
     def note_states(self):
         """Ends the spans of states that have changed, and begins new ones."""
@@ -295,13 +319,15 @@ class Story:
                 raise Mismatch(f"the report's {name} aren't those that the trace brings: {theirs}, not {mine}")
         self.spans += [Span(station, state, begins, None, aid) for station, (state, aid, begins) in self.open.items()]
         self.spans.sort(key=lambda span: span.begins)
+        self.keepings += [Keeping(kept.whom, kept.line, None, "", kept.sender) for kept in self.kept]
+        self.keepings.sort(key=lambda keeping: keeping.begins)
         return self
 
 
 def told_of(aids, group):
     """For whom a TIM says that units wait, in a few words."""
     first = [str(aid) for aid in sorted(aids)[:MOST_NAMED]]
-    more = [f"{len(aids) - MOST_NAMED} more"] if len(aids) > MOST_NAMED else []
+    more = [f"+{len(aids) - MOST_NAMED}"] if len(aids) > MOST_NAMED else []
     names = ["aid " + ", ".join(first + more)] if aids else []
     return ", ".join(names + ["group"] * group)
 

@@ -12,6 +12,11 @@ STATION = re.compile(r"station (\S+) (authenticated|associated aid (\d+) listen 
 COUNTS = re.compile(r"events (\d+) clock (\d+) unread (\d+) lost (\d+) kept (\d+)")
 
 
+# What tools/trace-from-capture writes before a line: which frame of which capture it is, and when it was.
+ORIGIN = re.compile(r"# (?:frame (?P<frame>\d+)(?: of (?P<capture>.+))?|(?P<made>made, no frame)), "
+                    r"(?P<seconds>-?\d+\.\d+) s\r?")
+
+
 class TextError(Exception):
     """A text that isn't what it is said to be."""
 
@@ -23,6 +28,14 @@ class Line(NamedTuple):
     kind: str
     bssid: Optional[bytes]
     octets: bytes
+
+
+class Origin(NamedTuple):
+    """Where a line of a trace came from: the number of the captured frame (None where there is none), and the capture's
+    own seconds."""
+
+    frame: Optional[int]
+    seconds: float
 
 
 class Options(NamedTuple):
@@ -88,6 +101,19 @@ def read_trace(text):
         line = line.removesuffix("\r").rstrip(" ")
         if line and not line.startswith("#"):
             found.append(trace_line(number, line))
+    return found
+
+
+def read_origins(text):
+    """Of the lines of a trace that tell it by a remark before them where they came from, by the line's number."""
+    lines = text.split("\n")
+    if SEPARATOR in lines:
+        lines = lines[lines.index(SEPARATOR) + 1:]
+    found = {}
+    for number, line in enumerate(lines, 2):
+        match = ORIGIN.fullmatch(line)
+        if match:
+            found[number] = Origin(int(match["frame"]) if match["frame"] else None, float(match["seconds"]))
     return found
 
 

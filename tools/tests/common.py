@@ -1,4 +1,5 @@
-"""What the tests share: the repository's examples, and the tools, run as a user runs them."""
+"""What the tests share: the repository's cases, and the tools, run as a user runs them."""
+import glob
 import os
 import subprocess
 import tempfile
@@ -8,9 +9,11 @@ from texts import SEPARATOR, read_report, read_text, read_trace
 
 TOOLS = os.path.dirname(os.path.dirname(os.path.realpath(__file__)))
 ROOT = os.path.dirname(TOOLS)
-EXAMPLES = os.path.join(ROOT, "examples")
+# the folders of examples/, and of those of tests/; no two have the same name
+CASES = {os.path.basename(folder): folder for pattern in ("examples/*", "tests/*/*")
+         for folder in glob.glob(os.path.join(ROOT, pattern)) if os.path.isdir(folder)}
 PROGRAM = os.path.join(ROOT, "build", "apctl")
-THREE = os.path.join(EXAMPLES, "three_networks_over_some_intervals")
+THREE = CASES["three_networks_over_some_intervals"]
 GUEST, OFFICE, DEVICES = (bytes([2, 0, 0, 0, 1, number]) for number in (1, 2, 3))
 
 
@@ -27,9 +30,8 @@ def run_program(*words, program_input=None):
 
 
 def with_report():
-    """The examples that end with a report, as folders."""
-    for name in sorted(os.listdir(EXAMPLES)):
-        folder = os.path.join(EXAMPLES, name)
+    """The cases that end with a report, as folders."""
+    for _, folder in sorted(CASES.items()):
         has = {file for file in ("input", "stdout", "status", "words") if os.path.exists(os.path.join(folder, file))}
         if has == {"input", "stdout"}:
             yield folder
@@ -67,6 +69,11 @@ class ToolTest(unittest.TestCase):
         self.assertEqual((status, stdout), (1, ""), stderr)
         self.assertIn(says, stderr)
         self.assertNotIn("Traceback", stderr)
+
+
+def heard(control, body="", receiver="020000000001", sender="02aa00000001", third=None, sequence="0000"):
+    """A line of a trace: a frame of a station to a network."""
+    return " ".join(filter(None, ["A", control, receiver, sender, third or receiver, sequence, body]))
 
 
 needs_program = unittest.skipUnless(os.path.exists(PROGRAM), "build/apctl isn't there (make apctl builds it)")

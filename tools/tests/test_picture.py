@@ -1,132 +1,292 @@
-"""Tests of tools/picture: which shapes a picture has and where, and that a report of another trace is refused."""
+"""Tests of tools/picture: which shapes a picture has and where, that no labels overlap, and that a report of another
+trace is refused."""
+import json
 import os
 import re
 import xml.etree.ElementTree as tree
+from typing import NamedTuple
 
-from common import (DEVICES, EXAMPLES, GUEST, OFFICE, PROGRAM, ROOT, THREE, ToolTest, input_of, needs_program,
+import long_run
+from common import (CASES, DEVICES, GUEST, OFFICE, PROGRAM, ROOT, THREE, ToolTest, input_of, needs_program,
                     report_of, run_program, tool, with_report)
+from fields import fields_on_air, fields_on_wire
+from PIL import Image, ImageFont
 from story import stories
 from texts import read_config, read_report, read_text
 
 STORED = os.path.join(ROOT, "docs", "three_networks.svg")
 SVG = "{http://www.w3.org/2000/svg}"
 PHONE, LAPTOP, PRINTER, SENSOR = (f"02aa0000000{number}" for number in (1, 2, 3, 4))
+WIDTH = 1000
 # What has to stand in the picture of the example of three networks: states with the lines from which and up to which
-# they hold, marks with the lines that brought them about.
-STATES = {GUEST: [(PHONE, "authenticated", 2, 3), (PHONE, "associated", 3, 37)],
-          OFFICE: [(LAPTOP, "authenticated", 5, 6), (LAPTOP, "associated", 6, "end"), (PRINTER, "authenticated", 7, 8),
-                   (PRINTER, "associated", 8, "end")],
-          DEVICES: [(SENSOR, "authenticated", 10, 11), (SENSOR, "associated", 11, 15), (SENSOR, "dozing", 15, "end")]}
-MARKS = {GUEST: [("answered", PHONE, 2, 3), ("left", PHONE, 37), ("wired", "wire", 24),
-                 ("DTIM-beacon", "beacons", 13, 34), ("beacon", "beacons", 26, 35)],
-         OFFICE: [("answered", LAPTOP, 5, 6), ("answered", PRINTER, 7, 8), ("sent", PRINTER, 17), ("sent", "group", 30),
-                  ("wired", "wire", 18, 30), ("DTIM-beacon", "beacons", 13, 26, 34, 35)],
-         DEVICES: [("answered", SENSOR, 10, 11), ("kept", SENSOR, 20, 21), ("kept", "group", 22),
-                   ("delivered", SENSOR, 28, 32), ("delivered", "group", 35), ("DTIM-beacon", "beacons", 13, 35),
-                   ("beacon", "beacons", 26, 34)]}
-WORDS = {"mark-020000000103-beacon-beacons-26-text": "aid 1", "mark-020000000103-DTIM-beacon-beacons-35-text": "group"}
+# they hold, marks with the lines that brought them about, their letters and their words.
+STATES = {GUEST: [(PHONE, "authenticated", "2-3"), (PHONE, "associated", "3-37")],
+          OFFICE: [(LAPTOP, "authenticated", "5-6"), (LAPTOP, "associated", "6-end"),
+                   (PRINTER, "authenticated", "7-8"), (PRINTER, "associated", "8-end")],
+          DEVICES: [(SENSOR, "authenticated", "10-11"), (SENSOR, "associated", "11-15"), (SENSOR, "dozing", "15-end")]}
+KEPT = {(SENSOR, "20-28"), (SENSOR, "21-32"), ("group", "22-35")}
+MARKS = {GUEST: [("answered", PHONE, 2, "A"), ("answered", PHONE, 3, "J"), ("left", PHONE, 37, "D"),
+                 ("wired", "wire", 24, PHONE)],
+         OFFICE: [("answered", LAPTOP, 5, "A"), ("answered", LAPTOP, 6, "J"), ("answered", PRINTER, 7, "A"),
+                  ("answered", PRINTER, 8, "J"), ("sent", PRINTER, 17, LAPTOP), ("sent", "group", 30, PRINTER),
+                  ("wired", "wire", 18, LAPTOP), ("wired", "wire", 30, PRINTER)],
+         DEVICES: [("answered", SENSOR, 10, "A"), ("answered", SENSOR, 11, "J"), ("kept", SENSOR, 20, "wire"),
+                   ("kept", SENSOR, 21, "wire"), ("kept", "group", 22, "wire"), ("delivered", SENSOR, 28, ""),
+                   ("delivered", SENSOR, 32, ""), ("delivered", "group", 35, ""), ("beacon", "beacons", 26, ""),
+                   ("DTIM beacon", "beacons", 35, "")]}
+WORDS = {(OFFICE, 6): "aid 1", (OFFICE, 8): "aid 2", (GUEST, 3): "aid 1", (DEVICES, 11): "aid 1",
+         (DEVICES, 26): "aid 1", (DEVICES, 35): "group"}
 
 
-def wanted_ids():
-    """The ids of these states and marks."""
-    states = {f"state-{bssid.hex()}-{station}-{state}-{begins}-{ends}" for bssid, rows in STATES.items()
-              for station, state, begins, ends in rows}
-    marks = {f"mark-{bssid.hex()}-{what}-{row}-{line}" for bssid, rows in MARKS.items() for what, row, *lines in rows
-             for line in lines}
-    return states | marks
+class Box(NamedTuple):
+    """Where a text stands."""
+
+    left: float
+    top: float
+    right: float
+    bottom: float
+    text: str
+
+    def overlaps(self, other):
+        """Whether two texts share a place."""
+        return (self.left < other.right and other.left < self.right and self.top < other.bottom and
+                other.top < self.bottom)
+
+
+def box_of(element):
+    """The box of a text, by its font, of the capital letters' height."""
+    size, text = float(element.get("font-size")), "".join(element.itertext())
+    name = "DejaVuSans-Bold.ttf" if element.get("font-weight") == "bold" else "DejaVuSans.ttf"
+    width = ImageFont.truetype(name, 200).getlength(text) * size / 200
+    x, y = float(element.get("x")), float(element.get("y"))
+    left = {"start": x, "middle": x - width / 2, "end": x - width}[element.get("text-anchor")]
+    return Box(left, y - 0.73 * size, left + width, y + 0.2 * size, text)
 
 
 class Shapes:
-    """What a picture has: where bars and marks stand, and the words beside them."""
+    """What a picture has, by the attributes of its groups."""
 
-    def __init__(self, path):
-        root = tree.parse(path).getroot()
-        groups = {group.get("id"): group for group in root.iter(f"{SVG}g") if group.get("id")}
-        mine = {name: group for name, group in groups.items() if re.match("state-|mark-", name)}
-        self.words = {name: "".join(group.itertext()).strip() for name, group in mine.items() if name.endswith("-text")}
-        self.bars = {name: ends_of(group) for name, group in mine.items()
-                     if name.startswith("state-") and name not in self.words}
-        self.marks = {name: place_of(group) for name, group in mine.items()
-                      if name.startswith("mark-") and name not in self.words}
-        self.ticks = {"".join(group.itertext()).strip(): place_of(group) for name, group in groups.items()
-                      if name.startswith("xtick_") and "".join(group.itertext()).strip()}
+    def __init__(self, text):
+        self.root = tree.fromstring(text)
+        self.groups = [(group.attrib, group) for group in self.root.iter(f"{SVG}g")]
+        self.texts = list(self.root.iter(f"{SVG}text"))
+
+    def of(self, **wanted):
+        """The groups with these attributes, `data-` left out of their names."""
+        return [group for attributes, group in self.groups
+                if all(attributes.get(f"data-{name}") == value for name, value in wanted.items())]
+
+    def marks(self):
+        """The groups of marks."""
+        return [group for attributes, group in self.groups if "data-lines" in attributes
+                and attributes["data-what"] != "quiet"]
+
+    def words(self):
+        """All texts."""
+        return {"".join(element.itertext()) for element in self.texts}
+
+    def overlapping(self):
+        """Pairs of texts that overlap, and those that stand outside the picture."""
+        boxes = sorted(map(box_of, self.texts), key=lambda box: box.top)
+        found = [(box.text, "outside") for box in boxes if box.left < 0 or box.right > WIDTH]
+        for place, box in enumerate(boxes):
+            for other in boxes[place + 1:]:
+                if other.top >= box.bottom:
+                    break
+                if box.overlaps(other):
+                    found.append((box.text, other.text))
+        return found
+
+
+def middle_of(group):
+    """Where the last shape of a mark stands, its words left out."""
+    shape = [child for child in group if child.tag.removeprefix(SVG) in ("circle", "rect", "path")][-1]
+    if shape.get("cx"):
+        return float(shape.get("cx")), float(shape.get("cy"))
+    if shape.get("width"):
+        return (float(shape.get("x")) + float(shape.get("width")) / 2,
+                float(shape.get("y")) + float(shape.get("height")) / 2)
+    points = [(float(x), float(y)) for x, y in re.findall(r"[ML]([\d.]+) ([\d.]+)", shape.get("d"))]
+    xs, ys = [x for x, _ in points], [y for _, y in points]
+    return (min(xs) + max(xs)) / 2, (min(ys) + max(ys)) / 2
 
 
 def ends_of(group):
     """The left end, the right end and the middle's height of a bar."""
-    numbers = [float(word) for word in re.findall(r"-?[\d.]+", group.find(f"{SVG}path").get("d"))]
-    return min(numbers[::2]), max(numbers[::2]), (min(numbers[1::2]) + max(numbers[1::2])) / 2
+    bar = group.find(f"{SVG}rect")
+    x, y, width, height = (float(bar.get(name)) for name in ("x", "y", "width", "height"))
+    return x, x + width, y + height / 2
 
 
-def place_of(group):
-    """Where a mark or a tick stands."""
-    used = next(group.iter(f"{SVG}use"), None)
-    if used is not None:
-        return float(used.get("x")), float(used.get("y"))
-    text = next(group.iter(f"{SVG}text"))
-    return float(text.get("x")), float(text.get("y"))
+class PictureTest(ToolTest):
+    """What tests of pictures share."""
 
-
-class Picture(ToolTest):
-    """The pictures of runs."""
+    def drawn(self, trace, report, *words, name="made.svg"):
+        """A picture that is made now: the file's path."""
+        status, stdout, stderr = tool("picture", trace, report, "--out", self.path(name), *words)
+        self.assertEqual((status, stdout, stderr), (0, "", ""))
+        return self.path(name)
 
     def shapes(self, trace, report, *words):
         """The shapes of a picture that is made now."""
-        status, _, stderr = tool("picture", trace, report, "--out", self.path("made.svg"), *words)
-        self.assertEqual((status, stderr), (0, ""))
-        return Shapes(self.path("made.svg"))
+        return Shapes(read_text(self.drawn(trace, report, *words)))
 
-    def of_three(self):
-        """The picture of the example of three networks."""
-        return self.shapes(os.path.join(THREE, "input"), os.path.join(THREE, "stdout"))
+    def of_example(self, name, *words):
+        """The shapes of an example's picture."""
+        folder = CASES[name]
+        return self.shapes(os.path.join(folder, "input"), os.path.join(folder, "stdout"), *words)
+
+    def of_three(self, *words):
+        """The shapes of the example of three networks."""
+        return self.of_example("three_networks_over_some_intervals", *words)
+
+    def long_run(self, count):
+        """The files of a long run: its configuration and trace, and its report."""
+        text = f"{long_run.config()}---\n{long_run.trace(count)}"
+        report = run_program(program_input=text)
+        for name, written in (("long.input", text), ("long.report", report)):
+            with open(self.path(name), "w", encoding="ascii") as file:
+                file.write(written)
+        return self.path("long.input"), self.path("long.report")
+
+
+class Picture(PictureTest):
+    """The pictures of runs."""
 
     def test_shapes_of_the_example(self):
-        """Each state, beacon, unit and departure of the example has its shape, and nothing else has one."""
+        """Each state, request, unit, beacon with news and departure of the example has its shape, and nothing else
+        has one."""
         shapes = self.of_three()
-        self.assertEqual(set(shapes.bars) | set(shapes.marks), wanted_ids())
-        marks = {name: words for name, words in shapes.words.items() if name.startswith("mark-")}
-        self.assertEqual(marks, WORDS)
+        states = {(group.get("data-network"), group.get("data-row"), group.get("data-what"), group.get("data-span"))
+                  for what in ("authenticated", "associated", "dozing") for group in shapes.of(what=what)}
+        self.assertEqual(states, {(bssid.hex(), *state) for bssid, found in STATES.items() for state in found})
+        marks = {(group.get("data-network"), group.get("data-what"), group.get("data-row"),
+                  int(group.get("data-lines")), group.get("data-letter") or group.get("data-sender"))
+                 for group in shapes.marks()}
+        self.assertEqual(marks, {(bssid.hex(), *mark) for bssid, found in MARKS.items() for mark in found})
+        kept = {(group.get("data-row"), group.get("data-span")) for group in shapes.of(what="keeping")}
+        self.assertEqual(kept, KEPT)
+
+    def test_words_and_letters_of_the_example(self):
+        """Identifiers, whom a TIM tells of, and the letters of requests stand beside and in their marks."""
+        shapes = self.of_three()
+        for group in shapes.marks():
+            words = ["".join(text.itertext()) for text in group.iter(f"{SVG}text")]
+            wanted = [group.get("data-letter")] if group.get("data-letter") else []
+            label = WORDS.get((bytes.fromhex(group.get("data-network")), int(group.get("data-lines"))))
+            if label and (group.get("data-what") != "delivered"):
+                wanted.append(label)
+            self.assertEqual(words, wanted, group.attrib)
 
     def test_shapes_stand_where_their_lines_do(self):
-        """A mark stands above its line's number, a bar from its first line to its last, both in the station's row."""
+        """Marks of a line are right of those of the lines before, below its number; bars go from their first line to
+        their last; a row has one height; arrows go from the sender's row to the receiver's."""
         shapes = self.of_three()
-        numbers = sorted(int(line) for line in shapes.ticks)
-        self.assertEqual(numbers, [line.number for line in input_of(THREE)[1]])
-        places = {name.rsplit("-", 1)[1]: x for name, (x, _) in shapes.marks.items()}
-        self.assertGreater(len(places), 20)
-        for number, x in places.items():
-            self.assertAlmostEqual(shapes.ticks[number][0], x, 3)
-        for name, (left, right, height) in shapes.bars.items():
-            _, bssid, station, _, begins, ends = name.split("-")
-            if begins in places:
-                self.assertAlmostEqual(left, places[begins], 3, name)
-            if ends in places:
-                self.assertAlmostEqual(right, places[ends], 3, name)
-            for mark, (_, y) in shapes.marks.items():
-                if mark.startswith(f"mark-{bssid}-") and f"-{station}-" in mark:
-                    self.assertAlmostEqual(y, height, 3, mark)
+        places, heights = {}, {}
+        for group in shapes.marks():
+            x, y = middle_of(group)
+            places.setdefault(int(group.get("data-lines")), []).append(x)
+            heights.setdefault((group.get("data-network"), group.get("data-row")), set()).add(round(y))
+        lines = sorted(places)
+        for before, after in zip(lines, lines[1:]):
+            self.assertLess(max(places[before]), min(places[after]))
+        numbers = {element.text: float(element.get("x")) for element in shapes.texts if (element.text or "").isdigit()}
+        for line, xs in places.items():
+            self.assertLess(abs(min(xs) - numbers[str(line)]), 9, line)
+        self.assertTrue(all(len(found) == 1 for found in heights.values()), heights)
+        for bssid, found in STATES.items():
+            for station, what, span in found:
+                [group] = shapes.of(network=bssid.hex(), row=station, what=what)
+                left, right, height = ends_of(group)
+                begins, ends = span.split("-")
+                self.assertEqual(round(height), next(iter(heights[bssid.hex(), station])))
+                if begins in map(str, places):
+                    self.assertAlmostEqual(left, min(places[int(begins)]), delta=4)
+                if ends in map(str, places):
+                    self.assertAlmostEqual(right, min(places[int(ends)]), delta=4)
+        self.arrows(shapes, heights)
 
-    def test_stored_picture_is_that_of_the_example(self):
-        """The picture of the README has the shapes of one that is made now, at the same places."""
-        stored, made = Shapes(STORED), self.of_three()
-        self.assertEqual((stored.bars, stored.marks, stored.words), (made.bars, made.marks, made.words))
+    def arrows(self, shapes, heights):
+        """Each arrow of a picture begins in its sender's row, and ends at its receiver's mark."""
+        count = 0
+        for group in shapes.marks():
+            sender, bssid = group.get("data-sender"), group.get("data-network")
+            if not sender:
+                continue
+            line = group.find(f"{SVG}line")
+            known = heights.get((bssid, sender))
+            if known:
+                self.assertEqual(round(float(line.get("y1"))), next(iter(known)))
+            x, y = middle_of(group)
+            self.assertAlmostEqual(float(line.get("x1")), x, delta=1)
+            self.assertLess(abs(float(line.get("y2")) - y), 6)
+            count += 1
+        self.assertEqual(count, 8)
+
+    def test_kept_units_are_bars(self):
+        """A kept unit's bar goes from its mark to that of its delivery, below its row."""
+        shapes = self.of_three()
+        for row, span in KEPT:
+            [bar] = shapes.of(what="keeping", row=row, span=span)
+            begins, ends = span.split("-")
+            [kept], [delivered] = (shapes.of(what=what, row=row, lines=line, network=DEVICES.hex())
+                                   for what, line in (("kept", begins), ("delivered", ends)))
+            left, right, height = ends_of(bar)
+            self.assertAlmostEqual(left, middle_of(kept)[0], delta=3)
+            self.assertAlmostEqual(right, middle_of(delivered)[0], delta=3)
+            self.assertGreater(height, middle_of(kept)[1] + 4)
+
+    def test_stored_pictures_are_those_of_the_examples(self):
+        """The pictures of the documents are those that are made now."""
+        names = [name for name in os.listdir(os.path.join(ROOT, "docs")) if name.endswith(".svg")
+                 and (name == "three_networks.svg" or name.removesuffix(".svg") in CASES)]
+        self.assertGreaterEqual(len(names), 3)
+        for name in names:
+            stored = Shapes(read_text(os.path.join(ROOT, "docs", name)))
+            made = self.of_three() if name == "three_networks.svg" else self.of_example(name.removesuffix(".svg"))
+            self.assertEqual([attributes for attributes, _ in stored.groups],
+                             [attributes for attributes, _ in made.groups])
+            self.assertEqual(stored.words(), made.words())
+            self.assertEqual([[round(part) for part in middle_of(group)] for group in stored.marks()],
+                             [[round(part) for part in middle_of(group)] for group in made.marks()])
 
     def test_refusals_are_shown(self):
         """Refused requests stand with their status, and those of a class that isn't allowed with their reason."""
-        folder = os.path.join(EXAMPLES, "statuses_in_order")
-        words = self.shapes(os.path.join(folder, "input"), os.path.join(folder, "stdout")).words
-        refused = sorted((int(name.split("-")[-2]), text) for name, text in words.items() if "-refused-" in name)
-        self.assertEqual([text for _, text in refused], ["13", "14", "1", "1", "18", "17", "1", "1"])
-        folder = os.path.join(EXAMPLES, "frames_of_unknown_stations")
-        words = self.shapes(os.path.join(folder, "input"), os.path.join(folder, "stdout")).words
-        self.assertEqual({text for name, text in words.items() if "-turned-away-" in name}, {"6", "7"})
+        found = [(int(group.get("data-lines")), group.get("data-letter"), group.findall(f"{SVG}text")[1].text)
+                 for group in self.of_example("statuses_in_order").of(what="refused")]
+        self.assertEqual([row[1:] for row in sorted(found)],
+                         [("A", "13"), ("A", "14"), ("A", "1"), ("J", "1"), ("J", "18"), ("J", "17"), ("J", "1"),
+                          ("J", "1")])
+        found = self.of_example("frames_of_unknown_stations").of(what="turned away")
+        self.assertEqual({group.findall(f"{SVG}text")[1].text for group in found}, {"6", "7"})
 
-    def test_lines_alone(self):
-        """--lines shows these lines alone, with the states in which they begin."""
-        shapes = self.shapes(os.path.join(THREE, "input"), os.path.join(THREE, "stdout"), "--lines", "13-26")
-        self.assertEqual(set(shapes.marks), {name for name in wanted_ids() if name.startswith("mark-")
-                                             and 13 <= int(name.rsplit("-", 1)[1]) <= 26})
-        self.assertIn(f"state-{GUEST.hex()}-{PHONE}-associated-3-37", shapes.bars)
+    def test_station_of_two_networks_is_joined(self):
+        """A station that is associated in two networks has its rows joined by a line, and its mark names the other
+        network; one that left the first has not."""
+        shapes = self.of_example("station_roams_between_two_networks")
+        [group] = shapes.of(what="roaming")
+        self.assertEqual((group.get("data-row"), group.get("data-span")), ("02aa00000001", "7-end"))
+        heights = {middle_of(mark)[1] for mark in shapes.of(row="02aa00000001", what="answered")}
+        beside, at_the_join = group.findall(f"{SVG}line")
+        self.assertEqual({float(beside.get("y1")), float(beside.get("y2"))}, heights)
+        [joined] = shapes.of(what="answered", letter="R")
+        self.assertAlmostEqual(float(at_the_join.get("x1")), middle_of(joined)[0], delta=3)
+        self.assertIn("aid 1, also in guest", shapes.words())
+        shapes = self.of_example("station_leaves_before_it_roams")
+        self.assertEqual(shapes.of(what="roaming"), [])
+
+    def test_networks_of_one_name_are_told_apart(self):
+        """Networks with the same SSID are named with their BSSIDs."""
+        texts = [read_text(os.path.join(CASES["station_roams_between_two_networks"], name))
+                 for name in ("input", "stdout")]
+        office, guest = "office".encode().hex(), "guest".encode().hex()
+        for name, text in zip(("input", "report"), texts):
+            text = text.replace('"office"', '"guest"').replace(f"0006{office}", f"0005{guest}")
+            with open(self.path(name), "w", encoding="ascii") as file:
+                file.write(text.replace(f"ssid {office}", f"ssid {guest}"))
+        words = self.shapes(self.path("input"), self.path("report")).words()
+        self.assertLessEqual({"guest 02:00:00:00:00:01", "guest 02:00:00:00:00:02",
+                              "aid 1, also in guest 02:00:00:00:00:01"}, words)
 
     def test_changed_octet_is_seen(self):
         """Where an octet of the report or the trace is changed, the pair is refused, or the picture another one."""
@@ -142,20 +302,189 @@ class Picture(ToolTest):
                 with open(self.path(other), "w", encoding="ascii") as file:
                     file.write(text)
             if is_drawn:
-                shapes = self.shapes(self.path("input"), self.path("stdout"))
-                self.assertNotEqual(shapes.words, Shapes(STORED).words)
-                self.assertIn("aid 2", shapes.words.values())
+                [beacon] = self.shapes(self.path("input"), self.path("stdout")).of(what="beacon")
+                self.assertEqual(beacon.find(f"{SVG}text").text, "aid 2")
             else:
                 self.refused("picture", self.path("input"), self.path("stdout"), says="network 02:")
 
     def test_what_is_no_run_is_refused(self):
-        """A file that isn't there, what is no report, and a trace without a line."""
+        """A file that isn't there, what is no report, a trace without a line, and names that aren't in the run."""
         trace, report = os.path.join(THREE, "input"), os.path.join(THREE, "stdout")
         self.refused("picture", self.path("none"), report, says="No such file")
         self.refused("picture", trace, trace, says="can't be read")
         self.refused("picture", report, report, says="line 1 of the trace is none")
-        empty = os.path.join(EXAMPLES, "empty_trace")
+        empty = CASES["empty_trace"]
         self.refused("picture", os.path.join(empty, "input"), os.path.join(empty, "stdout"), says="no line to show")
+        self.refused("picture", trace, report, "--from", "100", says="no line to show")
+        self.refused("picture", trace, report, "--station", "02:aa:00:00:00:99", says="nothing in this run is of")
+        self.refused("picture", trace, report, "--network", "02:aa:00:00:00:99", says="no section of the report is of")
+        for words in (["--out", self.path("x.gif")], ["--from", "x"], ["--to", "1.5"], ["--station", "phone"]):
+            self.assertEqual(tool("picture", trace, report, *words)[0], 2, words)
+
+
+class Choices(PictureTest):
+    """What is left out when a part of a run is asked for, and the times."""
+
+    def test_from_and_to(self):
+        """--from and --to show these lines alone, with the states in which they begin; seconds are those of the
+        clock."""
+        shapes = self.of_three("--from", "13", "--to", "26")
+        lines = {int(group.get("data-lines")) for group in shapes.marks()}
+        self.assertEqual((min(lines), max(lines)), (17, 26))
+        self.assertEqual(len(shapes.of(row=PHONE, what="associated")), 1)
+        by_time = self.of_three("--from", "0.1s", "--to", "0.21s")
+        self.assertEqual({int(group.get("data-lines")) for group in by_time.marks()}, lines | {28, 30, 32})
+
+    def test_station_and_network(self):
+        """--station and --network show these alone; the rest is folded."""
+        shapes = self.of_three("--station", "02:aa:00:00:00:04")
+        self.assertEqual({group.get("data-row") for group in shapes.marks()}, {SENSOR})
+        self.assertGreater(len(shapes.of(what="quiet")), 2)
+        shapes = self.of_three("--network", OFFICE.hex(":"))
+        self.assertEqual({group.get("data-network") for group in shapes.marks()}, {OFFICE.hex()})
+        self.assertNotIn(PHONE, {group.get("data-row") for group in shapes.marks()})
+
+    def test_quiet_stretches_are_folded(self):
+        """Beacons without news and frames that aren't read are one stretch, which says how long it is."""
+        config, trace = input_of(THREE)[0].split("---\n")
+        text = f"{config}---\n{trace}" + "T\n" * 50
+        for name, written in (("input", text), ("report", run_program(program_input=text) if os.path.exists(PROGRAM)
+                                                else None)):
+            if written is None:
+                self.skipTest("build/apctl isn't there (make apctl builds it)")
+            with open(self.path(name), "w", encoding="ascii") as file:
+                file.write(written)
+        shapes = self.shapes(self.path("input"), self.path("report"))
+        last = shapes.of(what="quiet")[-1]
+        first, end = map(int, last.get("data-lines").split("-"))
+        self.assertGreaterEqual(end - first, 45)
+        self.assertTrue({"⋯ 4.6 s", f"{end - first + 1} lines"} & shapes.words(), shapes.words())
+
+    def test_times(self):
+        """Times are those of the beacon clock, or the capture's own where the trace tells them."""
+        words = self.of_three().words()
+        self.assertLessEqual({"0.000", "0.102", "0.205", "0.410", "beacons, s"}, words)
+        text = input_of(THREE)[0].replace("\nA ", "\n# frame 7, 12.345 s\nA ", 1)
+        with open(self.path("input"), "w", encoding="ascii") as file:
+            file.write(text)
+        words = self.shapes(self.path("input"), os.path.join(THREE, "stdout")).words()
+        self.assertLessEqual({"12.345", "capture, s"}, words)
+
+
+class Labels(PictureTest):
+    """No two labels overlap at a page's width."""
+
+    def test_examples(self):
+        """In the picture of each example."""
+        count = 0
+        for folder in with_report():
+            if input_of(folder)[1]:
+                shapes = self.of_example(os.path.basename(folder))
+                self.assertEqual(shapes.overlapping(), [], folder)
+                self.assertEqual(shapes.root.get("width"), str(WIDTH))
+                count += 1
+        self.assertGreater(count, 70)
+
+    def test_overlap_is_seen(self):
+        """Where two labels are put on one place, the test sees it."""
+        text = read_text(STORED)
+        again = re.search(r'<text [^>]*>devices</text>', text)[0]
+        self.assertEqual(Shapes(text).overlapping(), [])
+        self.assertEqual(Shapes(text.replace(again, again + again, 1)).overlapping(), [("devices", "devices")])
+
+    @needs_program
+    def test_run_of_5000_lines(self):
+        """In the picture of 5,000 lines, in each of its forms."""
+        trace, report = self.long_run(5000)
+        shapes = self.shapes(trace, report)
+        self.assertEqual(shapes.overlapping(), [])
+        self.assertGreater(len(shapes.marks()), 1000)
+        self.assertGreater(len(shapes.of(what="roaming")), 10)
+        numbers = [tuple(map(int, group.get("data-lines").split("-"))) for group in shapes.of(what="quiet")]
+        lines = {line for first, *last in numbers for line in range(first, (last or [first])[0] + 1)}
+        shown = {int(group.get("data-lines").split("-")[0]) for group in shapes.marks()}
+        self.assertGreater(len(lines | shown), 4500)
+        for network in (0, 1):
+            address = long_run.with_colons(long_run.bssid_of(network))
+            self.assertEqual(self.shapes(trace, report, "--network", address).overlapping(), [])
+
+
+class Forms(PictureTest):
+    """PNG, PDF, and the page that can be asked."""
+
+    def test_png_and_pdf(self):
+        """By the name's ending: a PNG of a page's width, and a PDF."""
+        trace, report = os.path.join(THREE, "input"), os.path.join(THREE, "stdout")
+        svg = Shapes(read_text(self.drawn(trace, report)))
+        with Image.open(self.drawn(trace, report, name="x.png")) as picture:
+            self.assertEqual((picture.format, picture.width), ("PNG", WIDTH))
+            self.assertAlmostEqual(picture.height, float(svg.root.get("height")), delta=1)
+            self.assertGreater(len(picture.convert("RGB").getcolors(1 << 24)), 50)
+        with open(self.drawn(trace, report, name="x.pdf"), "rb") as file:
+            self.assertEqual(file.read(5), b"%PDF-")
+        status, stdout, _ = tool("picture", trace, report)
+        self.assertEqual((status, Shapes(stdout).words()), (0, svg.words()))
+
+    @needs_program
+    def test_pdf_has_pages(self):
+        """A long run's PDF has several pages, its PNG is refused where it would be too high."""
+        trace, report = self.long_run(2000)
+        with open(self.drawn(trace, report, name="x.pdf"), "rb") as file:
+            octets = file.read()
+        self.assertGreater(int(re.search(rb"/Count (\d+)", octets)[1]), 3)
+        trace, report = self.long_run(20000)
+        self.refused("picture", trace, report, "--out", self.path("x.png"), says="choose by --from and --to")
+
+    def test_page(self):
+        """The page needs nothing from elsewhere, has the picture, and of each line its octets field by field."""
+        path = self.drawn(os.path.join(THREE, "input"), os.path.join(THREE, "stdout"), name="x.html")
+        text = read_text(path)
+        self.assertEqual(set(re.findall(r"[a-z]+://[^\"' <]*", text)), {"http://www.w3.org/2000/svg"})
+        self.assertEqual(re.findall(r"<(?:link|img|iframe|object)|\ssrc=|@import|url\(", text), [])
+        picture = re.search(r"<svg.*</svg>", text, re.DOTALL)[0]
+        self.assertEqual(Shapes(picture).words(), self.of_three().words())
+        words, lines = (json.loads(re.search(rf"const {name} = (.*);\n", text)[1]) for name in ("WORDS", "LINES"))
+        trace = input_of(THREE)[1]
+        self.assertEqual(list(lines), [str(line.number) for line in trace])
+        for line in trace:
+            told = lines[str(line.number)]
+            self.assertEqual(told["came"]["octets"], line.octets.hex())
+            for frame in [told["came"], *told["sent"]]:
+                self.assertEqual(sum(frame["fields"][1::3]), len(frame["octets"]), line)
+                self.assertLess(max([0, *frame["fields"][::3], *frame["fields"][2::3]]), len(words))
+        sent = [frame["octets"] for told in lines.values() for frame in told["sent"]]
+        self.assertEqual(sorted(sent), sorted(octets.hex() for section in report_of(THREE)
+                                              for octets in [*section.air, *section.wire]))
+        self.assertIn("DTIM count 2 of 3, units wait for identifier 1", words)
+
+    def test_no_text_of_a_run_ends_the_script(self):
+        """A name that would end the page's script doesn't."""
+        folder = CASES["probe_is_answered"]
+        name = "</script><b>".encode()
+        text = read_text(os.path.join(folder, "input")).replace('"lab"', '"</script><b>"')
+        report = read_text(os.path.join(folder, "stdout")).replace("ssid 6c6162", f"ssid {name.hex()}").replace(
+            "00036c6162", f"00{len(name):02x}{name.hex()}")
+        for file_name, written in (("input", text), ("report", report)):
+            with open(self.path(file_name), "w", encoding="ascii") as file:
+                file.write(written)
+        page = read_text(self.drawn(self.path("input"), self.path("report"), name="x.html"))
+        self.assertEqual(page.count("</script>"), 1)
+        self.assertNotIn("<b>", page)
+
+    def test_fields_of_all_examples(self):
+        """The fields of each frame of the examples are its octets, in order."""
+        count = 0
+        for folder in with_report():
+            heard = [line.octets for line in input_of(folder)[1] if line.kind == "A"]
+            wired = [line.octets for line in input_of(folder)[1] if line.kind == "W"]
+            sections = report_of(folder)
+            for frames, fields in ((heard + [octets for section in sections for octets in section.air], fields_on_air),
+                                   (wired + [octets for section in sections for octets in section.wire],
+                                    fields_on_wire)):
+                for octets in frames:
+                    self.assertEqual(b"".join(field.octets for field in fields(octets)), octets, folder)
+                    count += 1
+        self.assertGreater(count, 900)
 
 
 class Stories(ToolTest):
@@ -193,7 +522,7 @@ class Stories(ToolTest):
 
     def with_change(self, name, old, new):
         """The input of an example with another text in it."""
-        text = input_of(os.path.join(EXAMPLES, name))[0]
+        text = input_of(CASES[name])[0]
         self.assertIn(old, text)
         return text.replace(old, new)
 
@@ -201,13 +530,13 @@ class Stories(ToolTest):
         """The tools refuse the report of an example with this input."""
         with open(self.path("input"), "w", encoding="ascii") as file:
             file.write(text)
-        report = os.path.join(EXAMPLES, name, "stdout")
+        report = os.path.join(CASES[name], "stdout")
         self.refused("picture", self.path("input"), report, says=says)
         self.refused("capture-from-run", self.path("input"), report, "--out", self.path("out"), says=says)
 
     def test_units_that_age_are_lost_in_their_interval(self):
         """Of units that are kept for too long the loss stands at the beacon interval that ends their time."""
-        folder = os.path.join(EXAMPLES, "units_of_stations_that_doze_too_long")
+        folder = CASES["units_of_stations_that_doze_too_long"]
         text, lines = input_of(folder)
         ticks = {line.number for line in lines if line.kind == "T"}
         told = stories(report_of(folder), lines, read_config(text))
@@ -222,7 +551,7 @@ class Stories(ToolTest):
         for name in ("three_networks_over_some_intervals", "leaving_drops_kept_units", "one_event_loses_two",
                      "waking_makes_room_for_the_group", "station_roams_between_two_networks", "guests_are_kept_apart",
                      "units_of_stations_that_doze_too_long", "keeping_between_two_networks_where_units_age"):
-            folder = os.path.join(EXAMPLES, name)
+            folder = CASES[name]
             text, lines = input_of(folder)
             told = stories(report_of(folder), lines, read_config(text))
             config, trace = text.split("\n---\n")

@@ -9,7 +9,7 @@ from captures import (PLAIN_80211, RADIOTAP, RadioTap, fcs_of, read_air, read_ca
 from common import (DEVICES, GUEST, OFFICE, THREE, ToolTest, input_of, needs_program, run_program, tool, with_report)
 from frames import BEACON, CONTROL, PS_POLL, Frame
 from hearing import beacon_ticks, even_ticks, interval_length
-from texts import read_text, read_trace
+from texts import read_origins, read_text, read_trace
 
 SAMPLE = os.path.join(THREE, "air.pcapng")
 WIRES = [word for place, bssid in enumerate((GUEST, OFFICE, DEVICES), 1)
@@ -26,7 +26,7 @@ wire.1.pcapng, of 02:00:00:00:01:01: 1 frame, 0 of them lines of the trace
 wire.2.pcapng, of 02:00:00:00:01:02: 2 frames, 0 of them lines of the trace
   2 left out: passed on by the access point, from a station on the air
 wire.3.pcapng, of 02:00:00:00:01:03: 3 frames, 3 of them lines of the trace
-beacon intervals: 4, by the beacons of 02:00:00:00:01:01, 0 of which weren't captured
+beacon intervals: 4, by the beacons of 02:00:00:00:01:01; 0 lines T were made, where no beacon was captured
 """
 # The one example with beacon intervals of which no beacon tells: the network's history is full by then.
 SILENT = ["full_history_refuses_the_third_tick"]
@@ -154,7 +154,8 @@ class Sample(ToolTest):
         write_pcap(self.path("missing"), PLAIN_80211, frames)
         found, told = self.trace(self.path("missing"), *WIRES)
         self.assertEqual(essence(found), essence(input_of(THREE)[1]))
-        self.assertIn("beacon intervals: 4, by the beacons of 02:00:00:00:01:01, 1 of which weren't captured", told)
+        self.assertIn("beacon intervals: 4, by the beacons of 02:00:00:00:01:01; 1 line T was made, where no beacon "
+                      "was captured", told)
 
     def test_choices(self):
         """--beacons-of, --every, --network and --heard-only do what they say."""
@@ -169,6 +170,52 @@ class Sample(ToolTest):
         self.assertEqual([line.octets for line in alone if line.octets[4:10] == GUEST], [line.octets for line in heard])
         self.assertTrue(all(octets[4:10] == bytes([255] * 6) for octets in others))
         self.assertIn("left out: for a receiver that is no network here", told)
+
+
+class Origins(ToolTest):
+    """The remarks that lead back to the capture."""
+
+    def test_remarks_lead_back(self):
+        """Before each line stands the number of its frame in its capture, and its time: that frame is the line's."""
+        _, stdout, _ = tool("trace-from-capture", SAMPLE, *WIRES)
+        origins, lines = read_origins(stdout), read_trace(stdout)
+        self.assertEqual(sorted(origins), [line.number for line in lines])
+        frames = {frame.number: frame for frame in read_capture(SAMPLE)}
+        first = min(frame.time for frame in frames.values())
+        for line in lines:
+            origin, remark = origins[line.number], stdout.split("\n")[line.number - 2]
+            frame = frames[origin.frame]
+            if " of " in remark:
+                path = os.path.join(THREE, remark.split(" of ")[1].split(",")[0])
+                frame = list(read_capture(path))[origin.frame - 1]
+            self.assertAlmostEqual(origin.seconds, float(frame.time - first), delta=0.001)
+            self.assertIn(line.octets, frame.octets)
+            if line.kind == "T":
+                beacon = next(heard for heard in read_air(SAMPLE) if heard.number == origin.frame)
+                self.assertTrue(Frame(beacon.octets).is_management(BEACON))
+                self.assertEqual(Frame(beacon.octets).transmitter, GUEST)
+
+    def test_made_ticks_say_so(self):
+        """A line `T` that no captured beacon began is said to be made, in the trace and in the counts."""
+        _, stdout, stderr = tool("trace-from-capture", SAMPLE, "--every", "100")
+        self.assertIn("all lines T were made", stderr)
+        remarks = [before for before, line in zip(stdout.split("\n"), stdout.split("\n")[1:]) if line == "T"]
+        self.assertGreater(len(remarks), 3)
+        self.assertTrue(all(remark.startswith("# made, no frame, ") for remark in remarks), remarks)
+
+    @needs_program
+    def test_program_reads_the_remarks(self):
+        """The program skips them, and the picture takes its times from them."""
+        _, stdout, _ = tool("trace-from-capture", SAMPLE, *WIRES, "--config", self.path("my.toml"))
+        text = f"{read_text(self.path('my.toml'))}---\n{stdout}"
+        report = run_program(program_input=text)
+        self.assertEqual(report, read_text(os.path.join(THREE, "stdout")))
+        for name, written in (("input", text), ("report", report)):
+            with open(self.path(name), "w", encoding="ascii") as file:
+                file.write(written)
+        status, picture, stderr = tool("picture", self.path("input"), self.path("report"))
+        self.assertEqual((status, stderr), (0, ""))
+        self.assertIn("capture, s", picture)
 
 
 class Examples(ToolTest):

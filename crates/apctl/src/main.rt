@@ -6,7 +6,7 @@
 //! any.
 //!
 //! It promises nothing of words, of the process's streams, or of the lines of other faults. Those are shown by what the
-//! built program does (`examples/`), and so it has no tests of its own: a crate with tests is proved twice.
+//! built program does (`tests/`), and so it has no tests of its own: a crate with tests is proved twice.
 #![tactic(auto)]
 
 mod fault;

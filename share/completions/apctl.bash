@@ -1,0 +1,13 @@
+# Completion of apctl's words for bash: its commands, and then files.
+_apctl() {
+    if [ "$COMP_CWORD" = 1 ]; then
+        mapfile -t COMPREPLY < <(compgen -W 'check run play live' -- "${COMP_WORDS[1]}")
+    elif [ "$COMP_CWORD" = 2 ]; then
+        mapfile -t COMPREPLY < <(compgen -f -X '!*.toml' -- "${COMP_WORDS[2]}"; compgen -d -- "${COMP_WORDS[2]}")
+    elif [ "${COMP_WORDS[1]}" = play ] || { [ "${COMP_WORDS[1]}" = run ] && [ "$COMP_CWORD" = 3 ]; }; then
+        mapfile -t COMPREPLY < <(compgen -f -- "${COMP_WORDS[COMP_CWORD]}")
+    else
+        COMPREPLY=()
+    fi
+}
+complete -o filenames -F _apctl apctl

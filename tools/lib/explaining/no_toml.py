@@ -1,0 +1,273 @@
+"""What a fault C1 comes of: octets that are no UTF-8, a text that is no TOML, or one that isn't a configuration at
+all."""
+import difflib
+import re
+import tomllib
+
+from explaining import values
+from explaining.keys import (HOSTAPD, NETWORK_KEYS, NETWORK_LIMITS, OPTIONS, RADIO_KEYS, RADIO_LIMITS, SAMPLES,
+                             TEXT_KEYS)
+from explaining.source import Finding, Place, Source, quoted
+from explaining.toml_scan import NoToml, scan
+
+# How files begin that are no text of this program.
+MAGICS = ((b"\xd4\xc3\xb2\xa1", "capture"), (b"\xa1\xb2\xc3\xd4", "capture"), (b"\x4d\x3c\xb2\xa1", "capture"),
+          (b"\xa1\xb2\x3c\x4d", "capture"), (b"\x0a\x0d\x0d\x0a", "capture"), (b"\x1f\x8b", "gzip"),
+          (b"PK\x03\x04", "zip"), (b"\x7fELF", "program"), (b"%PDF", "pdf"), (b"\x89PNG", "picture"))
+UTF_16 = (b"\xff\xfe", b"\xfe\xff")
+TRACE_LINE = re.compile(r"(?:[AW] +[0-9A-Fa-f: ]{4,}|T|A|W)\s*\r?")
+REPORT_LINE = re.compile(r"network [0-9a-f:]{17} ssid [0-9a-f]*|(?:air|wire) [0-9a-f]+|events \d+ clock \d+.*")
+SEPARATOR_LIKE = re.compile(r"\s*(?:-\s*){2,}\r?|\s*[\u2010-\u2015\u2212]+\s*|\s*={3,}\s*|\s*-{3,}\s*#.*")
+TRUTHS = {"yes": "true", "on": "true", "y": "true", "true": "true", "no": "false", "off": "false", "n": "false",
+          "false": "false"}
+QUOTES = re.compile("[\u2018-\u201f\u00ab\u00bb\u2039\u203a`\u00b4]")
+REMARK = re.compile(r"\s*(?:;|//|--|/\*|!|%|REM\b)")
+WORD = re.compile(r"[A-Za-z_][A-Za-z0-9_-]*")
+
+
+def explain(source: Source, wants_trace: bool) -> list[Finding]:
+    """The reason for a fault C1; none where nothing was found. `wants_trace` where a line `---` and a trace may
+    follow in the same text."""
+    finding = other_file(source) or not_utf8(source) or other_text(source)
+    if finding:
+        return [finding]
+    try:
+        scan(source.text)
+    except NoToml as fault:
+        return [of_line(source, fault, wants_trace)]
+    except RecursionError:
+        return []
+    return of_library(source)
+
+
+def other_file(source: Source) -> Finding | None:
+    """A file that is no text."""
+    octets = source.octets
+    kind = next((kind for magic, kind in MAGICS if octets.startswith(magic)), None)
+    if kind == "capture":
+        return Finding(f"{source.name}: this is a capture, and no configuration", None,
+                       "tools/trace-from-capture makes a trace and a configuration of it")
+    if kind:
+        names = {"gzip": "packed by gzip", "zip": "a zip archive", "program": "a program", "pdf": "a PDF",
+                 "picture": "a picture"}
+        return Finding(f"{source.name}: this file is {names[kind]}, and no text", None,
+                       "`gunzip` unpacks it" if kind == "gzip" else None)
+    if octets.startswith(UTF_16) or b"\0\0" in (octets[1:4:2], octets[0:3:2]):
+        return Finding(f"{source.name}: this text is in UTF-16, and a configuration is in UTF-8", None,
+                       "`iconv -f UTF-16 -t UTF-8` writes it anew")
+    return None
+
+
+def not_utf8(source: Source) -> Finding | None:
+    """The first octet that is none of UTF-8."""
+    try:
+        source.octets.decode("utf-8")
+        return None
+    except UnicodeDecodeError as fault:
+        octet = source.octets[fault.start]
+        at = len(source.octets[:fault.start].decode("utf-8"))
+    letter = bytes([octet]).decode("cp1252", "replace")
+    like = f"; in ISO 8859-1 it is {quoted(letter)}" if octet >= 0xA0 else ""
+    return Finding(f"the octet {octet:02x} is no UTF-8{like}", source.at(at, at + 1),
+                   "`iconv -f ISO-8859-1 -t UTF-8` writes such a text anew")
+
+
+def other_text(source: Source) -> Finding | None:
+    """A text of another program, or another text of this one."""
+    first = next((number for number, line in enumerate(source.lines, 1) if line.strip()), 1)
+    line = source.line(first).strip()
+    if REPORT_LINE.fullmatch(line):
+        return Finding("this is a report of the program, and no configuration", source.place(first, 1, len(line)))
+    if line.startswith("{"):
+        return Finding("this is JSON, and a configuration is TOML", source.place(first),
+                       "write `channel = 6`, without braces, a line for each key")
+    keys = [line.split("=")[0].strip() for line in source.lines if "=" in line and not line.startswith("#")]
+    of_hostapd = [key for key in keys if key in HOSTAPD]
+    if len(of_hostapd) >= 2:
+        number = next(number for number, line in enumerate(source.lines, 1) if line.startswith(of_hostapd[0]))
+        return Finding("this is a configuration of hostapd, and the program has its own keys, in TOML",
+                       source.place(number, 1, len(of_hostapd[0])),
+                       "docs/PROTOCOL.md, \"Configuration\", has them; README.md shows one")
+    if "\n" not in source.text.strip() and "\r" in source.text.strip():
+        return Finding("lines end with CR alone, and TOML's end with LF", source.at(*first_return(source)),
+                       "`tr '\\r' '\\n'` writes such a text anew")
+    return None
+
+
+def first_return(source: Source) -> tuple[int, int]:
+    """Where the first CR stands."""
+    at = source.text.index("\r", len(source.text) - len(source.text.lstrip()))
+    return at, at + 1
+
+
+def of_line(source: Source, fault: NoToml, wants_trace: bool) -> Finding:
+    """Why the text stops being TOML in this line."""
+    place = source.at(fault.begin, fault.end)
+    line = source.line(place.line)
+    finding = of_trace(source, place, line, wants_trace)
+    if finding:
+        return finding
+    by_expected = {"`=` after a key": of_key, "a key": of_key, "a value": of_value, "the line's end": of_rest,
+                   "a key that isn't there yet": of_key_twice, "a table that isn't there yet": of_table_twice}
+    if fault.expected in by_expected:
+        return by_expected[fault.expected](place, line, fault, source)
+    if fault.expected.startswith("a closing"):
+        return Finding(f"{fault.expected} is missing", place, f"a text begins and ends with {fault.expected[10:]}")
+    if fault.expected.startswith("a character that may follow"):
+        return Finding(f"{quoted(source.text[fault.begin:fault.end])} stands for no character", place,
+                       "write `\\\\` for a backslash, or the text between single quotes")
+    if "control character" in fault.expected:
+        return Finding(f"a control character, {ord(source.text[fault.begin]):02x}; {fault.expected}", place)
+    if fault.expected.startswith("`]"):
+        return Finding(f"a header ends with {fault.expected.split()[0]}" if line.lstrip().startswith("[")
+                       else f"{fault.expected} is missing", place,
+                       "write `[[network]]`" if "network" in line else None)
+    return Finding(f"expected: {fault.expected}", place)
+
+
+def of_trace(source: Source, place: Place, line: str, wants_trace: bool) -> Finding | None:
+    """A line of a trace, or what was meant as the line between the parts."""
+    where = source.place(place.line, 1, len(line) or 1)
+    if SEPARATOR_LIKE.fullmatch(line):
+        if line == "---":
+            return Finding("a line `---` and a trace aren't a part of a configuration's file", where,
+                           "such a text is for standard input: `build/apctl < " + source.name + "`")
+        if line == "---\r":
+            return Finding("this line ends with CR LF, so it isn't the line `---` between a configuration and its "
+                           "trace", where, "`sed 's/\\r$//'` takes the CRs off")
+        return Finding("this isn't the line `---` between a configuration and its trace", where,
+                       "write three hyphens, and nothing before or after them" + ("" if wants_trace else
+                                                                                  ", in a text for standard input"))
+    if TRACE_LINE.fullmatch(line):
+        advice = "write a line `---` before the trace" if wants_trace else \
+            "the trace has a file of its own for `check` and `run`; in one text a line `---` stands before it"
+        return Finding("this is a line of a trace, and belongs to no configuration", where, advice)
+    return None
+
+
+def of_key(place: Place, line: str, fault: NoToml, source: Source) -> Finding:
+    """A line that doesn't begin with a key and `=`."""
+    text = line.strip()
+    if REMARK.match(line):
+        return Finding(f"{quoted(text, 12)}: a remark begins with `#`", place, f"write `# {text.lstrip(';/-*!% ')}`")
+    words = WORD.match(text)
+    if words and re.match(r"\s*:", text[words.end():]):
+        return Finding("`:` stands where TOML has `=`", place,
+                       f"write `{words[0]} = {text[words.end():].lstrip(': ').rstrip(',')}`")
+    known = words and words[0] in RADIO_KEYS + NETWORK_KEYS
+    if known and not text[words.end():].strip():
+        return Finding(f"`{words[0]}` has no value", place, f"write `{words[0]} = {SAMPLES.get(words[0], '..')}`")
+    if known:
+        return Finding(f"`=` is missing after the key `{words[0]}`", place,
+                       f"write `{words[0]} = {text[words.end():].strip()}`")
+    if text.startswith("<"):
+        return Finding("this is XML or HTML, and a configuration is TOML", place)
+    if text.startswith(("\u201c", "\u201d", "\u2018", "\u2019")):
+        return Finding("a quote of print, and TOML's are `\"` and `'`", place)
+    if not text.isascii() and not WORD.match(text):
+        return Finding("a key has letters a to z, digits, `_` and `-`; others stand in quotes", place)
+    return Finding("a line is a key, `=` and a value, or a table's header", place, "a remark begins with `#`")
+
+
+def of_value(place: Place, line: str, fault: NoToml, source: Source) -> Finding:
+    """A value that is none."""
+    text, key = source.text[fault.begin:fault.end].strip(), fault.key
+    name = key or "the key"
+    if not text:
+        return Finding(f"`{name}` has no value", place, f"write `{key} = {SAMPLES[key]}`" if key in SAMPLES else None)
+    if QUOTES.search(text):
+        plain = QUOTES.sub('"', text)
+        return Finding("these quotes are of print, and TOML's are `\"` and `'`", place, f"write `{name} = {plain}`")
+    remark = re.search(r"\s*(?:;|//|--).*", text)
+    if remark and remark.start() > 0:
+        return with_more(place, text[:remark.start()], text[remark.start():].strip(), name)
+    if "=" in text and re.search(r"[A-Za-z_]+\s*=", text):
+        return Finding("two keys stand in one line", place, "write each in a line of its own")
+    if text.rstrip(",;") != text and key not in TEXT_KEYS:
+        return Finding(f"nothing stands after a value, and here `{text[-1]}` does", place,
+                       f"write `{name} = {text.rstrip(',;')}`")
+    if key in OPTIONS and text.lower() not in TRUTHS:
+        close = difflib.get_close_matches(text.lower(), ("true", "false"), 1, 0.5)
+        return Finding(f"`{key}` is `true` or `false`, and {quoted(text)} is neither", place,
+                       f"write `{key} = {close[0] if close else SAMPLES[key]}`")
+    if text.lower() in TRUTHS and key not in TEXT_KEYS:
+        return Finding(f"{quoted(text)} is no truth value: TOML has `true` and `false`, in small letters", place,
+                       f"write `{name} = {TRUTHS[text.lower()]}`")
+    if key in TEXT_KEYS or values.address_fault(text) is None:
+        return Finding(f"`{name}` is a text, and a text stands in quotes", place, f'write `{name} = "{text}"`')
+    return of_number(place, text, name)
+
+
+def of_number(place: Place, text: str, name: str) -> Finding:
+    """What should be a number and is none."""
+    if re.fullmatch(r"[+-]?0\d+", text):
+        return Finding("a number doesn't begin with a zero", place, f"write `{name} = {int(text)}`")
+    if re.fullmatch(r"[+-]?\d+", text):
+        return Finding("no number of TOML is so large", place)
+    if re.fullmatch(r"0[XOB][0-9A-Fa-f]+", text):
+        return Finding("`0x`, `0o` and `0b` are written with small letters", place, f"write `{name} = {text.lower()}`")
+    unit = re.fullmatch(r"(\d+)\s*([A-Za-z%]+)", text)
+    if unit:
+        return Finding(f"a number has no unit after it, and here {quoted(unit[2])} stands", place,
+                       f"write `{name} = {unit[1]}`")
+    if re.fullmatch(r"\d+([_.,']\d+)+_?", text):
+        return Finding("this is no number of TOML", place, f"write `{name} = {re.sub('[^0-9]', '', text)}`")
+    if name in RADIO_LIMITS or name in NETWORK_LIMITS:
+        return Finding(f"`{name}` is a whole number, and {quoted(text)} is none", place,
+                       f"write `{name} = {SAMPLES[name]}`")
+    if re.match(r"[A-Za-z]", text):
+        return Finding(f"{quoted(text)} is no value: a text stands in quotes", place,
+                       f"write `{name} = {SAMPLES[name]}`" if name in SAMPLES else f'write `{name} = "{text}"`')
+    return Finding(f"{quoted(text)} is no value of TOML", place,
+                   f"write `{name} = {SAMPLES[name]}`" if name in SAMPLES else None)
+
+
+def with_more(place: Place, value: str, more: str, name: str) -> Finding:
+    """A value, and something after it that should be a remark."""
+    return Finding(f"{quoted(more, 12)}: a remark begins with `#`", place,
+                   f"write `{name} = {value} # {more.lstrip(';/- ')}`")
+
+
+def of_rest(place: Place, line: str, fault: NoToml, source: Source) -> Finding:
+    """Something after a value that is whole."""
+    text = source.text[fault.begin:fault.end]
+    if text == "]":
+        return Finding("`]` is one too many", place, "write `[[network]]` for a network")
+    if REMARK.match(text):
+        return Finding(f"{quoted(text, 12)}: a remark begins with `#`", place, f"write `# {text.lstrip(';/-*!% ')}`")
+    if re.match(r"[A-Za-z_]+\s*=", text):
+        return Finding("two keys stand in one line", place, "write each in a line of its own")
+    if text.startswith("\r"):
+        return Finding("a CR that isn't followed by LF ends no line", place, "`tr '\\r' '\\n'` writes line ends anew")
+    return Finding(f"nothing stands after a value, and here {quoted(text)} does", place,
+                   "leave it out; a quote within a text is written `\\\"`")
+
+
+def of_key_twice(place: Place, line: str, fault: NoToml, source: Source) -> Finding:
+    """A key that stands in its table already."""
+    table_begin = source.text.rfind("\n[", 0, fault.begin) + 1
+    earlier = re.compile(rf"^\s*{re.escape(fault.key)}\s*[.=]", re.MULTILINE).search(source.text, table_begin)
+    line_text = ""
+    if earlier and earlier.start() < fault.begin:
+        number = source.text.count("\n", 0, earlier.end()) + source.first
+        line_text = f", in line {number}"
+    return Finding(f"the key `{fault.key}` stands here a second time{line_text}", place,
+                   "leave one out; the keys of another network stand below a `[[network]]` of its own")
+
+
+def of_table_twice(place: Place, line: str, fault: NoToml, source: Source) -> Finding:
+    """A table that is there already."""
+    return Finding(f"`{fault.key}` is there already", place, "write `[[network]]` for each network")
+
+
+def of_library(source: Source) -> list[Finding]:
+    """What Python's own reader says of a text in which nothing else was found."""
+    try:
+        tomllib.loads(source.text.removeprefix("\ufeff"))
+    except tomllib.TOMLDecodeError as fault:
+        match = re.search(r"(.*) \(at line (\d+), column (\d+)\)", str(fault))
+        if match:
+            return [Finding(match[1], source.place(int(match[2]), int(match[3])))]
+    except RecursionError:
+        pass
+    return []

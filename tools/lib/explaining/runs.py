@@ -1,0 +1,306 @@
+"""What is odd in a run that ended well: networks that heard nothing, frames that aren't read, tables and histories that
+are full. All of it is told from the trace and the report; it changes nothing of the report."""
+import zlib
+from collections import Counter
+from dataclasses import dataclass, field
+
+from explaining.config import Config, NetworkTable
+from explaining.source import Finding, Source, quoted
+from explaining.toml_scan import NoToml
+from frames import (ASSOCIATION_REQUEST, ASSOCIATION_RESPONSE, AUTHENTICATION, DATA, DEAUTHENTICATION,
+                    DISASSOCIATION, HEADER_LEN, MANAGEMENT, REASSOCIATION_REQUEST, REASSOCIATION_RESPONSE, SSID,
+                    Frame, address_text, elements, first_of, is_group, number)
+from reading import hears, unread_kind, wired_unread_kind
+from texts import Line, Section, frames_text, read_report, trace_line
+
+FCS_LEN, MOST_NAMED = 4, 3
+FIXED_BEFORE_ELEMENTS = {ASSOCIATION_REQUEST: 4, REASSOCIATION_REQUEST: 10}
+KINDS = {"U1": "shorter than a header", "U2": "of another version of the protocol",
+         "U3": "of a kind that isn't read (beacons, control and action frames)",
+         "U4": "encrypted, fragments, or with an HT Control field",
+         "U5": "not to the access point by To DS and From DS",
+         "U6": "with addresses that aren't those of a station and this network",
+         "U7": "whose body hasn't the fields of its kind", "U8": "longer than a frame may be"}
+
+
+@dataclass
+class Hearing:
+    """What one network took of a trace: its events, those that it can't read by their kind, and the rest."""
+
+    section: Section
+    table: NetworkTable | None
+    heard: list[Line] = field(default_factory=list)
+    unread: dict[str, list[Line]] = field(default_factory=dict)
+    past_history: list[Line] = field(default_factory=list)
+
+    @property
+    def name(self) -> str:
+        """The network, for a person."""
+        return f"network {address_text(self.section.bssid)} ({self.section.name})"
+
+    def limit(self, key: str) -> int | None:
+        """A number of its configuration."""
+        entry = self.table.entries.get(key) if self.table else None
+        return entry.value.worth if entry and entry.value.kind == "integer" else None
+
+    def has_frames_of_its_own(self) -> bool:
+        """Whether it took a frame that is to it and not to all."""
+        return any(line.kind == "W" or line.kind == "A" and line.octets[4:10] == self.section.bssid
+                   for line in self.heard)
+
+    def count(self, kind: str) -> int:
+        """How many lines of a kind it took."""
+        return sum(line.kind == kind for line in self.heard)
+
+    def take(self, line: Line) -> None:
+        """Counts a line, where the network takes it."""
+        bssid = self.section.bssid
+        if line.kind == "A" and not hears(bssid, line.octets) or line.kind == "W" and line.bssid != bssid:
+            return
+        if len(self.heard) == self.section.events:
+            self.past_history.append(line)
+            return
+        self.heard.append(line)
+        if line.kind != "T":
+            kind = unread_kind(bssid, line.octets) if line.kind == "A" else wired_unread_kind(line.octets)
+            if kind:
+                self.unread.setdefault(kind, []).append(line)
+
+
+def odd(config: Source, traces: list[Source], output: str, has_separator: bool) -> list[Finding]:
+    """What is odd, the weightiest first; nothing where all is as it should be. TextError where a text can't be read."""
+    sections, lines = read_report(output), [line for trace in traces for line in lines_of(trace)]
+    tables = networks_of(config)
+    hearings = [Hearing(section, tables.get(section.bssid)) for section in sections]
+    for line in lines:
+        for hearing in hearings:
+            hearing.take(line)
+    findings = of_trace(lines, hearings, has_separator, traces)
+    for hearing in hearings:
+        findings += of_network(hearing, traces)
+    return findings + of_roaming(hearings)
+
+
+def networks_of(config: Source) -> dict[bytes, NetworkTable]:
+    """The tables of a configuration by their addresses."""
+    try:
+        networks = Config(config).networks
+        return {bytes.fromhex(str(network.entries["bssid"].value.worth).replace(":", "")): network
+                for network in networks}
+    except (NoToml, KeyError, ValueError, RecursionError):
+        return {}
+
+
+def lines_of(trace: Source) -> list[Line]:
+    """The lines of a trace in which the program found no fault."""
+    found = []
+    for place, line in enumerate(trace.lines, 1):
+        line = line.removesuffix("\r").rstrip(" ")
+        if line and not line.startswith("#"):
+            found.append(trace_line(place, line))
+    return found
+
+
+def place_of(traces: list[Source], line: Line):
+    """Where a line stands, where there is one trace."""
+    if len(traces) != 1:
+        return None
+    return traces[0].place(line.number, 1, len(traces[0].line(line.number).rstrip()))
+
+
+def of_trace(lines: list[Line], hearings: list[Hearing], has_separator: bool, traces: list[Source]) -> list[Finding]:
+    """What is odd in the trace as a whole."""
+    if not lines:
+        return [Finding("the trace is empty: no line `---` stands after the configuration" if not has_separator else
+                        "the trace has no line `A`, `W` or `T`", None,
+                        "write a line `---`, and the trace below it" if not has_separator else None)]
+    findings = []
+    frames = [line for line in lines if line.kind == "A"]
+    front = next((line for line in frames if has_radiotap(line.octets)), None)
+    if front and sum(has_radiotap(line.octets) for line in frames) * 2 > len(frames):
+        findings.append(Finding("the frames begin with the capture's own header (radiotap), and a trace has frames "
+                                "without it", place_of(traces, front), "tools/trace-from-capture takes it off"))
+    else:
+        findings += of_unheard(frames, hearings, traces)
+    with_fcs = [line for line in frames if ends_with_fcs(line.octets)]
+    if with_fcs and 2 * len(with_fcs) > len(frames):
+        findings.append(Finding(f"the last four octets of {len(with_fcs)} of {len(frames)} frames on the air are their "
+                                "frame check sequence, and a trace has frames without it",
+                                last_octets(traces, with_fcs[0]), "tools/trace-from-capture takes it off; a probe or "
+                                "an association request with it is unread, and a unit is passed on with it"))
+    if not any(line.kind == "T" for line in lines):
+        findings.append(Finding("no line `T` begins a beacon interval: no beacon is sent, and units for the group that "
+                                "are kept stay so"))
+    return findings
+
+
+def of_unheard(frames: list[Line], hearings: list[Hearing], traces: list[Source]) -> list[Finding]:
+    """No frame is to any of these networks, or none to some of them."""
+    to_one = [line for line in frames if not is_group(line.octets[4:10])]
+    alone = [hearing for hearing in hearings if not hearing.has_frames_of_its_own()]
+    if len(alone) < len(hearings):
+        return [Finding(f"{hearing.name}: no frame of this trace is to it, on the air or on its wire; it took "
+                        f"{frames_text(hearing.count('A'))} to all, and lines T: {hearing.count('T')}")
+                for hearing in alone]
+    if not to_one:
+        return []
+    receivers = Counter(line.octets[4:10] for line in to_one if len(line.octets) >= 10)
+    to = ", ".join(f"{address_text(address)} ({count})" for address, count in receivers.most_common(MOST_NAMED))
+    bssids = ", ".join(address_text(hearing.section.bssid) for hearing in hearings)
+    return [Finding(f"no frame of this trace is to a network of this configuration: its BSSIDs are {bssids}",
+                    place_of(traces, to_one[0]),
+                    f"the trace's frames are to {to}" if to else "the trace's frames have fewer than 10 octets")]
+
+
+def has_radiotap(octets: bytes) -> bool:
+    """Whether octets may begin with a radiotap header: version 0, padding 0, a length, and a frame behind it."""
+    length = number(octets[2:4])
+    return octets[:2] == b"\0\0" and 8 <= length <= 64 and len(octets) >= length + 10 and octets[length] & 3 == 0
+
+
+def ends_with_fcs(octets: bytes) -> bool:
+    """Whether the last four octets are the check sequence of those before (9.2.4.8)."""
+    return len(octets) > 10 + FCS_LEN and zlib.crc32(octets[:-FCS_LEN]).to_bytes(4, "little") == octets[-FCS_LEN:]
+
+
+def last_octets(traces: list[Source], line: Line):
+    """The place of a line's last four octets."""
+    if len(traces) != 1:
+        return None
+    text = traces[0].line(line.number).rstrip()
+    begin = len(text)
+    digits = 0
+    while digits < 2 * FCS_LEN and begin:
+        begin -= 1
+        digits += text[begin] != " "
+    return traces[0].place(line.number, begin + 1, len(text) - begin)
+
+
+def of_network(hearing: Hearing, traces: list[Source]) -> list[Finding]:
+    """What is odd in one network."""
+    section, findings = hearing.section, []
+    if hearing.past_history:
+        first = hearing.past_history[0]
+        findings.append(Finding(f"{hearing.name}: its history is full, `max_events = {section.events}`: it takes "
+                                f"nothing more from this line on; left out: {len(hearing.past_history)}",
+                                place_of(traces, first), "as many as the trace has lines are always enough"))
+    findings += of_unread(hearing, traces)
+    findings += of_statuses(hearing)
+    if section.lost:
+        quota = hearing.limit("quota")
+        findings.append(Finding(f"{hearing.name}: units lost: {section.lost} (above `quota = {quota}`, too old where "
+                                "units age, or without a wired form)"))
+    again = repeated(hearing.heard)
+    if again:
+        findings.append(Finding(f"{hearing.name}: frames sent again: {len(again)} (with Retry 1 and the sequence "
+                                "number that came before: they are taken a second time)", place_of(traces, again[0]),
+                                "tools/trace-from-capture leaves them out"))
+    return findings
+
+
+def of_unread(hearing: Hearing, traces: list[Source]) -> list[Finding]:
+    """What a network heard and couldn't read, and why."""
+    count = sum(map(len, hearing.unread.values()))
+    if not count or count != hearing.section.unread:
+        return []
+    findings = []
+    frames = [line for line in hearing.heard if line.kind == "A"]
+    data = [line for line in frames if Frame(line.octets).type == DATA]
+    qos = [line for line in hearing.unread.get("U3", []) if line.kind == "A" and Frame(line.octets).is_qos]
+    if qos:
+        all_data = "all" if len(qos) == len(data) else f"{len(qos)} of {len(data)}"
+        findings.append(Finding(f"{hearing.name}: data frames of QoS (WMM), unread (U3): {all_data}",
+                                place_of(traces, qos[0]), "the program has no QoS: let the stations do without it"))
+    own = [line for line in hearing.unread.get("U6", []) if line.kind == "A"
+           and Frame(line.octets).transmitter == hearing.section.bssid]
+    if own:
+        findings.append(Finding(f"{hearing.name}: frames that it sent itself, unread (U6): {len(own)}",
+                                place_of(traces, own[0]), "a trace has what the access point heard alone"))
+    rest = {kind: [line for line in lines if line not in qos and line not in own]
+            for kind, lines in hearing.unread.items()} if len(qos) + len(own) < count else {}
+    for kind, lines in sorted(rest.items()):
+        if lines:
+            findings.append(Finding(f"{hearing.name}: events unread ({kind}): {len(lines)} of {len(hearing.heard)} "
+                                    f"({KINDS[kind]})", place_of(traces, lines[0])))
+    return findings
+
+
+def of_statuses(hearing: Hearing) -> list[Finding]:
+    """Requests that were refused, by the statuses and reasons of the answers."""
+    section, findings = hearing.section, []
+    sent = Counter(answer for answer in map(answer_of, section.air) if answer)
+    known, stations = hearing.limit("max_known"), hearing.limit("max_stations")
+    texts = {
+        (AUTHENTICATION, 1): ("authentications refused with status 1", f"`max_known = {known}` is reached, and a "
+                              "station stays known until it deauthenticates"),
+        (AUTHENTICATION, 13): ("authentications refused with status 13", "they weren't Open System (WEP, SAE, FT)"),
+        (AUTHENTICATION, 14): ("authentications refused with status 14", "their sequence number wasn't 1"),
+        (ASSOCIATION_RESPONSE, 17): ("associations refused with status 17", f"`max_stations = {stations}` is reached"),
+        (ASSOCIATION_RESPONSE, 18): ("associations refused with status 18", "the station hasn't a basic rate of "
+                                     "`rates`, whose high bit makes it basic"),
+        (DEAUTHENTICATION, 6): ("requests answered by a deauthentication, reason 6", "the station is unknown"),
+        (DEAUTHENTICATION, 7): ("frames answered by a deauthentication, reason 7", "the station is unknown: it joined "
+                                "before the trace begins, or not at all"),
+        (DISASSOCIATION, 7): ("frames answered by a disassociation, reason 7", "the station isn't associated")}
+    for answer, (what, reason) in texts.items():
+        if sent[answer]:
+            findings.append(Finding(f"{hearing.name}: {what}: {sent[answer]} ({reason})"))
+    if known == len(section.stations) and not sent[AUTHENTICATION, 1]:
+        findings.append(Finding(f"{hearing.name}: it knows as many stations as it may, `max_known = {known}`: each new "
+                                "one will be refused (status 1)"))
+    if sent[ASSOCIATION_RESPONSE, 1]:
+        names = Counter(name for name in map(name_asked_for, hearing.heard) if name not in (None, section.ssid))
+        asked = ", ".join(quoted(name.decode("utf-8", "replace")) for name, _ in names.most_common(MOST_NAMED))
+        findings.append(Finding(f"{hearing.name}: associations refused with status 1: {sent[ASSOCIATION_RESPONSE, 1]} "
+                                f"(they named another SSID{f', {asked},' if asked else ''} than "
+                                f"{quoted(section.ssid.decode('utf-8', 'replace'))})"))
+    return findings
+
+
+def answer_of(octets: bytes) -> tuple[int, int] | None:
+    """The kind of an answer that refuses, and its status or reason; both kinds of association response are one."""
+    frame = Frame(octets)
+    if frame.type != MANAGEMENT:
+        return None
+    at = {AUTHENTICATION: 4, ASSOCIATION_RESPONSE: 2, REASSOCIATION_RESPONSE: 2, DEAUTHENTICATION: 0,
+          DISASSOCIATION: 0}.get(frame.subtype)
+    if at is None:
+        return None
+    status = number(frame.body[at:at + 2])
+    kind = ASSOCIATION_RESPONSE if frame.subtype == REASSOCIATION_RESPONSE else frame.subtype
+    return (kind, status) if status else None
+
+
+def name_asked_for(line: Line) -> bytes | None:
+    """The SSID that an association request names."""
+    frame = Frame(line.octets)
+    if line.kind != "A" or frame.type != MANAGEMENT or frame.subtype not in FIXED_BEFORE_ELEMENTS:
+        return None
+    listed = elements(frame.body[FIXED_BEFORE_ELEMENTS[frame.subtype]:])
+    return first_of(listed, SSID) if listed else None
+
+
+def repeated(lines: list[Line]) -> list[Line]:
+    """Frames with Retry 1 and the sequence number that their sender's frame had before."""
+    before: dict[bytes, int] = {}
+    found = []
+    for line in lines:
+        frame = Frame(line.octets)
+        if line.kind != "A" or len(line.octets) < HEADER_LEN or frame.type not in (MANAGEMENT, DATA):
+            continue
+        if frame.retry and before.get(frame.transmitter) == frame.sequence_control:
+            found.append(line)
+        before[frame.transmitter] = frame.sequence_control
+    return found
+
+
+def of_roaming(hearings: list[Hearing]) -> list[Finding]:
+    """Stations that are associated in several networks."""
+    places: dict[bytes, list[str]] = {}
+    for hearing in hearings:
+        for station in hearing.section.stations:
+            if station.aid is not None:
+                places.setdefault(station.address, []).append(hearing.section.name)
+    return [Finding(f"the station {address_text(address)} is associated in several networks: {', '.join(names)}", None,
+                    "no network knows of another: it left none of them (docs/EXAMPLES.md)")
+            for address, names in places.items() if len(names) > 1][:MOST_NAMED]

@@ -1,0 +1,88 @@
+"""A text that was given to the program, places in it, and what is said of a place, as a compiler says it."""
+import unicodedata
+from dataclasses import dataclass
+
+MOST_SHOWN = 96
+BEFORE_MARK = 40
+TAB_SHOWN, CONTROL_SHOWN = "\u21e5", 0x2400
+
+
+class Source:
+    """A text with its file's name; `lines` begin with 1, and `first` is the number that the first of them has there."""
+
+    def __init__(self, name: str, octets: bytes, first: int = 1) -> None:
+        self.name, self.octets, self.first = name, octets, first
+        self.text = octets.decode("utf-8", "replace")
+        self.lines = self.text.split("\n")
+
+    def line(self, number: int) -> str:
+        """A line of this text, counted from 1, without its end; nothing where there is none."""
+        return self.lines[number - 1] if 1 <= number <= len(self.lines) else ""
+
+    def place(self, line: int, column: int = 1, length: int = 1) -> "Place":
+        """A place by its line in this text and its column, both from 1."""
+        return Place(self, line, column, max(1, length))
+
+    def at(self, begin: int, end: int) -> "Place":
+        """A place by the indexes of its first character and of the one after its last, within one line."""
+        line = self.text.count("\n", 0, begin) + 1
+        line_begin = self.text.rfind("\n", 0, begin) + 1
+        line_end = self.text.find("\n", begin)
+        end = min(end, len(self.text) if line_end < 0 else line_end)
+        return self.place(line, begin - line_begin + 1, end - begin)
+
+
+@dataclass(frozen=True)
+class Place:
+    """Some characters of one line."""
+
+    source: Source
+    line: int
+    column: int
+    length: int
+
+    def name(self) -> str:
+        """File, line and column, as editors read them."""
+        return f"{self.source.name}:{self.source.first + self.line - 1}:{self.column}"
+
+    def shown(self) -> list[str]:
+        """The line with its number, and a line with a mark under the place."""
+        text = self.source.line(self.line)
+        begin = 0
+        if len(text) > MOST_SHOWN:
+            begin = max(0, min(self.column - 1 - BEFORE_MARK, len(text) - MOST_SHOWN))
+        text = "".join(map(visible, text[begin:begin + MOST_SHOWN]))
+        more = "\u2026" if begin else ""
+        number = f"{self.source.first + self.line - 1:>5} | "
+        length = max(1, min(self.length, MOST_SHOWN - (self.column - 1 - begin)))
+        return [f"{number}{more}{text}".rstrip(),
+                " " * (len(number) - 2) + "| " + " " * (len(more) + self.column - 1 - begin) + "^" * length]
+
+
+def visible(letter: str) -> str:
+    """A character as one that can be seen and takes one column."""
+    if letter == "\t":
+        return TAB_SHOWN
+    if ord(letter) < 0x20:
+        return chr(CONTROL_SHOWN + ord(letter))
+    return "\ufffd" if unicodedata.category(letter)[0] == "C" else letter
+
+
+def quoted(text: str, most: int = 40) -> str:
+    """Some words of a text, each character visible, cut where they are long."""
+    shown = "".join(map(visible, text[:most]))
+    return f"`{shown}\u2026`" if len(text) > most else f"`{shown}`"
+
+
+@dataclass(frozen=True)
+class Finding:
+    """One reason: what it is, where, and what to write or do instead."""
+
+    text: str
+    place: Place | None = None
+    advice: str | None = None
+
+    def shown(self) -> list[str]:
+        """The lines that a person reads."""
+        lines = [f"{self.place.name()}: {self.text}", *self.place.shown()] if self.place else [self.text]
+        return lines + [f"  {self.advice}"] * (self.advice is not None)

@@ -1,0 +1,203 @@
+"""What a fault L1 to L5 of a trace comes of."""
+import difflib
+import re
+
+from explaining import values
+from explaining.answers import Fault
+from explaining.no_toml import MAGICS, REPORT_LINE, UTF_16
+from explaining.source import Finding, Source, quoted
+
+MOST_OCTETS, MOST_LINES, HEADER_LEN = 4096, 1_000_000, 24
+HEX_DUMP = re.compile(r"(?:0x)?[0-9A-Fa-f]{4,8}:? +(?:(?:[0-9A-Fa-f]{2}|[0-9A-Fa-f]{4})(?: +|$)){4,}")
+ADDRESS = re.compile(r"[0-9A-Fa-f]{2}(?::[0-9A-Fa-f]{2}){5}")
+
+
+def explain(source: Source, fault: Fault, bssids: list[str], is_live: bool = False) -> list[Finding]:
+    """The reason for a fault of a line; none where nothing was found. `bssids` are the networks' addresses as the
+    configuration has them, `is_live` where lines are answered as they come."""
+    number = fault.line or 0
+    finding = other_file(source)
+    if finding:
+        return [finding]
+    if fault.code == "L5" and number > MOST_LINES and not is_live:
+        return [Finding(f"a trace has at most {MOST_LINES:,} lines, remarks and empty ones too, and this has more",
+                        source.place(number), "`split -l 1000000` cuts it")]
+    if not 1 <= number <= len(source.lines):
+        return []
+    line = source.lines[number - 1]
+    line = (line.removesuffix("\r") if number < len(source.lines) else line).rstrip(" ")
+    parts = {"L1": of_word, "L2": of_digits, "L3": of_address, "L4": of_network, "L5": of_length}
+    finding = parts[fault.code](source, number, line, bssids) if fault.code in parts else None
+    return [finding] if finding else []
+
+
+def other_file(source: Source) -> Finding | None:
+    """A file that is no trace, by how it begins."""
+    octets = source.octets
+    if any(octets.startswith(magic) for magic, kind in MAGICS if kind == "capture"):
+        return Finding(f"{source.name}: this is a capture, and no trace", None,
+                       "tools/trace-from-capture makes a trace of it")
+    if octets.startswith(b"\x1f\x8b"):
+        return Finding(f"{source.name}: this file is packed by gzip, and no text", None, "`gunzip` unpacks it")
+    if octets.startswith(UTF_16):
+        return Finding(f"{source.name}: this text is in UTF-16, and a trace is in ASCII", None,
+                       "`iconv -f UTF-16 -t UTF-8` writes it anew")
+    return None
+
+
+def of_word(source: Source, number: int, line: str, bssids: list[str]) -> Finding | None:
+    """L1: the first word, or what follows `T`."""
+    first, _, rest = line.partition(" ")
+    place, whole = source.place(number, 1, len(first)), source.place(number, 1, len(line))
+    if line.startswith("\ufeff"):
+        return Finding("a byte order mark stands before the first line", source.place(number),
+                       "`sed '1s/^\\xef\\xbb\\xbf//'` takes it off")
+    if line.startswith("---"):
+        return Finding("a second line `---`, which belongs to no trace", whole, "leave it out")
+    if line[:1] in " \t":
+        return Finding("a line begins with its word, and not with a blank", source.place(number, 1, len(line) -
+                       len(line.lstrip())), f"write {quoted(line.strip())}")
+    if first.rstrip("\r") == "T" or re.fullmatch("T[\r\t].*", line):
+        return of_tick(source, number, line)
+    if "\r" in line:
+        return with_returns(source, number, line)
+    if "\t" in first:
+        return Finding("words are separated by spaces, and this is a TAB", source.place(number, line.index("\t") + 1),
+                       "write spaces instead")
+    if first == "I":
+        return Finding("`I` asks `live` for its tables, and is no line of a trace", place, "leave it out")
+    if first.upper() in ("A", "W", "T"):
+        return Finding(f"the word is `{first.upper()}`, a capital letter", place,
+                       f"write {quoted(first.upper() + line[1:])}")
+    return of_other_text(source, number, line)
+
+
+def with_returns(source: Source, number: int, line: str) -> Finding:
+    """A CR within a line."""
+    return Finding("lines end with CR alone, and a trace's end with LF", source.place(number, line.index("\r") + 1),
+                   "`tr '\\r' '\\n'` writes such a text anew")
+
+
+def of_tick(source: Source, number: int, line: str) -> Finding:
+    """Something after `T`."""
+    rest = line[1:]
+    if set(rest) <= {"\r"}:
+        is_last = number == len(source.lines)
+        text = "the last line ends with CR, and no LF follows" if is_last else "a line ends with at most one CR"
+        return Finding(text, source.place(number, 2, len(rest)), "`sed 's/\\r*$//'` takes the CRs off")
+    if rest.startswith("\r"):
+        return with_returns(source, number, line)
+    return Finding("nothing follows `T`, which begins a beacon interval in every network",
+                   source.place(number, 2 + len(rest) - len(rest.lstrip()), len(rest.strip())), "write `T` alone")
+
+
+def of_other_text(source: Source, number: int, line: str) -> Finding | None:
+    """A line of another kind of text."""
+    place = source.place(number, 1, len(line))
+    if re.match(r"[AW][0-9A-Fa-f]", line):
+        return Finding(f"a space stands after `{line[0]}`", place, f"write {quoted(f'{line[0]} {line[1:]}')}")
+    if re.match(r";|//|--|!|%", line):
+        return Finding("a remark begins with `#`", source.place(number, 1, 2),
+                       f"write {quoted('# ' + line.strip(';/-!% '))}")
+    if REPORT_LINE.fullmatch(line) or re.match(r"station [0-9a-f:]{17} |end$", line):
+        return Finding("this is a line of a report, and no trace", place)
+    if re.match(r"[a-z_]+ *= *\S|\[\[?network", line):
+        return Finding("this is a line of a configuration, and no trace", place,
+                       "a configuration stands before the line `---`, or in a file of its own: `run CONFIG TRACE`")
+    if HEX_DUMP.match(line):
+        return Finding("this is a line of a hex dump, and a trace has one line for each frame", place,
+                       "tools/trace-from-capture makes a trace of a capture; else write `A` and the frame's digits")
+    if re.fullmatch(r"[0-9A-Fa-f ]{8,}", line):
+        return Finding("a line begins with its word: `A` for a frame on the air, `W` for one on the wire", place,
+                       f"write {quoted('A ' + line)}")
+    first = line.split(" ")[0]
+    return Finding(f"{quoted(first)} is no word of a trace: a line begins with `A`, `W` or `T`, or with `#`",
+                   source.place(number, 1, len(first)), "a remark begins with `#`")
+
+
+def octets_from(line: str) -> int:
+    """Where the digits of a line begin."""
+    match = re.match(r"A ?|W +[^ ]+ *", line)
+    return match.end() if match else 0
+
+
+def of_digits(source: Source, number: int, line: str, bssids: list[str]) -> Finding | None:
+    """L2: another character among the digits, or an odd number of them."""
+    begin = octets_from(line)
+    digits = line[begin:]
+    stray = re.search("[^0-9A-Fa-f ]", digits)
+    if stray is None:
+        return of_odd_digits(source, number, line, begin)
+    at = begin + stray.start()
+    place = source.place(number, at + 1)
+    letter = stray[0]
+    if letter == "#":
+        return Finding("a remark has a line of its own, and here one stands behind a frame", source.place(
+            number, at + 1, len(line) - at), "move it to a line before this one")
+    if letter in "xX" and digits[:stray.start()].endswith("0"):
+        return Finding("digits stand without `0x`", source.place(number, at, 2), "leave `0x` out")
+    if letter in ":-" or letter in ",.;|":
+        return Finding(f"digits stand without `{letter}` between them; spaces may stand there", place,
+                       f"write {quoted(re.sub('[:,.;|-]', '', digits[:20]).strip())} for {quoted(digits[:20].strip())}")
+    if letter == "\t":
+        return Finding("a TAB among the digits; spaces alone may stand there", place, "write a space")
+    if letter == "\r":
+        return Finding("a CR that isn't the last character before LF", place, "`sed 's/\\r*$//'` takes the CRs off")
+    like = {"O": "0", "o": "0", "l": "1", "I": "1"}.get(letter)
+    return Finding(f"{quoted(letter)} is no hexadecimal digit", place, f"write {like}" if like else None)
+
+
+def of_odd_digits(source: Source, number: int, line: str, begin: int) -> Finding | None:
+    """Where a digit may be missing or one too many: the first group with an odd number, else the whole."""
+    count = len(line[begin:].replace(" ", ""))
+    if count % 2 == 0:
+        return None
+    groups = [match for match in re.finditer("[^ ]+", line[begin:]) if len(match[0]) % 2]
+    group = groups[0] if len(groups) == 1 or len(line[begin:].split(" ")) > 1 else None
+    text = f"an odd number of digits, {count}: each octet has two"
+    if group is None:
+        return Finding(text, source.place(number, begin + 1, len(line) - begin), "a digit is missing, or one too many")
+    return Finding(text, source.place(number, begin + group.start() + 1, len(group[0])),
+                   f"this group has {len(group[0])}: a digit is missing, or one too many")
+
+
+def of_address(source: Source, number: int, line: str, bssids: list[str]) -> Finding | None:
+    """L3: the address after `W`."""
+    match = re.match(r"W +([^ ]*)", line)
+    word = match[1] if match else ""
+    if not word:
+        return Finding("after `W` the address of the network stands, whose wire it is", source.place(number, 1),
+                       f"write `W {bssids[0] if bssids else '02:00:00:00:00:01'}` and the frame's digits")
+    fault = values.address_fault(word)
+    if not fault:
+        return None
+    text, span, mended = fault
+    if len(word) > 17 and not mended:
+        text = "after `W` the address of the network stands, before the frame"
+    place = source.place(number, match.start(1) + 1 + span[0], span[1] - span[0])
+    return Finding(text, place, f"write `W {mended or (bssids[0] if bssids else '02:00:00:00:00:01')}`")
+
+
+def of_network(source: Source, number: int, line: str, bssids: list[str]) -> Finding | None:
+    """L4: an address that no network has."""
+    match = re.match(r"W +([^ ]+)", line)
+    if not match or match[1].lower() in (bssid.lower() for bssid in bssids):
+        return None
+    close = difflib.get_close_matches(match[1].lower(), [bssid.lower() for bssid in bssids], 1, 0.8)
+    has = f"its networks have {', '.join(bssids[:4])}" + (" .." if len(bssids) > 4 else "")
+    return Finding(f"no network of the configuration has the address {match[1]}",
+                   source.place(number, match.start(1) + 1, len(match[1])),
+                   f"write {close[0]}, or a network with this address; {has}" if close else has)
+
+
+def of_length(source: Source, number: int, line: str, bssids: list[str]) -> Finding | None:
+    """L5: a frame that is too long."""
+    begin = octets_from(line)
+    count = len(line[begin:].replace(" ", "")) // 2
+    if count <= MOST_OCTETS:
+        longest = 65_536
+        return Finding(f"`live` reads lines of at most {longest:,} octets, and this has {len(line):,}",
+                       source.place(number, 1, len(line))) if len(line) > longest else None
+    return Finding(f"a frame has at most {MOST_OCTETS:,} octets, and this has {count:,}",
+                   source.place(number, begin + 1, len(line) - begin),
+                   "no frame on the air is so long: several may have been joined into one line")

@@ -1,0 +1,152 @@
+"""What a fault of the program's words, files, memory or streams comes of."""
+import difflib
+import os
+import stat
+
+from explaining.answers import Fault
+from explaining.source import Finding, quoted
+
+SUBCOMMANDS = {"check": "check CONFIG", "run": "run CONFIG TRACE", "play": "play CONFIG TRACE...",
+               "live": "live CONFIG"}
+FORMS = "check CONFIG, run CONFIG TRACE, play CONFIG TRACE... and live CONFIG; without words it reads standard input"
+MOST_TRACES = 64
+
+
+def explain(fault: Fault, words: list[str]) -> list[Finding]:
+    """The reasons for a fault that is of no text; none where nothing was found."""
+    parts = {"words": of_words, "file": of_file, "sources": of_sources, "memory": of_memory, "output": of_output,
+             "thread": of_thread, "F2": of_finish, "F3": of_finish, "F4": of_finish}
+    return parts[fault.code](fault, words) if fault.code in parts else []
+
+
+def of_words(fault: Fault, words: list[str]) -> list[Finding]:
+    """Words that the program doesn't have."""
+    if not words:
+        return []
+    unreadable = [word for word in words if not word.isascii() and os.fsencode(word) != utf8_of(word)]
+    if unreadable:
+        return [Finding("a word isn't UTF-8, and the program reads no other words", None,
+                        "give the file another name, or a link to it")]
+    first, rest = words[0], words[1:]
+    if first in ("-h", "--help", "help", "-V", "--version"):
+        return [Finding(f"the program has no word {quoted(first)}", None, f"its words are {FORMS}")]
+    if first in SUBCOMMANDS:
+        return [of_subcommand(first, rest)]
+    close = difflib.get_close_matches(first.lower(), list(SUBCOMMANDS), 1, 0.6)
+    if close:
+        return [Finding(f"the program has no word {quoted(first)}", None, f"write `{SUBCOMMANDS[close[0]]}`")]
+    if first.startswith("-"):
+        return [Finding(f"the program has no word {quoted(first)}", None, f"its words are {FORMS}")]
+    if os.path.exists(first):
+        form = f"run {first} TRACE" if rest else f"check {first}"
+        return [Finding(f"a file's name, {quoted(first)}, is no first word", None,
+                        f"write `{form}`, or `build/apctl < {first}` where it is a configuration and a trace")]
+    return [Finding(f"the program has no word {quoted(first)}", None, f"its words are {FORMS}")]
+
+
+def utf8_of(word: str) -> bytes | None:
+    """A word as UTF-8, or None where it is none."""
+    try:
+        return word.encode()
+    except UnicodeEncodeError:
+        return None
+
+
+def of_subcommand(first: str, rest: list[str]) -> Finding:
+    """One of the program's words, with others that don't fit it."""
+    form = SUBCOMMANDS[first]
+    dashed = next((word for word in rest if word.startswith("-") and word not in ("-", "--")), None)
+    if dashed and "--" not in rest:
+        more = " ".join(rest)
+        return Finding(f"{quoted(dashed)} begins with `-`, and `{first}` has no options", None,
+                       f"for a file of this name write `{first} -- {more}`")
+    least = {"check": 1, "run": 2, "play": 2, "live": 1}[first]
+    count = len([word for word in rest if word != "--"])
+    if count < least:
+        what = "CONFIG" if count == 0 else "TRACE"
+        return Finding(f"after `{first}` the word {what} is missing", None, f"write `{form}`")
+    return Finding(f"`{first}` takes {'one word' if least == 1 else 'two words'} and no more, and there are {count}",
+                   None, f"write `{form}`" + (", or `play CONFIG TRACE...` for several traces" if first == "run"
+                                              else ", and `run CONFIG TRACE` for a trace" if first == "check" else ""))
+
+
+def of_file(fault: Fault, words: list[str]) -> list[Finding]:
+    """A file that can't be read."""
+    name = fault.file or ""
+    if name == "-" and "-" not in words:
+        return [Finding("standard input can't be read: it is closed, or a folder", None,
+                        "give a text by `build/apctl < my.input`, or `live CONFIG < LINES`")]
+    advice = "`-` names a file here, and not standard input" if name == "-" else None
+    if name == "":
+        return [Finding("the name of a file is empty", None, "a variable of the shell may be unset")]
+    try:
+        mode = os.stat(name).st_mode
+    except NotADirectoryError:
+        return [Finding(f"{quoted(name)}: a part of this path is a file, and no folder", None, advice)]
+    except OSError as reason:
+        return [missing_file(name, advice, reason)]
+    if stat.S_ISDIR(mode):
+        return [Finding(f"{quoted(name)} is a folder, and no file", None, in_folder(name))]
+    if not os.access(name, os.R_OK):
+        return [Finding(f"{quoted(name)} may not be read by this user", None, f"`ls -l {name}` shows whose it is")]
+    return []
+
+
+def in_folder(name: str) -> str | None:
+    """The files of a folder that may be meant."""
+    try:
+        files = sorted(file for file in os.listdir(name) if os.path.isfile(os.path.join(name, file)))[:4]
+    except OSError:
+        return None
+    return f"in it are {', '.join(files)}" if files else None
+
+
+def missing_file(name: str, advice: str | None, reason: OSError) -> Finding:
+    """A name that no file has."""
+    if os.path.islink(name):
+        return Finding(f"{quoted(name)} is a link to {quoted(os.readlink(name))}, which isn't there", None, advice)
+    if not isinstance(reason, FileNotFoundError):
+        return Finding(f"{quoted(name)} can't be read: {reason.strerror}", None, advice)
+    folder = os.path.dirname(name) or "."
+    if not os.path.isdir(folder):
+        return Finding(f"{quoted(name)} isn't there: there is no folder {quoted(folder)}", None, advice)
+    try:
+        close = difflib.get_close_matches(os.path.basename(name), os.listdir(folder), 1, 0.6)
+    except OSError:
+        close = []
+    if close and not advice:
+        advice = f"`{os.path.join(os.path.dirname(name), close[0])}` is there, and may be meant"
+    where = f"the folder {os.path.realpath(folder)} has none of this name"
+    return Finding(f"{quoted(name)} isn't there: {where}", None, advice)
+
+
+def of_sources(fault: Fault, words: list[str]) -> list[Finding]:
+    """More traces than may be played."""
+    count = len([word for word in words[2:] if word != "--"])
+    return [Finding(f"{count} traces, and `play` takes 1 to {MOST_TRACES}" if count > MOST_TRACES else
+                    f"`play` takes 1 to {MOST_TRACES} traces", None, "join some of them, or leave some out")]
+
+
+def of_memory(fault: Fault, words: list[str]) -> list[Finding]:
+    """Memory that isn't there."""
+    return [Finding("the process may not have the memory that this run takes: a network keeps all events that it takes "
+                    "until the report is written", None, "`ulimit -v` shows what it may have; cut the trace, or use "
+                    "`live`, which keeps no history")]
+
+
+def of_output(fault: Fault, words: list[str]) -> list[Finding]:
+    """Standard output that can't be written."""
+    return [Finding("standard output can't be written: it is closed, its disk is full, or what reads it has ended, as "
+                    "`head` does", None, "write the report into a file on a disk that has room")]
+
+
+def of_thread(fault: Fault, words: list[str]) -> list[Finding]:
+    """A thread that can't be started."""
+    return [Finding("`play` starts a thread for each trace, and the system gave it one too few", None,
+                    "`ulimit -u` shows how many a user may have; play fewer traces at once")]
+
+
+def of_finish(fault: Fault, words: list[str]) -> list[Finding]:
+    """What no run has met."""
+    return [Finding("what the threads were told and the histories of the networks don't agree: this is a mistake of "
+                    "the program, and not of these texts", None, "keep the texts, and tell whoever maintains it")]

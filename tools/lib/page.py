@@ -1,0 +1,154 @@
+"""A picture as one HTML page that needs nothing from elsewhere: it scrolls, and a pointer on a shape shows the lines of
+the trace that it is of, and the frames that came and went with them, field by field."""
+import json
+
+from fields import fields_on_air, fields_on_wire, kind_of
+
+PAGE = """<!DOCTYPE html>
+<html lang="en"><head><meta charset="utf-8"><title>{title}</title><style>
+body {{ margin: 0; font: 14px "DejaVu Sans", Verdana, sans-serif; color: #222; display: flex; }}
+#picture {{ flex: none; height: 100vh; overflow: auto; }}
+#told {{ flex: 1; height: 100vh; overflow: auto; border-left: 1px solid #c9ced6; padding: 0 12px; min-width: 320px;
+  box-sizing: border-box; }}
+#told h2 {{ font-size: 14px; margin: 14px 0 4px; }}
+#told h3 {{ font-size: 13px; margin: 10px 0 2px; font-weight: normal; color: #555; }}
+#told table {{ border-collapse: collapse; font-size: 12px; width: 100%; }}
+#told td {{ border-top: 1px solid #e6e8eb; padding: 2px 8px 2px 0; vertical-align: top; }}
+#told td:nth-child(2) {{ font-family: "DejaVu Sans Mono", monospace; word-break: break-all; max-width: 220px; }}
+#told code {{ word-break: break-all; font-size: 12px; }}
+#ask {{ width: 100%; box-sizing: border-box; font: inherit; margin-top: 12px; padding: 4px; }}
+g[data-lines], g[data-span] {{ cursor: pointer; }}
+g.asked > circle, g.asked > rect, g.asked > path {{ stroke: #c8202d; stroke-width: 3; }}
+</style></head><body><div id="picture">{picture}</div><div id="told">
+<input id="ask" placeholder="a line's number, or an address or digits">
+<p id="found">Point at a shape: its line and its frames are shown here. A click holds them, a second one lets go. Enter
+goes from one find to the next.</p><div id="lines"></div></div>
+<script>
+"use strict";
+const WORDS = {words};
+const LINES = {lines};
+const MOST = 40;
+const told = document.getElementById("lines"), found = document.getElementById("found");
+let held = false, at = -1, asked = "";
+function add(into, kind, text) {{
+  const made = document.createElement(kind);
+  if (text !== undefined) made.textContent = text;
+  into.appendChild(made);
+  return made;
+}}
+function frame(into, head, told) {{
+  add(into, "h3", head);
+  const table = add(into, "table");
+  let at = 0;
+  for (let place = 0; place < told.fields.length; place += 3) {{
+    const [name, digits, meaning] = told.fields.slice(place, place + 3);
+    const row = add(table, "tr");
+    for (const cell of [WORDS[name], told.octets.slice(at, at + digits), WORDS[meaning]]) add(row, "td", cell);
+    at += digits;
+  }}
+}}
+function show(first, last) {{
+  told.replaceChildren();
+  const numbers = Object.keys(LINES).map(Number).filter(number => number >= first && number <= last);
+  for (const number of numbers.slice(0, MOST)) {{
+    const line = LINES[number];
+    add(told, "h2", "line " + number + (line.time ? ", " + line.time + " s" : "") + ": " + WORDS[line.kind]);
+    add(told, "code", [line.word, line.bssid, line.came.octets].filter(Boolean).join(" "));
+    if (line.came.octets) frame(told, "came in", line.came);
+    for (const answer of line.sent) frame(told, WORDS[answer.by], answer);
+  }}
+  if (numbers.length > MOST) add(told, "p", "and " + (numbers.length - MOST) + " lines more");
+}}
+function range(group) {{
+  const words = (group.dataset.lines || group.dataset.span).split("-").map(Number);
+  const last = group.dataset.span ? words[0] : words[words.length - 1];
+  return [words[0], last];
+}}
+function point(event) {{
+  const group = event.target.closest("g[data-lines], g[data-span]");
+  if (!group) {{ if (event.type === "click") held = false; return; }}
+  if (event.type === "click") held = !held;
+  else if (held) return;
+  show(...range(group));
+}}
+function mark(group) {{
+  document.querySelectorAll("g.asked").forEach(other => other.classList.remove("asked"));
+  group.classList.add("asked");
+  group.scrollIntoView({{ block: "center", inline: "center" }});
+  show(...range(group));
+  held = true;
+}}
+function matches(group, words) {{
+  const [first, last] = range(group);
+  if (/^[0-9]{{1,7}}$/.test(words)) return first <= Number(words) && Number(words) <= last;
+  const digits = words.toLowerCase().replace(/[^0-9a-f]/g, "");
+  for (let number = first; number <= last; number++) {{
+    const line = LINES[number];
+    if (line && digits && [line.came, ...line.sent].some(told => told.octets.includes(digits))) return true;
+  }}
+  return false;
+}}
+document.getElementById("ask").addEventListener("keydown", event => {{
+  if (event.key !== "Enter") return;
+  const words = event.target.value.trim();
+  const groups = [...document.querySelectorAll("g[data-lines]")].filter(group => matches(group, words));
+  at = words === asked ? at + 1 : 0;
+  asked = words;
+  found.textContent = groups.length ? "find " + (at % groups.length + 1) + " of " + groups.length : "nothing found";
+  if (groups.length) mark(groups[at % groups.length]);
+}});
+document.getElementById("picture").addEventListener("mouseover", point);
+document.getElementById("picture").addEventListener("click", point);
+</script></body></html>
+"""
+
+
+class Words:
+    """Words that occur often, each of which a page has once: by their places."""
+
+    def __init__(self):
+        self.places = {}
+
+    def place(self, text):
+        """The place of some words."""
+        return self.places.setdefault(text, len(self.places))
+
+    def frame(self, octets, fields):
+        """A frame: its octets, and of each field its name's place, how many digits it has, and its meaning's place."""
+        flat = [part for field in fields
+                for part in (self.place(field.name), 2 * len(field.octets), self.place(field.meaning))]
+        return {"octets": octets.hex(), "fields": flat}
+
+
+def page_of(picture, lines, stories, clock, title):
+    """The page of a picture, of these lines and of what the networks sent for them."""
+    words = Words()
+    told = {line.number: line_told(line, clock, words) for line in lines}
+    for story in stories:
+        for number, octets in story.frames:
+            if number in told:
+                by = words.place(f"{story.section.name} sent on the air: {kind_of(octets)}")
+                told[number]["sent"].append({"by": by, **words.frame(octets, fields_on_air(octets))})
+        for number, octets in story.wires:
+            if number in told:
+                by = words.place(f"{story.section.name} put on the wire")
+                told[number]["sent"].append({"by": by, **words.frame(octets, fields_on_wire(octets))})
+    return PAGE.format(picture=picture, lines=as_script(told), words=as_script(list(words.places)),
+                       title=title.replace("&", "&amp;").replace("<", "&lt;"))
+
+
+def as_script(data):
+    """Data as a script has it; no text in it ends the script."""
+    return json.dumps(data, separators=(",", ":")).replace("<", "\\u003c")
+
+
+def line_told(line, clock, words):
+    """A line of the trace, for the page."""
+    if line.kind == "T":
+        kind, fields = "a beacon interval begins", []
+    elif line.kind == "A":
+        kind, fields = f"{kind_of(line.octets)} on the air", fields_on_air(line.octets)
+    else:
+        kind, fields = "a frame on the wire", fields_on_wire(line.octets)
+    return {"word": line.kind, "kind": words.place(kind), "bssid": line.bssid.hex(":") if line.bssid else "",
+            "time": clock.text(line), "came": words.frame(line.octets, fields), "sent": []}

@@ -1,0 +1,82 @@
+"""Tests of .ci/documents: each thing that a document can name wrongly is found, in a small repository of its own."""
+import os
+import shutil
+import subprocess
+
+from common import ROOT, ToolTest
+
+FILES = {
+    "CHANGELOG.md": "# Changes\n\n## 0.3.1\n",
+    "README.md": "Version 0.3.1. See [rules](docs/RULES.md#first-part) and `docs/RULES.md`, \"First part\".\n\n"
+                 "## What is proved\n\n- All of it: `part::run`, and the law `holds`\n",
+    "docs/RULES.md": "# Rules\n\n## First part (*profile*)\n\nNames `crates/part/src/lib.rt` and `crates/NAME/src`.\n",
+    "docs/LIBRARY.md": "# Library\n\n```rust\nfn shown() {}\n```\n",
+    "docs/PROMISES.md": "# Promises\n\n| Runs | `run` |\n\n| `alone` | `crates/part/specs/Part.antt` | 2 | it |\n",
+    "crates/part/src/lib.rt": "//! A part: `docs/RULES.md`.\nfn run() {}\npub use law::kept as holds;\n",
+    "crates/part/specs/Part.antt": "-- what it is\nabbrev pub alone : Unit\n",
+    "crates/library_examples/src/shown.rt": "use part::run;\n\nfn shown() {}\n",
+}
+# A text of a file in place of another, and what is found then.
+WRONG = [
+    ("README.md", "0.3.1", "0.3.0", "doesn't name version 0.3.1"),
+    ("README.md", "RULES.md#first-part", "RULE.md", "no file of the link docs/RULE.md"),
+    ("README.md", "#first-part", "#second-part", "no heading of the link docs/RULES.md#second-part"),
+    ("README.md", '"First part"', '"Last part"', 'no section "Last part" in docs/RULES.md'),
+    ("README.md", "part::run", "part::walk", "no function walk"),
+    ("docs/PROMISES.md", "| `run` |", "| `walk` |", "no function walk"),
+    ("docs/PROMISES.md", "| 2 |", "| 3 |", "has 2 lines, not 3"),
+    ("docs/PROMISES.md", "`alone`", "`together`", "has not all of `together`"),
+    ("docs/RULES.md", "part/src/lib.rt", "part/src/main.rt", "no crates/part/src/main.rt"),
+    ("docs/RULES.md", "crates/NAME/src", "crates/NAME/tests", "no crates/NAME/tests"),
+    ("docs/LIBRARY.md", "fn shown() {}", "fn shown() { }", "not in crates/library_examples/src"),
+    ("crates/part/src/lib.rt", "docs/RULES.md", "docs/RULE.md", "no docs/RULE.md"),
+]
+
+
+class Documents(ToolTest):
+    """A small repository, whose documents are right but for one thing."""
+
+    def write(self, name, text):
+        """Writes a file of it."""
+        os.makedirs(os.path.dirname(self.path(name)), exist_ok=True)
+        with open(self.path(name), "w", encoding="utf-8") as file:
+            file.write(text)
+
+    def found(self, *words):
+        """The status of the checker, and what it says."""
+        os.makedirs(self.path(".ci"), exist_ok=True)
+        shutil.copy(os.path.join(ROOT, ".ci", "documents"), self.path(".ci"))
+        done = subprocess.run([self.path(os.path.join(".ci", "documents")), *words], capture_output=True, text=True,
+                              check=False)
+        self.assertEqual(done.stderr, "")
+        return done.returncode, done.stdout
+
+    def setUp(self):
+        super().setUp()
+        for name, text in FILES.items():
+            self.write(name, text)
+
+    def test_right_documents_pass(self):
+        """Where nothing is wrong nothing is found."""
+        self.assertEqual(self.found(), (0, "7 passed, 0 failed\n"))
+
+    def test_wrong_documents_are_found(self):
+        """Each wrong name is told with its file."""
+        for name, right, wrong, says in WRONG:
+            self.write(name, FILES[name].replace(right, wrong))
+            status, said = self.found()
+            self.assertEqual(status, 1, says)
+            self.assertIn(f"failed: {name}: ", said)
+            self.assertIn(says, said)
+            self.assertIn("1 failed\n", said)
+            self.write(name, FILES[name])
+
+    def test_definitions_that_moved_are_found_again(self):
+        """With --fix the reading names where a definition stands now."""
+        os.remove(self.path("crates/part/specs/Part.antt"))
+        self.write("crates/other/specs/Other.antt", "-- it moved\n\nabbrev pub alone : Unit\n")
+        self.assertEqual(self.found()[0], 1)
+        self.assertEqual(self.found("--fix")[0], 0)
+        with open(self.path("docs/PROMISES.md"), encoding="utf-8") as file:
+            self.assertIn("| `alone` | `crates/other/specs/Other.antt` | 3 | it |", file.read())
+        self.assertEqual(self.found()[0], 0)

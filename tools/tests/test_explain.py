@@ -1,0 +1,390 @@
+"""Tests of tools/explain: what it says of mistakes, that it says what the program said, and that nothing ends it."""
+import os
+import random
+import re
+import subprocess
+import tomllib
+import zlib
+from collections import Counter
+
+import mistakes
+from common import CASES, PROGRAM, ROOT, THREE, ToolTest, heard, input_of, needs_program, tool, with_report
+from explaining import whole
+from explaining.answers import Answer, read_fault, run_program
+from explaining.source import Source
+from explaining.toml_scan import NoToml, scan
+from frames import BROADCAST
+from mistakes import CONFIG, PROBE, TRACE
+from reading import hears, request_of, unread_kind, wired_unread_kind
+from texts import read_text
+
+LEAST_ROWS, LEAST_OF_EACH, MUTATIONS = 100, 4, 10_000
+TEXT_CODES = [f"C{number}" for number in range(1, 14)] + [f"L{number}" for number in range(1, 6)]
+OTHER_FAULT = re.compile(r"\b(?:C\d+|L\d|F[234])\b")
+LAB, GUEST = "02:00:00:00:00:01", "02:00:00:00:00:02"
+STATION = "02aa00000001"
+OURS = LAB.replace(":", "")
+# Words of the program that are wrong, files that can't be read, and what has to be said of them. my.toml, my.trace and
+# folder are there.
+WORDS = [
+    (["--", "--help"], "fault words", ["no word `--help`", "check CONFIG"]),
+    (["--", "help"], "fault words", ["no word `help`"]),
+    (["--", "--version"], "fault words", ["no word `--version`", "run CONFIG TRACE"]),
+    (["check"], "fault words", ["CONFIG is missing", "check CONFIG"]),
+    (["run", "my.toml"], "fault words", ["TRACE is missing", "run CONFIG TRACE"]),
+    (["run", "my.toml", "my.trace", "my.trace"], "fault words", ["two words", "play CONFIG TRACE..."]),
+    (["check", "my.toml", "my.trace"], "fault words", ["one word", "run CONFIG TRACE"]),
+    (["chekc", "my.toml"], "fault words", ["no word `chekc`", "check CONFIG"]),
+    (["--", "my.toml", "my.trace"], "fault words", ["is no first word", "run my.toml TRACE"]),
+    (["check", "-v"], "fault words", ["begins with `-`", "check -- -v"]),
+    (["play", "my.toml"], "fault words", ["TRACE is missing"]),
+    (["--", "explode"], "fault words", ["no word `explode`"]),
+    (["check", b"\xff.toml"], "fault words", ["isn't UTF-8"]),
+]
+FILES = [
+    (["check", "my.tmol"], "fault file my.tmol", ["isn't there", "`my.toml` is there, and may be meant"]),
+    (["check", "none/my.toml"], "fault file none/my.toml", ["there is no folder `none`"]),
+    (["check", "folder"], "fault file folder", ["is a folder"]),
+    (["check", "-"], "fault file -", ["`-` names a file here"]),
+    (["check", ""], "fault file ", ["the name of a file is empty"]),
+    (["run", "my.toml", "trace"], "fault file trace", ["isn't there"]),
+    (["check", "link"], "fault file link", ["is a link to `gone`"]),
+    (["check", "my.toml/x"], "fault file my.toml/x", ["is a file, and no folder"]),
+    (["run", "my.toml", "folder"], "fault file folder", ["is a folder"]),
+    (["play", "my.toml"] + ["my.trace"] * 65, "fault sources", ["65 traces", "1 to 64"]),
+]
+# What is told of a fault for which the program isn't run.
+TOLD = [("fault memory", "may not have the memory"), ("fault output", "can't be written"),
+        ("fault thread", "a thread for each trace"), ("fault F3", "a mistake of the program")]
+
+
+def octets_of(text):
+    """A text as octets."""
+    return text if isinstance(text, bytes) or text is None else text.encode()
+
+
+JOIN = [heard("b0000000", "0000 0100 0000"), heard("00000000", "0100 0a00 00036c6162 010482840b16")]
+DATA, QOS = "08010000", "88010000"
+UNIT = "aaaa030000000800 01"
+
+
+def with_fcs(line):
+    """A line with the frame check sequence at its end."""
+    octets = bytes.fromhex("".join(line.split()[1:]))
+    return f"{line} {zlib.crc32(octets).to_bytes(4, 'little').hex()}"
+
+
+def with_radiotap(line):
+    """A line with a radiotap header before the frame."""
+    return line.replace("A ", "A 0000 0c00 04800000 02001800 ", 1)
+
+
+# Traces that the program reads, and what has to be said of the run.
+RUNS = [
+    ([PROBE.replace("ffffffffffff", "029900000001")], ["no frame of this trace is to a network", LAB, GUEST,
+                                                       "02:99:00:00:00:01 (1)"]),
+    ([heard("80000000", "00" * 12, "ffffffffffff"), JOIN[0].replace(OURS, "029900000001")],
+     ["no frame of this trace is to a network", LAB, "02:99:00:00:00:01 (1)"]),
+    (JOIN + [PROBE], ["network 02:00:00:00:00:02 (guest): no frame of this trace is to it", "it took 1 frame to all",
+                      "no line `T`"]),
+    ([heard("b0000000", "0000 0100 0000", sender=f"02aa000000{number:02x}") for number in range(16)],
+     ["it knows as many stations as it may, `max_known = 16`"]),
+    (JOIN + [heard(QOS, f"0000 {UNIT}")] * 3, ["data frames of QoS (WMM), unread (U3): all", "my.trace:3:1"]),
+    (JOIN + [heard(QOS, f"0000 {UNIT}"), heard(DATA, UNIT)], ["data frames of QoS (WMM), unread (U3): 1 of 2"]),
+    (["T"] * 101, ["its history is full, `max_events = 100`", "my.trace:101:1", "left out: 1"]),
+    ([heard("b0000000", "0000 0100 0000", sender=f"02aa000000{number:02x}") for number in range(17)],
+     ["refused with status 1: 1 (`max_known = 16` is reached"]),
+    ([line.replace(STATION, f"02aa000000{number:02x}") for number in range(9) for line in JOIN],
+     ["refused with status 17: 1 (`max_stations = 8` is reached"]),
+    ([JOIN[0], JOIN[1].replace("010482840b16", "010102")], ["status 18", "hasn't a basic rate"]),
+    ([JOIN[0], JOIN[1].replace("6c6162", "4c6162")], ["they named another SSID, `Lab`, than `lab`"]),
+    ([JOIN[0].replace("0000 0100 0000", "0100 0100 0000")], ["status 13", "Open System"]),
+    (list(map(with_fcs, [*JOIN, heard(DATA, UNIT)])), ["the last four octets of 3 of 3 frames", "my.trace:1:",
+                                                       "tools/trace-from-capture"]),
+    (list(map(with_radiotap, JOIN)), ["radiotap", "tools/trace-from-capture takes it off"]),
+    ([heard(DATA, UNIT)], ["reason 7", "it joined before the trace begins"]),
+    (JOIN + [heard("08410000", "0100002000000000 a1b2")], ["events unread (U4): 1 of 3 (encrypted"]),
+    (JOIN + [heard("08010000", UNIT, sequence="1000"), heard("08090000", UNIT, sequence="1000")],
+     ["frames sent again: 1", "my.trace:4:1"]),
+    (JOIN + [heard("48110000")] + [f"W {LAB} {STATION} 02bb00000001 0800 01"] * 9, ["units lost: 1", "quota = 8"]),
+    ([heard("80000000", "00" * 12, "ffffffffffff", OURS)], ["unread (U3)"]),
+    ([heard("40000000", "0000", "ffffffffffff", OURS)], ["frames that it sent itself, unread (U6): 1"]),
+    (JOIN + [line.replace(OURS, GUEST.replace(":", "")).replace("00036c6162", "00056775657374") for line in JOIN],
+     ["is associated in several networks: lab, guest"]),
+    (["# nothing"], ["the trace has no line"]),
+    (JOIN + [PROBE.replace("ffffffffffff", GUEST.replace(":", "")), "T"], ["nothing odd was found"]),
+]
+
+
+class Mistakes(ToolTest):
+    """What is said of texts, words and files that the program refuses."""
+
+    def explained(self, mistake):
+        """What is said where the program answers as the table says."""
+        config = Source("my.toml", octets_of(mistake.config))
+        if mistake.is_joined:
+            texts = whole.texts_of([], octets_of(mistake.config))
+        elif mistake.trace is None:
+            texts = whole.Texts(["check", "my.toml"], config)
+        else:
+            texts = whole.Texts(["run", "my.toml", "my.trace"], config,
+                                [Source("my.trace", octets_of(mistake.trace))])
+        return "\n".join(whole.explain(texts, Answer(1, b"", read_fault(mistake.said), mistake.said)))
+
+    def test_each_mistake_is_named(self):
+        """Of each mistake the place, the cause and what to write are said, below the program's own line."""
+        for mistake in mistakes.TEXTS:
+            found = self.explained(mistake)
+            self.assertEqual(found.split("\n")[0], mistake.said)
+            for words in mistake.says:
+                self.assertIn(words, found)
+
+    def test_table_has_enough(self):
+        """At least a hundred inputs, at least four of each fault of a text, of words and of files."""
+        counts = Counter(read_fault(mistake.said).code for mistake in mistakes.TEXTS)
+        self.assertGreaterEqual(len(mistakes.TEXTS), LEAST_ROWS)
+        self.assertGreaterEqual(min(counts[code] for code in TEXT_CODES), LEAST_OF_EACH)
+        self.assertGreaterEqual(min(len(WORDS), len(FILES)), LEAST_OF_EACH)
+        inputs = [(mistake.config, mistake.trace) for mistake in mistakes.TEXTS]
+        self.assertEqual(len(set(inputs)), len(inputs))
+
+    @needs_program
+    def test_program_answers_as_the_table_says(self):
+        """The program's own line of each mistake is the table's, so that what is said is said of the right fault."""
+        for mistake in mistakes.TEXTS:
+            self.write("my.toml", octets_of(mistake.config))
+            words, given = ["check", self.path("my.toml")], None
+            if mistake.is_joined:
+                words, given = [], octets_of(mistake.config)
+            elif mistake.trace is not None:
+                self.write("my.trace", octets_of(mistake.trace))
+                words = ["run", self.path("my.toml"), self.path("my.trace")]
+            self.assertEqual(run_program(PROGRAM, words, given).errors, f"{mistake.said}\n", mistake.says)
+
+    def write(self, name, octets):
+        """A file of the test's folder."""
+        with open(self.path(name), "wb") as file:
+            file.write(octets)
+
+    def folder_with_files(self):
+        """The test's folder, with files to be read and some that can't be."""
+        self.write("my.toml", CONFIG.encode())
+        self.write("my.trace", TRACE.encode())
+        os.mkdir(self.path("folder"))
+        os.symlink("gone", self.path("link"))
+
+    def run_tool(self, *words, given=""):
+        """The tool, in the test's folder: its status, and what it says."""
+        done = subprocess.run([os.path.join(ROOT, "tools", "explain"), *words], capture_output=True, text=True,
+                              input=given, cwd=self.folder, check=False)
+        self.assertEqual(done.stderr, "", words)
+        return done.returncode, done.stdout
+
+    @needs_program
+    def test_words_and_files(self):
+        """Wrong words, and files that can't be read: the program's line, its status and the cause."""
+        self.folder_with_files()
+        for words, said, says in WORDS + FILES:
+            status, found = self.run_tool(*words)
+            self.assertEqual(found.split("\n")[0], said, words)
+            self.assertEqual(status, {"words": 2, "file": 4, "sources": 1}[said.split()[1]], words)
+            for text in says:
+                self.assertIn(text, found)
+
+    def test_what_was_said_already(self):
+        """With --said the program isn't run: so one that ran it without proof, or elsewhere, shows the reason."""
+        self.folder_with_files()
+        self.write("wrong.toml", CONFIG.replace('"lab"', "lab").encode())
+        program = ["--program", self.path("none"), "--said"]
+        status, found = self.run_tool(*program, "fault C1", "check", "wrong.toml")
+        self.assertEqual((status, found.split("\n")[0]), (1, "fault C1"))
+        self.assertIn("wrong.toml:8:8", found)
+        for said, says in TOLD:
+            status, found = self.run_tool(*program, said, "run", "my.toml", "my.trace")
+            self.assertEqual(found.split("\n")[0], said)
+            self.assertIn(says, found)
+        self.assertEqual(whole.explain_config(self.path("wrong.toml"), "fault C1")[0], "fault C1")
+
+    @needs_program
+    def test_ways_to_give_texts(self):
+        """A configuration, with a trace, both in one file, both on standard input, and lines for `live`."""
+        self.folder_with_files()
+        self.write("my.input", f"{CONFIG}---\nT\nA 4\n".encode())
+        for words, says in ((["my.toml"], "ok 2"), (["my.toml", "my.trace"], "the program ended well"),
+                            (["check", "my.toml"], "ok 2"), (["my.input"], "my.input:31:3"),
+                            (["play", "my.toml", "my.trace", "my.trace"], "the program ended well")):
+            self.assertIn(says, self.run_tool(*words)[1], words)
+        self.assertIn("can't be read a second time", self.run_tool("my.toml", "/dev/stdin", given=TRACE)[1])
+        self.assertIn("standard input:31:3", self.run_tool(given=f"{CONFIG}---\nT\nA 4\n")[1])
+        found = self.run_tool("live", "my.toml", given="T\nA 4\ntick\n")[1]
+        self.assertIn("fault L2 line 2\nstandard input:2:3", found)
+        self.assertIn("fault L1 line 3\nstandard input:3:1", found)
+        self.write("wrong.trace", b"T\nA 4\n")
+        self.assertIn("fault L2 trace 1 line 2\nwrong.trace:2:3",
+                      self.run_tool("play", "my.toml", "my.trace", "wrong.trace")[1])
+
+    def test_where_there_is_no_program(self):
+        """Without a program the tool says so, with status 1."""
+        status, _, stderr = tool("explain", "--program", self.path("none"), os.path.join(THREE, "input"))
+        self.assertEqual(status, 1)
+        self.assertIn("make apctl", stderr)
+
+
+class GoodRuns(ToolTest):
+    """What is odd in runs that end well."""
+
+    @needs_program
+    def test_odd_runs(self):
+        """Of each run what is odd in it is said."""
+        for lines, says in RUNS:
+            found = self.explained(CONFIG, "\n".join(lines) + "\n")
+            for words in says:
+                self.assertIn(words, found, lines)
+
+    def explained(self, config, trace):
+        """What is said of a run."""
+        for name, text in (("my.toml", config), ("my.trace", trace)):
+            with open(self.path(name), "w", encoding="utf-8") as file:
+                file.write(text)
+        status, stdout, stderr = tool("explain", self.path("my.toml"), self.path("my.trace"))
+        self.assertEqual((status, stderr), (0, ""), trace)
+        return stdout
+
+    def test_unread_kinds_are_those_of_the_reports(self):
+        """In each example's report as many events are unread as the tool finds reasons for."""
+        count = Counter()
+        for folder in with_report():
+            lines = input_of(folder)[1]
+            for section in whole.runs.read_report(read_text(os.path.join(folder, "stdout"))):
+                hearing = whole.runs.Hearing(section, None)
+                for line in lines:
+                    hearing.take(line)
+                self.assertEqual(sum(map(len, hearing.unread.values())), section.unread, folder)
+                count.update({kind: len(found) for kind, found in hearing.unread.items()})
+        self.assertEqual(sorted(count), [f"U{number}" for number in range(1, 9)])
+
+    def test_kinds_of_any_octets(self):
+        """A string of octets is a request, or has a reason why it is none."""
+        draw = random.Random(7)
+        bssid = bytes.fromhex(OURS)
+        for _ in range(5000):
+            octets = bytearray(bytes.fromhex("".join(draw.choice([*JOIN, PROBE, heard(DATA, UNIT)]).split()[1:])))
+            for _ in range(draw.randrange(3)):
+                octets[draw.randrange(len(octets))] = draw.randrange(256)
+            octets = bytes(octets[:draw.randrange(10, len(octets) + 1)])
+            if hears(bssid, octets):
+                self.assertEqual(request_of(bssid, octets) is None, unread_kind(bssid, octets) is not None)
+        self.assertEqual([wired_unread_kind(BROADCAST * 2 + bytes.fromhex(more)) for more in ("0800", "08", "0026")],
+                         [None, "U1", "U7"])
+
+
+# What is put into a text that is changed.
+PIECES = (b"\n", b'"', b"=", b"[", b"]", b"#", b"\r", b"\t", b" ", b"0", b"\xff", b"T", b"A ", b"W ", b"---\n",
+          b"{", b"}", b"'", b",", b".", b":", b"\\", b"-", b"9")
+
+
+class Mutations(ToolTest):
+    """Texts that are changed at random."""
+
+    @staticmethod
+    def mutated(draw, text):
+        """A text with up to three changes."""
+        text = bytearray(text)
+        # half of the texts are changed in the trace alone, half of the others mostly in values
+        begin = text.find(b"\n---\n") if draw.randrange(2) else 0
+        for _ in range(draw.randrange(1, 4)):
+            at = draw.randrange(max(0, begin), len(text) + 1)
+            if begin == 0 and draw.randrange(2):
+                at = max(at, text.find(b"= ", at) + 2)
+            end = min(len(text), at + draw.choice((1, 1, 2, 5, 20)))
+            kind = draw.randrange(5)
+            if kind == 0:
+                del text[at:end]
+            elif kind == 1:
+                text[at:at] = draw.choice(PIECES)
+            elif kind == 2:
+                text[at:end] = bytes([draw.randrange(256)])
+            elif kind == 3:
+                text[at:at] = text[draw.randrange(len(text) + 1):][:draw.choice((3, 20, 200))]
+            else:
+                lines = text.split(b"\n")
+                one, other = draw.randrange(len(lines)), draw.randrange(len(lines))
+                lines[one], lines[other] = lines[other], lines[one]
+                text = bytearray(b"\n".join(lines))
+        return bytes(text)
+
+    @staticmethod
+    def seeds():
+        """The texts that are changed: those of the examples, and the table's."""
+        inputs = [os.path.join(folder, "input") for folder in with_report()]
+        texts = [open(path, "rb").read() for path in inputs]
+        joined = [octets_of(mistake.config) + b"---\n" + (octets_of(mistake.trace) or TRACE.encode())
+                  for mistake in mistakes.TEXTS]
+        return [text for text in texts + joined if len(text) < 5000] + [f"{CONFIG}---\n{TRACE}".encode()] * 40
+
+    @needs_program
+    def test_mutated_texts(self):
+        """Whatever a text is, the tool says the program's own line and names no other fault; most are explained."""
+        draw, seeds, found = random.Random(53), self.seeds(), Counter()
+        for number in range(MUTATIONS):
+            text = self.mutated(draw, draw.choice(seeds))
+            answer = run_program(PROGRAM, [], text)
+            texts = whole.texts_of([], text)
+            lines = whole.explain(texts, answer)
+            if answer.fault is None:
+                self.assertEqual((answer.status, lines[0]), (0, "the program ended well"), (number, text))
+                found["well"] += 1
+                continue
+            self.assertEqual(lines[0] + "\n", answer.errors, (number, text))
+            findings = whole.findings_of(texts, answer.fault)
+            found[answer.fault.code] += 1
+            found["without a reason"] += not findings
+            for finding in findings:
+                for words in (finding.text, finding.advice or ""):
+                    named = set(OTHER_FAULT.findall(re.sub("`[^`]*`", "", words))) - {answer.fault.code}
+                    self.assertEqual(named, set(), (number, text))
+        print(dict(found))
+        refused = sum(count for code, count in found.items() if code in TEXT_CODES)
+        self.assertGreater(refused, MUTATIONS / 2)
+        self.assertGreater(len(found), 18)
+        self.assertLess(found["without a reason"], refused / 100)
+
+    def test_scanner_agrees_with_the_library(self):
+        """What is TOML for the scanner is TOML for Python's own reader, but for what version 1.1 has more."""
+        draw, different = random.Random(54), []
+        seeds = [text.split(b"\n---\n")[0] + b"\n" for text in self.seeds()]
+        for _ in range(MUTATIONS):
+            text = self.mutated(draw, draw.choice(seeds)).decode("utf-8", "replace")
+            try:
+                scan(text)
+                mine = True
+            except NoToml:
+                mine = False
+            try:
+                tomllib.loads(text)
+                theirs = True
+            except tomllib.TOMLDecodeError:
+                theirs = False
+            if mine != theirs:
+                different.append(text)
+        self.assertLess(len(different), MUTATIONS / 500, different[:5])
+
+
+class Examples(ToolTest):
+    """The examples that end with a fault."""
+
+    def test_faults_of_the_examples(self):
+        """Each example's fault of a text is explained."""
+        count = 0
+        for name, folder in sorted(CASES.items()):
+            stderr, given = os.path.join(folder, "stderr"), os.path.join(folder, "input")
+            if not name.startswith("fault_") or not os.path.exists(given) or not os.path.exists(stderr):
+                continue
+            said = read_text(stderr).removesuffix("\n")
+            with open(given, "rb") as file:
+                texts = whole.texts_of([], file.read())
+            found = whole.explain(texts, Answer(1, b"", read_fault(said), said))
+            self.assertEqual(found[0], said)
+            self.assertNotIn(whole.NOTHING_FOUND, found, name)
+            count += 1
+        self.assertGreater(count, 20)
