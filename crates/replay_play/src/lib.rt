@@ -11,4 +11,4 @@ mod fault;
 mod playing;
 
 pub use fault::PlayTextFault;
-pub use playing::play_text;
+pub use playing::{play_text, report_play};

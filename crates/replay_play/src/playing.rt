@@ -1,20 +1,23 @@
 //! Several traces that are played at once, and the report of it.
 
-ghost use Rattle.std.specs.Prelude.{◌≡◌, ◌+◌, map, MatchResult};
-ghost use Rattle.trace.specs.Endings.{failures_of};
+ghost use Rattle.std.specs.Prelude.{◌≡◌, ◌+◌, ◌<◌, [], length, map, slice_index_or, IfOk, MatchResult};
+ghost use Rattle.trace.specs.Endings.{Gives, failures_of, outcome_of};
+ghost use Rattle.trace.specs.Faults.{read_ending};
+ghost use Rattle.trace.specs.TraceText.{lines_of};
 ghost use Rattle.trace.specs.Sinks.{MayFail};
-ghost use Rattle.replay_play.specs.Playing.{AreLines, EndsPlay, IsTracesFault, in_trace, play_ending};
+ghost use Rattle.replay_play.specs.Playing.{AreLines, AreRead, EndsPlay, IsTracesFault, in_trace, play_ending};
 ghost use Rattle.workers.specs.Names.{callers_fit};
 
 use crate::fault::PlayTextFault;
 use ap_config::RadioConfig;
 use events::Line;
 use mac_frame::Octets;
-use std::alloc::Global;
+use std::alloc::{AllocError, Global};
 use std::sync::Wait;
+use std::thread;
 use std::thread::Threads;
 use trace::{ReadFault, Sink, TraceTextFault, read_config, read_trace, write_report};
-use workers::{Gate, MAX_CALLERS, play};
+use workers::{Gate, MAX_CALLERS, Played, play_lent};
 
 /// A gate that holds no source back.
 #[derive(Clone, Copy)]
@@ -44,14 +47,31 @@ pub fn play_text<R: Threads + Wait + Sync, W: Sink>(
     ensures ends { EndsPlay result config.now traces.now (W.taken out.old) (W.taken out.new) }
     ensures failures { W.failed out.new ≡ W.failed out.old + failures_of play_ending result }
 {
+    report_play(rt, alloc, config, traces, out)?;
+    Ok(())
+}
+
+/// Does what [`play_text`] does, and hands out what it played and reported, so that a program that ends then need not
+/// give back their memory, one line and one event after another.
+pub fn report_play<R: Threads + Wait + Sync, W: Sink>(
+    rt: &R,
+    alloc: Global,
+    config: &[u8],
+    traces: &[Octets],
+    out: &mut W,
+) -> Result<(Vec<Vec<Line>>, Played), PlayTextFault>
+    requires { MayFail (W.failed out.old) }
+    ensures ends { EndsPlay (outcome_of result) config.now traces.now (W.taken out.old) (W.taken out.new) }
+    ensures failures { W.failed out.new ≡ W.failed out.old + failures_of play_ending result }
+{
     let config = read_config(alloc, config)?;
     if !fit(traces.len()) {
         return Err(PlayTextFault::Sources);
     }
-    let sources = read_traces(alloc, &config, traces)?;
-    let end = play(rt, alloc, config, sources, &Open)?;
-    write_report(alloc, end.sections.as_slice(), out)?;
-    Ok(())
+    let sources = read_traces(rt, alloc, &config, traces)?;
+    let played = play_lent(rt, alloc, config, sources.as_slice(), &Open)?;
+    write_report(alloc, played.sections.as_slice(), out)?;
+    Ok((sources, played))
 }
 
 /// Whether an access point may have so many sources.
@@ -61,8 +81,10 @@ fn fit(count: usize) -> bool
     (1..=MAX_CALLERS as usize).contains(&count)
 }
 
-/// The lines of each trace, in order, or the fault of the first trace that has one.
-fn read_traces(
+/// The lines of each trace, in order, or the fault of the first trace that has one. The traces are read by threads, as
+/// far as there are any.
+fn read_traces<R: Threads + Sync>(
+    rt: &R,
     alloc: Global,
     config: &RadioConfig,
     traces: &[Octets],
@@ -71,14 +93,51 @@ fn read_traces(
         (λ sources. AreLines config.now traces.now (map (λ s. s.items) sources.items))
         (λ fault. IsTracesFault config.now traces.now fault) }
 {
-    let mut sources = Vec::new(alloc);
-    for trace in traces {
-        match read_trace(alloc, config, trace.as_slice()) {
+    let read = read_each(rt, alloc, config, traces)?;
+    let mut sources = Vec::with_capacity(alloc, traces.len())?;
+    for lines in read {
+        match lines {
             Ok(lines) => sources.push(lines)?,
             Err(fault) => return Err(in_trace(sources.len(), fault)),
         }
     }
     Ok(sources)
+}
+
+/// What is read of each trace, in order.
+fn read_each<R: Threads + Sync>(
+    rt: &R,
+    alloc: Global,
+    config: &RadioConfig,
+    traces: &[Octets],
+) -> Result<Vec<Result<Vec<Line>, TraceTextFault>>, AllocError>
+    ensures { IfOk result (λ read. AreRead config.now traces.now read.items) }
+{
+    let read = thread::map_indices(
+        rt,
+        alloc,
+        traces.len(),
+        &|place| -> Result<Vec<Line>, TraceTextFault>
+            requires { place < length traces.now }
+            ensures { Gives (λ lines. lines.items) read_ending result
+                (lines_of config.entry.now (slice_index_or traces.entry.now place [])) }
+        { read_one(alloc, config, traces, place) },
+    )?;
+    Ok(read)
+}
+
+/// What is read of the trace at this place.
+fn read_one(
+    alloc: Global,
+    config: &RadioConfig,
+    traces: &[Octets],
+    place: usize,
+) -> Result<Vec<Line>, TraceTextFault>
+    requires { place < length traces.now }
+    ensures { Gives (λ lines. lines.items) read_ending result
+        (lines_of config.now (slice_index_or traces.now place [])) }
+{
+    read_trace(alloc, config, traces[place].as_slice())
 }
 
 /// A fault of the trace at this place.
