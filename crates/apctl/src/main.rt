@@ -13,12 +13,11 @@ mod fault;
 mod files;
 mod input;
 
-use events::Section;
 use fault::{Fault, show_fault};
 use files::{open_file, read_file, read_traces};
 use input::{STANDARD_INPUT, run_input};
 use replay::{check_text, report_stream};
-use replay_play::play_text;
+use replay_play::report_play;
 use std::io::ErrorKind;
 use std::process::ExitCode;
 use std::sync::Wait;
@@ -68,13 +67,9 @@ fn run<T: Threads + Wait + Sync>(rt: &HostRuntime, threads: &T) -> Result<(), Fa
         Task::Play { config, traces } => {
             let config = read_file(rt, config)?;
             let traces = read_traces(rt, traces.as_slice())?;
-            Ok(play_text(
-                threads,
-                alloc,
-                config.as_slice(),
-                traces.as_slice(),
-                &mut out,
-            )?)
+            let config = config.as_slice();
+            end_with(report_play(threads, alloc, config, traces.as_slice(), &mut out)?);
+            Ok(())
         }
         Task::Run { config, trace } => {
             let config = read_file(rt, config)?;
@@ -96,8 +91,8 @@ fn run<T: Threads + Wait + Sync>(rt: &HostRuntime, threads: &T) -> Result<(), Fa
 }
 
 /// Ends with what was reported: the process ends now, and its memory goes back as a whole.
-fn end_with(sections: Vec<Section>) {
-    mem::forget(sections);
+fn end_with<T: Drop>(reported: T) {
+    mem::forget(reported);
 }
 
 /// The words that the program was given, its own name first.

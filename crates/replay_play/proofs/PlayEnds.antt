@@ -1,12 +1,16 @@
 -- What a play of several traces leaves, by how it ended.
-use Rattle.std.proofs.Common.{◌≡◌, ℕ, suc, ◌++◌, ◌∷◌, [], true, false, List, Option, Ok, Err, length, refl, ap, ◌∙◌}
+use Rattle.std.proofs.Common.{◌≡◌, ℕ, suc, ◌<◌, ◌++◌, ◌∷◌, [], true, false, List, Option, Some, Result, Ok, Err, length, map, get_or, refl, sym, ap, ◌∙◌, subst, arith}
+use Rattle.std.proofs.lemmas.List.{length-map}
+use Rattle.std.specs.Prelude.{slice_get}
+use Rattle.std.specs.declared.alloc.Global.{Global}
+use Rattle.std.specs.declared.vec.Vec.{Vec}
 use Rattle.std.proofs.KnownBytes.{Keeps-refl}
 use Rattle.std.specs.Io.KnownBytes.{Appends}
 use Rattle.ap_config.specs.declared.config.RadioConfig.{RadioConfig}
 use Rattle.ap_config.specs.declared.config.ConfigFault.{ConfigFault}
 use Rattle.events.specs.declared.line.Line.{Line}
 use Rattle.trace.specs.ConfigurationText.{configuration_of}
-use Rattle.trace.specs.Endings.{IsFaultOf, Ends}
+use Rattle.trace.specs.Endings.{Gives, IsFaultOf, Ends}
 use Rattle.trace.specs.Faults.{read_as, read_ending, report_as}
 use Rattle.trace.specs.Report.{report_text}
 use Rattle.trace.specs.Sinks.{report_ending}
@@ -16,11 +20,16 @@ use Rattle.trace.specs.declared.read_fault.ReadFault.{ReadFault}
 use Rattle.trace.specs.declared.read_fault.ReadFault.TheVariants as reads
 use Rattle.trace.specs.declared.report.ReportFault.{ReportFault}
 use Rattle.trace.specs.declared.report.ReportFault.TheVariants as reports
+use Rattle.events.specs.declared.air_item.AirItem.{AirItem}
+use Rattle.workers.specs.Ending.{AreSections, HaveLeft, ArePlaced}
 use Rattle.workers.specs.Names.{callers_fit}
+use Rattle.workers.specs.Playing.{ArePlayed}
+use Rattle.workers.specs.Receipts.{AreGivers, histories_of}
+use Rattle.workers.specs.declared.playing.Played.{Played}
 use Rattle.workers.specs.declared.finish.Finished.{Finished}
 use Rattle.workers.specs.declared.playing.PlayFault.{PlayFault}
 use Rattle.workers.specs.declared.playing.PlayFault.TheVariants as plays
-use Rattle.replay_play.specs.Playing.{AreLines, IsTracesFault, IsPlayOf, ArePlayable, EndsPlay, in_trace, of_play}
+use Rattle.replay_play.specs.Playing.{AreLines, AreRead, IsTracesFault, IsPlayOf, ArePlayable, EndsPlay, in_trace, of_play}
 use Rattle.replay_play.specs.declared.fault.PlayTextFault.{PlayTextFault}
 use Rattle.replay_play.specs.declared.fault.PlayTextFault.TheVariants.{Config, Sources, Trace, NoThread, NoMemory, Finish, Write}
 
@@ -127,4 +136,72 @@ whole_plays c ct traces sources end old new able play written = record {
   answer = Ok (report_text end.sections);
   allowed = record { c = c; sources = sources; playable = able; end = end; play = play; text = refl };
   taken = written;
+}
+
+-- ---- traces that were read side by side
+
+-- the next answer is that of the next trace
+pub read_next : (c : RadioConfig) (texts : List (List ℕ)) (answers : List (Result (Vec Line Global) (ReadFault TraceFault)))
+    (answer : Result (Vec Line Global) (ReadFault TraceFault)) (rest : List (Result (Vec Line Global) (ReadFault TraceFault)))
+    → answers ≡ answer ∷ rest → AreRead c texts answers
+    → (text : List ℕ) × (later : List (List ℕ)) × (texts ≡ text ∷ later)
+    × Gives (λ lines. lines.items) read_ending answer (lines_of c text) × AreRead c later rest
+read_next c texts answers answer rest is all = parts texts (subst (AreRead c texts) is all)
+  where
+    parts : (ts : List (List ℕ)) → AreRead c ts (answer ∷ rest)
+        → (text : List ℕ) × (later : List (List ℕ)) × (ts ≡ text ∷ later)
+        × Gives (λ lines. lines.items) read_ending answer (lines_of c text) × AreRead c later rest
+    parts [] h = absurd h
+    parts (t ∷ ts) h = (t, ts, refl, h.0, h.1)
+
+-- what an answer says of its text
+pub read_lines : (c : RadioConfig) (text : List ℕ) (answer : Result (Vec Line Global) (ReadFault TraceFault))
+    (lines : Vec Line Global) → answer ≡ Ok lines
+    → Gives (λ lines. lines.items) read_ending answer (lines_of c text) → lines_of c text ≡ Ok lines.items
+read_lines c text answer lines is gives =
+    subst (λ (a : Result (Vec Line Global) (ReadFault TraceFault)). Gives (λ v. v.items) read_ending a (lines_of c text)) is gives
+
+pub read_fault : (c : RadioConfig) (text : List ℕ) (answer : Result (Vec Line Global) (ReadFault TraceFault))
+    (fault : ReadFault TraceFault) → answer ≡ Err fault
+    → Gives (λ lines. lines.items) read_ending answer (lines_of c text) → IsFaultOf (lines_of c text) (read_ending fault)
+read_fault c text answer fault is gives =
+    subst (λ (a : Result (Vec Line Global) (ReadFault TraceFault)). Gives (λ v. v.items) read_ending a (lines_of c text)) is gives
+
+-- no answer is left where no trace is
+pub read_none : (c : RadioConfig) (texts : List (List ℕ)) (answers : List (Result (Vec Line Global) (ReadFault TraceFault)))
+    → length answers ≡ 0 → AreRead c texts answers → texts ≡ []
+read_none c [] [] none all = refl
+read_none c [] (a ∷ others) none all = absurd all
+read_none c (t ∷ ts) [] none all = absurd all
+read_none c (t ∷ ts) (a ∷ others) none all = absurd (omega (arith, none))
+
+-- an answer for each trace
+pub read_by_place : (c : RadioConfig) (texts : List (List ℕ))
+    (answers : List (Result (Vec Line Global) (ReadFault TraceFault))) → length answers ≡ length texts
+    → ((i : ℕ) (answer : Result (Vec Line Global) (ReadFault TraceFault)) → i < length texts → slice_get answers i ≡ Some answer
+    → Gives (λ lines. lines.items) read_ending answer (lines_of c (get_or texts i [])))
+    → AreRead c texts answers
+read_by_place c [] [] count each = tt
+read_by_place c [] (a ∷ others) count each = absurd (omega (arith, count))
+read_by_place c (t ∷ ts) [] count each = absurd (omega (arith, count))
+read_by_place c (t ∷ ts) (a ∷ others) count each =
+    (each 0 a (omega arith) refl, read_by_place c ts others (omega (arith, count)) (λ i answer within is. each (suc i) answer (omega (arith, within)) is))
+
+-- ---- what was played, with the frames that left
+
+abbrev pub whole_of : Played → List AirItem → Finished
+whole_of end left = record { sections = end.sections; left = left; givers = end.givers }
+
+pub played_is : {Lent : Type 0} (c : RadioConfig) (sources lent : List Lent) (lines : Lent → List Line) → lent ≡ sources
+    → (end : Played) → length end.sections ≡ length c.networks → AreSections c end.sections
+    → (air : (left : List AirItem) × HaveLeft end.sections left × ArePlaced c left)
+    → AreGivers (length lent) (histories_of end.sections) end.givers
+    → ArePlayed c (map lines lent) end.sections end.givers → IsPlayOf c (map lines sources) (whole_of end air.0)
+played_is {Lent = Lent} c sources lent lines same end networks sections air givers played = record {
+  networks = networks;
+  sections = sections;
+  air = air.1;
+  nothing_else = air.2;
+  givers = subst (λ (n : ℕ). AreGivers n (histories_of end.sections) end.givers) (ap length same ∙ sym (length-map sources lines)) givers;
+  played = subst (λ (vs : List Lent). ArePlayed c (map lines vs) end.sections end.givers) same played;
 }

@@ -1,12 +1,14 @@
 -- What is answered to the octets of a configuration and of several traces that are played at once.
 use Rattle.std.specs.Prelude.{ℕ, ◌≡◌, ◌++◌, ◌∷◌, true, false, List, Option, Result, Ok, Err, length}
 use Rattle.std.specs.List.{AllZip}
+use Rattle.std.specs.declared.alloc.Global.{Global}
+use Rattle.std.specs.declared.vec.Vec.{Vec}
 use Rattle.ap_config.specs.declared.config.RadioConfig.{RadioConfig}
 use Rattle.ap_config.specs.declared.config.ConfigFault.{ConfigFault}
 use Rattle.events.specs.declared.line.Line.{Line}
 use Rattle.trace.specs.ConfigurationText.{configuration_of}
-use Rattle.trace.specs.Endings.{Ending, Refused, WriteFailed, OutOfMemory, Ends}
-use Rattle.trace.specs.Faults.{read_as}
+use Rattle.trace.specs.Endings.{Gives, Ending, Refused, WriteFailed, OutOfMemory, Ends}
+use Rattle.trace.specs.Faults.{read_as, read_ending}
 use Rattle.trace.specs.Report.{report_text}
 use Rattle.trace.specs.TraceText.{lines_of}
 use Rattle.trace.specs.declared.fault.TraceFault.{TraceFault}
@@ -28,6 +30,11 @@ use Rattle.replay_play.specs.declared.fault.PlayTextFault.TheVariants.{Finish, W
 abbrev pub AreLines : RadioConfig → List (List ℕ) → List (List Line) → Type 0
 AreLines c traces sources = AllZip (λ text lines. lines_of c text ≡ Ok lines) traces sources
 
+-- what reading each trace answered, in order
+abbrev pub AreRead : RadioConfig → List (List ℕ) → List (Result (Vec Line Global) (ReadFault TraceFault)) → Type 0
+AreRead c traces read =
+    AllZip (λ text answer. Gives (λ lines. lines.items) read_ending answer (lines_of c text)) traces read
+
 -- The first trace that has a fault stands at this place, counted from 0, and this is its fault.
 pub record IsFirstFault (c : RadioConfig) (traces : List (List ℕ)) (source : ℕ) (fault : TraceFault) : Type 0 where
   pub before : List (List ℕ)
@@ -40,7 +47,7 @@ pub record IsFirstFault (c : RadioConfig) (traces : List (List ℕ)) (source : �
 
 -- ---- what is played
 
--- What an access point of this configuration ended with that these sources of lines fed: each section is that of the
+-- What an access point of this configuration ended with that so many sources of lines fed: each section is that of the
 -- network alone, with as many events at most as it may take; what left of a network is all that it sent, and nothing
 -- else left; each event was given by one source; and what a source gave a network are the first of those events that
 -- the network hears of the source's lines, all of them where the network is not full.

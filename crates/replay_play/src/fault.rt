@@ -6,7 +6,7 @@ ghost use Rattle.replay_play.specs.Playing.{of_play};
 ghost use Rattle.replay_play.specs.declared.fault.PlayTextFault.TheVariants as faults;
 
 use ap_config::ConfigFault;
-use std::alloc::AllocFailed;
+use std::alloc::{AllocError, AllocFailed};
 use trace::{ConfigTextFault, ReportFault, TraceFault};
 use workers::{FinishFault, PlayFault};
 
@@ -68,6 +68,14 @@ impl From<ReportFault> for PlayTextFault {
             ReportFault::Write => PlayTextFault::Write,
             ReportFault::NoMemory => PlayTextFault::NoMemory,
         }
+    }
+}
+
+impl From<AllocError> for PlayTextFault {
+    ghost from_gives = { λ _ given. given ≡ faults.NoMemory };
+
+    fn from(_e: AllocError) -> PlayTextFault {
+        PlayTextFault::NoMemory
     }
 }
 

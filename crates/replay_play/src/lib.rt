@@ -8,7 +8,7 @@
 #![tactic(auto)]
 
 mod fault;
-mod play;
+mod playing;
 
 pub use fault::PlayTextFault;
-pub use play::play_text;
+pub use playing::{play_text, report_play};

@@ -64,7 +64,7 @@ where-named : (b : Bool) (e : Event) (es : List Event) → (es ≡ []) ⊎ (es �
 where-named true e es one = one
 where-named false e es one = inl refl
 
-heard-at-one : (config : RadioConfig) (line : Line) (place : ℕ) → (heard_at config line place ≡ []) ⊎ (heard_at config line place ≡ event_of line ∷ [])
+pub heard-at-one : (config : RadioConfig) (line : Line) (place : ℕ) → (heard_at config line place ≡ []) ⊎ (heard_at config line place ≡ event_of line ∷ [])
 heard-at-one config line place =
     where-named (names_network config place) (event_of line) (heard_of place (network_at config place).bssid line) (heard-one place (network_at config place).bssid line)
 

@@ -8,3 +8,6 @@ pub mod Dealing
 pub mod Attributing
 pub mod Fullness
 pub mod Answering
+pub mod HeardLines
+pub mod Drains
+pub mod Moving

@@ -24,7 +24,7 @@ use Rattle.workers.specs.declared.outcome.Outcome.TheVariants.{NotHeard}
 -- ---- what is heard
 
 -- a network hears a line as its one event, or not at all
-heard-is : (place : ℕ) (bss : List ℕ) (line : Line) → heard_of place bss line ≡ (if hears_line place bss line then event_of line ∷ [] else [])
+pub heard-is : (place : ℕ) (bss : List ℕ) (line : Line) → heard_of place bss line ≡ (if hears_line place bss line then event_of line ∷ [] else [])
 heard-is place bss (Air x) = refl
 heard-is place bss (Wire named x) = refl
 heard-is place bss Tick = refl

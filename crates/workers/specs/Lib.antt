@@ -7,3 +7,5 @@ pub mod Ending
 pub mod Receipts
 pub mod Attributions
 pub mod Playing
+pub mod Answers
+pub mod Draining

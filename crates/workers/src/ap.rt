@@ -16,16 +16,18 @@ use crate::copies::Copies;
 use crate::given::Given;
 use crate::name::ApName;
 use crate::outcome::Outcome;
-use crate::seat::Seat;
+use crate::seat::{Handing, Seat};
 use crate::transmitter::Transmitter;
 use air_queue::AirQueue;
 use ap_config::MAX_NETWORKS;
-use events::Handed;
+use events::Event;
 use mac_frame::{MacAddr, NoMemory};
 use network::Bss;
 use std::alloc::Global;
+use std::hint;
 use std::marker::Model;
-use std::sync::{Mutex, Wait};
+use std::sync::atomic::{AtomicU64, Ordering};
+use std::sync::{Mutex, MutexGuard, Wait};
 
 /// The access point N: its networks, each under a lock of its own, and the air queue in which their frames meet
 /// (*profile*). Threads share it by reference. Contracts see its configuration; what stands under a lock another
@@ -36,7 +38,12 @@ pub struct Ap<N: ApName> {
     pub(crate) bssids: Vec<MacAddr>,
     pub(crate) seats: Vec<Mutex<Seat<N>>>,
     pub(crate) queue: AirQueue,
+    /// Whose frames wait, by a bit for each place: what stands under the lock, without the lock.
+    pub(crate) waiting: AtomicU64,
 }
+
+/// How often a thread tries to get a lock before it sleeps until it is let go.
+const TRIES: u32 = 200;
 
 impl<N: ApName> Model for Ap<N> {
     ghost use Rattle.std.specs.Prelude.{◌≡◌, vec_len, length, map};
@@ -188,11 +195,37 @@ impl<N: ApName> Ap<N> {
         ensures capacity { vec_capacity entries.new ≡ vec_capacity entries.old }
     {
         let Copies { offered, kept } = copies;
-        let outcome = self.seats[place].lock(rt).take(offered);
+        let outcome = self.take(rt, place, offered);
         if let Some(entry) = Entry::of(place, outcome, kept) {
             entries.push_reserved(entry);
         }
         outcome
+    }
+
+    /// Offers the event to the network at a place.
+    fn take<R: Wait>(&self, rt: &R, place: usize, event: Event) -> Outcome
+        requires { place < length N.config.networks }
+        ensures { result ≢ Outcome.NotHeard }
+    {
+        let mut seat = self.sit(rt, place);
+        let outcome = seat.take(event);
+        self.tell(place, seat.waits());
+        outcome
+    }
+
+    /// Offers the event to the network at a place, and hands its frames on.
+    pub(crate) fn take_and_hand<R: Wait>(
+        &self,
+        rt: &R,
+        place: usize,
+        event: Event,
+    ) -> (Outcome, Handing)
+        requires { place < length N.config.networks }
+    {
+        let mut seat = self.sit(rt, place);
+        let (outcome, handing) = seat.take_and_hand(rt, &self.queue, event);
+        self.tell(place, handing.waits);
+        (outcome, handing)
     }
 
     /// Hands frames of the network at a place to the air queue, the first that waits first, until none waits or the
@@ -200,19 +233,45 @@ impl<N: ApName> Ap<N> {
     pub fn pump<R: Wait>(&self, rt: &R, place: usize) -> u32
         requires { place < length N.config.networks }
     {
-        for handed in 0..u32::MAX {
-            if self.hand(rt, place) != Handed::Moved {
-                return handed;
-            }
+        if !self.may_wait(place) {
+            return 0;
         }
-        u32::MAX
+        let mut seat = self.sit(rt, place);
+        let handing = seat.hand_all(rt, &self.queue);
+        self.tell(place, handing.waits);
+        handing.count
     }
 
-    /// Hands the first frame of the network at a place that waits.
-    fn hand<R: Wait>(&self, rt: &R, place: usize) -> Handed
+    /// The network at a place, under its lock. Who holds it does so for one event, so it is tried some times before a
+    /// thread sleeps.
+    fn sit<R: Wait>(&self, rt: &R, place: usize) -> MutexGuard<'_, Seat<N>>
         requires { place < length N.config.networks }
     {
-        self.seats[place].lock(rt).hand(rt, &self.queue)
+        let seat = &self.seats[place];
+        for _ in 0..TRIES {
+            if let Some(guard) = seat.try_lock() {
+                return guard;
+            }
+            hint::spin_loop();
+        }
+        seat.lock(rt)
+    }
+
+    /// Tells without the lock whether frames of the network at a place wait. Who calls it has the lock.
+    fn tell(&self, place: usize, waits: bool) {
+        if waits == self.may_wait(place) {
+            return;
+        }
+        if waits {
+            self.waiting.fetch_or(bit_of(place), Ordering::SeqCst);
+        } else {
+            self.waiting.fetch_and(!bit_of(place), Ordering::SeqCst);
+        }
+    }
+
+    /// Whether frames of the network at a place wait, as the last that had its lock told.
+    fn may_wait(&self, place: usize) -> bool {
+        self.waiting.load(Ordering::SeqCst) & bit_of(place) != 0
     }
 
     /// Lets the first frame of the air queue leave, after room was made for it: it is the last that left then.
@@ -239,4 +298,9 @@ impl<N: ApName> Ap<N> {
     {
         self.seats[place].lock(rt).show(f)
     }
+}
+
+/// The bit of a place.
+fn bit_of(place: usize) -> u64 {
+    1 << (place % 64)
 }

@@ -2,8 +2,10 @@
 
 ghost use Rattle.std.specs.Prelude.{◌≡◌, ◌↔◌, IfOk, IsTrue, OnOk, Some, length, map};
 ghost use Rattle.workers.specs.Attributions.{IsAdded, fresh_attribution};
+ghost use Rattle.workers.specs.Giving.{line_of, event_of};
 
 use crate::finish::FinishFault;
+use crate::given::Given;
 use events::Event;
 use mac_frame::{List, NoMemory};
 use std::alloc::Global;
@@ -44,12 +46,13 @@ impl Attribution {
         history: &[Event],
         caller: usize,
         number: usize,
-        event: &Event,
+        given: Given<'_>,
     ) -> Result<(), FinishFault>
         requires { length self.old.givers ≡ length history.now }
-        ensures { OnOk result (IsAdded history.now caller (number, event.now) self.old self.new) }
+        ensures { OnOk result
+            (IsAdded history.now caller (number, event_of (line_of given.entry)) self.old self.new) }
     {
-        if number >= history.len() || !is_same(&history[number], event) {
+        if number >= history.len() || !is_of(&history[number], given) {
             return Err(FinishFault::BadReceipt);
         }
         if self.givers[number].is_some() || (caller == self.caller && number < self.next) {
@@ -76,14 +79,14 @@ impl Attribution {
     }
 }
 
-/// Whether two events are the same.
-fn is_same(one: &Event, other: &Event) -> bool
-    ensures { IsTrue result ↔ (one.now ≡ other.now) }
+/// Whether an event is what was given.
+fn is_of(event: &Event, given: Given<'_>) -> bool
+    ensures { IsTrue result ↔ (event.now ≡ event_of (line_of given.entry)) }
 {
-    match (one, other) {
-        (Event::Air(one), Event::Air(other)) => one.as_slice() == other.as_slice(),
-        (Event::Wire(one), Event::Wire(other)) => one.as_slice() == other.as_slice(),
-        (Event::Tick, Event::Tick) => true,
+    match (event, given) {
+        (Event::Air(took), Given::Air(frame)) => took.as_slice() == frame,
+        (Event::Wire(took), Given::Wire { octets, .. }) => took.as_slice() == octets,
+        (Event::Tick, Given::Tick) => true,
         _ => false,
     }
 }

@@ -4,7 +4,7 @@ ghost use Rattle.std.specs.Prelude.{◌≡◌, IfOk, option_to_list};
 ghost use Rattle.events.specs.Lines.{heard_of};
 ghost use Rattle.workers.specs.Giving.{line_of, event_of, hears_line};
 
-use events::{Event, hears};
+use events::{Event, Line, hears};
 use mac_frame::{MacAddr, NoMemory, Octets};
 use std::alloc::Global;
 
@@ -24,7 +24,35 @@ pub(crate) enum Given<'a> {
     Tick,
 }
 
-impl Given<'_> {
+impl<'a> Given<'a> {
+    /// A line.
+    pub(crate) fn of(line: &'a Line) -> Given<'a>
+        ensures { line_of result ≡ line.now }
+    {
+        match line {
+            Line::Air(frame) => Given::Air(frame.as_slice()),
+            Line::Wire { place, octets } => Given::Wire {
+                place: *place,
+                octets: octets.as_slice(),
+            },
+            Line::Tick => Given::Tick,
+        }
+    }
+
+    /// What an event was to the network that took it. A frame on the wire is of no place.
+    pub(crate) fn again(event: &'a Event) -> Given<'a>
+        ensures { event_of (line_of result) ≡ event.now }
+    {
+        match event {
+            Event::Air(frame) => Given::Air(frame.as_slice()),
+            Event::Wire(octets) => Given::Wire {
+                place: usize::MAX,
+                octets: octets.as_slice(),
+            },
+            Event::Tick => Given::Tick,
+        }
+    }
+
     /// Whether the network with this place and this BSSID hears it.
     pub(crate) fn is_heard(self, place: usize, bssid: MacAddr) -> bool
         ensures { result ≡ hears_line place bssid (line_of self.entry) }

@@ -46,19 +46,25 @@
 //! ```
 #![tactic(auto)]
 
+mod accounts;
+mod answers;
 mod ap;
 mod attribution;
+mod bell;
 mod caller;
 mod copies;
 mod finish;
 mod gate;
 mod given;
+mod hearing;
 mod name;
 mod outcome;
 mod parts;
 mod playing;
 mod receipts;
 mod seat;
+mod sections;
+mod sources;
 mod start;
 mod transmitter;
 
@@ -70,5 +76,5 @@ pub use gate::Gate;
 pub use name::ApName;
 pub use outcome::Outcome;
 pub use parts::{MAX_CALLERS, Parts};
-pub use playing::{PlayFault, play};
+pub use playing::{PlayFault, Played, play, play_lent};
 pub use transmitter::Transmitter;

@@ -36,6 +36,7 @@ impl Model for Parts {
 
     ghost invariant = { λ p.
         (fault_of p.config ≡ None)
+        × (p.queue.capacity ≡ p.config.queue)
         × (p.nets.items ≡ fresh_passes p.queue.name (length p.config.networks))
         × (p.radio ≡ fresh_radio p.queue.name (length p.config.networks) p.radio.spare) };
 }

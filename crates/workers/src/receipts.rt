@@ -3,11 +3,14 @@
 ghost use Rattle.std.specs.Prelude.{◌≡◌, ◌==◌, [], Some, IfOk, OnOk, length, map};
 ghost use Rattle.workers.specs.Attributions.{histories, limits, fresh_attribution, AddsEntry, AreAttributed, AreLong};
 ghost use Rattle.workers.specs.Attributions.{AreUpTo, MarksFull};
+ghost use Rattle.workers.specs.Giving.{line_of, event_of};
 ghost use Rattle.workers.specs.Receipts.{AreFullLast, AreGivers, AreReceipts, IsFullLast};
+ghost use Rattle.workers.specs.declared.caller.Entry.TheVariants.{Receipt};
 
 use crate::attribution::Attribution;
 use crate::caller::{Caller, Entry};
 use crate::finish::FinishFault;
+use crate::given::Given;
 use mac_frame::{List, NoMemory};
 use network::{Bss, Refusal};
 use std::alloc::Global;
@@ -33,7 +36,7 @@ pub(crate) fn givers_of(
 }
 
 /// Before any receipt.
-fn open(alloc: Global, networks: &[Bss]) -> Result<Vec<Attribution>, NoMemory>
+pub(crate) fn open(alloc: Global, networks: &[Bss]) -> Result<Vec<Attribution>, NoMemory>
     ensures { IfOk result (λ attributions.
         attributions.items ≡ map (λ n. fresh_attribution (length n.history)) networks.now) }
 {
@@ -82,15 +85,41 @@ fn read_entry(
     else {
         return Ok(());
     };
-    let place = *place;
+    read_receipt(
+        networks,
+        caller,
+        *place,
+        *number,
+        Given::again(event),
+        attributions,
+    )
+}
+
+/// Reads the receipt that the network at a place took what was given as the event with this number.
+pub(crate) fn read_receipt(
+    networks: &[Bss],
+    caller: usize,
+    place: usize,
+    number: u32,
+    given: Given<'_>,
+    attributions: &mut [Attribution],
+) -> Result<(), FinishFault>
+    requires count { length attributions.old ≡ length networks.now }
+    requires long { AreLong networks.now attributions.old }
+    ensures { OnOk result (AddsEntry networks.now caller (Receipt place number (event_of (line_of given.entry)))
+        attributions.old attributions.new) }
+{
     if place >= networks.len() {
         return Err(FinishFault::BadReceipt);
     }
-    attributions[place].add(networks[place].history(), caller, *number as usize, event)
+    attributions[place].add(networks[place].history(), caller, number as usize, given)
 }
 
 /// Who gave each event of each network, if a receipt tells of each.
-fn cover(alloc: Global, attributions: Vec<Attribution>) -> Result<List<List<usize>>, FinishFault>
+pub(crate) fn cover(
+    alloc: Global,
+    attributions: Vec<Attribution>,
+) -> Result<List<List<usize>>, FinishFault>
     ensures { IfOk result (λ givers. map (map Some) givers ≡ map (λ a. a.givers) attributions.items) }
 {
     let mut givers = Vec::with_capacity(alloc, attributions.len())?;
@@ -152,7 +181,7 @@ fn check_entry(networks: &[Bss], entry: &Entry, full: &mut [bool]) -> Result<(),
 }
 
 /// Whether a network has taken as many events as it may.
-fn is_full(network: &Bss) -> bool
+pub(crate) fn is_full(network: &Bss) -> bool
     ensures { result ≡ (length network.now.history == network.now.setting.network.max_events) }
 {
     network.history().len() == network.config().max_events as usize

@@ -1,10 +1,10 @@
 //! What stands under a network's lock (*profile*).
 
-ghost use Rattle.std.specs.Prelude.{◌≡◌, []};
+ghost use Rattle.std.specs.Prelude.{◌≡◌, [], false};
 ghost use Rattle.std.specs.Fn.{FnOnceTakesAt, FnOnceReturnsAt};
 ghost use Rattle.air_queue.specs.Passes.{NetPassView};
 ghost use Rattle.network.specs.BssView.{BssView};
-ghost use Rattle.workers.specs.Seats.{IsSeated, IsNetworkOf, AnswersEvent, HandsFrame};
+ghost use Rattle.workers.specs.Seats.{IsSeated, IsNetworkOf, AnswersEvent, AddsEvent, HandsFrame};
 
 use crate::name::ApName;
 use crate::outcome::Outcome;
@@ -13,6 +13,15 @@ use events::{AirItem, Event, Handed};
 use network::Bss;
 use std::marker::{Model, PhantomData};
 use std::sync::Wait;
+
+/// What became of the frames of a network that waited.
+#[derive(Clone, Copy, Debug)]
+pub(crate) struct Handing {
+    /// How many went to the air queue.
+    pub(crate) count: u32,
+    /// Whether some wait still, since the queue was full.
+    pub(crate) waits: bool,
+}
 
 /// A network of the access point N with its pass to the air queue, as they stand under one lock (*profile*). What was
 /// pushed and then what waits is all that the network alone sends for its history: no frame is lost, doubled or
@@ -72,6 +81,53 @@ impl<N: ApName> Seat<N> {
                 Handed::QueueFull
             }
         }
+    }
+
+    /// Pushes the frames that wait, the first of them first, until none waits or one comes back.
+    pub(crate) fn hand_all<R: Wait>(&mut self, rt: &R, queue: &AirQueue) -> Handing
+        requires { queue.now.name ≡ N.queue }
+        ensures history { self.new.network.history ≡ self.old.network.history }
+        ensures none { result.waits ≡ false → self.new.network.waiting ≡ [] }
+    {
+        for count in 0..u32::MAX {
+            match self.hand(rt, queue) {
+                Handed::Moved => {}
+                Handed::Nothing => {
+                    return Handing {
+                        count,
+                        waits: false,
+                    };
+                }
+                Handed::QueueFull => return Handing { count, waits: true },
+            }
+        }
+        Handing {
+            count: u32::MAX,
+            waits: true,
+        }
+    }
+
+    /// Offers the network an event, and pushes the frames that wait then.
+    pub(crate) fn take_and_hand<R: Wait>(
+        &mut self,
+        rt: &R,
+        queue: &AirQueue,
+        event: Event,
+    ) -> (Outcome, Handing)
+        requires { queue.now.name ≡ N.queue }
+        ensures answer { AddsEvent event self.old.network self.new.network result.0 }
+        ensures none { result.1.waits ≡ false → self.new.network.waiting ≡ [] }
+    {
+        let outcome = self.take(event);
+        let handing = self.hand_all(rt, queue);
+        (outcome, handing)
+    }
+
+    /// Whether frames wait.
+    pub(crate) fn waits(&self) -> bool
+        ensures { result ≡ false → self.now.network.waiting ≡ [] }
+    {
+        self.bss.waiting_len() > 0
     }
 
     /// What `f` answers of the network.

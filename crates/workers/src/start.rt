@@ -18,6 +18,7 @@ use network::Bss;
 use std::alloc::Global;
 use std::marker::PhantomData;
 use std::sync::Mutex;
+use std::sync::atomic::AtomicU64;
 
 impl<N: ApName> Ap<N> {
     /// The access point N of its parts, whose networks have taken no event, its callers without entries, and the
@@ -46,6 +47,7 @@ impl<N: ApName> Ap<N> {
             bssids,
             seats,
             queue,
+            waiting: AtomicU64::new(0),
         };
         let transmitter = Transmitter {
             pass: radio,

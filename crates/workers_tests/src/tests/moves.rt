@@ -40,6 +40,8 @@ pub(super) enum Move {
     Takes(Given, u32),
     /// So many frames of the first network go to the queue.
     Pumps(u32),
+    /// So many frames of the network at a place go to the queue, and its first leaves.
+    PumpsAt(usize, u32),
     /// A frame leaves, or none, and so many have left then.
     Leaves(bool, usize),
     /// The first network shows how many events it took, how many intervals began, how many of its events are unread,
@@ -147,6 +149,12 @@ const TICK_AND_PROBE: &[Move] = &[
     Move::ShowsEach,
 ];
 
+/// Each network takes a tick, and the second's beacon alone goes to the queue.
+const PUMP_THE_SECOND: &[Move] = &[
+    Move::Gives(Given::Tick, [Outcome::Took(0), Outcome::Took(0)]),
+    Move::PumpsAt(1, 1),
+];
+
 /// Each of two callers lets a station of its own join, and gives a tick.
 const IN_TURN: &[Move] = &[
     Move::Takes(Given::Air(AUTHENTICATION_REQUEST), 0),
@@ -232,6 +240,28 @@ fn was_told(caller: &Caller, numbers: &[Option<u32>]) -> bool {
     caller.entries().len() == numbers.len()
 }
 
+/// Whether so many frames of the network at a place go to the queue, which is empty, and its first leaves.
+fn pumps_at<N: ApName, R: Wait>(
+    rt: &R,
+    ap: &Ap<N>,
+    transmitter: &mut Transmitter<N>,
+    place: usize,
+    count: u32,
+) -> Result<bool, Fail> {
+    if place >= ap.networks() {
+        return Err(Fail::from("no such network"));
+    }
+    if ap.pump(rt, place) != count || !ap.leave(rt, transmitter)? {
+        return Ok(false);
+    }
+    Ok(
+        transmitter
+            .left()
+            .last()
+            .is_some_and(|item| item.place == place),
+    )
+}
+
 /// Whether that comes of a move.
 fn comes_of<N: ApName, R: Wait>(
     rt: &R,
@@ -249,6 +279,7 @@ fn comes_of<N: ApName, R: Wait>(
             is_answered(rt, alloc, ap, caller, given, outcomes)
         }
         Move::Pumps(count) => Ok(ap.pump(rt, 0) == count),
+        Move::PumpsAt(place, count) => pumps_at(rt, ap, transmitter, place, count),
         Move::Leaves(leaves, count) => {
             Ok(ap.leave(rt, transmitter)? == leaves && transmitter.left().len() == count)
         }
@@ -354,6 +385,14 @@ fn are_two_of_each(end: &Finished) -> bool {
         }
     }
     end.left.as_slice().len() == 2 * MAX_NETWORKS
+}
+
+/// Those of another network stay.
+#[test]
+fn a_pump_hands_the_frames_of_its_network(rt: HostRuntime) -> Result<(), Fail> {
+    let config = radio(rt.alloc(), 64, &[100; MAX_NETWORKS])?;
+    let _end = run(&rt, rt.alloc(), config, 1, Job::Moves(PUMP_THE_SECOND))?;
+    Ok(())
 }
 
 #[test]

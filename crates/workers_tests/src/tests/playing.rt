@@ -12,7 +12,7 @@ use std::sync::Wait;
 use std::sync::atomic::{AtomicU64, Ordering};
 use std::test::Fail;
 use std::thread::Threads;
-use workers::{Gate, Line, PlayFault, play};
+use workers::{Finished, Gate, Line, PlayFault, play};
 
 /// Holds the first line of source 0 until source 1 comes to its second, and that one until source 0 comes to a line.
 /// Where that is line 0, nobody is held.
@@ -153,36 +153,47 @@ fn asking(alloc: Global, request: &str) -> Result<Vec<Line>, Fail> {
     Ok(vec![in alloc; Line::Tick, request, Line::Tick]?)
 }
 
-/// How many of the two lines were held until the sign came, the second of them until source 0 comes to this line, and
-/// the least and the greatest association identifier of the stations, where a station authenticates itself by source 0
-/// and associates itself by source 1.
+/// Whether the first network's first events came from these sources.
+fn come_first(end: &Finished, sources: &[usize]) -> bool {
+    match end.givers.as_slice().first() {
+        Some(givers) => givers.as_slice().starts_with(sources),
+        None => false,
+    }
+}
+
+/// How many of the two lines were held until the sign came, the second of them until source 0 comes to this line; the
+/// least and the greatest association identifier of the stations, where a station authenticates itself by source 0 and
+/// associates itself by source 1; and whether the first events came from these sources.
 fn held<R: Threads + Wait + Sync>(
     rt: &R,
     alloc: Global,
     line: u32,
-) -> Result<(u64, [u16; 2]), Fail> {
+    sources: &[usize],
+) -> Result<(u64, [u16; 2], bool), Fail> {
     let order = Order::until(line);
     let first = asking(alloc, AUTHENTICATION_REQUEST)?;
     let second = asking(alloc, ASSOCIATION_REQUEST)?;
-    let sources = vec![in alloc; first, second]?;
-    let end = play(rt, alloc, radio(alloc, 64, &[100])?, sources, &order)?;
+    let both = vec![in alloc; first, second]?;
+    let end = play(rt, alloc, radio(alloc, 64, &[100])?, both, &order)?;
     let section = section_at(&end.sections, 0)?;
-    Ok((order.held.load(Ordering::SeqCst), identifiers(section)))
+    let held = order.held.load(Ordering::SeqCst);
+    Ok((held, identifiers(section), come_first(&end, sources)))
 }
 
 /// Source 0 comes to its first line while source 1 waits before its second.
 #[test]
 fn sources_overlap(rt: HostRuntime) -> Result<(), Fail> {
-    let (held, _) = held(&rt, rt.alloc(), 1)?;
-    assert_eq!(rt; held, 2);
+    let (held, _, in_order) = held(&rt, rt.alloc(), 1, &[1])?;
+    assert_eq!(rt; (held, in_order), (2, true));
     Ok(())
 }
 
 /// A line is given once the gate let it, and before the gate is asked for the next: the station associates itself after
-/// it was authenticated, though by another source.
+/// it was authenticated, though by another source, and the events came in this order.
 #[test]
 fn a_line_is_given_once_the_gate_let_it(rt: HostRuntime) -> Result<(), Fail> {
-    assert_eq!(rt; held(&rt, rt.alloc(), 3)?, (2, [1, 1]));
+    let found = held(&rt, rt.alloc(), 3, &[1, 0, 0])?;
+    assert_eq!(rt; found, (2, [1, 1], true));
     Ok(())
 }
 

@@ -1,25 +1,37 @@
-use Rattle.std.proofs.Common.{List, map, subst, ◌∙◌}
+use Rattle.std.proofs.Common.{◌≡◌, ℕ, List, length, map, sym, ap, subst, ◌∙◌, arith}
+use Rattle.std.specs.Prelude.{slice_get}
 use Rattle.std.proofs.lemmas.List.{length-map}
+use Rattle.events.specs.Items.{items_of}
 use Rattle.events.specs.declared.line.Line.{Line}
-use Rattle.workers.specs.Receipts.{AreGivers, histories_of}
-use Rattle.workers.proofs.Answering.{answered-length, played}
+use Rattle.events.specs.declared.section.Section.{Section}
+use Rattle.workers.specs.Attributions.{histories, limits}
+use Rattle.workers.specs.Receipts.{AreGivers, histories_of, limits_of}
+use Rattle.workers.proofs.Drains.{drained-givers, drained-played}
+use Rattle.workers.proofs.Endings.{ended-at}
 use Rattle.workers.proofs.Sizes.{sizes}
 use Rattle.workers.proofs.playing.play_of.Goals as goal
 
-pub returns-clause-givers : goal.returns-clause-givers
-returns-clause-givers g c =
-    let end = c.in_ok-finish.field-0 in
-    let lines : List (List Line) = map (λ s. s.items) c.args.sources.now in
-    subst (λ n. AreGivers n (histories_of end.sections) end.givers)
-    (c.in_ok-callers.callers.ok.0
-    ∙ answered-length g.N.ApName.config lines c.in_ok-callers.callers.items c.in_ok-callers.ensures.answered
-    ∙ length-map c.args.sources.now (λ s. s.items))
-    c.in_ok-finish.ensures.givers
+pub returns-clause-sections : goal.returns-clause-sections
+returns-clause-sections g c place section at =
+    let there = ap (λ (ss : List Section). slice_get ss place) (sym c.from_vec.ensures) ∙ at in
+    (ended-at g.N.ApName.config c.end_networks.new.left.items c.in_ok-sections.sections.items place section c.in_ok-sections.ensures.ended there).section_at
+
+pub returns-clause-air : goal.returns-clause-air
+returns-clause-air g c place section at =
+    let there = ap (λ (ss : List Section). slice_get ss place) (sym c.from_vec.ensures) ∙ at in
+    ap (items_of place) c.from_vec-2.ensures
+    ∙ (ended-at g.N.ApName.config c.end_networks.new.left.items c.in_ok-sections.sections.items place section c.in_ok-sections.ensures.ended there).air
 
 pub returns-clause-played : goal.returns-clause-played
 returns-clause-played g c =
     let config = g.N.ApName.config in
-    let end = c.in_ok-finish.field-0 in
-    let said = c.in_ok-finish.ensures in
     let lines : List (List Line) = map (λ s. s.items) c.args.sources.now in
-    played config lines end.sections end.givers c.in_ok-callers.callers.items (sizes config c.requires.sound).3 said.networks c.in_ok-callers.ensures.answered said.receipts said.full
+    let took = ap histories_of c.from_vec.ensures ∙ c.in_ok-sections.ensures.histories in
+    let most = ap limits_of c.from_vec.ensures ∙ c.in_ok-sections.ensures.limits in
+    let count = ap length c.from_vec.ensures in
+    let long = c.in_ok-sections.sections.ok.0 in
+    let each = c.in_ok-sections.ensures.count in
+    let all = c.in_ok-networks.field-0.networks.ok.0 in
+    let d = c.in_ok-networks.ensures.drained in
+    let networks = d.count in
+    drained-played config lines c.in_ok-networks.field-0 c.from_vec.result (sizes config c.requires.sound).3 (omega (arith, count, long, each, all, networks)) took most d
