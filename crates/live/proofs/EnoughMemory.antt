@@ -1,13 +1,14 @@
 -- What is answered where nothing is refused for memory.
-use Rattle.std.proofs.Common.{◌≡◌, ℕ, ◌+◌, Bool, true, false, List, [], ◌∷◌, Some, None, Ok, Err, refl, sym, ap, ◌∙◌}
+use Rattle.std.proofs.Common.{◌≡◌, ℕ, ◌+◌, Bool, true, false, List, [], ◌∷◌, Option, Some, None, Ok, Err, refl, sym, ap, ◌∙◌}
+use Rattle.std.specs.Prelude.{IfSome}
 use Rattle.std.specs.List.{AllByRecursion}
-use Rattle.events.specs.Lines.{heard_of}
 use Rattle.network.specs.NetworkView.{NetworkState}
 use Rattle.events.specs.declared.event.Event.{Event}
 use Rattle.events.specs.declared.line.Line.{Line}
 use Rattle.network.specs.declared.network.NetworkRefusal.TheVariants.{NoMemory, Clock}
 use Rattle.live.specs.TextLines.{TextLine}
-use Rattle.live.specs.Moments.{Moment, bssid_of, bssids_at, Reply, Sends, Refuses, is_past_clock, reply_of, MayReply, after_event, replies_of, MayReplyAll}
+use Rattle.live.specs.Dispatch.{event_at}
+use Rattle.live.specs.Moments.{Moment, bssids_at, Reply, Sends, Refuses, is_past_clock, reply_of, MayReply, reply_if, MayReplyIf}
 use Rattle.live.specs.Answers.{Asked, IsTooLong, ForTables, Says, asked_by, Answer, Replies, Unread, replies_from, MayReplyFrom, answer_of, MayAnswer, after_answer, Answers, answers_of, HasMemory, IsUnrefused, AreUnrefused}
 
 -- ---- what must be
@@ -17,31 +18,26 @@ reply-only n e (Sends air wire) h k = h
 reply-only n e (Refuses NoMemory) h k = absurd k
 reply-only n e (Refuses Clock) h k = h
 
-replies-only : (n : NetworkState) (es : List Event) (rs : List Reply) → MayReplyAll n es rs
-    → AllByRecursion HasMemory rs → rs ≡ replies_of n es
-replies-only n [] [] h k = refl
-replies-only n [] (r ∷ rs) h k = absurd h
-replies-only n (e ∷ es) [] h k = absurd h
-replies-only n (e ∷ es) (r ∷ rs) h k =
-    let one : r ≡ reply_of n e = reply-only n e r h.0 k.0 in
-    ap (λ (ss : List Reply). r ∷ ss) (replies-only (after_event n e r) es rs h.1 k.1)
-    ∙ ap (λ (s : Reply). s ∷ replies_of (after_event n e s) es) one
+reply-if-only : (n : NetworkState) (event : Option Event) (reply : Option Reply) → MayReplyIf n event reply
+    → IfSome reply HasMemory → reply ≡ reply_if n event
+reply-if-only n None reply h k = h
+reply-if-only n (Some e) None h k = absurd h
+reply-if-only n (Some e) (Some r) h k = ap (λ (s : Reply). Some s) (reply-only n e r h k)
 
-line-only : (place : ℕ) (ns : List NetworkState) (line : Line) (rss : List (List Reply)) → MayReplyFrom place ns line rss
-    → AllByRecursion (AllByRecursion HasMemory) rss → rss ≡ replies_from place ns line
-line-only place [] line [] h k = refl
-line-only place [] line (rs ∷ rss) h k = absurd h
+line-only : (place : ℕ) (ns : List NetworkState) (line : Line) (rs : List (Option Reply)) → MayReplyFrom place ns line rs
+    → AllByRecursion (λ reply. IfSome reply HasMemory) rs → rs ≡ replies_from place ns line
+line-only place [] line rs h k = h
 line-only place (n ∷ ns) line [] h k = absurd h
-line-only place (n ∷ ns) line (rs ∷ rss) h k =
-    ap (λ (ss : List Reply). ss ∷ rss) (replies-only n (heard_of place (bssid_of n) line) rs h.0 k.0)
+line-only place (n ∷ ns) line (r ∷ rs) h k =
+    ap (λ (s : Option Reply). s ∷ rs) (reply-if-only n (event_at place n line) r h.0 k.0)
     ∙ ap
-    (λ (rest : List (List Reply)). replies_of n (heard_of place (bssid_of n) line) ∷ rest)
-    (line-only (place + 1) ns line rss h.1 k.1)
+    (λ (rest : List (Option Reply)). reply_if n (event_at place n line) ∷ rest)
+    (line-only (place + 1) ns line rs h.1 k.1)
 
 answer-only : (m : Moment) (asked : Asked) (answer : Answer) → MayAnswer m asked answer → IsUnrefused answer
     → answer ≡ answer_of m asked
-answer-only m (Says (Ok (Some line))) (Replies rss) h k =
-    ap (λ (r : List (List Reply)). Replies r) (line-only 0 m.networks line rss h k)
+answer-only m (Says (Ok (Some line))) (Replies rs) h k =
+    ap (λ (r : List (Option Reply)). Replies r) (line-only 0 m.networks line rs h k)
 answer-only m asked Unread h k = absurd k
 answer-only m asked answer h k = h
 
@@ -66,13 +62,13 @@ reply-may n e = by (is_past_clock n e) refl
     by true is = rw is (sym (rw is refl))
     by false is = rw is (sym (rw is refl))
 
-replies-may : (n : NetworkState) (es : List Event) → MayReplyAll n es (replies_of n es)
-replies-may n [] = tt
-replies-may n (e ∷ es) = (reply-may n e, replies-may (after_event n e (reply_of n e)) es)
+reply-if-may : (n : NetworkState) (event : Option Event) → MayReplyIf n event (reply_if n event)
+reply-if-may n None = refl
+reply-if-may n (Some e) = reply-may n e
 
 line-may : (place : ℕ) (ns : List NetworkState) (line : Line) → MayReplyFrom place ns line (replies_from place ns line)
-line-may place [] line = tt
-line-may place (n ∷ ns) line = (replies-may n (heard_of place (bssid_of n) line), line-may (place + 1) ns line)
+line-may place [] line = refl
+line-may place (n ∷ ns) line = (reply-if-may n (event_at place n line), line-may (place + 1) ns line)
 
 answer-may : (m : Moment) (asked : Asked) → MayAnswer m asked (answer_of m asked)
 answer-may m IsTooLong = refl

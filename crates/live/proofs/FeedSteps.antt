@@ -7,37 +7,38 @@ use Rattle.std.specs.Str.Lines.{strip_carriage_return}
 use Rattle.std.proofs.lemmas.Bool.{ltb-true}
 use Rattle.std.proofs.lemmas.List.Quantifiers.{position-Some}
 use Rattle.trace.specs.Texts.{is_line_feed, LacksLineFeed}
+use Rattle.trace.specs.Buffers.{CanWrite}
+use Rattle.trace.specs.declared.report.buffer.Buffered.{Buffered}
 use Rattle.trace.proofs.TextLemmas.{prefix_lacks}
-use Rattle.live.specs.Answering.{AreAnswered}
-use Rattle.live.specs.Feeding.{ended_with, whole_with, IsUnended}
+use Rattle.live.specs.Output.{AreAnswered}
+use Rattle.live.specs.PartialLine.{ended_with, whole_with, IsUnended}
 use Rattle.live.specs.Answers.{Answer, Answers, asked_by, after_answer}
 use Rattle.live.specs.Moments.{Moment, bssids_at}
-use Rattle.live.specs.TextLines.{TextLine, Octets, TooLong, max_line, line_with, begun_after, lines_in, last_line}
-use Rattle.live.specs.Writing.{Writer, CanWrite}
+use Rattle.live.specs.TextLines.{TextLine, Octets, TooLong, max_line, line_with, partial_after, lines_in, last_line}
 use Rattle.live.proofs.AnswerSteps.{answered-none, answered-then}
-use Rattle.live.proofs.BegunSteps.{long-on, begun-over, begun-on, first-line, first-begun, no-line}
+use Rattle.live.proofs.PartialSteps.{long-on, partial-over, partial-on, first-line, first-partial, no-line}
 use Rattle.live.proofs.MoreLines.{lines-answers}
 use Rattle.live.proofs.PieceLines.{over, stripped}
 
 -- ---- octets that end a line
 
 -- as if all of them had come before it ended
-pub ended-after : (begun : TextLine) (end : List ℕ) → IsUnended begun → LacksLineFeed end
-    → ended_with (begun_after begun end) [] ≡ ended_with begun end
+pub ended-after : (partial : TextLine) (end : List ℕ) → IsUnended partial → LacksLineFeed end
+    → ended_with (partial_after partial end) [] ≡ ended_with partial end
 ended-after TooLong end lacks none = ap (λ (b : TextLine). ended_with b []) (long-on end none)
 ended-after (Octets octets) end lacks none = by (nat_lt (max_line + 1) (length octets + length end)) refl
   where
     by : (b : Bool) → nat_lt (max_line + 1) (length octets + length end) ≡ b
-        → ended_with (begun_after (Octets octets) end) [] ≡ ended_with (Octets octets) end
+        → ended_with (partial_after (Octets octets) end) [] ≡ ended_with (Octets octets) end
     by true is =
         let many : max_line + 1 < length octets + length end = ltb-true (max_line + 1) (length octets + length end) is in
         let long : max_line < length (strip_carriage_return (octets ++ end)) =
         omega (arith, stripped (octets ++ end), length-append octets end) in
-        ap (λ (b : TextLine). ended_with b []) (begun-over octets end lacks none many)
+        ap (λ (b : TextLine). ended_with b []) (partial-over octets end lacks none many)
         ∙ sym (over max_line (strip_carriage_return (octets ++ end)) long)
     by false is =
         let few : length octets + length end ≤ max_line + 1 = grind arith in
-        ap (λ (b : TextLine). ended_with b []) (begun-on octets end lacks none few)
+        ap (λ (b : TextLine). ended_with b []) (partial-on octets end lacks none few)
         ∙ ap (λ (l : List ℕ). line_with (strip_carriage_return l)) (append-nil (octets ++ end))
 
 -- ---- the first LF of a piece
@@ -48,17 +49,17 @@ line-lacks piece n is = prefix_lacks piece n (position-Some is_line_feed piece n
 -- ---- the lines so far
 
 -- Of the lines that end in a piece some are answered, and the others end in its rest, before which this has begun.
-pub record FeedSoFar {W : Type 0} (taken : W → Option (List ℕ)) (failed : W → ℕ) (m now : Moment) (old new : Writer W)
-    (begun begun' : TextLine) (piece rest : List ℕ) : Type 0 where
+pub record FeedSoFar {W : Type 0} (taken : W → Option (List ℕ)) (failed : W → ℕ) (m now : Moment) (old new : Buffered W)
+    (partial partial' : TextLine) (piece rest : List ℕ) : Type 0 where
   pub lines : List TextLine
   pub answered : AreAnswered taken failed m now old new lines
-  pub all : lines_in begun piece ≡ lines ++ lines_in begun' rest
-  pub next : begun_after begun piece ≡ begun_after begun' rest
+  pub all : lines_in partial piece ≡ lines ++ lines_in partial' rest
+  pub next : partial_after partial piece ≡ partial_after partial' rest
   pub few : now.lines + length rest ≤ m.lines + length piece
 
-pub feed-none : {W : Type 0} (taken : W → Option (List ℕ)) (failed : W → ℕ) (m : Moment) (w : Writer W)
-    (begun : TextLine) (piece : List ℕ) → CanWrite failed w → FeedSoFar taken failed m m w w begun begun piece piece
-feed-none taken failed m w begun piece can = record {
+pub feed-none : {W : Type 0} (taken : W → Option (List ℕ)) (failed : W → ℕ) (m : Moment) (w : Buffered W)
+    (partial : TextLine) (piece : List ℕ) → CanWrite failed w → FeedSoFar taken failed m m w w partial partial piece piece
+feed-none taken failed m w partial piece can = record {
   lines = [];
   answered = answered-none taken failed m w can;
   all = refl;
@@ -76,13 +77,13 @@ length-answers m (line ∷ lines) (answer ∷ answers) next h =
     ap suc (length-answers (after_answer m (asked_by (bssids_at m) line) answer) lines answers next h.1)
 
 -- one line more
-pub feed-more : {W : Type 0} (taken : W → Option (List ℕ)) (failed : W → ℕ) (m now next : Moment) (old mid new : Writer W)
-    (begun begun' line : TextLine) (piece rest : List ℕ) (n : ℕ)
-    → FeedSoFar taken failed m now old mid begun begun' piece rest → IsUnended begun'
-    → position is_line_feed rest ≡ Some n → line ≡ ended_with begun' (take n rest)
+pub feed-more : {W : Type 0} (taken : W → Option (List ℕ)) (failed : W → ℕ) (m now next : Moment) (old mid new : Buffered W)
+    (partial partial' line : TextLine) (piece rest : List ℕ) (n : ℕ)
+    → FeedSoFar taken failed m now old mid partial partial' piece rest → IsUnended partial'
+    → position is_line_feed rest ≡ Some n → line ≡ ended_with partial' (take n rest)
     → AreAnswered taken failed now next mid new (line ∷ [])
-    → FeedSoFar taken failed m next old new begun (Octets []) piece (drop (n + 1) rest)
-feed-more taken failed m now next old mid new begun begun' line piece rest n s lacks is same a =
+    → FeedSoFar taken failed m next old new partial (Octets []) piece (drop (n + 1) rest)
+feed-more taken failed m now next old mid new partial partial' line piece rest n s lacks is same a =
     let count : next.lines ≡ now.lines + 1 = lines-answers now (line ∷ []) a.answers next a.answered ∙ one in
     let within : n < length rest = (position-Some is_line_feed rest n 0 is).0 in
     let few : now.lines + length rest ≤ m.lines + length piece = s.few in
@@ -92,10 +93,10 @@ feed-more taken failed m now next old mid new begun begun' line piece rest n s l
       answered = answered-then taken failed m now next s.lines (line ∷ []) old mid new s.answered a;
       all =
           s.all
-          ∙ ap (λ (ls : List TextLine). s.lines ++ ls) (first-line begun' rest n lacks is)
+          ∙ ap (λ (ls : List TextLine). s.lines ++ ls) (first-line partial' rest n lacks is)
           ∙ ap (λ (l : TextLine). s.lines ++ l ∷ lines_in (Octets []) (drop (n + 1) rest)) (sym same)
           ∙ sym (append_assoc s.lines (line ∷ []) (lines_in (Octets []) (drop (n + 1) rest)));
-      next = s.next ∙ first-begun begun' rest n lacks is;
+      next = s.next ∙ first-partial partial' rest n lacks is;
       few = omega (arith, count, within, few, long);
     }
   where
@@ -103,18 +104,18 @@ feed-more taken failed m now next old mid new begun begun' line piece rest n s l
     one = ap (λ (k : ℕ). now.lines + k) (length-answers now (line ∷ []) a.answers next a.answered)
 
 -- no LF is left
-pub feed-all : {W : Type 0} (taken : W → Option (List ℕ)) (failed : W → ℕ) (m now : Moment) (old new : Writer W)
-    (begun begun' : TextLine) (piece rest : List ℕ)
-    → FeedSoFar taken failed m now old new begun begun' piece rest → IsUnended begun' → LacksLineFeed rest
-    → AreAnswered taken failed m now old new (lines_in begun piece)
-feed-all taken failed m now old new begun begun' piece rest s lacks none =
-    let all : lines_in begun piece ≡ s.lines =
-    s.all ∙ ap (λ (ls : List TextLine). s.lines ++ ls) (no-line begun' rest lacks none) ∙ append-nil s.lines in
+pub feed-all : {W : Type 0} (taken : W → Option (List ℕ)) (failed : W → ℕ) (m now : Moment) (old new : Buffered W)
+    (partial partial' : TextLine) (piece rest : List ℕ)
+    → FeedSoFar taken failed m now old new partial partial' piece rest → IsUnended partial' → LacksLineFeed rest
+    → AreAnswered taken failed m now old new (lines_in partial piece)
+feed-all taken failed m now old new partial partial' piece rest s lacks none =
+    let all : lines_in partial piece ≡ s.lines =
+    s.all ∙ ap (λ (ls : List TextLine). s.lines ++ ls) (no-line partial' rest lacks none) ∙ append-nil s.lines in
     subst (λ (ls : List TextLine). AreAnswered taken failed m now old new ls) (sym all) s.answered
 
 -- ---- the last line
 
-pub last-whole : (begun : TextLine) → (begun ≡ Octets [] → ⊥) → last_line begun ≡ whole_with begun ∷ []
+pub last-whole : (partial : TextLine) → (partial ≡ Octets [] → ⊥) → last_line partial ≡ whole_with partial ∷ []
 last-whole (Octets []) some = absurd (some refl)
 last-whole (Octets (octet ∷ octets)) some = refl
 last-whole TooLong some = refl

@@ -1,8 +1,7 @@
 -- What is written of a network is what it does alone.
 use Rattle.std.proofs.Common.{◌≡◌, ℕ, suc, zero, ◌<◌, List, [], ◌∷◌, ◌++◌, length, map, take, Option, Some, None, Ok, Err, refl, sym, ap, subst, ◌∙◌}
-use Rattle.std.specs.Prelude.{slice_get, flat_map, option_map}
+use Rattle.std.specs.Prelude.{slice_get, option_map}
 use Rattle.std.proofs.lemmas.Option.{slice_get-get_or, slice_get-map}
-use Rattle.events.specs.Lines.{heard}
 use Rattle.network.specs.Network.{Network, alone}
 use Rattle.ap_config.specs.declared.setting.Setting.{Setting}
 use Rattle.network.specs.NetworkView.{NetworkState, new_network}
@@ -12,11 +11,11 @@ use Rattle.ap_config.specs.declared.config.RadioConfig.{RadioConfig}
 use Rattle.events.specs.declared.event.Event.{Event}
 use Rattle.trace.specs.TraceText.{bssids_of}
 use Rattle.live.specs.TextLines.{TextLine}
-use Rattle.live.specs.Moments.{Moment, first_moment, bssid_of, bssids_at, Reply, MayReplyAll, after_events}
+use Rattle.live.specs.Moments.{Moment, first_moment, bssid_of, bssids_at}
 use Rattle.live.specs.Answers.{Asked, IsTooLong, ForTables, Says, asked_by, Answer, Tables, MayAnswer, after_answer, Answers}
-use Rattle.live.specs.Own.{lines_read, replies_at, events_at, air_in, wire_in, air_at, wire_at, alone_after, IsAlone, AreAlike}
-use Rattle.live.proofs.OwnSteps.{AloneLaws, alone_after-none, RepliesAlone, replies-alone}
-use Rattle.live.proofs.OwnLines.{RepliesThere, own}
+use Rattle.live.specs.Own.{events_at, air_at, wire_at, alone_after, IsAlone, AreAlike}
+use Rattle.live.proofs.OwnSteps.{AloneLaws, alone_after-none}
+use Rattle.live.proofs.OwnLines.{OwnAlone, own}
 
 -- ---- before the first line
 
@@ -25,7 +24,7 @@ pub bssids-first : (c : RadioConfig) (ns : List NetConfig)
 bssids-first c [] = refl
 bssids-first c (n ∷ ns) = ap (λ (bs : List (List ℕ)). n.bssid ∷ bs) (bssids-first c ns)
 
-network-first : (c : RadioConfig) (place : ℕ) → place < length c.networks
+pub network-first : (c : RadioConfig) (place : ℕ) → place < length c.networks
     → slice_get (first_moment c).networks place ≡ Some (new_network (setting_at c place))
 network-first c place within =
     slice_get-map (λ n. new_network (setting_in c n)) c.networks place
@@ -35,46 +34,14 @@ network-first c place within =
 
 -- ---- after some lines
 
--- the network at a place, with its own events
-record OwnAlone (c : RadioConfig) (place : ℕ) (lines : List TextLine) (answers : List Answer) (next : Moment) :
-    Type 0 where
-  may : MayReplyAll (alone_after (setting_at c place) [])
-      (heard place (network_at c place).bssid (lines_read (bssids_of c) lines answers))
-      (replies_at place answers)
-  there : slice_get next.networks place ≡ Some (alone_after (setting_at c place) (events_at c place lines answers))
-  replies : RepliesAlone (setting_at c place) []
-      (heard place (network_at c place).bssid (lines_read (bssids_of c) lines answers))
-      (replies_at place answers)
-
 own-alone : AloneLaws → (c : RadioConfig) (lines : List TextLine) (answers : List Answer) (next : Moment) (place : ℕ)
-    → place < length c.networks → Answers (first_moment c) lines answers next → OwnAlone c place lines answers next
+    → place < length c.networks → Answers (first_moment c) lines answers next
+    → OwnAlone (setting_at c place) place (bssids_of c) [] lines answers next
 own-alone laws c lines answers next place within h =
     let s : Setting = setting_at c place in
-    let rs : List Reply = replies_at place answers in
-    let hs : List Event = heard place (network_at c place).bssid (lines_read (bssids_of c) lines answers) in
-    let there = own place (first_moment c) lines answers next (new_network s) h (network-first c place within) in
-    let mine : RepliesThere place (new_network s) hs rs (slice_get next.networks place) =
-    subst
-    (λ (bs : List (List ℕ)).
-    RepliesThere place (new_network s) (heard place (network_at c place).bssid (lines_read bs lines answers)) rs
-    (slice_get next.networks place))
-    (bssids-first c c.networks) there in
-    let begun : new_network s ≡ alone_after s [] = sym (alone_after-none laws s) in
-    let may : MayReplyAll (alone_after s []) hs rs = subst (λ (n : NetworkState). MayReplyAll n hs rs) begun mine.0 in
-    let on : RepliesAlone s [] hs rs = replies-alone laws s [] hs rs may in
-    record {
-      may = may;
-      there = mine.1
-          ∙ ap (λ (n : NetworkState). Some (after_events n hs rs)) begun
-          ∙ ap (λ (n : NetworkState). Some n) on.after;
-      replies = on;
-    }
-
-pub own-may : AloneLaws → (c : RadioConfig) (lines : List TextLine) (answers : List Answer) (next : Moment) (place : ℕ)
-    → place < length c.networks → Answers (first_moment c) lines answers next
-    → MayReplyAll (alone_after (setting_at c place) [])
-    (heard place (network_at c place).bssid (lines_read (bssids_of c) lines answers)) (replies_at place answers)
-own-may laws c lines answers next place within h = (own-alone laws c lines answers next place within h).may
+    let there = own laws s place (first_moment c) [] lines answers next h
+    (network-first c place within ∙ ap (λ (n : NetworkState). Some n) (sym (alone_after-none laws s))) in
+    subst (λ (bs : List (List ℕ)). OwnAlone s place bs [] lines answers next) (bssids-first c c.networks) there
 
 -- ---- the tables that were asked for
 
@@ -110,12 +77,10 @@ pub is-alone : AloneLaws → (c : RadioConfig) (lines : List TextLine) (answers 
     → place < length c.networks → Answers (first_moment c) lines answers next → IsAlone c place lines answers next
 is-alone laws c lines answers next place within h =
     let s : Setting = setting_at c place in
-    let rs : List Reply = replies_at place answers in
-    let es : List Event = events_at c place lines answers in
     let all = own-alone laws c lines answers next place within h in
     record {
-      air = sym (all.replies.air ∙ ap (λ (n : Network). n.air ++ flat_map air_in rs) (laws.first s));
-      wire = sym (all.replies.wire ∙ ap (λ (n : Network). n.wire ++ flat_map wire_in rs) (laws.first s));
+      air = sym (all.air ∙ ap (λ (n : Network). n.air ++ air_at place answers) (laws.first s));
+      wire = sym (all.wire ∙ ap (λ (n : Network). n.wire ++ wire_at place answers) (laws.first s));
       last = all.there;
       asked = λ k networks e.
           let at = tables-at (first_moment c) next lines answers k networks h e in

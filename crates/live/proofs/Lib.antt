@@ -6,10 +6,10 @@ pub mod MoreLines
 pub mod EnoughMemory
 pub mod Replayed
 pub mod Rows
-pub mod BegunSteps
-pub mod WriterSteps
+pub mod PartialSteps
+pub mod UnreadLines
 pub mod ReplySteps
-pub mod HearingSteps
+pub mod DispatchSteps
 pub mod AnswerSteps
 pub mod FeedSteps
 pub mod RunSteps

@@ -49,7 +49,7 @@ joins m lines more answers next b =
 -- ---- their text
 
 lines-answer : (m : Moment) (asked : Asked) (answer : Answer) → (after_answer m asked answer).lines ≡ m.lines + 1
-lines-answer m (Says (Ok (Some line))) (Replies rss) = refl
+lines-answer m (Says (Ok (Some line))) (Replies rs) = refl
 lines-answer m asked answer = refl
 
 pub lines-answers : (m : Moment) (lines : List TextLine) (answers : List Answer) (next : Moment)

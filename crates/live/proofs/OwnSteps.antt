@@ -1,14 +1,14 @@
 -- What one network replies, and what becomes of it, whatever the other networks do.
-use Rattle.std.proofs.Common.{◌≡◌, ℕ, Bool, true, false, List, [], ◌∷◌, ◌++◌, length, refl, sym, ap, subst, ◌∙◌, append_assoc, append-nil}
-use Rattle.std.specs.Prelude.{flat_map, if◌then◌else◌}
+use Rattle.std.proofs.Common.{◌≡◌, ℕ, Bool, true, false, List, [], ◌∷◌, ◌++◌, length, Option, Some, None, refl, sym, ap, ◌∙◌, append-nil}
+use Rattle.std.specs.Prelude.{option_to_list, if◌then◌else◌}
 use Rattle.std.proofs.lemmas.List.{length_push}
 use Rattle.network.specs.Network.{Network, empty_network, step, alone}
 use Rattle.ap_config.specs.declared.setting.Setting.{Setting}
 use Rattle.network.specs.NetworkView.{NetworkState, unsent, sent_before, took_event}
 use Rattle.events.specs.declared.event.Event.{Event}
 use Rattle.network.specs.declared.network.NetworkRefusal.TheVariants.{Clock}
-use Rattle.live.specs.Moments.{Reply, Sends, Refuses, is_past_clock, sending, MayReply, after_event, MayReplyAll, after_events}
-use Rattle.live.specs.Own.{taken, air_in, wire_in, alone_after}
+use Rattle.live.specs.Moments.{Reply, Sends, Refuses, is_past_clock, sending, MayReply, MayReplyIf, taken_if, after_if}
+use Rattle.live.specs.Own.{air_in, wire_in, alone_after}
 
 -- ---- what is known of the network alone
 
@@ -39,12 +39,6 @@ alone-more laws s es e =
 
 -- ---- one event
 
--- a network that took these events replies to others, and has taken those that it did not refuse
-pub record RepliesAlone (s : Setting) (es hs : List Event) (rs : List Reply) : Type 0 where
-  pub after : after_events (alone_after s es) hs rs ≡ alone_after s (es ++ taken hs rs)
-  pub air : (alone s (es ++ taken hs rs)).air ≡ (alone s es).air ++ flat_map air_in rs
-  pub wire : (alone s (es ++ taken hs rs)).wire ≡ (alone s es).wire ++ flat_map wire_in rs
-
 -- the reply of a network with enough memory
 sends-parts : (past : Bool) (air wire air' wire' : List (List ℕ))
     → Sends air wire ≡ (if past then Refuses Clock else Sends air' wire') → (air ≡ air') × (wire ≡ wire')
@@ -73,57 +67,49 @@ sent laws s es e air wire h =
       wire = ap (λ (n : Network). n.wire) more ∙ ap (λ (fs : List (List ℕ)). (alone s es).wire ++ fs) (sym parts.1);
     }
 
--- ---- several events
+-- ---- at most one event
 
-pub replies-alone : AloneLaws → (s : Setting) (es hs : List Event) (rs : List Reply)
-    → MayReplyAll (alone_after s es) hs rs → RepliesAlone s es hs rs
-replies-alone laws s es [] [] h = record {
-  after = ap (alone_after s) (sym (append-nil es));
-  air = ap (λ (xs : List Event). (alone s xs).air) (append-nil es) ∙ sym (append-nil (alone s es).air);
-  wire = ap (λ (xs : List Event). (alone s xs).wire) (append-nil es) ∙ sym (append-nil (alone s es).wire);
-}
-replies-alone laws s es [] (r ∷ rs) h = absurd h
-replies-alone laws s es (e ∷ hs) [] h = absurd h
-replies-alone laws s es (e ∷ hs) (Refuses why ∷ rs) h =
-    let on = replies-alone laws s es hs rs h.1 in record { after = on.after; air = on.air; wire = on.wire }
-replies-alone laws s es (e ∷ hs) (Sends air wire ∷ rs) h =
-    let one : Sent s es e air wire = sent laws s es e air wire h.0 in
-    let on : RepliesAlone s (es ++ e ∷ []) hs rs =
-    replies-alone laws s (es ++ e ∷ []) hs rs (subst (λ (n : NetworkState). MayReplyAll n hs rs) one.after h.1) in
-    let same : (es ++ e ∷ []) ++ taken hs rs ≡ es ++ e ∷ taken hs rs = append_assoc es (e ∷ []) (taken hs rs) in
+-- a network that took these events replies to a line, and takes the event that it is to it unless it refuses it
+pub record RepliesAlone (s : Setting) (es : List Event) (event : Option Event) (reply : Option Reply) : Type 0 where
+  pub after : after_if (alone_after s es) (taken_if event reply)
+      ≡ alone_after s (es ++ option_to_list (taken_if event reply))
+  pub air : (alone s (es ++ option_to_list (taken_if event reply))).air ≡ (alone s es).air ++ air_in reply
+  pub wire : (alone s (es ++ option_to_list (taken_if event reply))).wire ≡ (alone s es).wire ++ wire_in reply
+
+-- nothing was taken, and nothing sent
+stays : (s : Setting) (es : List Event) (event : Option Event) (reply : Option Reply) → taken_if event reply ≡ None
+    → air_in reply ≡ [] → wire_in reply ≡ [] → RepliesAlone s es event reply
+stays s es event reply none air wire =
+    let same : es ++ option_to_list (taken_if event reply) ≡ es =
+    ap (λ (o : Option Event). es ++ option_to_list o) none ∙ append-nil es in
     record {
-      after = ap (λ (n : NetworkState). after_events n hs rs) one.after ∙ on.after ∙ ap (alone_after s) same;
-      air = ap (λ (xs : List Event). (alone s xs).air) (sym same) ∙ on.air
-          ∙ ap (λ (fs : List (List ℕ)). fs ++ flat_map air_in rs) one.air
-          ∙ append_assoc (alone s es).air air (flat_map air_in rs);
-      wire = ap (λ (xs : List Event). (alone s xs).wire) (sym same) ∙ on.wire
-          ∙ ap (λ (fs : List (List ℕ)). fs ++ flat_map wire_in rs) one.wire
-          ∙ append_assoc (alone s es).wire wire (flat_map wire_in rs);
+      after = ap (after_if (alone_after s es)) none ∙ ap (alone_after s) (sym same);
+      air = ap (λ (xs : List Event). (alone s xs).air) same ∙ sym (append-nil (alone s es).air)
+          ∙ ap (λ (fs : List (List ℕ)). (alone s es).air ++ fs) (sym air);
+      wire = ap (λ (xs : List Event). (alone s xs).wire) same ∙ sym (append-nil (alone s es).wire)
+          ∙ ap (λ (fs : List (List ℕ)). (alone s es).wire ++ fs) (sym wire);
     }
 
--- ---- first some events, then others
+-- it may reply so, if it replies at all
+abbrev pub MayHaveReplied : NetworkState → Option Event → Option Reply → Type 0
+MayHaveReplied n event None = Unit {0}
+MayHaveReplied n event (Some r) = MayReplyIf n event (Some r)
 
-pub replies-join : (n : NetworkState) (some others : List Event) (rs ss : List Reply) → MayReplyAll n some rs
-    → MayReplyAll (after_events n some rs) others ss → MayReplyAll n (some ++ others) (rs ++ ss)
-replies-join n [] others [] ss h k = k
-replies-join n [] others (r ∷ rs) ss h k = absurd h
-replies-join n (e ∷ some) others [] ss h k = absurd h
-replies-join n (e ∷ some) others (r ∷ rs) ss h k = (h.0, replies-join (after_event n e r) some others rs ss h.1 k)
+pub taken-none : (event : Option Event) → taken_if event None ≡ None
+taken-none None = refl
+taken-none (Some e) = refl
 
-pub events-join : (n : NetworkState) (some others : List Event) (rs ss : List Reply) → MayReplyAll n some rs
-    → after_events n (some ++ others) (rs ++ ss) ≡ after_events (after_events n some rs) others ss
-events-join n [] others [] ss h = refl
-events-join n [] others (r ∷ rs) ss h = absurd h
-events-join n (e ∷ some) others [] ss h = absurd h
-events-join n (e ∷ some) others (r ∷ rs) ss h = events-join (after_event n e r) some others rs ss h.1
+pub replies-alone : AloneLaws → (s : Setting) (es : List Event) (event : Option Event) (reply : Option Reply)
+    → MayHaveReplied (alone_after s es) event reply → RepliesAlone s es event reply
+replies-alone laws s es event None h = stays s es event None (taken-none event) refl refl
+replies-alone laws s es None (Some r) h = absurd (cc)
+replies-alone laws s es (Some e) (Some (Refuses why)) h = stays s es (Some e) (Some (Refuses why)) refl refl refl
+replies-alone laws s es (Some e) (Some (Sends air wire)) h =
+    let one : Sent s es e air wire = sent laws s es e air wire h in
+    record { after = one.after; air = one.air; wire = one.wire }
 
 -- ---- its setting stays
 
-setting-event : (n : NetworkState) (e : Event) (r : Reply) → (after_event n e r).setting ≡ n.setting
-setting-event n e (Sends air wire) = refl
-setting-event n e (Refuses why) = refl
-
-pub setting-events : (n : NetworkState) (es : List Event) (rs : List Reply) → (after_events n es rs).setting ≡ n.setting
-setting-events n [] rs = refl
-setting-events n (e ∷ es) [] = refl
-setting-events n (e ∷ es) (r ∷ rs) = setting-events (after_event n e r) es rs ∙ setting-event n e r
+pub setting-if : (n : NetworkState) (event : Option Event) → (after_if n event).setting ≡ n.setting
+setting-if n None = refl
+setting-if n (Some e) = refl

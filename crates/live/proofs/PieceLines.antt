@@ -14,7 +14,7 @@ use Rattle.trace.proofs.PieceSteps.{whole_lines_first, unfinished_line_first}
 use Rattle.trace.proofs.TextLemmas.{lacks_from_none}
 use Rattle.trace.proofs.TraceSteps.{last_part}
 use Rattle.live.specs.TextLines.{TooLong, max_line, at_most, line_with, lines_of_text, ended_lines}
-use Rattle.live.specs.TextLines.{begun_with, begun_in, with_first_too_long, lines_in, unless_ended, begun_after, last_line}
+use Rattle.live.specs.TextLines.{partial_with, partial_in, with_first_too_long, lines_in, unless_ended, partial_after, last_line}
 
 -- ---- octets that are too many
 
@@ -72,27 +72,27 @@ long-ends line piece lacks long = by (position is_line_feed piece) refl
         ∙ sym (ap (λ ls. with_first_too_long (map line_with ls)) (whole_lines_first piece n is))
 
 long-begins : (line piece : List ℕ) → LacksLineFeed line → IsLong line
-    → begun_in (line ++ piece) ≡ unless_ended (ended_lines piece) (begun_in piece)
+    → partial_in (line ++ piece) ≡ unless_ended (ended_lines piece) (partial_in piece)
 long-begins line piece lacks long = by (position is_line_feed piece) refl
   where
     by : (p : Option ℕ) → position is_line_feed piece ≡ p
-        → begun_in (line ++ piece) ≡ unless_ended (ended_lines piece) (begun_in piece)
+        → partial_in (line ++ piece) ≡ unless_ended (ended_lines piece) (partial_in piece)
     by None is =
         let many : max_line + 1 < length (line ++ piece) = omega (arith, length-append line piece, long) in
-        ap begun_with (unfinished_line_none (line ++ piece) (lacks_both line piece lacks is))
+        ap partial_with (unfinished_line_none (line ++ piece) (lacks_both line piece lacks is))
         ∙ over (max_line + 1) (line ++ piece) many
         ∙ sym
         (ap
-        (λ ls. unless_ended (map line_with ls) (begun_in piece))
+        (λ ls. unless_ended (map line_with ls) (partial_in piece))
         (whole_lines_none piece (lacks_from_none piece is)))
     by (Some n) is =
-        ap begun_with (unfinished_line_more line piece n lacks is ∙ sym (unfinished_line_first piece n is))
-        ∙ sym (ap (λ ls. unless_ended (map line_with ls) (begun_in piece)) (whole_lines_first piece n is))
+        ap partial_with (unfinished_line_more line piece n lacks is ∙ sym (unfinished_line_first piece n is))
+        ∙ sym (ap (λ ls. unless_ended (map line_with ls) (partial_in piece)) (whole_lines_first piece n is))
 
 -- ---- a text and a piece
 
 pub ended-more : (text piece : List ℕ)
-    → ended_lines (text ++ piece) ≡ ended_lines text ++ lines_in (begun_in text) piece
+    → ended_lines (text ++ piece) ≡ ended_lines text ++ lines_in (partial_in text) piece
 ended-more text piece =
     ap (map line_with) (whole_lines-append text piece)
     ∙ map-append line_with (whole_lines text) (whole_lines (line ++ piece))
@@ -102,24 +102,24 @@ ended-more text piece =
     line = unfinished_line text
 
     by : (b : Bool) → nat_lt (max_line + 1) (length line) ≡ b
-        → ended_lines (line ++ piece) ≡ lines_in (begun_in text) piece
+        → ended_lines (line ++ piece) ≡ lines_in (partial_in text) piece
     by true is = rw is (long-ends line piece (unfinished-lacks text) (ltb-true (max_line + 1) (length line) is))
     by false is = rw is refl
 
-pub begun-more : (text piece : List ℕ) → begun_in (text ++ piece) ≡ begun_after (begun_in text) piece
-begun-more text piece =
-    ap begun_with (unfinished_line-append text piece) ∙ by (nat_lt (max_line + 1) (length line)) refl
+pub partial-more : (text piece : List ℕ) → partial_in (text ++ piece) ≡ partial_after (partial_in text) piece
+partial-more text piece =
+    ap partial_with (unfinished_line-append text piece) ∙ by (nat_lt (max_line + 1) (length line)) refl
   where
     line : List ℕ
     line = unfinished_line text
 
-    by : (b : Bool) → nat_lt (max_line + 1) (length line) ≡ b → begun_in (line ++ piece) ≡ begun_after (begun_in text) piece
+    by : (b : Bool) → nat_lt (max_line + 1) (length line) ≡ b → partial_in (line ++ piece) ≡ partial_after (partial_in text) piece
     by true is = rw is (long-begins line piece (unfinished-lacks text) (ltb-true (max_line + 1) (length line) is))
     by false is = rw is refl
 
 -- ---- the end
 
-last-parts : (line : List ℕ) → map line_with (lines_of_parts (line ∷ [])) ≡ last_line (begun_with line)
+last-parts : (line : List ℕ) → map line_with (lines_of_parts (line ∷ [])) ≡ last_line (partial_with line)
 last-parts [] = refl
 last-parts (x ∷ xs) =
     ap (map line_with) (last_part line (omega arith)) ∙ by (nat_lt (max_line + 1) (length line)) refl
@@ -127,14 +127,14 @@ last-parts (x ∷ xs) =
     line : List ℕ
     line = x ∷ xs
 
-    by : (b : Bool) → nat_lt (max_line + 1) (length line) ≡ b → line_with line ∷ [] ≡ last_line (begun_with line)
+    by : (b : Bool) → nat_lt (max_line + 1) (length line) ≡ b → line_with line ∷ [] ≡ last_line (partial_with line)
     by true is =
         let many : max_line + 1 < length line = ltb-true (max_line + 1) (length line) is in
         let more : max_line < length line = omega arith in
         rw is (ap (λ l. l ∷ []) (over max_line line more))
     by false is = rw is refl
 
-pub all-lines : (text : List ℕ) → lines_of_text text ≡ ended_lines text ++ last_line (begun_in text)
+pub all-lines : (text : List ℕ) → lines_of_text text ≡ ended_lines text ++ last_line (partial_in text)
 all-lines text =
     let line : List ℕ = unfinished_line text in
     let all : lines text ≡ whole_lines text ++ lines line =

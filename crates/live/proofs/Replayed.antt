@@ -1,16 +1,18 @@
 -- A text that is a trace, answered as its report tells it.
-use Rattle.std.proofs.Common.{◌≡◌, ℕ, zero, suc, ◌+◌, ◌*◌, ◌<◌, ◌≤◌, Bool, true, false, List, [], ◌∷◌, ◌++◌, length, map, Option, Some, None, Result, Ok, Err, refl, sym, ap, subst, ◌∙◌, arith}
-use Rattle.std.specs.Prelude.{slice_get, nat_lt, codes, if◌then◌else◌}
+use Rattle.std.proofs.Common.{◌≡◌, ℕ, zero, suc, ◌+◌, ◌*◌, ◌<◌, ◌≤◌, Bool, true, false, List, [], ◌∷◌, ◌++◌, length, map, Option, Some, None, Result, Ok, Err, refl, sym, ap, subst, ◌∙◌, arith, append-nil, length-append}
+use Rattle.std.specs.Prelude.{slice_get, nat_lt, codes, IfSome, ◌==◌, if◌then◌else◌}
 use Rattle.std.specs.List.{slice_index_or, AllByRecursion}
 use Rattle.std.specs.Option.{option_to_list}
 use Rattle.std.specs.Str.Lines.{lines}
 use Rattle.std.proofs.lemmas.Bool.{ltb-true, eqb-true}
-use Rattle.std.proofs.lemmas.List.{length_push, take_all}
+use Rattle.std.proofs.lemmas.List.{take_all}
+use Rattle.std.proofs.lemmas.List.Concat.{flat_map-append}
 use Rattle.std.proofs.lemmas.List.FromFn.{get_or-map-range_with_len, length-map-range_with_len}
 use Rattle.std.proofs.lemmas.Option.{slice_get-get_or}
 use Rattle.std.proofs.lemmas.Slice.Eq.{bytes_eq-Decides}
+use Rattle.mac_frame.specs.Hearing.{is_heard}
 use Rattle.ap_config.specs.Configuration.{fault_of, network_fault}
-use Rattle.events.specs.Lines.{heard, own_events}
+use Rattle.events.specs.Lines.{heard_of, heard, own_events}
 use Rattle.network.specs.Section.{sections_of_lines, section_of}
 use Rattle.network.specs.Network.{alone}
 use Rattle.network.specs.NetworkView.{NetworkState}
@@ -19,8 +21,9 @@ use Rattle.network.specs.Sound.{IsSoundNetwork}
 use Rattle.ap_config.specs.declared.config.NetConfig.{NetConfig}
 use Rattle.ap_config.specs.declared.config.RadioConfig.{RadioConfig}
 use Rattle.events.specs.declared.event.Event.{Event}
-use Rattle.events.specs.declared.event.Event.TheVariants.{Air, Wire, Tick}
+use Rattle.events.specs.declared.event.Event.TheVariants as event
 use Rattle.events.specs.declared.line.Line.{Line}
+use Rattle.events.specs.declared.line.Line.TheVariants as line
 use Rattle.network.specs.declared.network.NetworkRefusal.TheVariants.{NoMemory, Clock}
 use Rattle.events.specs.declared.section.Section.{Section}
 use Rattle.ap_config.specs.declared.setting.Setting.{Setting}
@@ -30,13 +33,14 @@ use Rattle.trace.specs.TraceText.{max_lines, without_spaces_at_end, content_of, 
 use Rattle.trace.specs.declared.fault.LineFault.{LineFault}
 use Rattle.trace.specs.declared.fault.LineFault.TheVariants.{UnknownKind, TooMany}
 use Rattle.trace.specs.declared.fault.TraceFault.{TraceFault}
-use Rattle.live.specs.TextLines.{TextLine, max_line, line_with}
-use Rattle.live.specs.Moments.{Moment, first_moment, bssids_at, Reply, Sends, Refuses, is_past_clock, sending, MayReplyAll}
 use Rattle.live.specs.Answers.{Asked, Says, asks_for_tables, asked_by, Answer, Nothing, Replies, Tables, Faulty, Unread, MayAnswer, after_answer, Answers, HasMemory, IsUnrefused, AreUnrefused}
-use Rattle.live.specs.Own.{read_in, lines_read, replies_in, replies_at, taken, events_at, alone_after, IsLikeTrace, IsShown, IsAlone}
-use Rattle.live.proofs.OwnSteps.{AloneLaws, sent}
-use Rattle.live.proofs.OwnLines.{bssids-answer}
-use Rattle.live.proofs.IsolationLaws.{bssids-first, is-alone, own-may}
+use Rattle.live.specs.Dispatch.{event_for}
+use Rattle.live.specs.Moments.{Moment, first_moment, bssid_of, bssids_at, Reply, Sends, Refuses, is_past_clock, sending, MayReplyIf, taken_if}
+use Rattle.live.specs.Own.{event_in, reply_in, events_taken, events_at, alone_after, IsLikeTrace, IsShown, IsAlone}
+use Rattle.live.specs.TextLines.{TextLine, max_line, line_with}
+use Rattle.live.proofs.OwnSteps.{AloneLaws, alone_after-none}
+use Rattle.live.proofs.OwnLines.{at-place, bssids-answer, one-taken}
+use Rattle.live.proofs.IsolationLaws.{bssids-first, network-first, is-alone}
 
 -- ---- which lines were read
 
@@ -66,19 +70,6 @@ asked-line bssids octets said short e = by (nat_lt max_line (length octets)) ref
         let many : max_line < length octets = ltb-true max_line (length octets) is in absurd (omega arith)
     by false is true are = absurd (let fault = tables-fault bssids octets are in cc)
     by false is false are = rw (is, are, e) refl
-
-read-one : (m : Moment) (said : Option Line) (answer : Answer) → MayAnswer m (Says (Ok said)) answer → IsUnrefused answer
-    → read_in (Says (Ok said)) answer ≡ option_to_list said
-read-one m None (Replies rss) h k = absurd (cc)
-read-one m None Nothing h k = refl
-read-one m None (Tables ns) h k = refl
-read-one m None (Faulty f) h k = refl
-read-one m None Unread h k = refl
-read-one m (Some line) (Replies rss) h k = refl
-read-one m (Some line) Nothing h k = absurd (cc)
-read-one m (Some line) (Tables ns) h k = absurd (cc)
-read-one m (Some line) (Faulty f) h k = absurd (cc)
-read-one m (Some line) Unread h k = absurd k
 
 -- what one line says, and what the others say
 record SaysBoth (bssids : List (List ℕ)) (number : ℕ) (line : List ℕ) (others : List (List ℕ)) (all : List Line) : Type 0
@@ -128,51 +119,32 @@ says-both bssids number line others all e =
         ∙ e in
         record { said = said; later = later; one = is; rest = are; both = cc }
 
-read-all : (bssids : List (List ℕ)) (number : ℕ) (m : Moment) (parts : List (List ℕ)) (answers : List Answer)
-    (next : Moment) (all : List Line) → bssids_at m ≡ bssids
-    → AllByRecursion (λ line. length line ≤ max_line) parts → lines_from bssids number parts ≡ Ok all
-    → Answers m (map line_with parts) answers next → AreUnrefused answers
-    → lines_read bssids (map line_with parts) answers ≡ all
-read-all bssids number m [] [] next all same short e h k = cc
-read-all bssids number m [] (answer ∷ answers) next all same short e h k = absurd h
-read-all bssids number m (line ∷ parts) [] next all same short e h k = absurd h
-read-all bssids number m (line ∷ parts) (answer ∷ answers) next all same short e h k =
-    let says = says-both bssids number line parts all e in
-    let said : said_by bssids line ≡ Ok says.said = not-over bssids number line says.said (nat_lt max_lines number) says.one in
-    let asked : asked_by bssids (line_with line) ≡ Says (Ok says.said) = asked-line bssids line says.said short.0 said in
-    let here : asked_by (bssids_at m) (line_with line) ≡ Says (Ok says.said) =
-    ap (λ (bs : List (List ℕ)). asked_by bs (line_with line)) same ∙ asked in
-    let may : MayAnswer m (Says (Ok says.said)) answer = subst (λ (a : Asked). MayAnswer m a answer) here h.0 in
-    let one : read_in (asked_by bssids (line_with line)) answer ≡ option_to_list says.said =
-    ap (λ (a : Asked). read_in a answer) asked ∙ read-one m says.said answer may k.0 in
-    let on = read-all bssids (number + 1) (after_answer m (asked_by (bssids_at m) (line_with line)) answer) parts answers
-    next says.later (bssids-answer m (asked_by (bssids_at m) (line_with line)) answer ∙ same) short.1 says.rest h.1 k.1 in
-    ap (λ (ls : List Line). ls ++ lines_read bssids (map line_with parts) answers) one
-    ∙ ap (λ (ls : List Line). option_to_list says.said ++ ls) on
-    ∙ says.both
-
 -- ---- no event was refused
 
-memory-append : (rs ss : List Reply) → AllByRecursion HasMemory rs → AllByRecursion HasMemory ss
-    → AllByRecursion HasMemory (rs ++ ss)
-memory-append [] ss h k = k
-memory-append (r ∷ rs) ss h k = (h.0, memory-append rs ss h.1 k)
+-- what the network hears of the line is the event that the line is to it
+heard-event : (place : ℕ) (bssid : List ℕ) (said : Line)
+    → heard_of place bssid said ≡ option_to_list (event_for place bssid said)
+heard-event place bssid (line.Air x) = by (is_heard bssid x)
+  where
+    by : (b : Bool) → (if b then event.Air x ∷ [] else []) ≡ option_to_list (if b then Some (event.Air x) else None)
+    by true = refl
+    by false = refl
+heard-event place bssid (line.Wire named x) = by (named == place)
+  where
+    by : (b : Bool) → (if b then event.Wire x ∷ [] else []) ≡ option_to_list (if b then Some (event.Wire x) else None)
+    by true = refl
+    by false = refl
+heard-event place bssid line.Tick = refl
 
-memory-at : (place : ℕ) (rss : List (List Reply)) → AllByRecursion (AllByRecursion HasMemory) rss
-    → AllByRecursion HasMemory (slice_index_or rss place [])
+memory-at : (place : ℕ) (rs : List (Option Reply)) → AllByRecursion (λ reply. IfSome reply HasMemory) rs
+    → IfSome (slice_index_or rs place None) HasMemory
 memory-at place [] h = tt
-memory-at zero (rs ∷ rss) h = h.0
-memory-at (suc place) (rs ∷ rss) h = memory-at place rss h.1
+memory-at zero (r ∷ rs) h = h.0
+memory-at (suc place) (r ∷ rs) h = memory-at place rs h.1
 
-memory-in : (place : ℕ) (answer : Answer) → IsUnrefused answer → AllByRecursion HasMemory (replies_in place answer)
-memory-in place (Replies rss) h = memory-at place rss h
+memory-in : (place : ℕ) (answer : Answer) → IsUnrefused answer → IfSome (reply_in place answer) HasMemory
+memory-in place (Replies rs) h = memory-at place rs h
 memory-in place answer h = tt
-
-memory-all : (place : ℕ) (answers : List Answer) → AreUnrefused answers → AllByRecursion HasMemory (replies_at place answers)
-memory-all place [] h = tt
-memory-all place (answer ∷ answers) h =
-    memory-append (replies_in place answer) (replies_at place answers) (memory-in place answer h.0)
-    (memory-all place answers h.1)
 
 abbrev pub Reachable : Type 0
 Reachable =
@@ -187,29 +159,93 @@ clock-only false air wire e = cc
 -- a clock that has counted fewer events than it can is never full
 no-clock : Reachable → (s : Setting) (es : List Event) (e : Event) → network_fault s.network ≡ None
     → length es < 4294967295 → is_past_clock (alone_after s es) e ≡ true → ⊥
-no-clock reach s es (Air x) sound few h = cc
-no-clock reach s es (Wire y) sound few h = cc
-no-clock reach s es Tick sound few h =
+no-clock reach s es (event.Air x) sound few h = cc
+no-clock reach s es (event.Wire y) sound few h = cc
+no-clock reach s es event.Tick sound few h =
     let full : (alone s es).clock ≡ 4294967295 = eqb-true (alone s es).clock 4294967295 h in
     omega (arith, full, (reach s es sound).clock)
 
-taken-all : AloneLaws → Reachable → (s : Setting) (es hs : List Event) (rs : List Reply) → network_fault s.network ≡ None
-    → length es + length hs < 4294967295 → MayReplyAll (alone_after s es) hs rs → AllByRecursion HasMemory rs
-    → taken hs rs ≡ hs
-taken-all laws reach s es [] rs sound few h k = refl
-taken-all laws reach s es (e ∷ hs) [] sound few h k = absurd h
-taken-all laws reach s es (e ∷ hs) (Refuses NoMemory ∷ rs) sound few h k = absurd k.0
-taken-all laws reach s es (e ∷ hs) (Refuses Clock ∷ rs) sound few h k =
+-- the network takes the event
+taken-one : Reachable → (s : Setting) (es : List Event) (event : Option Event) (reply : Option Reply)
+    → network_fault s.network ≡ None → length es < 4294967295 → MayReplyIf (alone_after s es) event reply
+    → IfSome reply HasMemory → taken_if event reply ≡ event
+taken-one reach s es None reply sound few h k = refl
+taken-one reach s es (Some e) None sound few h k = absurd h
+taken-one reach s es (Some e) (Some (Refuses NoMemory)) sound few h k = absurd k
+taken-one reach s es (Some e) (Some (Refuses Clock)) sound few h k =
     absurd
-    (no-clock reach s es e sound (omega arith)
-    (clock-only (is_past_clock (alone_after s es) e) (sending (alone_after s es) e).air (sending (alone_after s es) e).wire
-    h.0))
-taken-all laws reach s es (e ∷ hs) (Sends air wire ∷ rs) sound few h k =
-    let one = sent laws s es e air wire h.0 in
-    let len : length (es ++ e ∷ []) ≡ length es + 1 = length_push es e in
-    ap (λ (xs : List Event). e ∷ xs)
-    (taken-all laws reach s (es ++ e ∷ []) hs rs sound (omega (arith, len))
-    (subst (λ (n : NetworkState). MayReplyAll n hs rs) one.after h.1) k.1)
+    (no-clock reach s es e sound few
+    (clock-only (is_past_clock (alone_after s es) e) (sending (alone_after s es) e).air (sending (alone_after s es) e).wire h))
+taken-one reach s es (Some e) (Some (Sends air wire)) sound few h k = refl
+
+-- a line that was read has a reply
+reply-read : (place : ℕ) (m : Moment) (n : NetworkState) (said : Option Line) (answer : Answer)
+    → MayAnswer m (Says (Ok said)) answer → IsUnrefused answer → slice_get m.networks place ≡ Some n
+    → MayReplyIf n (event_in place (bssid_of n) (Says (Ok said))) (reply_in place answer)
+reply-read place m n None (Replies rs) h k e = absurd (cc)
+reply-read place m n None answer h k e = refl
+reply-read place m n (Some line) (Replies rs) h k e = (at-place 0 place place m.networks line rs n (omega arith) h e).0
+reply-read place m n (Some line) Nothing h k e = absurd (cc)
+reply-read place m n (Some line) (Tables ns) h k e = absurd (cc)
+reply-read place m n (Some line) (Faulty f) h k e = absurd (cc)
+reply-read place m n (Some line) Unread h k e = absurd k
+
+event-said : (place : ℕ) (bssid : List ℕ) (said : Option Line)
+    → option_to_list (event_in place bssid (Says (Ok said))) ≡ heard place bssid (option_to_list said)
+event-said place bssid None = refl
+event-said place bssid (Some line) =
+    sym (heard-event place bssid line) ∙ sym (append-nil (heard_of place bssid line))
+
+-- the events that the network takes of the lines are those that it hears of them
+taken-all : AloneLaws → Reachable → (s : Setting) (place : ℕ) (bssids : List (List ℕ)) (number : ℕ) (m : Moment)
+    (es : List Event) (parts : List (List ℕ)) (answers : List Answer) (next : Moment) (all : List Line)
+    → network_fault s.network ≡ None → length es + length (heard place s.network.bssid all) < 4294967295
+    → bssids_at m ≡ bssids → slice_get m.networks place ≡ Some (alone_after s es)
+    → AllByRecursion (λ line. length line ≤ max_line) parts → lines_from bssids number parts ≡ Ok all
+    → Answers m (map line_with parts) answers next → AreUnrefused answers
+    → events_taken place s.network.bssid bssids (map line_with parts) answers ≡ heard place s.network.bssid all
+taken-all laws reach s place bssids number m es [] [] next all sound few same there short e h k =
+    let none : [] ≡ all = cc in ap (heard place s.network.bssid) none
+taken-all laws reach s place bssids number m es [] (answer ∷ answers) next all sound few same there short e h k = absurd h
+taken-all laws reach s place bssids number m es (line ∷ parts) [] next all sound few same there short e h k = absurd h
+taken-all laws reach s place bssids number m es (line ∷ parts) (answer ∷ answers) next all sound few same there short e h
+    k =
+    let bssid : List ℕ = s.network.bssid in
+    let says = says-both bssids number line parts all e in
+    let said : said_by bssids line ≡ Ok says.said = not-over bssids number line says.said (nat_lt max_lines number) says.one in
+    let asked : asked_by bssids (line_with line) ≡ Says (Ok says.said) = asked-line bssids line says.said short.0 said in
+    let here : asked_by (bssids_at m) (line_with line) ≡ Says (Ok says.said) =
+    ap (λ (bs : List (List ℕ)). asked_by bs (line_with line)) same ∙ asked in
+    let reply : Option Reply = reply_in place answer in
+    let may : MayReplyIf (alone_after s es) (event_in place bssid (Says (Ok says.said))) reply =
+    reply-read place m (alone_after s es) says.said answer (subst (λ (a : Asked). MayAnswer m a answer) here h.0) k.0 there in
+    let first : List Event = heard place bssid (option_to_list says.said) in
+    let later : List Event = heard place bssid says.later in
+    let both : heard place bssid all ≡ first ++ later =
+    ap (heard place bssid) (sym says.both) ∙ flat_map-append (heard_of place bssid) (option_to_list says.said) says.later in
+    let count : length (heard place bssid all) ≡ length first + length later =
+    ap length both ∙ length-append first later in
+    let one : taken_if (event_in place bssid (Says (Ok says.said))) reply ≡ event_in place bssid (Says (Ok says.said)) =
+    taken-one reach s es (event_in place bssid (Says (Ok says.said))) reply sound (omega (arith, few)) may
+    (memory-in place answer k.0) in
+    let some : option_to_list (taken_if (event_in place bssid (asked_by bssids (line_with line))) reply) ≡ first =
+    ap (λ (a : Asked). option_to_list (taken_if (event_in place bssid a) reply)) asked
+    ∙ ap (λ (o : Option Event). option_to_list o) one
+    ∙ event-said place bssid says.said in
+    let taken : option_to_list (taken_if (event_in place bssid (asked_by (bssids_at m) (line_with line))) reply) ≡ first =
+    ap (λ (bs : List (List ℕ)). option_to_list (taken_if (event_in place bssid (asked_by bs (line_with line))) reply)) same
+    ∙ some in
+    let after = one-taken laws s place m es (line_with line) answer h.0 there in
+    let on = taken-all laws reach s place bssids (number + 1)
+    (after_answer m (asked_by (bssids_at m) (line_with line)) answer)
+    (es ++ first) parts answers next says.later sound
+    (omega (arith, few, count, length-append es first))
+    (bssids-answer m (asked_by (bssids_at m) (line_with line)) answer ∙ same)
+    (after.there ∙ ap (λ (xs : List Event). Some (alone_after s (es ++ xs))) taken)
+    short.1 says.rest h.1 k.1 in
+    ap (λ (xs : List Event). xs ++ events_taken place bssid bssids (map line_with parts) answers) some
+    ∙ ap (λ (xs : List Event). first ++ xs) on
+    ∙ sym both
 
 -- ---- the section
 
@@ -253,22 +289,15 @@ pub is-shown : AloneLaws → Reachable → CheckedNetworks → (c : RadioConfig)
 is-shown laws reach checked c text said place answers next section h e =
     let s : Setting = setting_at c place in
     let hs : List Event = heard place (network_at c place).bssid said in
-    let rs : List Reply = replies_at place answers in
     let sound : network_fault s.network ≡ None = network-sound c.networks place h.there (checked c h.sound) in
     let most : length hs ≤ (network_at c place).max_events = h.events in
     let bounded : (network_at c place).max_events ≤ 1000000 = (numbers_bounded s.network sound).events in
     let few : length {A = Event} [] + length hs < 4294967295 = omega arith in
-    let read : lines_read (bssids_of c) (map line_with (lines text)) answers ≡ said =
-    read-all (bssids_of c) 1 (first_moment c) (lines text) answers next said (bssids-first c c.networks) h.short h.read
-    h.answered h.unrefused in
-    let may : MayReplyAll (alone_after s []) hs rs =
-    subst
-    (λ (ls : List Line). MayReplyAll (alone_after s []) (heard place (network_at c place).bssid ls) rs)
-    read
-    (own-may laws c (map line_with (lines text)) answers next place h.there h.answered) in
-    let all : taken hs rs ≡ hs = taken-all laws reach s [] hs rs sound few may (memory-all place answers h.unrefused) in
+    let begins : slice_get (first_moment c).networks place ≡ Some (alone_after s []) =
+    network-first c place h.there ∙ ap (λ (n : NetworkState). Some n) (sym (alone_after-none laws s)) in
     let events : events_at c place (map line_with (lines text)) answers ≡ hs =
-    ap (λ (ls : List Line). taken (heard place (network_at c place).bssid ls) rs) read ∙ all in
+    taken-all laws reach s place (bssids_of c) 1 (first_moment c) [] (lines text) answers next said sound few
+    (bssids-first c c.networks) begins h.short h.read h.answered h.unrefused in
     let own : own_events place (network_at c place) said ≡ hs = take_all (network_at c place).max_events hs most in
     let is : section ≡ section_of s (own_events place (network_at c place) said) =
     let same : Some section ≡ Some (section_of s (own_events place (network_at c place) said)) =

@@ -1,5 +1,5 @@
 -- Single lines and their answers, computed.
-use Rattle.std.proofs.Common.{◌≡◌, ℕ, ◌+◌, false, List, [], ◌∷◌, ◌++◌, Some, Ok, Err, codes, refl}
+use Rattle.std.proofs.Common.{◌≡◌, ℕ, ◌+◌, false, List, [], ◌∷◌, ◌++◌, Some, None, Ok, Err, codes, refl}
 use Rattle.std.specs.Prelude.{replicate}
 use Rattle.std.specs.Fmt.{digits}
 use Rattle.hex.specs.Hex.{encode_with}
@@ -14,8 +14,8 @@ use Rattle.network.specs.declared.network.NetworkRefusal.TheVariants.{NoMemory, 
 use Rattle.ap_config.proofs.Samples.{network, radio, setting}
 use Rattle.trace.specs.Report.{network_line, counts_line, station_line, frame_line}
 use Rattle.trace.specs.declared.fault.LineFault.TheVariants.{UnknownKind}
-use Rattle.live.specs.TextLines.{Octets, TooLong, line_with, lines_of_text, begun_in, lines_in, begun_after, last_line}
-use Rattle.live.specs.Moments.{Moment, first_moment, Sends, Refuses, is_past_clock, reply_of, after_event}
+use Rattle.live.specs.TextLines.{Octets, TooLong, line_with, lines_of_text, partial_in, lines_in, partial_after, last_line}
+use Rattle.live.specs.Moments.{Moment, first_moment, Sends, Refuses, is_past_clock, reply_of, taken_if, after_if}
 use Rattle.live.specs.Answers.{ForTables, Says, asked_by, Answer, Replies, Tables, Unread, MayAnswer, after_answer}
 use Rattle.live.specs.AnswerText.{table_text, answer_text, answers_text, live_text}
 
@@ -44,20 +44,20 @@ pub one_cr_before_lf_is_dropped : lines_of_text (codes "T" ++ cr ++ cr ++ lf ++ 
     ≡ Octets (codes "T" ++ cr) ∷ Octets (codes "T" ++ cr) ∷ []
 one_cr_before_lf_is_dropped = refl
 
-pub a_piece_ends_the_line_before_it : lines_in (begun_in (codes "T" ++ lf ++ codes "A 0")) (codes "0" ++ lf ++ codes "T")
+pub a_piece_ends_the_line_before_it : lines_in (partial_in (codes "T" ++ lf ++ codes "A 0")) (codes "0" ++ lf ++ codes "T")
     ≡ Octets (codes "A 00") ∷ []
 a_piece_ends_the_line_before_it = refl
 
 pub the_rest_of_a_long_line_is_no_line : lines_in TooLong (codes "T" ++ lf ++ codes "T" ++ lf) ≡ TooLong ∷ Octets (codes "T") ∷ []
 the_rest_of_a_long_line_is_no_line = refl
 
-pub a_long_line_goes_on : begun_after TooLong (codes "T") ≡ TooLong
+pub a_long_line_goes_on : partial_after TooLong (codes "T") ≡ TooLong
 a_long_line_goes_on = refl
 
 pub a_long_line_without_lf_counts : last_line TooLong ≡ TooLong ∷ []
 a_long_line_without_lf_counts = refl
 
-pub nothing_has_begun : last_line (begun_in (codes "T" ++ lf)) ≡ []
+pub nothing_has_begun : last_line (partial_in (codes "T" ++ lf)) ≡ []
 nothing_has_begun = refl
 
 -- spaces count, whatever the line is
@@ -67,10 +67,10 @@ the_longest_line = refl
 pub one_octet_too_many : line_with (35 ∷ replicate 65536 32) ≡ TooLong
 one_octet_too_many = refl
 
-pub a_cr_may_still_be_dropped : begun_in (replicate 65536 32 ++ cr) ≡ Octets (replicate 65536 32 ++ cr)
+pub a_cr_may_still_be_dropped : partial_in (replicate 65536 32 ++ cr) ≡ Octets (replicate 65536 32 ++ cr)
 a_cr_may_still_be_dropped = refl
 
-pub two_octets_too_many : begun_in (replicate 65536 32 ++ cr ++ cr) ≡ TooLong
+pub two_octets_too_many : partial_in (replicate 65536 32 ++ cr ++ cr) ≡ TooLong
 two_octets_too_many = refl
 
 -- ---- what lines ask
@@ -150,10 +150,13 @@ the_line_after_a_fault_is_read = refl
 
 -- ---- refusals
 
-pub a_line_may_not_be_read : MayAnswer start (Says (Ok (Some line.Tick))) Unread
-a_line_may_not_be_read = tt
+pub a_string_may_not_be_read : MayAnswer start (Says (Ok (Some (line.Air [])))) Unread
+a_string_may_not_be_read = tt
 
-pub and_then_nothing_changes : after_answer start (Says (Ok (Some line.Tick))) Unread ≡ record start { lines = 1 }
+pub a_tick_is_always_read : MayAnswer start (Says (Ok (Some line.Tick))) Unread → ⊥
+a_tick_is_always_read h = h
+
+pub and_then_nothing_changes : after_answer start (Says (Ok (Some (line.Air [])))) Unread ≡ record start { lines = 1 }
 and_then_nothing_changes = refl
 
 pub it_is_told_so : answers_text bssids 7 (Unread ∷ []) ≡ codes "fault memory line 7" ++ lf
@@ -162,7 +165,7 @@ it_is_told_so = refl
 
 -- one network refuses, and the next takes the line
 abbrev refused : Answer
-refused = Replies ((Refuses NoMemory ∷ []) ∷ (Sends ((1 ∷ 2 ∷ []) ∷ []) ((3 ∷ []) ∷ []) ∷ []) ∷ [])
+refused = Replies (Some (Refuses NoMemory) ∷ Some (Sends ((1 ∷ 2 ∷ []) ∷ []) ((3 ∷ []) ∷ [])) ∷ [])
 
 pub a_refusal_is_told_at_its_place : answer_text bssids 7 refused
     ≡ codes "fault memory line 7 network 02:00:00:00:00:01" ++ lf
@@ -193,13 +196,14 @@ at_clock clock = record {
 pub a_full_clock_refuses : reply_of (at_clock 4294967295) Tick ≡ Refuses Clock
 a_full_clock_refuses = refl
 
-pub nothing_has_changed_then : after_event (at_clock 4294967295) Tick (Refuses Clock) ≡ at_clock 4294967295
+pub nothing_has_changed_then : after_if (at_clock 4294967295) (taken_if (Some Tick) (Some (Refuses Clock)))
+    ≡ at_clock 4294967295
 nothing_has_changed_then = refl
 
 pub one_before_it_is_not_full : is_past_clock (at_clock 4294967294) Tick ≡ false
 one_before_it_is_not_full = refl
 
-pub a_full_clock_is_told : answer_text bssids 7 (Replies ((Refuses Clock ∷ []) ∷ [] ∷ []))
+pub a_full_clock_is_told : answer_text bssids 7 (Replies (Some (Refuses Clock) ∷ None ∷ []))
     ≡ codes "fault clock line 7 network 02:00:00:00:00:01" ++ lf
 unfolding digits
 a_full_clock_is_told = refl

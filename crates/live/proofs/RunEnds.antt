@@ -1,60 +1,91 @@
 -- What a run leaves, by how it ended.
-use Rattle.std.proofs.Common.{◌≡◌, ℕ, List, [], ◌++◌, length, Option, Result, Ok, Err, refl, sym, ap, subst, ◌∙◌, append_assoc}
+use Rattle.std.proofs.Common.{◌≡◌, ℕ, ◌+◌, List, [], ◌++◌, length, Option, Result, Ok, Err, refl, sym, ap, subst, ◌∙◌, append_assoc, append-nil, arith, inl, inr}
 use Rattle.std.proofs.KnownBytes.{Appends-trans, Consumes-nil, Keeps-refl}
-use Rattle.std.specs.Io.KnownBytes.{Appends}
+use Rattle.std.specs.Io.KnownBytes.{Appends, Keeps}
 use Rattle.ap_config.specs.declared.config.ConfigFault.{ConfigFault}
 use Rattle.ap_config.specs.declared.config.RadioConfig.{RadioConfig}
 use Rattle.trace.specs.ConfigurationText.{configuration_of}
-use Rattle.trace.specs.Endings.{AppendsPrefix, IsFaultOf}
-use Rattle.trace.specs.Faults.{read_ending}
+use Rattle.trace.specs.Endings.{AppendsPrefix, Ending, Ends, IsFaultOf, Refused, WriteFailed, OutOfMemory, failures_of}
+use Rattle.trace.specs.Faults.{read_as, read_ending, report_as}
+use Rattle.trace.specs.Report.{count_line}
+use Rattle.trace.specs.Sinks.{report_ending}
+use Rattle.trace.specs.Streams.{FailsAt, Reads, SinkView, SourceView, Streams}
 use Rattle.trace.specs.declared.read_fault.ReadFault.{ReadFault}
 use Rattle.trace.specs.declared.read_fault.ReadFault.TheVariants as reads
+use Rattle.trace.specs.declared.report.ReportFault.{ReportFault}
+use Rattle.trace.specs.declared.report.ReportFault.TheVariants as reports
 use Rattle.trace.specs.declared.sink.Failed.{Failed}
 use Rattle.live.specs.AnswerText.{tables_text, text_after}
 use Rattle.live.specs.Answers.{Answer, Answers, answers_of}
-use Rattle.live.specs.LiveView.{LiveState, TakesEnd}
+use Rattle.live.specs.LiveView.{LiveState, TakesEnd, fed, state}
 use Rattle.live.specs.Moments.{Moment, first_moment}
-use Rattle.live.specs.Running.{AnswersAll, AnswersInput, RunsLive, count_line, of_config}
-use Rattle.live.specs.TextLines.{TextLine, Octets, ended_lines, begun_in, last_line, lines_of_text}
+use Rattle.live.specs.Run.{AnswersAll, AnswersInput, RunsLive, StopsInPiece, StopsReading, Texts, Progress, progress, live_ending, max_reads}
+use Rattle.live.specs.TextLines.{TextLine, Octets, ended_lines, partial_in, last_line, lines_of_text}
 use Rattle.live.specs.declared.fault.LiveFault.{LiveFault}
 use Rattle.live.specs.declared.fault.LiveFault.TheVariants.{Config, NoMemory, Read, Write}
 use Rattle.live.proofs.EnoughMemory.{answers-may}
 use Rattle.live.proofs.MoreLines.{joins, texts-join}
 use Rattle.live.proofs.PieceLines.{all-lines}
-use Rattle.live.proofs.RunSteps.{prefix-after, prefix-longer}
+use Rattle.live.proofs.RunSteps.{counted-none, prefix-after, prefix-longer}
 
 -- ---- before the first read
 
-pub memory-runs : (ct : List ℕ) (left : Option (List ℕ)) (failed : ℕ) (taken : Option (List ℕ))
-    → RunsLive (Err NoMemory) ct left left failed failed taken taken
-memory-runs ct left failed taken =
-    record { text = []; read = Consumes-nil left; fails = refl; end = (refl, Keeps-refl taken) }
+abbrev texts : List ℕ → List ℕ → Texts
+texts config lines = record { config = config; lines = lines }
 
-pub config-runs : (e : ReadFault ConfigFault) (ct : List ℕ) (left : Option (List ℕ)) (failed : ℕ)
-    (taken : Option (List ℕ)) → IsFaultOf (configuration_of ct) (read_ending e)
-    → RunsLive (Err (of_config e)) ct left left failed failed taken taken
-config-runs (reads.At fault) ct left failed taken h =
-    record { text = []; read = Consumes-nil left; fails = refl; end = (refl, h, Keeps-refl taken) }
-config-runs reads.NoMemory ct left failed taken h = memory-runs ct left failed taken
+abbrev both : SourceView → SinkView → Streams
+both source sink = record { source = source; sink = sink }
+
+none-read : (source : SourceView) (ending : Ending LiveFault)
+    → FailsAt ending max_reads 0 source.failed source.failed → Reads ending max_reads source source []
+none-read source ending failed = record {
+  taken = Consumes-nil source.left;
+  made = 0;
+  within = omega arith;
+  counted = counted-none source.reads;
+  failed = failed;
+}
+
+pub memory-runs : (ct : List ℕ) (source : SourceView) (old new : SinkView) → Keeps old.taken new.taken
+    → RunsLive (Err NoMemory) ct (both source old) (both source new)
+memory-runs ct source old new kept = record {
+  text = [];
+  reads = none-read source OutOfMemory refl;
+  end = record { unread = refl; source = refl; unwritten = kept };
+}
+
+pub config-runs : (e : ReadFault ConfigFault) (ct : List ℕ) (source : SourceView) (sink : SinkView)
+    → IsFaultOf (configuration_of ct) (read_ending e)
+    → RunsLive (Err (read_as Config NoMemory e)) ct (both source sink) (both source sink)
+config-runs (reads.At fault) ct source sink h = record {
+  text = [];
+  reads = none-read source (Refused (Config fault)) refl;
+  end = (h, record { unread = refl; source = refl; unwritten = Keeps-refl sink.taken });
+}
+config-runs reads.NoMemory ct source sink h = memory-runs ct source sink sink (Keeps-refl sink.taken)
 
 -- ---- all lines
+
+-- before the first line
+abbrev first : RadioConfig → Streams → Progress
+first c streams = progress (state (first_moment c) (Octets [])) streams
 
 -- what is said of a text, some of whose answers are these
 abbrev whole : RadioConfig → List Answer → Moment → List ℕ
 whole c answers last = count_line (length c.networks) ++ text_after (first_moment c) answers ++ tables_text last.networks
 
 said-all : (c : RadioConfig) (ct text : List ℕ) (answers : List Answer) (last : Moment) → configuration_of ct ≡ Ok c
-    → Answers (first_moment c) (lines_of_text text) answers last → AnswersAll ct text (whole c answers last)
+    → Answers (first_moment c) (lines_of_text text) answers last → AnswersAll (texts ct text) (whole c answers last)
 said-all c ct text answers last is answered =
     record { config = c; answers = answers; last = last; read = is; answered = answered; said_is = refl }
 
 -- the lines that ended, and then the last one
-all-answered : (m between last : Moment) (text : List ℕ) (begun : TextLine) (some more : List Answer)
-    → Answers m (ended_lines text) some between → begun ≡ begun_in text → Answers between (last_line begun) more last
+all-answered : (m between last : Moment) (text : List ℕ) (partial : TextLine) (some more : List Answer)
+    → Answers m (ended_lines text) some between → partial ≡ partial_in text → Answers between (last_line partial) more last
     → Answers m (lines_of_text text) (some ++ more) last
-all-answered m between last text begun some more first is later =
+all-answered m between last text partial some more first is later =
     subst (λ (ls : List TextLine). Answers m ls (some ++ more) last) (sym (all-lines text))
-    (joins m (ended_lines text) (last_line (begun_in text)) (some ++ more) last
+    (joins m (ended_lines text) (last_line (partial_in text)) (some ++ more) last
     (record {
       some = some;
       others = more;
@@ -83,128 +114,204 @@ whole-is c between last lines some more h =
 
 -- ---- a write failed
 
-pub count-runs : (c : RadioConfig) (ct : List ℕ) (left : Option (List ℕ)) (failed : ℕ) (old new : Option (List ℕ))
-    → configuration_of ct ≡ Ok c → AppendsPrefix old new (count_line (length c.networks))
-    → RunsLive (Err Write) ct left left failed failed old new
-count-runs c ct left failed old new is part =
+abbrev bad : {E : Type 0} → E → Result Unit E
+bad e = Err e
+
+pub count-runs : (e : ReportFault) (c : RadioConfig) (ct : List ℕ) (source : SourceView) (old new : SinkView)
+    → configuration_of ct ≡ Ok c
+    → Ends {A = Unit} report_ending (Err e) (Ok (count_line (length c.networks))) old.taken new.taken
+    → (bad e ≡ bad reports.NoMemory → Keeps old.taken new.taken)
+    → RunsLive (Err (report_as Write NoMemory e)) ct (both source old) (both source new)
+count-runs reports.NoMemory c ct source old new is part kept = memory-runs ct source old new (kept refl)
+count-runs reports.Write c ct source old new is part kept =
     let m : Moment = first_moment c in
     let some = answers-may m (lines_of_text []) in
     let answers : List Answer = answers_of m (lines_of_text []) in
     record {
       text = [];
-      read = Consumes-nil left;
-      fails = refl;
-      end = (
-        whole c answers some.0,
-        said-all c ct [] answers some.0 is some.1,
-        prefix-longer (count_line (length c.networks) ++ text_after m answers) (tables_text some.0.networks)
-            (prefix-longer (count_line (length c.networks)) (text_after m answers) part),
-      );
+      reads = none-read source WriteFailed refl;
+      end = record {
+        said = whole c answers some.0;
+        all = said-all c ct [] answers some.0 is some.1;
+        written =
+            prefix-longer (count_line (length c.networks) ++ text_after m answers) (tables_text some.0.networks)
+            (prefix-longer (count_line (length c.networks)) (text_after m answers) part);
+        stops = inl refl;
+      };
+    }
+
+pub count-failures : (e : ReportFault) (failed : ℕ)
+    → failed + failures_of report_ending (bad e) ≡ failed + failures_of live_ending (bad (report_as Write NoMemory e))
+count-failures reports.NoMemory failed = refl
+count-failures reports.Write failed = refl
+
+-- all was written before that is said of the lines that ended before
+stops-reading : (c : RadioConfig) (ct text : List ℕ) (old mid new : SinkView) → configuration_of ct ≡ Ok c
+    → Appends old.taken mid.taken (count_line (length c.networks)) → StopsInPiece (first_moment c) text mid new
+    → StopsReading (texts ct text) old new
+stops-reading c ct text old mid new is count s =
+    let said : List ℕ = count_line (length c.networks) ++ text_after (first_moment c) s.answers in
+    record {
+      before = s.before;
+      piece = s.piece;
+      read = s.read;
+      short = s.short;
+      said = said;
+      ended = record {
+        config = c;
+        answers = s.answers;
+        last = s.between;
+        read = is;
+        answered = s.answered;
+        said_is = refl;
+      };
+      rest = s.rest;
+      written =
+          subst (Appends old.taken new.taken)
+          (sym (append_assoc (count_line (length c.networks)) (text_after (first_moment c) s.answers) s.rest))
+          (Appends-trans old.taken mid.taken new.taken (count_line (length c.networks))
+          (text_after (first_moment c) s.answers ++ s.rest) count s.written);
     }
 
 -- ---- reading ended before the source did, or a write failed
 
-pub input-runs : (e : LiveFault) (c : RadioConfig) (ct : List ℕ) (live : LiveState) (left left' : Option (List ℕ))
-    (failed failed' : ℕ) (old mid new : Option (List ℕ)) → configuration_of ct ≡ Ok c
-    → Appends old mid (count_line (length c.networks))
-    → AnswersInput (Err e) (first_moment c) live left left' failed failed' mid new
-    → RunsLive (Err e) ct left left' failed failed' old new
-input-runs Read c ct live left left' failed failed' old mid new is count s = record {
+pub input-runs : (e : LiveFault) (c : RadioConfig) (ct : List ℕ) (old : SinkView) (mid new : Streams) (live : LiveState)
+    → configuration_of ct ≡ Ok c → Appends old.taken mid.sink.taken (count_line (length c.networks))
+    → AnswersInput (Err e) (first c mid) (progress live new)
+    → RunsLive (Err e) ct (both mid.source old) new
+input-runs Read c ct old mid new live is count s = record {
   text = s.text;
-  read = s.read;
-  fails = s.fails;
-  end = (
-    count_line (length c.networks) ++ text_after (first_moment c) s.answers,
-    record {
+  reads = s.reads;
+  end = record {
+    said = count_line (length c.networks) ++ text_after (first_moment c) s.answers;
+    ended = record {
       config = c;
       answers = s.answers;
       last = live.moment;
       read = is;
       answered = s.answered;
       said_is = refl;
-    },
-    Appends-trans old mid new (count_line (length c.networks)) (text_after (first_moment c) s.answers) count s.written,
-  );
+    };
+    written =
+        Appends-trans old.taken mid.sink.taken new.sink.taken (count_line (length c.networks))
+        (text_after (first_moment c) s.answers) count s.written;
+  };
 }
-input-runs Write c ct live left left' failed failed' old mid new is count s =
-    let rest = answers-may live.moment (last_line live.begun) in
-    let more : List Answer = answers_of live.moment (last_line live.begun) in
+input-runs Write c ct old mid new live is count s =
+    let rest = answers-may live.moment (last_line live.partial) in
+    let more : List Answer = answers_of live.moment (last_line live.partial) in
     record {
       text = s.text;
-      read = s.read;
-      fails = s.fails;
-      end = (
-        whole c (s.answers ++ more) rest.0,
-        said-all c ct s.text (s.answers ++ more) rest.0 is
-            (all-answered (first_moment c) live.moment rest.0 s.text live.begun s.answers more s.answered s.begun rest.1),
-        subst (AppendsPrefix old new) (whole-is c live.moment rest.0 (ended_lines s.text) s.answers more s.answered)
+      reads = s.reads;
+      end = record {
+        said = whole c (s.answers ++ more) rest.0;
+        all =
+            said-all c ct s.text (s.answers ++ more) rest.0 is
+            (all-answered (first_moment c) live.moment rest.0 s.text live.partial s.answers more s.answered s.partial
+            rest.1);
+        written =
+            subst (AppendsPrefix old.taken new.sink.taken)
+            (whole-is c live.moment rest.0 (ended_lines s.text) s.answers more s.answered)
             (prefix-longer (count_line (length c.networks) ++ text_after (first_moment c) s.answers)
-            (text_after live.moment more ++ tables_text rest.0.networks) (prefix-after (count_line (length c.networks)) (text_after (first_moment c) s.answers) count s.written)),
-      );
+            (text_after live.moment more ++ tables_text rest.0.networks)
+            (prefix-after (count_line (length c.networks)) (text_after (first_moment c) s.answers) count s.written));
+        stops = inr (stops-reading c ct s.text old mid.sink new.sink is count s.stops);
+      };
     }
-input-runs NoMemory c ct live left left' failed failed' old mid new is count s = absurd s.written
-input-runs (Config fault) c ct live left left' failed failed' old mid new is count s = absurd s.written
+input-runs NoMemory c ct old mid new live is count s = absurd s.written
+input-runs (Config fault) c ct old mid new live is count s = absurd s.written
 
 -- ---- the source came to its end
 
-pub end-runs : (e : Failed) (u : Unit {0}) (c : RadioConfig) (ct : List ℕ) (live : LiveState) (left left' : Option (List ℕ))
-    (failed failed' : ℕ) (old mid read new : Option (List ℕ)) → configuration_of ct ≡ Ok c
-    → Appends old mid (count_line (length c.networks))
-    → AnswersInput (Ok u) (first_moment c) live left left' failed failed' mid read → TakesEnd (Err e) live read new
-    → RunsLive (Err Write) ct left left' failed failed' old new
-end-runs e u c ct live left left' failed failed' old mid read new is count s t = record {
+pub end-runs : (e : Failed) (u : Unit {0}) (c : RadioConfig) (ct : List ℕ) (old : SinkView) (mid read : Streams)
+    (new : SinkView) (live : LiveState) → configuration_of ct ≡ Ok c
+    → Appends old.taken mid.sink.taken (count_line (length c.networks))
+    → AnswersInput (Ok u) (first c mid) (progress live read)
+    → TakesEnd (Err e) (fed live read.sink.taken) new.taken
+    → RunsLive (Err Write) ct (both mid.source old) (both read.source new)
+end-runs e u c ct old mid read new live is count s t = record {
   text = s.text;
-  read = s.read;
-  fails = s.fails;
-  end = (
-    whole c (s.answers ++ t.answers) t.last,
-    said-all c ct s.text (s.answers ++ t.answers) t.last is
-        (all-answered (first_moment c) live.moment t.last s.text live.begun s.answers t.answers s.answered s.begun t.answered),
-    subst (AppendsPrefix old new) (whole-is c live.moment t.last (ended_lines s.text) s.answers t.answers s.answered)
+  reads = record {
+    taken = s.reads.taken;
+    made = s.reads.made;
+    within = s.reads.within;
+    counted = s.reads.counted;
+    failed = s.reads.failed;
+  };
+  end = record {
+    said = whole c (s.answers ++ t.answers) t.last;
+    all =
+        said-all c ct s.text (s.answers ++ t.answers) t.last is
+        (all-answered (first_moment c) live.moment t.last s.text live.partial s.answers t.answers s.answered s.partial
+        t.answered);
+    written =
+        subst (AppendsPrefix old.taken new.taken)
+        (whole-is c live.moment t.last (ended_lines s.text) s.answers t.answers s.answered)
         (prefix-after (count_line (length c.networks) ++ text_after (first_moment c) s.answers)
         (text_after live.moment t.answers ++ tables_text t.last.networks)
-        (Appends-trans old mid read (count_line (length c.networks)) (text_after (first_moment c) s.answers) count s.written.1)
-        t.written),
-  );
+        (Appends-trans old.taken mid.sink.taken read.sink.taken (count_line (length c.networks))
+        (text_after (first_moment c) s.answers) count s.written.1)
+        t.written);
+    stops =
+        inr
+        (stops-reading c ct s.text old mid.sink new is count
+        (record {
+          before = s.text;
+          piece = [];
+          read = sym (append-nil s.text);
+          short = omega arith;
+          answers = s.answers;
+          between = live.moment;
+          answered = s.answered;
+          rest = t.written.written;
+          written =
+              Appends-trans mid.sink.taken read.sink.taken new.taken (text_after (first_moment c) s.answers)
+              t.written.written s.written.1 t.written.taken;
+        }));
+  };
 }
 
-pub whole-runs : (u v w : Unit {0}) (c : RadioConfig) (ct : List ℕ) (live : LiveState) (left left' : Option (List ℕ))
-    (failed failed' : ℕ) (old mid read new : Option (List ℕ)) → configuration_of ct ≡ Ok c
-    → Appends old mid (count_line (length c.networks))
-    → AnswersInput (Ok u) (first_moment c) live left left' failed failed' mid read → TakesEnd (Ok v) live read new
-    → RunsLive (Ok w) ct left left' failed failed' old new
-whole-runs u v w c ct live left left' failed failed' old mid read new is count s t = record {
+pub whole-runs : (u v w : Unit {0}) (c : RadioConfig) (ct : List ℕ) (old : SinkView) (mid read : Streams)
+    (new : SinkView) (live : LiveState) → configuration_of ct ≡ Ok c
+    → Appends old.taken mid.sink.taken (count_line (length c.networks))
+    → AnswersInput (Ok u) (first c mid) (progress live read)
+    → TakesEnd (Ok v) (fed live read.sink.taken) new.taken
+    → RunsLive (Ok w) ct (both mid.source old) (both read.source new)
+whole-runs u v w c ct old mid read new live is count s t = record {
   text = s.text;
-  read = s.read;
-  fails = s.fails;
-  end = (
-    s.written.0,
-    (
-      whole c (s.answers ++ t.answers) t.last,
-      said-all c ct s.text (s.answers ++ t.answers) t.last is
-          (all-answered (first_moment c) live.moment t.last s.text live.begun s.answers t.answers s.answered s.begun t.answered),
-      subst (Appends old new) (whole-is c live.moment t.last (ended_lines s.text) s.answers t.answers s.answered)
-          (Appends-trans old read new (count_line (length c.networks) ++ text_after (first_moment c) s.answers)
-          (text_after live.moment t.answers ++ tables_text t.last.networks)
-          (Appends-trans old mid read (count_line (length c.networks)) (text_after (first_moment c) s.answers) count s.written.1)
-          t.written),
-    ),
-  );
+  reads = s.reads;
+  end = record {
+    said = whole c (s.answers ++ t.answers) t.last;
+    all =
+        said-all c ct s.text (s.answers ++ t.answers) t.last is
+        (all-answered (first_moment c) live.moment t.last s.text live.partial s.answers t.answers s.answered s.partial
+        t.answered);
+    at_end = s.written.0;
+    written =
+        subst (Appends old.taken new.taken)
+        (whole-is c live.moment t.last (ended_lines s.text) s.answers t.answers s.answered)
+        (Appends-trans old.taken read.sink.taken new.taken
+        (count_line (length c.networks) ++ text_after (first_moment c) s.answers)
+        (text_after live.moment t.answers ++ tables_text t.last.networks)
+        (Appends-trans old.taken mid.sink.taken read.sink.taken (count_line (length c.networks))
+        (text_after (first_moment c) s.answers) count s.written.1)
+        t.written);
+  };
 }
 
 -- ---- as the call has it
 
-pub from-first : (r : Result Unit LiveFault) (c : RadioConfig) (first live : LiveState) (left left' : Option (List ℕ))
-    (failed failed' : ℕ) (old new : Option (List ℕ)) → first ≡ record { moment = first_moment c; begun = Octets [] }
-    → AnswersInput r first.moment live left left' failed failed' old new
-    → AnswersInput r (first_moment c) live left left' failed failed' old new
-from-first r c first live left left' failed failed' old new is s =
-    subst (λ (l : LiveState). AnswersInput r l.moment live left left' failed failed' old new) is s
+pub from-first : (r : Result Unit LiveFault) (c : RadioConfig) (begin : LiveState) (mid : Streams) (end : Progress)
+    → begin ≡ state (first_moment c) (Octets []) → AnswersInput r (progress begin mid) end
+    → AnswersInput r (first c mid) end
+from-first r c begin mid end is s = subst (λ (l : LiveState). AnswersInput r (progress l mid) end) is s
 
 pub counted : (count : ℕ) (c : RadioConfig) (old new : Option (List ℕ)) → count ≡ length c.networks
     → Appends old new (count_line count) → Appends old new (count_line (length c.networks))
 counted count c old new is h = subst (λ (n : ℕ). Appends old new (count_line n)) is h
 
-pub counted-part : (count : ℕ) (c : RadioConfig) (old new : Option (List ℕ)) → count ≡ length c.networks
-    → AppendsPrefix old new (count_line count) → AppendsPrefix old new (count_line (length c.networks))
-counted-part count c old new is h = subst (λ (n : ℕ). AppendsPrefix old new (count_line n)) is h
+pub counted-part : (e : ReportFault) (count : ℕ) (c : RadioConfig) (old new : Option (List ℕ))
+    → count ≡ length c.networks → Ends {A = Unit} report_ending (Err e) (Ok (count_line count)) old new
+    → Ends {A = Unit} report_ending (Err e) (Ok (count_line (length c.networks))) old new
+counted-part e count c old new is h =
+    subst (λ (n : ℕ). Ends {A = Unit} report_ending (Err e) (Ok (count_line n)) old new) is h

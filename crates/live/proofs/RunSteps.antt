@@ -1,19 +1,21 @@
 -- What was read of an input, and the answers to the lines that ended in it.
-use Rattle.std.proofs.Common.{◌≡◌, ℕ, ◌+◌, ◌*◌, ◌≤◌, List, [], ◌++◌, length, Option, Ok, Err}
+use Rattle.std.specs.Prelude.{max, min}
+use Rattle.std.proofs.Common.{◌≡◌, ℕ, ◌+◌, ◌-◌, ◌*◌, ◌^◌, ◌≤◌, List, [], ◌++◌, length, Option, Ok, Err}
 use Rattle.std.proofs.Common.{refl, sym, ap, subst, ◌∙◌, arith, length-append, append_assoc}
 use Rattle.std.proofs.KnownBytes.{Appends-nil, Appends-trans, Consumes-nil, Consumes-trans}
 use Rattle.std.specs.Io.KnownBytes.{Appends, Consumes}
 use Rattle.trace.specs.Endings.{AppendsPrefix}
+use Rattle.trace.specs.Streams.{reads_after}
 use Rattle.trace.specs.declared.sink.Failed.{Failed}
 use Rattle.live.specs.AnswerText.{text_after}
 use Rattle.live.specs.Answers.{Answer, Answers}
-use Rattle.live.specs.LiveView.{LiveState, TakesPiece}
+use Rattle.live.specs.LiveView.{LiveState, TakesPiece, fed}
 use Rattle.live.specs.Moments.{Moment}
-use Rattle.live.specs.Running.{AnswersInput}
+use Rattle.live.specs.Run.{AnswersInput, Progress, max_reads}
 use Rattle.live.specs.declared.fault.LiveFault.TheVariants.{Write}
-use Rattle.live.specs.TextLines.{TextLine, Octets, ended_lines, begun_in, begun_after, lines_in}
+use Rattle.live.specs.TextLines.{TextLine, Octets, ended_lines, partial_in, partial_after, lines_in}
 use Rattle.live.proofs.MoreLines.{joins, texts-join}
-use Rattle.live.proofs.PieceLines.{ended-more, begun-more}
+use Rattle.live.proofs.PieceLines.{ended-more, partial-more}
 
 -- ---- a prefix
 
@@ -37,87 +39,127 @@ prefix-longer {old} {new} t u p = record {
   taken = p.taken;
 }
 
+-- ---- the reads that were made
+
+none_more : (most reads : ℕ) → reads ≡ max reads (min (reads + 0) most)
+none_more most reads = omega arith
+
+one_more : (most old mid new count : ℕ) → mid ≡ max old (min (old + count) most) → new ≡ max mid (min (mid + 1) most)
+    → new ≡ max old (min (old + (count + 1)) most)
+one_more most old mid new count before here = omega (arith, before, here)
+
+pub counted-none : (reads : ℕ) → reads ≡ reads_after reads 0
+counted-none reads = none_more (2 ^ 64 - 1) reads
+
+pub counted-more : (old mid new count : ℕ) → mid ≡ reads_after old count → new ≡ reads_after mid 1
+    → new ≡ reads_after old (count + 1)
+counted-more old mid new count before here = one_more (2 ^ 64 - 1) old mid new count before here
+
 -- ---- so far
 
 -- the lines that ended in what so many reads gave were answered, and no write failed
-pub record InputSoFar (m : Moment) (live : LiveState) (left left' : Option (List ℕ)) (count : ℕ)
-    (old new : Option (List ℕ)) : Type 0 where
+pub record InputSoFar (count : ℕ) (old new : Progress) : Type 0 where
   pub text : List ℕ
   pub answers : List Answer
-  pub read : Consumes left left' text
-  pub many : count ≤ length text
-  pub answered : Answers m (ended_lines text) answers live.moment
-  pub begun : live.begun ≡ begun_in text
-  pub written : Appends old new (text_after m answers)
-  pub lines : live.moment.lines ≤ 4096 * count
+  pub took : Consumes old.streams.source.left new.streams.source.left text
+  pub counted : new.streams.source.reads ≡ reads_after old.streams.source.reads count
+  pub answered : Answers old.live.moment (ended_lines text) answers new.live.moment
+  pub partial : new.live.partial ≡ partial_in text
+  pub written : Appends old.streams.sink.taken new.streams.sink.taken (text_after old.live.moment answers)
+  pub lines : new.live.moment.lines ≤ 4096 * count
 
-pub input-none : (live : LiveState) (left old : Option (List ℕ)) → live.begun ≡ Octets [] → live.moment.lines ≡ 0
-    → InputSoFar live.moment live left left 0 old old
-input-none live left old begun first = record {
+pub input-none : (old : Progress) → old.live.partial ≡ Octets [] → old.live.moment.lines ≡ 0 → InputSoFar 0 old old
+input-none old partial first = record {
   text = [];
   answers = [];
-  read = Consumes-nil left;
-  many = omega arith;
+  took = Consumes-nil old.streams.source.left;
+  counted = counted-none old.streams.source.reads;
   answered = refl;
-  begun = begun;
-  written = Appends-nil old;
+  partial = partial;
+  written = Appends-nil old.streams.sink.taken;
   lines = omega arith;
 }
 
 -- the lines of a piece more
 piece-more : (m : Moment) (live live' : LiveState) (text piece : List ℕ) (some more : List Answer)
-    → Answers m (ended_lines text) some live.moment → live.begun ≡ begun_in text
-    → Answers live.moment (lines_in live.begun piece) more live'.moment
+    → Answers m (ended_lines text) some live.moment → live.partial ≡ partial_in text
+    → Answers live.moment (lines_in live.partial piece) more live'.moment
     → Answers m (ended_lines (text ++ piece)) (some ++ more) live'.moment
-piece-more m live live' text piece some more first begun later =
+piece-more m live live' text piece some more first partial later =
     subst (λ (ls : List TextLine). Answers m ls (some ++ more) live'.moment) (sym (ended-more text piece))
-    (joins m (ended_lines text) (lines_in (begun_in text) piece) (some ++ more) live'.moment
+    (joins m (ended_lines text) (lines_in (partial_in text) piece) (some ++ more) live'.moment
     (record {
       some = some;
       others = more;
       between = live.moment;
       all = refl;
       first = first;
-      later = subst (λ (b : TextLine). Answers live.moment (lines_in b piece) more live'.moment) begun later;
+      later = subst (λ (b : TextLine). Answers live.moment (lines_in b piece) more live'.moment) partial later;
     }))
 
-pub begun-then : (live live' : LiveState) (text piece : List ℕ) → live.begun ≡ begun_in text
-    → live'.begun ≡ begun_after live.begun piece → live'.begun ≡ begun_in (text ++ piece)
-begun-then live live' text piece begun next =
-    next ∙ ap (λ (b : TextLine). begun_after b piece) begun ∙ sym (begun-more text piece)
+partial-then : (live live' : LiveState) (text piece : List ℕ) → live.partial ≡ partial_in text
+    → live'.partial ≡ partial_after live.partial piece → live'.partial ≡ partial_in (text ++ piece)
+partial-then live live' text piece partial next =
+    next ∙ ap (λ (b : TextLine). partial_after b piece) partial ∙ sym (partial-more text piece)
 
-pub input-more : (m : Moment) (live live' : LiveState) (left left' left'' : Option (List ℕ)) (count : ℕ)
-    (piece : List ℕ) (old mid new : Option (List ℕ)) (u : Unit {0}) → InputSoFar m live left left' count old mid
-    → Consumes left' left'' piece → 1 ≤ length piece → length piece ≤ 4096
-    → TakesPiece (Ok u) live live' piece mid new → live'.moment.lines ≤ live.moment.lines + length piece
-    → InputSoFar m live' left left'' (count + 1) old new
-input-more m live live' left left' left'' count piece old mid new u s took some few t lines = record {
+pub input-more : (count : ℕ) (old mid new : Progress) (piece : List ℕ) (u : Unit {0}) → InputSoFar count old mid
+    → Consumes mid.streams.source.left new.streams.source.left piece
+    → new.streams.source.reads ≡ reads_after mid.streams.source.reads 1 → length piece ≤ 4096
+    → TakesPiece (Ok u) piece (fed mid.live mid.streams.sink.taken) (fed new.live new.streams.sink.taken)
+    → new.live.moment.lines ≤ mid.live.moment.lines + length piece → InputSoFar (count + 1) old new
+input-more count old mid new piece u s took one few t lines = record {
   text = s.text ++ piece;
   answers = s.answers ++ t.answers;
-  read = Consumes-trans left left' left'' s.text piece s.read took;
-  many = omega (arith, s.many, length-append s.text piece);
-  answered = piece-more m live live' s.text piece s.answers t.answers s.answered s.begun t.answered;
-  begun = begun-then live live' s.text piece s.begun t.begun;
+  took =
+      Consumes-trans old.streams.source.left mid.streams.source.left new.streams.source.left s.text piece s.took took;
+  counted =
+      counted-more old.streams.source.reads mid.streams.source.reads new.streams.source.reads count s.counted one;
+  answered = piece-more old.live.moment mid.live new.live s.text piece s.answers t.answers s.answered s.partial t.answered;
+  partial = partial-then mid.live new.live s.text piece s.partial t.partial;
   written =
-      subst (Appends old new) (sym (texts-join m live.moment (ended_lines s.text) s.answers t.answers s.answered))
-      (Appends-trans old mid new (text_after m s.answers) (text_after live.moment t.answers) s.written t.written);
+      subst (Appends old.streams.sink.taken new.streams.sink.taken)
+      (sym (texts-join old.live.moment mid.live.moment (ended_lines s.text) s.answers t.answers s.answered))
+      (Appends-trans old.streams.sink.taken mid.streams.sink.taken new.streams.sink.taken
+      (text_after old.live.moment s.answers) (text_after mid.live.moment t.answers) s.written t.written);
   lines = omega (arith, s.lines, lines, few);
 }
 
 -- a write failed on the way
-pub input-cut : (m : Moment) (live live' : LiveState) (left left' left'' : Option (List ℕ)) (count : ℕ)
-    (piece : List ℕ) (old mid new : Option (List ℕ)) (e : Failed) (failed failed' : ℕ)
-    → InputSoFar m live left left' count old mid → Consumes left' left'' piece → failed' ≡ failed
-    → TakesPiece (Err e) live live' piece mid new
-    → AnswersInput (Err Write) m live' left left'' failed failed' old new
-input-cut m live live' left left' left'' count piece old mid new e failed failed' s took same t = record {
+pub input-cut : (count : ℕ) (old mid new : Progress) (piece : List ℕ) (e : Failed) → InputSoFar count old mid
+    → count + 1 ≤ max_reads → Consumes mid.streams.source.left new.streams.source.left piece
+    → new.streams.source.reads ≡ reads_after mid.streams.source.reads 1
+    → new.streams.source.failed ≡ old.streams.source.failed → length piece ≤ 4096
+    → TakesPiece (Err e) piece (fed mid.live mid.streams.sink.taken) (fed new.live new.streams.sink.taken)
+    → AnswersInput (Err Write) old new
+input-cut count old mid new piece e s within took one same short t = record {
   text = s.text ++ piece;
   answers = s.answers ++ t.answers;
-  read = Consumes-trans left left' left'' s.text piece s.read took;
-  fails = same;
-  answered = piece-more m live live' s.text piece s.answers t.answers s.answered s.begun t.answered;
-  begun = begun-then live live' s.text piece s.begun t.begun;
+  reads = record {
+    taken =
+        Consumes-trans old.streams.source.left mid.streams.source.left new.streams.source.left s.text piece s.took took;
+    made = count + 1;
+    within = within;
+    counted =
+        counted-more old.streams.source.reads mid.streams.source.reads new.streams.source.reads count s.counted one;
+    failed = same;
+  };
+  answered = piece-more old.live.moment mid.live new.live s.text piece s.answers t.answers s.answered s.partial t.answered;
+  partial = partial-then mid.live new.live s.text piece s.partial t.partial;
   written =
-      subst (AppendsPrefix old new) (sym (texts-join m live.moment (ended_lines s.text) s.answers t.answers s.answered))
-      (prefix-after (text_after m s.answers) (text_after live.moment t.answers) s.written t.written);
+      subst (AppendsPrefix old.streams.sink.taken new.streams.sink.taken)
+      (sym (texts-join old.live.moment mid.live.moment (ended_lines s.text) s.answers t.answers s.answered))
+      (prefix-after (text_after old.live.moment s.answers) (text_after mid.live.moment t.answers) s.written t.written);
+  stops = record {
+    before = s.text;
+    piece = piece;
+    read = refl;
+    short = short;
+    answers = s.answers;
+    between = mid.live.moment;
+    answered = s.answered;
+    rest = t.written.written;
+    written =
+        Appends-trans old.streams.sink.taken mid.streams.sink.taken new.streams.sink.taken
+        (text_after old.live.moment s.answers) t.written.written s.written t.written.taken;
+  };
 }

@@ -1,5 +1,5 @@
 -- The text of what is answered: lines, each ended by LF (profile).
-use Rattle.std.specs.Prelude.{ℕ, ◌+◌, List, [], ◌∷◌, ◌++◌, codes, decimal, flat_map}
+use Rattle.std.specs.Prelude.{ℕ, ◌+◌, List, [], ◌∷◌, ◌++◌, codes, decimal, flat_map, Option, Some, None}
 use Rattle.mac_frame.specs.Address.{address_text}
 use Rattle.network.specs.Network.{table_of, counts_of}
 use Rattle.network.specs.NetworkView.{NetworkState}
@@ -36,12 +36,16 @@ reply_text number bssid (Sends air wire) =
 reply_text number bssid (Refuses why) =
     ended (fault_words (refusal_word why) number ++ codes " network " ++ address_text bssid)
 
+-- nothing, where the line was no event to it
+abbrev pub reply_text_if : ℕ → List ℕ → Option Reply → List ℕ
+reply_text_if number bssid None = []
+reply_text_if number bssid (Some reply) = reply_text number bssid reply
+
 -- of all networks with these addresses, in order of place
-abbrev pub replies_text : ℕ → List (List ℕ) → List (List Reply) → List ℕ
-replies_text number [] replies = []
-replies_text number (bssid ∷ bssids) [] = []
-replies_text number (bssid ∷ bssids) (rs ∷ others) =
-    flat_map (reply_text number bssid) rs ++ replies_text number bssids others
+abbrev pub replies_text : ℕ → List (List ℕ) → List (Option Reply) → List ℕ
+replies_text number (bssid ∷ bssids) (reply ∷ replies) =
+    reply_text_if number bssid reply ++ replies_text number bssids replies
+replies_text number bssids replies = []
 
 -- ---- tables
 

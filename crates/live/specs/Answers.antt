@@ -1,18 +1,19 @@
 -- What is answered to lines.
 use Rattle.std.specs.Prelude.{ℕ, ◌+◌, ◌≡◌, Bool, List, [], ◌∷◌, codes, Option, Some, None, Result, Ok, Err, ◌++◌}
-use Rattle.std.specs.Prelude.{if◌then◌else◌}
+use Rattle.std.specs.Prelude.{IfSome, if◌then◌else◌}
 use Rattle.std.specs.List.{AllByRecursion}
 use Rattle.std.specs.Str.{bytes_eq}
-use Rattle.events.specs.Lines.{heard_of}
 use Rattle.network.specs.NetworkView.{NetworkState}
 use Rattle.events.specs.declared.line.Line.{Line}
+use Rattle.events.specs.declared.line.Line.TheVariants as line
 use Rattle.network.specs.declared.network.NetworkRefusal.TheVariants.{NoMemory, Clock}
 use Rattle.trace.specs.TraceText.{without_spaces_at_end, said_by}
 use Rattle.trace.specs.declared.fault.LineFault.{LineFault}
-use Rattle.trace.specs.declared.fault.LineFault.TheVariants.{TooMany}
+use Rattle.trace.specs.declared.fault.LineFault.TheVariants.{UnknownKind, TooMany}
 use Rattle.live.specs.TextLines.{TextLine, Octets, TooLong}
-use Rattle.live.specs.Moments.{Moment, one_line_more, bssid_of, bssids_at, Reply, Sends, Refuses, replies_of}
-use Rattle.live.specs.Moments.{MayReplyAll, after_events}
+use Rattle.live.specs.Dispatch.{event_at}
+use Rattle.live.specs.Moments.{Moment, one_line_more, bssids_at, Reply, Sends, Refuses, reply_if, MayReplyIf, taken_if}
+use Rattle.live.specs.Moments.{after_if}
 
 -- ---- what a line asks
 
@@ -32,35 +33,32 @@ asked_by bssids (Octets octets) = if asks_for_tables octets then ForTables else 
 
 -- ---- what is answered
 
--- Nothing, to a line that is skipped; by place, what each network replies to what it hears of the line; the networks of
--- the moment; a fault; or that the line could not be read since memory ran out.
+-- Nothing, to a line that is skipped; by place, the reply of each network to which the line is an event; the networks
+-- of the moment; a fault; or that the line could not be read since memory ran out.
 pub data Answer : Type 0 where
   Nothing : Answer
-  Replies : List (List Reply) → Answer
+  Replies : List (Option Reply) → Answer
   Tables : List NetworkState → Answer
   Faulty : LineFault → Answer
   Unread : Answer
 
 -- ---- the networks from a place on
 
-abbrev pub replies_from : ℕ → List NetworkState → Line → List (List Reply)
+abbrev pub replies_from : ℕ → List NetworkState → Line → List (Option Reply)
 replies_from place [] line = []
-replies_from place (n ∷ ns) line =
-    replies_of n (heard_of place (bssid_of n) line) ∷ replies_from (place + 1) ns line
+replies_from place (n ∷ ns) line = reply_if n (event_at place n line) ∷ replies_from (place + 1) ns line
 
--- Each network takes or refuses what it hears, whatever the others do.
-abbrev pub MayReplyFrom : ℕ → List NetworkState → Line → List (List Reply) → Type 0
-MayReplyFrom place [] line [] = Unit {0}
-MayReplyFrom place [] line (rs ∷ others) = ⊥
+-- Each network takes or refuses its event, whatever the others do.
+abbrev pub MayReplyFrom : ℕ → List NetworkState → Line → List (Option Reply) → Type 0
+MayReplyFrom place [] line replies = replies ≡ []
 MayReplyFrom place (n ∷ ns) line [] = ⊥
-MayReplyFrom place (n ∷ ns) line (rs ∷ others) =
-    MayReplyAll n (heard_of place (bssid_of n) line) rs × MayReplyFrom (place + 1) ns line others
+MayReplyFrom place (n ∷ ns) line (reply ∷ replies) =
+    MayReplyIf n (event_at place n line) reply × MayReplyFrom (place + 1) ns line replies
 
-abbrev pub after_line_from : ℕ → List NetworkState → Line → List (List Reply) → List NetworkState
-after_line_from place [] line replies = []
-after_line_from place (n ∷ ns) line [] = n ∷ ns
-after_line_from place (n ∷ ns) line (rs ∷ others) =
-    after_events n (heard_of place (bssid_of n) line) rs ∷ after_line_from (place + 1) ns line others
+abbrev pub after_line_from : ℕ → List NetworkState → Line → List (Option Reply) → List NetworkState
+after_line_from place (n ∷ ns) line (reply ∷ replies) =
+    after_if n (taken_if (event_at place n line) reply) ∷ after_line_from (place + 1) ns line replies
+after_line_from place ns line replies = ns
 
 -- ---- one line
 
@@ -72,10 +70,17 @@ answer_of m (Says (Ok None)) = Nothing
 answer_of m (Says (Ok (Some line))) = Replies (replies_from 0 m.networks line)
 answer_of m (Says (Err fault)) = Faulty fault
 
--- A line of a trace may stay unread where memory runs out; and where it is read, each network may refuse it so. Tables
--- and lines that are too long ask for no memory.
+-- Only a line of a string or of a frame takes memory: one that is skipped, a tick, and one of another word never do.
+abbrev pub MayBeUnread : Result (Option Line) LineFault → Type 0
+MayBeUnread (Ok None) = ⊥
+MayBeUnread (Ok (Some line.Tick)) = ⊥
+MayBeUnread (Err UnknownKind) = ⊥
+MayBeUnread said = Unit {0}
+
+-- Such a line may stay unread where memory runs out; and where a line is read, each network may refuse it so. Tables and
+-- lines that are too long take no memory.
 abbrev pub MayAnswer : Moment → Asked → Answer → Type 0
-MayAnswer m (Says said) Unread = Unit {0}
+MayAnswer m (Says said) Unread = MayBeUnread said
 MayAnswer m (Says (Ok (Some line))) (Replies replies) = MayReplyFrom 0 m.networks line replies
 MayAnswer m asked answer = answer ≡ answer_of m asked
 
@@ -114,7 +119,7 @@ HasMemory (Refuses Clock) = Unit {0}
 -- nothing was refused for memory
 abbrev pub IsUnrefused : Answer → Type 0
 IsUnrefused Nothing = Unit {0}
-IsUnrefused (Replies replies) = AllByRecursion (AllByRecursion HasMemory) replies
+IsUnrefused (Replies replies) = AllByRecursion (λ reply. IfSome reply HasMemory) replies
 IsUnrefused (Tables networks) = Unit {0}
 IsUnrefused (Faulty fault) = Unit {0}
 IsUnrefused Unread = ⊥

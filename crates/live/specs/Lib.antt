@@ -1,12 +1,11 @@
 pub mod TextLines
+pub mod PartialLine
 pub mod Moments
+pub mod Dispatch
 pub mod Answers
 pub mod AnswerText
 pub mod Own
-pub mod Feeding
-pub mod Writing
-pub mod Replying
-pub mod Hearing
-pub mod Answering
+pub mod Output
+pub mod Networks
 pub mod LiveView
-pub mod Running
+pub mod Run

@@ -6,27 +6,37 @@ use Rattle.trace.specs.declared.sink.Failed.{Failed}
 use Rattle.live.specs.AnswerText.{tables_text, text_after}
 use Rattle.live.specs.Answers.{Answer, Answers}
 use Rattle.live.specs.Moments.{Moment}
-use Rattle.live.specs.TextLines.{TextLine, begun_after, last_line, lines_in}
+use Rattle.live.specs.TextLines.{TextLine, partial_after, last_line, lines_in}
 
 -- the moment after the lines that have ended, and what has begun of the next line
 pub record LiveState : Type 0 where
   pub moment : Moment
-  pub begun : TextLine
+  pub partial : TextLine
+
+abbrev pub state : Moment → TextLine → LiveState
+state moment partial = record { moment = moment; partial = partial }
+
+-- it, and what its sink has taken, where that is known
+pub record Fed : Type 0 where
+  pub live : LiveState
+  pub taken : Option (List ℕ)
+
+abbrev pub fed : LiveState → Option (List ℕ) → Fed
+fed live taken = record { live = live; taken = taken }
 
 -- It took a piece: the lines that end in it are answered, and the sink has gained their answers; or, where a write
 -- failed, a prefix of them.
-pub record TakesPiece (result : Result Unit Failed) (old new : LiveState) (piece : List ℕ)
-    (taken taken' : Option (List ℕ)) : Type 0 where
+pub record TakesPiece (result : Result Unit Failed) (piece : List ℕ) (old new : Fed) : Type 0 where
   pub answers : List Answer
-  pub answered : Answers old.moment (lines_in old.begun piece) answers new.moment
-  pub begun : new.begun ≡ begun_after old.begun piece
-  pub written : Ends write_ending result (Ok (text_after old.moment answers)) taken taken'
+  pub answered : Answers old.live.moment (lines_in old.live.partial piece) answers new.live.moment
+  pub partial : new.live.partial ≡ partial_after old.live.partial piece
+  pub written : Ends write_ending result (Ok (text_after old.live.moment answers)) old.taken new.taken
 
 -- It came to the end of the text: the last line is answered, if one has begun, and the sink has gained its answer and
 -- the tables of the moment after it; or, where a write failed, a prefix of them.
-pub record TakesEnd (result : Result Unit Failed) (old : LiveState) (taken taken' : Option (List ℕ)) : Type 0 where
+pub record TakesEnd (result : Result Unit Failed) (old : Fed) (taken : Option (List ℕ)) : Type 0 where
   pub answers : List Answer
   pub last : Moment
-  pub answered : Answers old.moment (last_line old.begun) answers last
+  pub answered : Answers old.live.moment (last_line old.live.partial) answers last
   pub written :
-      Ends write_ending result (Ok (text_after old.moment answers ++ tables_text last.networks)) taken taken'
+      Ends write_ending result (Ok (text_after old.live.moment answers ++ tables_text last.networks)) old.taken taken

@@ -1,5 +1,6 @@
 -- What is known between two lines, and what a network makes of an event.
-use Rattle.std.specs.Prelude.{ℕ, ◌+◌, ◌≡◌, ◌==◌, Bool, false, List, [], ◌∷◌, map, if◌then◌else◌}
+use Rattle.std.specs.Prelude.{ℕ, ◌+◌, ◌≡◌, ◌==◌, Bool, false, List, map, Option, Some, None, IsSomeAnd, option_map}
+use Rattle.std.specs.Prelude.{if◌then◌else◌}
 use Rattle.network.specs.Network.{Network, step}
 use Rattle.network.specs.NetworkView.{NetworkState, new_network, took_event}
 use Rattle.ap_config.specs.Places.{setting_in}
@@ -59,25 +60,22 @@ MayReply n e (Refuses NoMemory) = is_past_clock n e ≡ false
 MayReply n e (Refuses Clock) = Refuses Clock ≡ reply_of n e
 MayReply n e (Sends air wire) = Sends air wire ≡ reply_of n e
 
--- the network after an event, by its reply: it takes the event whole or not at all
-abbrev pub after_event : NetworkState → Event → Reply → NetworkState
-after_event n e (Sends air wire) = took_event e n
-after_event n e (Refuses why) = n
+-- ---- at most one event of a network
 
--- ---- several events of one network, the first of them first
+-- its reply to the event, if there is one
+abbrev pub reply_if : NetworkState → Option Event → Option Reply
+reply_if n event = option_map (reply_of n) event
 
-abbrev pub replies_of : NetworkState → List Event → List Reply
-replies_of n [] = []
-replies_of n (e ∷ es) = reply_of n e ∷ replies_of (after_event n e (reply_of n e)) es
+abbrev pub MayReplyIf : NetworkState → Option Event → Option Reply → Type 0
+MayReplyIf n None reply = reply ≡ None
+MayReplyIf n (Some e) reply = IsSomeAnd reply (λ r. MayReply n e r)
 
--- one reply to each
-abbrev pub MayReplyAll : NetworkState → List Event → List Reply → Type 0
-MayReplyAll n [] [] = Unit {0}
-MayReplyAll n [] (r ∷ rs) = ⊥
-MayReplyAll n (e ∷ es) [] = ⊥
-MayReplyAll n (e ∷ es) (r ∷ rs) = MayReply n e r × MayReplyAll (after_event n e r) es rs
+-- the event that it took: the one that there is, unless it refused it
+abbrev pub taken_if : Option Event → Option Reply → Option Event
+taken_if (Some e) (Some (Sends air wire)) = Some e
+taken_if event reply = None
 
-abbrev pub after_events : NetworkState → List Event → List Reply → NetworkState
-after_events n [] rs = n
-after_events n (e ∷ es) [] = n
-after_events n (e ∷ es) (r ∷ rs) = after_events (after_event n e r) es rs
+-- the network after it
+abbrev pub after_if : NetworkState → Option Event → NetworkState
+after_if n None = n
+after_if n (Some e) = took_event e n

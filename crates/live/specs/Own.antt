@@ -1,5 +1,6 @@
 -- What of the lines and of the answers is one network's own.
-use Rattle.std.specs.Prelude.{ℕ, ◌<◌, ◌≤◌, ◌≡◌, List, [], ◌∷◌, ◌++◌, length, flat_map, take, slice_get, Some, None, Ok}
+use Rattle.std.specs.Prelude.{ℕ, ◌<◌, ◌≤◌, ◌≡◌, List, [], ◌∷◌, ◌++◌, length, flat_map, take, slice_get, Ok, Option}
+use Rattle.std.specs.Prelude.{Some, None, option_to_list}
 use Rattle.std.specs.List.{slice_index_or, AllByRecursion}
 use Rattle.std.specs.Str.Lines.{lines}
 use Rattle.events.specs.Lines.{heard}
@@ -14,61 +15,49 @@ use Rattle.events.specs.declared.line.Line.{Line}
 use Rattle.events.specs.declared.section.Section.{Section}
 use Rattle.trace.specs.TraceText.{bssids_of, lines_of}
 use Rattle.live.specs.TextLines.{TextLine, max_line, lines_of_text}
-use Rattle.live.specs.Moments.{Moment, first_moment, Reply, Sends, Refuses}
+use Rattle.live.specs.Dispatch.{event_for}
+use Rattle.live.specs.Moments.{Moment, first_moment, Reply, Sends, taken_if}
 use Rattle.live.specs.Answers.{Asked, Says, asked_by, Answer, Replies, Tables, Answers, AreUnrefused}
 
 -- ---- its events
 
--- the line of a trace that was read
-abbrev pub read_in : Asked → Answer → List Line
-read_in (Says (Ok (Some line))) (Replies replies) = line ∷ []
-read_in asked answer = []
+-- the event that a line is to it
+abbrev pub event_in : ℕ → List ℕ → Asked → Option Event
+event_in place bssid (Says (Ok (Some line))) = event_for place bssid line
+event_in place bssid asked = None
 
--- the lines that were read, in their order
-abbrev pub lines_read : List (List ℕ) → List TextLine → List Answer → List Line
-lines_read bssids [] answers = []
-lines_read bssids (line ∷ lines) [] = []
-lines_read bssids (line ∷ lines) (answer ∷ answers) =
-    read_in (asked_by bssids line) answer ++ lines_read bssids lines answers
+-- its reply in an answer
+abbrev pub reply_in : ℕ → Answer → Option Reply
+reply_in place (Replies replies) = slice_index_or replies place None
+reply_in place answer = None
 
--- the replies of the network at a place
-abbrev pub replies_in : ℕ → Answer → List Reply
-replies_in place (Replies replies) = slice_index_or replies place []
-replies_in place answer = []
+-- line by line, the events that it took: those that the lines were to it, less those that it refused
+abbrev pub events_taken : ℕ → List ℕ → List (List ℕ) → List TextLine → List Answer → List Event
+events_taken place bssid bssids (line ∷ lines) (answer ∷ answers) =
+    option_to_list (taken_if (event_in place bssid (asked_by bssids line)) (reply_in place answer))
+    ++ events_taken place bssid bssids lines answers
+events_taken place bssid bssids lines answers = []
 
-abbrev pub replies_at : ℕ → List Answer → List Reply
-replies_at place answers = flat_map (replies_in place) answers
-
--- of events, those that were not refused
-abbrev pub taken : List Event → List Reply → List Event
-taken [] replies = []
-taken (e ∷ es) [] = []
-taken (e ∷ es) (Sends air wire ∷ replies) = e ∷ taken es replies
-taken (e ∷ es) (Refuses why ∷ replies) = taken es replies
-
--- The events of the network at a place: what it hears of the lines that were read, less what it refused.
+-- the events of the network at a place of a configuration
 abbrev pub events_at : RadioConfig → ℕ → List TextLine → List Answer → List Event
-events_at c place lines answers =
-    taken
-    (heard place (network_at c place).bssid (lines_read (bssids_of c) lines answers))
-    (replies_at place answers)
+events_at c place lines answers = events_taken place (network_at c place).bssid (bssids_of c) lines answers
 
 -- ---- its frames
 
-abbrev pub air_in : Reply → List (List ℕ)
-air_in (Sends air wire) = air
-air_in (Refuses why) = []
+abbrev pub air_in : Option Reply → List (List ℕ)
+air_in (Some (Sends air wire)) = air
+air_in reply = []
 
-abbrev pub wire_in : Reply → List (List ℕ)
-wire_in (Sends air wire) = wire
-wire_in (Refuses why) = []
+abbrev pub wire_in : Option Reply → List (List ℕ)
+wire_in (Some (Sends air wire)) = wire
+wire_in reply = []
 
 -- the frames of its `air` lines, and of its `wire` lines
 abbrev pub air_at : ℕ → List Answer → List (List ℕ)
-air_at place answers = flat_map air_in (replies_at place answers)
+air_at place answers = flat_map (λ answer. air_in (reply_in place answer)) answers
 
 abbrev pub wire_at : ℕ → List Answer → List (List ℕ)
-wire_at place answers = flat_map wire_in (replies_at place answers)
+wire_at place answers = flat_map (λ answer. wire_in (reply_in place answer)) answers
 
 -- ---- the network alone
 

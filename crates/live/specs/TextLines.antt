@@ -30,11 +30,11 @@ abbrev pub ended_lines : List ℕ → List TextLine
 ended_lines text = map line_with (whole_lines text)
 
 -- What has begun of a line, of which one CR may still be dropped.
-abbrev pub begun_with : List ℕ → TextLine
-begun_with octets = at_most (max_line + 1) octets
+abbrev pub partial_with : List ℕ → TextLine
+partial_with octets = at_most (max_line + 1) octets
 
-abbrev pub begun_in : List ℕ → TextLine
-begun_in text = begun_with (unfinished_line text)
+abbrev pub partial_in : List ℕ → TextLine
+partial_in text = partial_with (unfinished_line text)
 
 -- the first line is too long, if there is one
 abbrev pub with_first_too_long : List TextLine → List TextLine
@@ -52,9 +52,9 @@ unless_ended [] next = TooLong
 unless_ended (line ∷ more) next = next
 
 -- what has begun of a line after a piece
-abbrev pub begun_after : TextLine → List ℕ → TextLine
-begun_after (Octets octets) piece = begun_in (octets ++ piece)
-begun_after TooLong piece = unless_ended (ended_lines piece) (begun_in piece)
+abbrev pub partial_after : TextLine → List ℕ → TextLine
+partial_after (Octets octets) piece = partial_in (octets ++ piece)
+partial_after TooLong piece = unless_ended (ended_lines piece) (partial_in piece)
 
 -- the last line, if one has begun
 abbrev pub last_line : TextLine → List TextLine

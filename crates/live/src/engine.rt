@@ -2,19 +2,18 @@
 
 ghost use Rattle.std.specs.Prelude.{◌≡◌, ◌<◌, ◌≤◌, ◌+◌, ◌^◌, ◌∷◌, [], None, IfOk, length};
 ghost use Rattle.ap_config.specs.Configuration.{fault_of};
+ghost use Rattle.trace.specs.Buffers.{CanWrite};
 ghost use Rattle.trace.specs.Endings.{failures_of};
 ghost use Rattle.trace.specs.Sinks.{MayFail, write_ending};
 ghost use Rattle.trace.specs.Texts.{LacksLineFeed};
-ghost use Rattle.live.specs.Answering.{AreAnswered};
-ghost use Rattle.live.specs.Feeding.{IsUnended, ended_with};
-ghost use Rattle.live.specs.LiveView.{TakesPiece, TakesEnd};
+ghost use Rattle.live.specs.LiveView.{TakesPiece, TakesEnd, fed, state};
 ghost use Rattle.live.specs.Moments.{first_moment};
-ghost use Rattle.live.specs.TextLines.{Octets, begun_after, last_line, lines_in};
-ghost use Rattle.live.specs.Writing.{CanWrite, writer};
+ghost use Rattle.live.specs.Output.{AreAnswered};
+ghost use Rattle.live.specs.PartialLine.{IsUnended, ended_with};
+ghost use Rattle.live.specs.TextLines.{Octets, partial_after, last_line, lines_in};
 
-use crate::begun::{Begun, ended_line};
 use crate::networks::Networks;
-use crate::writer::end_writing;
+use crate::partial::{PartialLine, ended_line};
 use ap_config::RadioConfig;
 use mac_frame::NoMemory;
 use std::alloc::Global;
@@ -31,7 +30,7 @@ const HELD: usize = 65_536;
 #[derive(Drop)]
 pub struct Live {
     networks: Networks,
-    begun: Begun,
+    partial: PartialLine,
     held: Vec<u8>,
 }
 
@@ -40,19 +39,19 @@ impl Model for Live {
 
     ghost Value = { LiveState };
 
-    ghost view = { λ l. record { moment = l.networks; begun = l.begun } };
+    ghost view = { λ l. record { moment = l.networks; partial = l.partial } };
 }
 
 impl Live {
     /// The access point of a configuration without a fault, before the first line, with all the memory that lines and
-    /// answers wait in. `NoMemory` where a growth was refused.
+    /// answers wait in. `NoMemory` where memory ran out.
     pub fn new(alloc: Global, config: RadioConfig) -> Result<Live, NoMemory>
         requires { fault_of config ≡ None }
-        ensures { IfOk result (λ live. live ≡ record { moment = first_moment config; begun = Octets [] }) }
+        ensures { IfOk result (λ live. live ≡ record { moment = first_moment config; partial = Octets [] }) }
     {
         Ok(Live {
             networks: Networks::new(alloc, config)?,
-            begun: Begun::new(alloc)?,
+            partial: PartialLine::new(alloc)?,
             held: vec![in alloc; 0; HELD]?,
         })
     }
@@ -66,19 +65,20 @@ impl Live {
 
     /// Takes the next piece of the text, where it is short enough that fewer than 2^62 lines can have ended, and has
     /// the sink take the answers to the lines that end in it, of which the first may have begun before it. Nothing is
-    /// held back for a later call. It takes memory for what the lines say and for what the networks keep; where a
-    /// growth was refused, the answer to the line says so. `Failed` comes exactly where a write of the sink failed,
+    /// held back for a later call. It takes memory for what the lines say and for what the networks keep; where
+    /// memory ran out, the answer to the line says so. `Failed` comes exactly where a write of the sink failed,
     /// which has then taken a prefix of the answers; the networks hear all these lines even so.
     pub fn feed<W: Sink>(&mut self, piece: &[u8], out: &mut W) -> Result<(), Failed>
         requires countable { self.old.moment.lines + length piece.now < 2 ^ 62 }
         requires few { MayFail (W.failed out.old) }
-        ensures takes { TakesPiece result self.old self.new piece.now (W.taken out.old) (W.taken out.new) }
+        ensures takes { TakesPiece result piece.now
+            (fed self.old (W.taken out.old)) (fed self.new (W.taken out.new)) }
         ensures lines { self.new.moment.lines ≤ self.old.moment.lines + length piece.now }
         ensures failures { W.failed out.new ≡ W.failed out.old + failures_of write_ending result }
     {
         feed_through(
             &mut self.networks,
-            &mut self.begun,
+            &mut self.partial,
             self.held.as_mut_slice(),
             piece,
             out,
@@ -91,12 +91,12 @@ impl Live {
     pub fn end<W: Sink>(mut self, out: &mut W) -> Result<(), Failed>
         requires countable { self.moment.lines < 2 ^ 62 }
         requires few { MayFail (W.failed out.old) }
-        ensures takes { TakesEnd result self (W.taken out.old) (W.taken out.new) }
+        ensures takes { TakesEnd result (fed self (W.taken out.old)) (W.taken out.new) }
         ensures failures { W.failed out.new ≡ W.failed out.old + failures_of write_ending result }
     {
         end_through(
             &mut self.networks,
-            &self.begun,
+            &self.partial,
             self.held.as_mut_slice(),
             out,
         )
@@ -106,106 +106,95 @@ impl Live {
 /// Answers the lines that end in a piece, through a piece of memory.
 fn feed_through<W: Sink>(
     networks: &mut Networks,
-    begun: &mut Begun,
+    partial: &mut PartialLine,
     held: &mut [u8],
     piece: &[u8],
     out: &mut W,
 ) -> Result<(), Failed>
     requires countable { networks.old.lines + length piece.now < 2 ^ 62 }
     requires few { MayFail (W.failed out.old) }
-    ensures takes { TakesPiece result (record { moment = networks.old; begun = begun.old })
-        (record { moment = networks.new; begun = begun.new }) piece.now (W.taken out.old) (W.taken out.new) }
+    ensures takes { TakesPiece result piece.now (fed (state networks.old partial.old) (W.taken out.old))
+        (fed (state networks.new partial.new) (W.taken out.new)) }
     ensures lines { networks.new.lines ≤ networks.old.lines + length piece.now }
     ensures failures { W.failed out.new ≡ W.failed out.old + failures_of write_ending result }
 {
     let mut buffered = Buffered::new(out, held);
-    let mut failed = false;
-    answer_lines(networks, begun, piece, &mut buffered, &mut failed);
-    end_writing(&mut buffered, failed)
+    answer_lines(networks, partial, piece, &mut buffered);
+    buffered.flush()
 }
 
 /// Answers the last line, if one has begun, and puts the tables, through a piece of memory.
 fn end_through<W: Sink>(
     networks: &mut Networks,
-    begun: &Begun,
+    partial: &PartialLine,
     held: &mut [u8],
     out: &mut W,
 ) -> Result<(), Failed>
     requires countable { networks.old.lines < 2 ^ 62 }
     requires few { MayFail (W.failed out.old) }
-    ensures takes { TakesEnd result (record { moment = networks.old; begun = begun.now })
-        (W.taken out.old) (W.taken out.new) }
+    ensures takes { TakesEnd result (fed (state networks.old partial.now) (W.taken out.old)) (W.taken out.new) }
     ensures failures { W.failed out.new ≡ W.failed out.old + failures_of write_ending result }
 {
     let mut buffered = Buffered::new(out, held);
-    let mut failed = false;
-    answer_last(networks, begun, &mut buffered, &mut failed);
-    networks.put_tables(&mut buffered, &mut failed);
-    end_writing(&mut buffered, failed)
+    answer_last(networks, partial, &mut buffered);
+    networks.put_tables(&mut buffered);
+    buffered.flush()
 }
 
 /// Answers the lines that end in a piece.
 fn answer_lines<W: Sink>(
     networks: &mut Networks,
-    begun: &mut Begun,
+    partial: &mut PartialLine,
     piece: &[u8],
     out: &mut Buffered<'_, W>,
-    failed: &mut bool,
 )
     requires countable { networks.old.lines + length piece.now < 2 ^ 62 }
-    requires can_write { CanWrite W.failed (writer out.old failed.old) }
-    ensures answered { AreAnswered W.taken W.failed networks.old networks.new (writer out.old failed.old)
-        (writer out.new failed.new) (lines_in begun.old piece.now) }
-    ensures begun { begun.new ≡ begun_after begun.old piece.now }
+    requires can_write { CanWrite W.failed out.old }
+    ensures answered { AreAnswered W.taken W.failed networks.old networks.new out.old out.new
+        (lines_in partial.old piece.now) }
+    ensures partial { partial.new ≡ partial_after partial.old piece.now }
     ensures lines { networks.new.lines ≤ networks.old.lines + length piece.now }
 {
     let mut rest = piece;
     while let Some(end) = place_of(b'\n', rest) {
-        answer_ended(networks, begun, &rest[..end], out, failed);
+        answer_ended(networks, partial, &rest[..end], out);
         rest = &rest[end + 1..];
     }
-    begun.add(rest);
+    partial.add(rest);
 }
 
 /// Answers the line that these octets and an LF end; where nothing came of it before them, without a copy.
 fn answer_ended<W: Sink>(
     networks: &mut Networks,
-    begun: &mut Begun,
+    partial: &mut PartialLine,
     octets: &[u8],
     out: &mut Buffered<'_, W>,
-    failed: &mut bool,
 )
     requires lacks { LacksLineFeed octets.now }
     requires countable { networks.old.lines < 2 ^ 62 }
-    requires can_write { CanWrite W.failed (writer out.old failed.old) }
-    ensures answered { AreAnswered W.taken W.failed networks.old networks.new (writer out.old failed.old)
-        (writer out.new failed.new) (ended_with begun.old octets.now ∷ []) }
-    ensures unended { IsUnended begun.old }
-    ensures begun { begun.new ≡ Octets [] }
+    requires can_write { CanWrite W.failed out.old }
+    ensures answered { AreAnswered W.taken W.failed networks.old networks.new out.old out.new
+        (ended_with partial.old octets.now ∷ []) }
+    ensures unended { IsUnended partial.old }
+    ensures partial { partial.new ≡ Octets [] }
 {
-    if begun.is_empty() {
-        networks.answer(ended_line(octets), out, failed);
+    if partial.is_empty() {
+        networks.answer(ended_line(octets), out);
         return;
     }
-    begun.add(octets);
-    networks.answer(begun.ended(), out, failed);
-    begun.begin();
+    partial.add(octets);
+    networks.answer(partial.ended(), out);
+    partial.begin();
 }
 
 /// Answers the last line, if one has begun.
-fn answer_last<W: Sink>(
-    networks: &mut Networks,
-    begun: &Begun,
-    out: &mut Buffered<'_, W>,
-    failed: &mut bool,
-)
+fn answer_last<W: Sink>(networks: &mut Networks, partial: &PartialLine, out: &mut Buffered<'_, W>)
     requires countable { networks.old.lines < 2 ^ 62 }
-    requires can_write { CanWrite W.failed (writer out.old failed.old) }
-    ensures { AreAnswered W.taken W.failed networks.old networks.new (writer out.old failed.old)
-        (writer out.new failed.new) (last_line begun.now) }
+    requires can_write { CanWrite W.failed out.old }
+    ensures { AreAnswered W.taken W.failed networks.old networks.new out.old out.new (last_line partial.now) }
 {
-    if begun.is_empty() {
+    if partial.is_empty() {
         return;
     }
-    networks.answer(begun.whole(), out, failed);
+    networks.answer(partial.whole(), out);
 }

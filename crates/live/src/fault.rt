@@ -1,19 +1,19 @@
 //! Why the access point stopped.
 
 ghost use Rattle.std.specs.Prelude.{◌≡◌};
-ghost use Rattle.live.specs.Running.{of_config};
+ghost use Rattle.trace.specs.Faults.{read_as, report_as};
 ghost use Rattle.live.specs.declared.fault.LiveFault.TheVariants as faults;
 
 use ap_config::ConfigFault;
 use mac_frame::NoMemory;
-use trace::{ConfigTextFault, Failed};
+use trace::{ConfigTextFault, Failed, ReportFault};
 
 /// Why an access point stopped before the end of its input.
 #[derive(Clone, Copy, Debug, PartialEq, Eq)]
 pub enum LiveFault {
     /// The first fault of the configuration. Nothing was read or written.
     Config(ConfigFault),
-    /// A growth was refused before the first read. Nothing was read or written.
+    /// Memory ran out before the first read. Nothing was read or written.
     NoMemory,
     /// A read failed, or 2^46 were made.
     Read,
@@ -22,12 +22,23 @@ pub enum LiveFault {
 }
 
 impl From<ConfigTextFault> for LiveFault {
-    ghost from_gives = { λ fault given. given ≡ of_config fault };
+    ghost from_gives = { λ fault given. given ≡ read_as faults.Config faults.NoMemory fault };
 
     fn from(fault: ConfigTextFault) -> LiveFault {
         match fault {
             ConfigTextFault::At(fault) => LiveFault::Config(fault),
             ConfigTextFault::NoMemory => LiveFault::NoMemory,
+        }
+    }
+}
+
+impl From<ReportFault> for LiveFault {
+    ghost from_gives = { λ fault given. given ≡ report_as faults.Write faults.NoMemory fault };
+
+    fn from(fault: ReportFault) -> LiveFault {
+        match fault {
+            ReportFault::Write => LiveFault::Write,
+            ReportFault::NoMemory => LiveFault::NoMemory,
         }
     }
 }

@@ -14,7 +14,7 @@ ghost use Rattle.live.specs.AnswerText.{table_text, text_after};
 ghost use Rattle.live.specs.Answers.{Answer, Answers, answers_of, AreUnrefused, Begins};
 ghost use Rattle.live.specs.Moments.{Moment, first_moment};
 ghost use Rattle.live.specs.Own.{IsAlone, AreAlike, IsLikeTrace, IsShown, air_at, wire_at, alone_after};
-ghost use Rattle.live.specs.TextLines.{TextLine, lines_of_text, ended_lines, begun_in, lines_in, begun_after};
+ghost use Rattle.live.specs.TextLines.{TextLine, lines_of_text, ended_lines, partial_in, lines_in, partial_after};
 ghost use Rattle.live.specs.TextLines.{last_line};
 
 use ap_config::checked_networks;
@@ -23,9 +23,9 @@ use network::{one_step, reachable, steps_append};
 /// However a text is cut, the lines that end in its pieces, and the last line, are those of the whole text.
 pub fn lines_come_in_pieces()
     ensures ended { (text piece : List ℕ)
-        → ended_lines (text ++ piece) ≡ ended_lines text ++ lines_in (begun_in text) piece }
-    ensures begun { (text piece : List ℕ) → begun_in (text ++ piece) ≡ begun_after (begun_in text) piece }
-    ensures last { (text : List ℕ) → lines_of_text text ≡ ended_lines text ++ last_line (begun_in text) }
+        → ended_lines (text ++ piece) ≡ ended_lines text ++ lines_in (partial_in text) piece }
+    ensures partial { (text piece : List ℕ) → partial_in (text ++ piece) ≡ partial_after (partial_in text) piece }
+    ensures last { (text : List ℕ) → lines_of_text text ≡ ended_lines text ++ last_line (partial_in text) }
 {}
 
 /// No network reaches another: what is written of one, line by line, is what it does alone with its own events, what it

@@ -26,11 +26,3 @@ pub digits_grow : (octets done rest prefix suffix : List ℕ) → octets ≡ don
     → octets ≡ (done ++ prefix) ++ suffix
 digits_grow octets done rest prefix suffix split cut =
     split ∙ ap (λ l. done ++ l) cut ∙ sym (append_assoc done prefix suffix)
-
--- the digits so far, those of the prefix, and those of what is left
-pub digits_in_parts : (octets done rest prefix suffix : List ℕ) → octets ≡ done ++ rest → rest ≡ prefix ++ suffix
-    → (encode_lower done ++ encode_lower prefix) ++ encode_lower suffix ≡ encode_lower octets
-digits_in_parts octets done rest prefix suffix split cut =
-    ap (λ l. l ++ encode_lower suffix) (sym (encode_lower-append done prefix))
-    ∙ sym (encode_lower-append (done ++ prefix) suffix)
-    ∙ ap encode_lower (sym (digits_grow octets done rest prefix suffix split cut))

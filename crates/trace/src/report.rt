@@ -20,7 +20,7 @@ ghost use Rattle.trace.specs.Endings.{Ends, failures_of};
 ghost use Rattle.trace.specs.Report.{report_text, section_text, network_line, counts_line, station_line, frame_line};
 ghost use Rattle.trace.specs.Report.{counts_in};
 ghost use Rattle.trace.specs.Sinks.{MayFail, report_ending, write_ending};
-ghost use Rattle.trace.specs.Buffers.{Puts, sink_of};
+ghost use Rattle.trace.specs.Buffers.{CanWrite, Puts};
 ghost use Rattle.trace.specs.declared.report.ReportFault.TheVariants.{Write, NoMemory};
 
 mod buffer;
@@ -66,7 +66,7 @@ const PIECE: usize = 65536;
 
 /// Has the sink take the report of the sections, whole. Nothing is left in a buffer.
 ///
-/// `Write` comes exactly where a write to the sink failed, at which the call stops: the number of the sink's
+/// `Write` comes exactly where a write to the sink failed, after which it is asked for nothing more: the number of its
 /// failures rose by one. `NoMemory` and `Ok` leave that number. After either fault the sink has taken a prefix of the
 /// report, perhaps nothing.
 pub fn write_report<W: Sink>(
@@ -91,31 +91,31 @@ fn write_through<W: Sink>(piece: &mut [u8], sections: &[Section], out: &mut W) -
 {
     let mut buffered = Buffered::new(out, piece);
     for section in sections {
-        put_section(&mut buffered, section)?;
+        put_section(&mut buffered, section);
     }
     buffered.flush()
 }
 
 /// Puts what one network did.
-fn put_section<W: Sink>(out: &mut Buffered<'_, W>, section: &Section) -> Result<(), Failed>
-    requires { MayFail (W.failed (sink_of out.old)) }
-    ensures { Puts W.taken W.failed result out.old out.new (section_text section.now) }
+fn put_section<W: Sink>(out: &mut Buffered<'_, W>, section: &Section)
+    requires { CanWrite W.failed out.old }
+    ensures { Puts W.taken W.failed out.old out.new (section_text section.now) }
 {
-    put_heading(out, section)?;
-    put_stations(out, section.table.as_slice())?;
-    put_frames(out, b"air ", section.air.as_slice())?;
-    put_frames(out, b"wire ", section.wire.as_slice())?;
-    put_end_line(out)
+    put_heading(out, section);
+    put_stations(out, section.table.as_slice());
+    put_frames(out, b"air ", section.air.as_slice());
+    put_frames(out, b"wire ", section.wire.as_slice());
+    put_end_line(out);
 }
 
 /// Puts the lines of a network's name and of its counts.
-fn put_heading<W: Sink>(out: &mut Buffered<'_, W>, section: &Section) -> Result<(), Failed>
-    requires { MayFail (W.failed (sink_of out.old)) }
-    ensures { Puts W.taken W.failed result out.old out.new
+fn put_heading<W: Sink>(out: &mut Buffered<'_, W>, section: &Section)
+    requires { CanWrite W.failed out.old }
+    ensures { Puts W.taken W.failed out.old out.new
         (network_line section.now.config ++ counts_line (length section.now.events) section.now.counts) }
 {
-    put_network_line(out, &section.config)?;
-    put_counts_line(out, &totals_of(section))
+    put_network_line(out, &section.config);
+    put_counts_line(out, &totals_of(section));
 }
 
 /// The counts of a section, after the events of its history.
@@ -133,27 +133,21 @@ fn totals_of(section: &Section) -> Totals
 }
 
 /// Puts a line for each station that is known.
-fn put_stations<W: Sink>(out: &mut Buffered<'_, W>, table: &[StationRow]) -> Result<(), Failed>
-    requires { MayFail (W.failed (sink_of out.old)) }
-    ensures { Puts W.taken W.failed result out.old out.new (flat_map station_line table.now) }
+fn put_stations<W: Sink>(out: &mut Buffered<'_, W>, table: &[StationRow])
+    requires { CanWrite W.failed out.old }
+    ensures { Puts W.taken W.failed out.old out.new (flat_map station_line table.now) }
 {
     for row in table {
-        put_station_line(out, row)?;
+        put_station_line(out, row);
     }
-    Ok(())
 }
 
 /// Puts a line for each frame, after a word that says where it was sent.
-fn put_frames<W: Sink>(
-    out: &mut Buffered<'_, W>,
-    word: &[u8],
-    frames: &[Octets],
-) -> Result<(), Failed>
-    requires { MayFail (W.failed (sink_of out.old)) }
-    ensures { Puts W.taken W.failed result out.old out.new (flat_map (frame_line word.now) frames.now) }
+fn put_frames<W: Sink>(out: &mut Buffered<'_, W>, word: &[u8], frames: &[Octets])
+    requires { CanWrite W.failed out.old }
+    ensures { Puts W.taken W.failed out.old out.new (flat_map (frame_line word.now) frames.now) }
 {
     for frame in frames {
-        put_frame_line(out, word, frame.as_slice())?;
+        put_frame_line(out, word, frame.as_slice());
     }
-    Ok(())
 }

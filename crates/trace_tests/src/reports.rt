@@ -1,5 +1,4 @@
-ghost use Rattle.trace.specs.Buffers.{sink_of};
-ghost use Rattle.trace.specs.Sinks.{MayFail};
+ghost use Rattle.trace.specs.Buffers.{CanWrite};
 
 use ap_config::NetConfig;
 use events::{Counts, Event, Section, StationRow};
@@ -120,7 +119,7 @@ fn report_of_many_pieces(rt: HostRuntime) -> Result<(), Fail> {
 
 /// Puts the lines of a section one by one, and has the sink take what the piece holds.
 fn put_lines<W: Sink>(out: &mut Buffered<'_, W>, config: &NetConfig) -> Result<(), Failed>
-    requires { MayFail (W.failed (sink_of out.old)) }
+    requires { CanWrite W.failed out.old }
 {
     let totals = Totals {
         events: 1,
@@ -129,16 +128,16 @@ fn put_lines<W: Sink>(out: &mut Buffered<'_, W>, config: &NetConfig) -> Result<(
         lost: 4,
         kept: 5,
     };
-    put_network_line(out, config)?;
-    put_counts_line(out, &totals)?;
-    put_station_line(out, &station(Standing::Authenticated, 1))?;
-    put_station_line(out, &station(Standing::Unknown, 2))?;
-    put_station_line(out, &station(Standing::Associated, 3))?;
-    put_station_line(out, &station(Standing::Associated, 4))?;
-    put_frame_line(out, b"air ", &[1, 0x23])?;
-    put_frame_line(out, b"wire ", &[0, 0xff])?;
-    put_frame_line(out, b"wire ", &[])?;
-    put_end_line(out)?;
+    put_network_line(out, config);
+    put_counts_line(out, &totals);
+    put_station_line(out, &station(Standing::Authenticated, 1));
+    put_station_line(out, &station(Standing::Unknown, 2));
+    put_station_line(out, &station(Standing::Associated, 3));
+    put_station_line(out, &station(Standing::Associated, 4));
+    put_frame_line(out, b"air ", &[1, 0x23]);
+    put_frame_line(out, b"wire ", &[0, 0xff]);
+    put_frame_line(out, b"wire ", &[]);
+    put_end_line(out);
     out.flush()
 }
 

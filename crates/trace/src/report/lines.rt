@@ -1,16 +1,16 @@
-//! The lines of a section, each put into a sink after what came before it. None takes memory.
+//! The lines of a section, each put into a sink after what came before it, and dropped where the sink failed. None
+//! takes memory.
 
 ghost use Rattle.std.specs.Prelude.{◌≡◌, ◌++◌, codes};
 ghost use Rattle.hex.specs.Hex.{encode_lower};
 ghost use Rattle.mac_frame.specs.Address.{IsAddress, address_text};
-ghost use Rattle.trace.specs.Buffers.{Puts, sink_of};
+ghost use Rattle.trace.specs.Buffers.{CanWrite, Puts};
 ghost use Rattle.trace.specs.Report.{network_line, counts_line, counts_in, station_line, mode_text, frame_line};
 ghost use Rattle.trace.specs.Report.{authenticated_line, associated_line};
-ghost use Rattle.trace.specs.Sinks.{MayFail};
 ghost use Rattle.trace.specs.Texts.{ended};
 
 use crate::report::buffer::Buffered;
-use crate::sink::{Failed, Sink};
+use crate::sink::Sink;
 use ap_config::NetConfig;
 use events::StationRow;
 use mac_frame::MacAddr;
@@ -32,24 +32,21 @@ pub struct Totals {
     pub kept: u64,
 }
 
-/// Puts the line of a network's address and name. `Failed` comes exactly where a write to the sink failed.
-pub fn put_network_line<W: Sink>(
-    out: &mut Buffered<'_, W>,
-    config: &NetConfig,
-) -> Result<(), Failed>
-    requires { MayFail (W.failed (sink_of out.old)) }
-    ensures { Puts W.taken W.failed result out.old out.new (network_line config.now) }
+/// Puts the line of a network's address and name.
+pub fn put_network_line<W: Sink>(out: &mut Buffered<'_, W>, config: &NetConfig)
+    requires { CanWrite W.failed out.old }
+    ensures { Puts W.taken W.failed out.old out.new (network_line config.now) }
 {
     let bssid = address_text(config.bssid);
-    out.put_parts(&[b"network ", &bssid, b" ssid "])?;
-    out.put_digits(config.ssid.as_slice())?;
-    out.put(b"\n")
+    out.put_parts(&[b"network ", &bssid, b" ssid "]);
+    out.put_digits(config.ssid.as_slice());
+    out.put(b"\n");
 }
 
-/// Puts the line of a network's counts. `Failed` comes exactly where a write to the sink failed.
-pub fn put_counts_line<W: Sink>(out: &mut Buffered<'_, W>, totals: &Totals) -> Result<(), Failed>
-    requires { MayFail (W.failed (sink_of out.old)) }
-    ensures { Puts W.taken W.failed result out.old out.new
+/// Puts the line of a network's counts.
+pub fn put_counts_line<W: Sink>(out: &mut Buffered<'_, W>, totals: &Totals)
+    requires { CanWrite W.failed out.old }
+    ensures { Puts W.taken W.failed out.old out.new
         (counts_line totals.now.events (counts_in totals.now)) }
 {
     let mut events = itoa::Buffer::new();
@@ -69,33 +66,33 @@ pub fn put_counts_line<W: Sink>(out: &mut Buffered<'_, W>, totals: &Totals) -> R
         b" kept ",
         kept.format(totals.kept).as_bytes(),
         b"\n",
-    ])
+    ]);
 }
 
-/// Puts a station's line, or nothing where it is not known. `Failed` comes exactly where a write to the sink failed.
-pub fn put_station_line<W: Sink>(out: &mut Buffered<'_, W>, row: &StationRow) -> Result<(), Failed>
-    requires { MayFail (W.failed (sink_of out.old)) }
-    ensures { Puts W.taken W.failed result out.old out.new (station_line row.now) }
+/// Puts a station's line, or nothing where it is not known.
+pub fn put_station_line<W: Sink>(out: &mut Buffered<'_, W>, row: &StationRow)
+    requires { CanWrite W.failed out.old }
+    ensures { Puts W.taken W.failed out.old out.new (station_line row.now) }
 {
     match row.standing {
-        Standing::Unknown => Ok(()),
+        Standing::Unknown => {}
         Standing::Authenticated => put_authenticated(out, row.addr),
         Standing::Associated => put_associated(out, row),
     }
 }
 
 /// Puts the line of a station that is authenticated and not associated.
-fn put_authenticated<W: Sink>(out: &mut Buffered<'_, W>, addr: MacAddr) -> Result<(), Failed>
-    requires { MayFail (W.failed (sink_of out.old)) }
-    ensures { Puts W.taken W.failed result out.old out.new (authenticated_line addr) }
+fn put_authenticated<W: Sink>(out: &mut Buffered<'_, W>, addr: MacAddr)
+    requires { CanWrite W.failed out.old }
+    ensures { Puts W.taken W.failed out.old out.new (authenticated_line addr) }
 {
-    out.put_parts(&[b"station ", &address_text(addr), b" authenticated\n"])
+    out.put_parts(&[b"station ", &address_text(addr), b" authenticated\n"]);
 }
 
 /// Puts the line of a station that is associated.
-fn put_associated<W: Sink>(out: &mut Buffered<'_, W>, row: &StationRow) -> Result<(), Failed>
-    requires { MayFail (W.failed (sink_of out.old)) }
-    ensures { Puts W.taken W.failed result out.old out.new (associated_line row.now) }
+fn put_associated<W: Sink>(out: &mut Buffered<'_, W>, row: &StationRow)
+    requires { CanWrite W.failed out.old }
+    ensures { Puts W.taken W.failed out.old out.new (associated_line row.now) }
 {
     let addr = address_text(row.addr);
     let mut aid = itoa::Buffer::new();
@@ -113,7 +110,7 @@ fn put_associated<W: Sink>(out: &mut Buffered<'_, W>, row: &StationRow) -> Resul
         b" kept ",
         kept.format(row.kept).as_bytes(),
         b"\n",
-    ])
+    ]);
 }
 
 /// The word for a station that dozes, or does not.
@@ -123,29 +120,24 @@ fn mode_text(doze: bool) -> &'static [u8]
     if doze { b"doze" } else { b"active" }
 }
 
-/// Puts a frame's line: a word that says where it was sent, and its octets. `Failed` comes exactly where a write to the
-/// sink failed.
+/// Puts a frame's line: a word that says where it was sent, and its octets.
 #[inline]
-pub fn put_frame_line<W: Sink>(
-    out: &mut Buffered<'_, W>,
-    word: &[u8],
-    frame: &[u8],
-) -> Result<(), Failed>
-    requires { MayFail (W.failed (sink_of out.old)) }
-    ensures { Puts W.taken W.failed result out.old out.new (frame_line word.now frame.now) }
+pub fn put_frame_line<W: Sink>(out: &mut Buffered<'_, W>, word: &[u8], frame: &[u8])
+    requires { CanWrite W.failed out.old }
+    ensures { Puts W.taken W.failed out.old out.new (frame_line word.now frame.now) }
 {
-    out.put(word)?;
-    out.put_digits(frame)?;
-    out.put(b"\n")
+    out.put(word);
+    out.put_digits(frame);
+    out.put(b"\n");
 }
 
-/// Puts the line that ends a section. `Failed` comes exactly where a write to the sink failed.
+/// Puts the line that ends a section.
 #[inline]
-pub fn put_end_line<W: Sink>(out: &mut Buffered<'_, W>) -> Result<(), Failed>
-    requires { MayFail (W.failed (sink_of out.old)) }
-    ensures { Puts W.taken W.failed result out.old out.new (ended (codes "end")) }
+pub fn put_end_line<W: Sink>(out: &mut Buffered<'_, W>)
+    requires { CanWrite W.failed out.old }
+    ensures { Puts W.taken W.failed out.old out.new (ended (codes "end")) }
 {
-    out.put(b"end\n")
+    out.put(b"end\n");
 }
 
 /// The text of an address: its octets as pairs of hexadecimal digits in lower case, with `:` between.

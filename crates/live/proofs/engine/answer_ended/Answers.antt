@@ -1,8 +1,7 @@
 use Rattle.std.proofs.Common.{[], ◌∷◌, ◌∙◌, ap, subst}
-use Rattle.live.specs.Answering.{AreAnswered}
-use Rattle.live.specs.Feeding.{ended_with}
+use Rattle.live.specs.Output.{AreAnswered}
+use Rattle.live.specs.PartialLine.{ended_with}
 use Rattle.live.specs.TextLines.{TextLine}
-use Rattle.live.specs.Writing.{writer}
 use Rattle.live.proofs.FeedSteps.{ended-after}
 use Rattle.live.proofs.engine.answer_ended.Goals as goal
 
@@ -10,9 +9,9 @@ pub returns-clause-answered : goal.returns-clause-answered
 returns-clause-answered g c =
     subst
     (λ (l : TextLine).
-    AreAnswered g.W.Sink.taken g.W.Sink.failed c.args.networks.now c.answer-2.new.self (writer c.args.out.now c.args.failed.now)
-    (writer c.answer-2.new.out c.answer-2.new.failed)
+    AreAnswered g.W.Sink.taken g.W.Sink.failed c.args.networks.now c.answer-2.new.self c.args.out.now
+    c.answer-2.new.out
     (l ∷ []))
     (c.ended.ensures ∙ ap (λ (b : TextLine). ended_with b []) c.add.ensures.after
-    ∙ ended-after c.args.begun.now c.args.octets.now c.add.ensures.unended c.requires.lacks)
+    ∙ ended-after c.args.partial.now c.args.octets.now c.add.ensures.unended c.requires.lacks)
     c.answer-2.ensures

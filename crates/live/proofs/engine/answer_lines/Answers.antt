@@ -5,12 +5,11 @@ use Rattle.std.specs.List.{position}
 use Rattle.trace.specs.Texts.{is_line_feed}
 use Rattle.trace.proofs.TextLemmas.{lacks_from_none}
 use Rattle.live.specs.TextLines.{TextLine}
-use Rattle.live.specs.Writing.{writer}
 use Rattle.live.proofs.FeedSteps.{FeedSoFar, line-lacks, feed-none, feed-more, feed-all}
 use Rattle.live.proofs.engine.answer_lines.Goals as goal
 
 pub loop-end-init : goal.loop-end-init
-loop-end-init g c = feed-none _ _ c.args.networks.now _ c.args.begun.now c.args.piece.now c.requires.can_write
+loop-end-init g c = feed-none _ _ c.args.networks.now _ c.args.partial.now c.args.piece.now c.requires.can_write
 
 pub answer_ended-requires-clause-lacks : goal.answer_ended-requires-clause-lacks
 answer_ended-requires-clause-lacks g c = line-lacks c.loop-end.rest.now c.in-Some.end (sym c.in-Some.ensures)
@@ -22,11 +21,11 @@ loop-end-preserved g c =
     rw take_rest
     (subst
     (λ (b : TextLine).
-    FeedSoFar g.W.Sink.taken g.W.Sink.failed c.args.networks.now c.answer_ended.new.networks (writer c.args.out.now c.args.failed.now)
-    (writer c.answer_ended.new.out c.answer_ended.new.failed)
-    c.args.begun.now b c.args.piece.now (drop (c.in-Some.end + 1) rest))
-    (sym c.answer_ended.ensures.begun)
-    (feed-more _ _ c.args.networks.now c.loop-end.networks c.answer_ended.new.networks _ _ _ c.args.begun.now c.loop-end.begun _
+    FeedSoFar g.W.Sink.taken g.W.Sink.failed c.args.networks.now c.answer_ended.new.networks c.args.out.now
+    c.answer_ended.new.out
+    c.args.partial.now b c.args.piece.now (drop (c.in-Some.end + 1) rest))
+    (sym c.answer_ended.ensures.partial)
+    (feed-more _ _ c.args.networks.now c.loop-end.networks c.answer_ended.new.networks _ _ _ c.args.partial.now c.loop-end.partial _
     c.args.piece.now rest c.in-Some.end c.loop-end.invariant c.answer_ended.ensures.unended found refl
     c.answer_ended.ensures.answered))
 
@@ -35,7 +34,7 @@ add-requires g c = lacks_from_none c.loop-end.rest.now (sym c.in_default.ensures
 
 pub returns-clause-answered : goal.returns-clause-answered
 returns-clause-answered g c =
-    feed-all _ _ c.args.networks.now c.loop-end.networks _ _ c.args.begun.now c.loop-end.begun c.args.piece.now
+    feed-all _ _ c.args.networks.now c.loop-end.networks _ _ c.args.partial.now c.loop-end.partial c.args.piece.now
     c.loop-end.rest.now
     c.loop-end.invariant
     c.add.ensures.unended

@@ -1,46 +1,38 @@
 -- The lines are answered, and in the end the piece of memory is written. The sink after it is the one that was passed.
-use Rattle.std.proofs.Common.{rules, ◌≡◌, ◌∙◌, ◌+◌, false, refl}
-use Rattle.std.specs.Prelude.{is_err}
+use Rattle.std.proofs.Common.{rules, ◌≡◌, ◌∙◌, ◌+◌}
 use Rattle.trace.specs.Endings.{failures_of}
 use Rattle.trace.specs.Sinks.{write_ending}
-use Rattle.live.specs.LiveView.{TakesPiece}
-use Rattle.live.specs.Writing.{writer}
-use Rattle.live.proofs.WriterSteps.{Adds-ends}
+use Rattle.trace.proofs.BufferSteps.{Puts-flushed}
+use Rattle.live.specs.LiveView.{TakesPiece, fed, state}
 use Rattle.live.proofs.engine.feed_through.Goals as goal
 
 pub returns-clause-takes : goal.returns-clause-takes
 returns-clause-takes g c =
     let a = c.answer_lines.ensures.answered in
     let w = c.new-buffered.ensures in
-    let same_sink = c.end_writing.ensures.adds.same_sink ∙ a.adds.same_sink ∙ w.same_sink in
+    let same_sink = c.flush.ensures.puts.same_sink ∙ a.puts.same_sink ∙ w.same_sink in
     let ends =
-    Adds-ends c.end_writing.result c.args.out.now (writer c.new-buffered.result false) (writer c.answer_lines.new.out c.answer_lines.new.failed) (writer c.end_writing.new.out (is_err c.end_writing.result)) _ w.sink refl
-    w.empty
-    a.adds
-    c.end_writing.ensures.adds
-    c.end_writing.ensures.empty
-    refl in
-    let takes : TakesPiece c.end_writing.result (record { moment = c.args.networks.now; begun = c.args.begun.now })
-    (record { moment = c.answer_lines.new.networks; begun = c.answer_lines.new.begun })
-    c.args.piece.now
-    (g.W.Sink.taken c.args.out.now)
-    (g.W.Sink.taken c.end_writing.new.out.sink.now) =
-    record { answers = a.answers; answered = a.answered; begun = c.answer_lines.ensures.begun; written = ends.0 } in
+    Puts-flushed c.flush.result c.args.out.now c.new-buffered.result c.answer_lines.new.out c.flush.new.self _ w.sink
+    w.fresh w.empty
+    a.puts
+    c.flush.ensures in
+    let takes : TakesPiece c.flush.result c.args.piece.now
+    (fed (state c.args.networks.now c.args.partial.now) (g.W.Sink.taken c.args.out.now))
+    (fed (state c.answer_lines.new.networks c.answer_lines.new.partial) (g.W.Sink.taken c.flush.new.self.sink.now)) =
+    record { answers = a.answers; answered = a.answered; partial = c.answer_lines.ensures.partial; written = ends.0 } in
     search rules
 
 pub returns-clause-failures : goal.returns-clause-failures
 returns-clause-failures g c =
     let a = c.answer_lines.ensures.answered in
     let w = c.new-buffered.ensures in
-    let same_sink = c.end_writing.ensures.adds.same_sink ∙ a.adds.same_sink ∙ w.same_sink in
+    let same_sink = c.flush.ensures.puts.same_sink ∙ a.puts.same_sink ∙ w.same_sink in
     let ends =
-    Adds-ends c.end_writing.result c.args.out.now (writer c.new-buffered.result false) (writer c.answer_lines.new.out c.answer_lines.new.failed) (writer c.end_writing.new.out (is_err c.end_writing.result)) _ w.sink refl
-    w.empty
-    a.adds
-    c.end_writing.ensures.adds
-    c.end_writing.ensures.empty
-    refl in
-    let failures : g.W.Sink.failed c.end_writing.new.out.sink.now
-    ≡ g.W.Sink.failed c.args.out.now + failures_of write_ending c.end_writing.result =
+    Puts-flushed c.flush.result c.args.out.now c.new-buffered.result c.answer_lines.new.out c.flush.new.self _ w.sink
+    w.fresh w.empty
+    a.puts
+    c.flush.ensures in
+    let failures : g.W.Sink.failed c.flush.new.self.sink.now
+    ≡ g.W.Sink.failed c.args.out.now + failures_of write_ending c.flush.result =
     ends.1 in
     search rules

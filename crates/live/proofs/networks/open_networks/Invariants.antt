@@ -2,7 +2,7 @@ use Rattle.std.proofs.Common.{◌≡◌, ◌++◌, None, map}
 use Rattle.std.specs.List.{AllByRecursion}
 use Rattle.std.specs.Vec.Iter.{into_iter_items}
 use Rattle.ap_config.specs.Configuration.{network_fault}
-use Rattle.live.specs.Answering.{opened}
+use Rattle.live.specs.Networks.{opened}
 use Rattle.live.proofs.networks.open_networks.Given as goal
 
 abbrev pub invariant-loop-network : goal.invariant-loop-network

@@ -1,11 +1,11 @@
--- The lines of the frames so far were put, and no write failed.
+-- The lines of the frames so far were put.
 use Rattle.std.proofs.Common.{take}
 use Rattle.std.specs.Prelude.{flat_map}
+use Rattle.trace.specs.Buffers.{Puts}
 use Rattle.trace.specs.Report.{frame_line}
-use Rattle.trace.proofs.BufferSteps.{HasPut}
 use Rattle.trace.proofs.report.put_frames.Given as goal
 
 abbrev pub invariant-loop-frame : goal.invariant-loop-frame
 invariant-loop-frame g l =
-    HasPut g.W.Sink.taken g.W.Sink.failed l.initial.out l.out
+    Puts g.W.Sink.taken g.W.Sink.failed l.initial.out l.out
     (flat_map (frame_line l.word) (take l.frame-index l.frames))

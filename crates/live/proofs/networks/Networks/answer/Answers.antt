@@ -1,7 +1,7 @@
 use Rattle.std.proofs.Common.{◌≡◌, ◌∙◌, ◌<◌, ◌+◌, List, length, ap, sym, subst, refl, arith}
 use Rattle.std.specs.List.{AllByRecursion}
 use Rattle.network.specs.NetworkView.{NetworkState}
-use Rattle.live.specs.Answering.{IsMoment}
+use Rattle.live.specs.Networks.{IsMoment}
 use Rattle.live.specs.Moments.{Moment}
 use Rattle.live.proofs.AnswerSteps.{at, countable, answered-long, answered-line, given-back, moment-answered}
 use Rattle.live.proofs.networks.Networks.answer.Goals as goal

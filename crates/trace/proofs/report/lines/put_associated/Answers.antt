@@ -16,4 +16,4 @@ returns g c =
     let listen : c.as_bytes-2.result.now ≡ decimal row.listen = c.as_bytes-2.ensures.value ∙ c.format-2.ensures.text in
     let mode : c.mode_text.result.now ≡ mode_text row.doze = c.mode_text.ensures in
     let kept : c.as_bytes-3.result.now ≡ decimal row.kept = c.as_bytes-3.ensures.value ∙ c.format-3.ensures.text in
-    subst (Puts _ _ _ _ _) (rw (addr, aid, listen, mode, kept) (simp append_assoc)) c.put_parts.ensures
+    subst (Puts _ _ _ _) (rw (addr, aid, listen, mode, kept) (simp append_assoc)) c.put_parts.ensures

@@ -8,4 +8,4 @@ pub returns : goal.returns
 unfolding authenticated_line
 returns g c =
     let addr : c.address_text.result ≡ address_text c.args.addr = c.address_text.ensures in
-    subst (Puts _ _ _ _ _) (rw addr (simp append_assoc)) c.put_parts.ensures
+    subst (Puts _ _ _ _) (rw addr (simp append_assoc)) c.put_parts.ensures

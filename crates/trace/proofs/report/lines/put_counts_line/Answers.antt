@@ -16,4 +16,4 @@ returns g c =
     c.as_bytes-3.ensures.value ∙ c.format-3.ensures.text in
     let lost : c.as_bytes-4.result.now ≡ decimal totals.lost = c.as_bytes-4.ensures.value ∙ c.format-4.ensures.text in
     let kept : c.as_bytes-5.result.now ≡ decimal totals.kept = c.as_bytes-5.ensures.value ∙ c.format-5.ensures.text in
-    subst (Puts _ _ _ _ _) (rw (events, clock, unread, lost, kept) (simp append_assoc)) c.put_parts.ensures
+    subst (Puts _ _ _ _) (rw (events, clock, unread, lost, kept) (simp append_assoc)) c.put_parts.ensures

@@ -1,12 +1,11 @@
 -- The words and the address, then the name, then LF.
-use Rattle.std.proofs.Common.{◌≡◌, ℕ, List, [], ◌∷◌, ◌++◌, refl, subst, append_assoc}
+use Rattle.std.proofs.Common.{◌≡◌, ℕ, List, [], ◌∷◌, ◌++◌, append_assoc}
 use Rattle.std.specs.Prelude.{codes}
 use Rattle.hex.specs.Hex.{encode_lower}
 use Rattle.mac_frame.specs.Address.{address_text}
 use Rattle.ap_config.specs.declared.config.NetConfig.{NetConfig}
-use Rattle.trace.specs.Buffers.{Puts}
 use Rattle.trace.specs.Report.{network_line}
-use Rattle.trace.proofs.BufferSteps.{Puts-err, Puts-first, Puts-then}
+use Rattle.trace.proofs.BufferSteps.{Puts-then, Puts-same}
 use Rattle.trace.proofs.report.lines.put_network_line.Goals as goal
 
 regroup : (a b c d e : List ℕ) → ((a ++ b ++ c) ++ d) ++ e ≡ (a ++ b ++ c ++ d) ++ e
@@ -19,20 +18,7 @@ in_parts config addr name a n =
     rw (a, n)
     (regroup (codes "network ") (address_text config.bssid) (codes " ssid ") (encode_lower config.ssid) (10 ∷ []))
 
-pub returns-in_err-put_parts : goal.returns-in_err-put_parts
-returns-in_err-put_parts g c =
-    let config : NetConfig = c.args.config.now in
-    Puts-err _ c.from_residual.ensures.1
-    (subst (Puts _ _ _ _ _) (in_parts config _ config.ssid c.address_text-bssid.ensures refl)
-    (Puts-first _ (Puts-first _ c.in_err-put_parts.ensures)))
-
-pub returns-in_err-put_digits : goal.returns-in_err-put_digits
-returns-in_err-put_digits g c =
-    Puts-err _ c.from_residual-in_err-put_digits.ensures.1
-    (subst (Puts _ _ _ _ _) (in_parts c.args.config.now _ _ c.address_text-bssid.ensures c.as_slice.ensures)
-    (Puts-first _ (Puts-then c.in_ok-put_parts.ensures c.in_err-put_digits.ensures)))
-
 pub returns : goal.returns
 returns g c =
-    subst (Puts _ _ _ _ _) (in_parts c.args.config.now _ _ c.address_text-bssid.ensures c.as_slice.ensures)
-    (Puts-then (Puts-then c.in_ok-put_parts.ensures c.in_ok-put_digits.ensures) c.put.ensures)
+    Puts-same (in_parts c.args.config.now _ _ c.address_text-bssid.ensures c.as_slice.ensures)
+    (Puts-then (Puts-then c.put_parts.ensures c.put_digits.ensures) c.put.ensures)

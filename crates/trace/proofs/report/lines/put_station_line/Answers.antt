@@ -4,7 +4,7 @@ use Rattle.trace.proofs.report.lines.put_station_line.Goals as goal
 
 pub returns-in-Unknown : goal.returns-in-Unknown
 unfolding station_line
-returns-in-Unknown g c = rw c.in-Unknown.is (Puts-nothing c.args.out.now)
+returns-in-Unknown g c = rw c.in-Unknown.is (Puts-nothing c.args.out.now c.requires)
 
 pub returns-in-Authenticated : goal.returns-in-Authenticated
 unfolding station_line

@@ -1,14 +1,23 @@
--- A failed write took a prefix of what the piece holds.
-use Rattle.std.proofs.Common.{rules}
-use Rattle.trace.proofs.SinkSteps.{Stops-written}
-use Rattle.trace.proofs.BufferSteps.{Puts-err}
+-- What the piece holds goes to the sink, unless that failed before.
+use Rattle.std.proofs.Common.{rules, refl, append-nil, sym}
+use Rattle.trace.proofs.BufferSteps.{Puts-dropped, Puts-written}
 use Rattle.trace.proofs.report.buffer.Buffered.flush.Goals as goal
 
-pub returns-in_err-write_all-clause-puts : goal.returns-in_err-write_all-clause-puts
-returns-in_err-write_all-clause-puts g c =
-    Puts-err _ c.from_residual.ensures.1 (record {
-      same_sink = search rules;
-      ok = tt;
-      err = Stops-written c.in_err-write_all.ensures.ends;
-      failures = c.in_err-write_all.ensures.failures;
-    })
+pub returns-then-self : goal.returns-then-self
+returns-then-self g c = record {
+  puts = Puts-dropped _ _ c.requires c.if-self.true;
+  answer = c.if-self.true;
+  empty = tt;
+}
+
+pub returns : goal.returns
+returns g c = record {
+  puts =
+      Puts-written c.write_all-written.result _ _ _ _ c.requires c.if-self.false c.is_err-self.ensures.value refl
+      (sym (append-nil _))
+      refl
+      c.write_all-written.ensures.ends
+      c.write_all-written.ensures.failures;
+  answer = c.is_err-self.ensures.value;
+  empty = search rules;
+}

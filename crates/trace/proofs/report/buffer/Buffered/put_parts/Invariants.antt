@@ -1,10 +1,10 @@
--- The texts so far were put, and no write failed.
+-- The texts so far were put.
 use Rattle.std.proofs.Common.{take}
 use Rattle.std.specs.Prelude.{flat_map}
-use Rattle.trace.proofs.BufferSteps.{HasPut}
+use Rattle.trace.specs.Buffers.{Puts}
 use Rattle.trace.proofs.report.buffer.Buffered.put_parts.Given as goal
 
 abbrev pub invariant-loop-part : goal.invariant-loop-part
 invariant-loop-part g l =
-    HasPut g.W.Sink.taken g.W.Sink.failed l.initial.self l.self
+    Puts g.W.Sink.taken g.W.Sink.failed l.initial.self l.self
     (flat_map (λ part. part.now) (take l.part-index l.parts))

@@ -1,13 +1,21 @@
 -- What was held goes first, and then the text.
-use Rattle.std.proofs.Common.{rules}
-use Rattle.trace.proofs.BufferSteps.{Puts-err, Puts-first, Puts-written}
+use Rattle.std.proofs.Common.{rules, ◌++◌, List, ℕ, ap, sym}
+use Rattle.trace.proofs.BufferSteps.{Puts-dropped, Puts-then, Puts-written}
 use Rattle.trace.proofs.report.buffer.Buffered.put_past.Goals as goal
 
-pub returns-in_err-flush : goal.returns-in_err-flush
-returns-in_err-flush g c = Puts-err _ c.from_residual.ensures.1 (Puts-first _ c.in_err-flush.ensures.puts)
-
-pub returns : goal.returns
-returns g c =
-    Puts-written c.in_ok-flush.ensures.puts c.in_ok-flush.ensures.empty (search rules) (search rules)
+pub returns-in-Ok : goal.returns-in-Ok
+returns-in-Ok g c =
+    let f = c.in-Ok.ensures in
+    Puts-then f.puts
+    (Puts-written c.write_all.result _ _ c.args.text.now c.args.text.now f.puts.can_write f.answer
+    c.is_err-self.ensures.value
+    (search rules)
+    (ap (λ (l : List ℕ). l ++ c.args.text.now) (sym f.empty))
+    f.empty
     c.write_all.ensures.ends
-    c.write_all.ensures.failures
+    c.write_all.ensures.failures)
+
+pub returns-in_default : goal.returns-in_default
+returns-in_default g c =
+    let f = c.in_default.ensures in
+    Puts-then f.puts (Puts-dropped _ c.args.text.now f.puts.can_write f.answer)

@@ -1,0 +1,32 @@
+use Rattle.std.proofs.Common.{ap}
+use Rattle.std.specs.Prelude.{option_to_list}
+use Rattle.live.specs.AnswerText.{reply_text}
+use Rattle.live.specs.Moments.{Sends, Refuses}
+use Rattle.live.proofs.ReplySteps.{sends-may, refuses-may}
+use Rattle.trace.proofs.BufferSteps.{Puts-same}
+use Rattle.live.proofs.dispatch.reply.Goals as goal
+
+pub returns-in-Ok : goal.returns-in-Ok
+returns-in-Ok g c =
+    let sent = c.in-Ok.sent in (
+      Sends sent.air (option_to_list sent.wire),
+      sends-may c.args.network.now c.args.event.now c.take.result sent c.in-Ok.is c.in-Ok.ensures.air c.in-Ok.ensures.wire
+          c.take.ensures.clock,
+      c.in-Ok.ensures.after,
+      Puts-same
+          (ap
+          (λ s. reply_text c.args.number s.network.bssid (Sends sent.air (option_to_list sent.wire)))
+          c.setting.ensures.setting)
+          c.put_sent.ensures,
+    )
+
+pub returns-in-Err : goal.returns-in-Err
+returns-in-Err g c =
+    let why = c.in-Err.why in (
+      Refuses why,
+      refuses-may c.args.network.now c.args.event.now c.take.result why c.in-Err.is c.take.ensures.clock,
+      c.in-Err.ensures.err,
+      Puts-same
+          (ap (λ s. reply_text c.args.number s.network.bssid (Refuses why)) c.setting.ensures.setting)
+          c.put_refusal.ensures,
+    )

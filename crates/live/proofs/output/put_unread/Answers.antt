@@ -1,0 +1,5 @@
+use Rattle.trace.proofs.BufferSteps.{Puts-then}
+use Rattle.live.proofs.output.put_unread.Goals as goal
+
+pub returns : goal.returns
+returns g c = Puts-then c.put_fault_words.ensures c.put.ensures

@@ -1,0 +1,127 @@
+use Rattle.std.proofs.Common.{◌≡◌, ◌∙◌, ◌+◌, ◌≤◌, ℕ, List, [], take, length, ap, subst, refl, inl, inr, arith}
+use Rattle.std.proofs.Common.{append-nil, Option}
+use Rattle.std.proofs.KnownBytes.{Consumes-trans, Consumes-kept}
+use Rattle.std.proofs.lemmas.List.{length-take-le}
+use Rattle.std.proofs.lemmas.Result.{err_from_is_err_and}
+use Rattle.std.specs.Io.KnownBytes.{Consumes}
+use Rattle.live.proofs.RunSteps.{counted-more, input-none, input-more, input-cut}
+use Rattle.live.proofs.run.answer_input.Goals as goal
+
+pub loop-init : goal.loop-init
+loop-init g c = record {
+  so_far = input-none _ c.requires.partial c.requires.first;
+  none_failed = refl;
+  all_written = refl;
+}
+
+pub feed-requires-clause-countable : goal.feed-requires-clause-countable
+feed-requires-clause-countable g c =
+    let long = length-take-le c.in-Ok.count c.read_some.new.buffer c.in-Ok.ensures.prefix.0 in
+    omega (arith, long, c.in-Ok.ensures.prefix.0, c.loop.invariant.so_far.lines)
+
+pub loop-preserved : goal.loop-preserved
+loop-preserved g c =
+    let piece : List ℕ = take c.in-Ok.count c.read_some.new.buffer in
+    let long : length piece ≡ c.in-Ok.count = length-take-le c.in-Ok.count c.read_some.new.buffer c.in-Ok.ensures.prefix.0 in
+    let few : length piece ≤ 4096 = omega (arith, long, c.in-Ok.ensures.prefix.0) in
+    record {
+      so_far =
+          input-more c.loop.counter _ _ _ piece _ c.loop.invariant.so_far c.in-Ok.ensures.prefix.1
+          c.in-Ok.ensures.reads few
+          c.in_ok-feed.ensures.takes
+          c.in_ok-feed.ensures.lines;
+      none_failed = omega (arith, c.in-Ok.ensures.failures, c.loop.invariant.none_failed);
+      all_written = omega (arith, c.in_ok-feed.ensures.failures, c.loop.invariant.all_written);
+    }
+
+pub returns-in_default-clause-answers : goal.returns-in_default-clause-answers
+returns-in_default-clause-answers g c =
+    let s = c.loop.invariant.so_far in
+    let within : c.loop.counter + 1 ≤ 70368744177664 = omega (arith, c.loop-test.true) in
+    record {
+      text = s.text;
+      answers = s.answers;
+      reads = record {
+        taken =
+            Consumes-kept (g.R.Source.left c.args.input.now) (g.R.Source.left c.loop.input)
+            (g.R.Source.left c.read_some.new.self) s.text s.took c.in_default.ensures.err;
+        made = c.loop.counter + 1;
+        within = within;
+        counted = counted-more _ _ _ c.loop.counter s.counted c.in_default.ensures.reads;
+        failed = inl (c.in_default.ensures.failures ∙ ap (λ n. n + 1) c.loop.invariant.none_failed);
+      };
+      answered = s.answered;
+      partial = s.partial;
+      written = s.written;
+      stops = tt;
+    }
+
+pub returns-then-count-eq0-clause-answers : goal.returns-then-count-eq0-clause-answers
+returns-then-count-eq0-clause-answers g c =
+    let s = c.loop.invariant.so_far in
+    let none : c.in-Ok.count ≡ 0 = c.if-count-eq0.true in
+    let first : Option (List ℕ) = g.R.Source.left c.args.input.now in
+    let before : Option (List ℕ) = g.R.Source.left c.loop.input in
+    let after : Option (List ℕ) = g.R.Source.left c.read_some.new.self in
+    let took : Consumes before after [] =
+    subst (λ (n : ℕ). Consumes before after (take n c.read_some.new.buffer)) none c.in-Ok.ensures.prefix.1 in
+    let same : g.R.Source.failed c.read_some.new.self ≡ g.R.Source.failed c.args.input.now =
+    omega (arith, c.in-Ok.ensures.failures, c.loop.invariant.none_failed) in
+    let within : c.loop.counter + 1 ≤ 70368744177664 = omega (arith, c.loop-test.true) in
+    record {
+      text = s.text;
+      answers = s.answers;
+      reads = record {
+        taken =
+            subst
+            (λ (t : List ℕ). Consumes first after t)
+            (append-nil s.text)
+            (Consumes-trans first before after s.text [] s.took took);
+        made = c.loop.counter + 1;
+        within = within;
+        counted = counted-more _ _ _ c.loop.counter s.counted c.in-Ok.ensures.reads;
+        failed = same;
+      };
+      answered = s.answered;
+      partial = s.partial;
+      written = (c.in-Ok.ensures.end none, s.written);
+      stops = tt;
+    }
+
+pub returns-in_err-feed-clause-answers : goal.returns-in_err-feed-clause-answers
+returns-in_err-feed-clause-answers g c =
+    let p = err_from_is_err_and c.from_residual.result c.from_residual.ensures.1 in
+    let s = c.loop.invariant.so_far in
+    let same : g.R.Source.failed c.read_some.new.self ≡ g.R.Source.failed c.args.input.now =
+    omega (arith, c.in-Ok.ensures.failures, c.loop.invariant.none_failed) in
+    let piece : List ℕ = take c.in-Ok.count c.read_some.new.buffer in
+    let long : length piece ≡ c.in-Ok.count = length-take-le c.in-Ok.count c.read_some.new.buffer c.in-Ok.ensures.prefix.0 in
+    let few : length piece ≤ 4096 = omega (arith, long, c.in-Ok.ensures.prefix.0) in
+    let within : c.loop.counter + 1 ≤ 70368744177664 = omega (arith, c.loop-test.true) in
+    rw (p.1, p.2)
+    (input-cut c.loop.counter _ _ _ piece _ s within c.in-Ok.ensures.prefix.1 c.in-Ok.ensures.reads same few
+    c.in_err-feed.ensures.takes)
+
+pub returns-clause-answers : goal.returns-clause-answers
+returns-clause-answers g c =
+    let s = c.loop.invariant.so_far in
+    let all : c.loop.counter ≡ 70368744177664 = omega (arith, c.loop-test.false) in
+    let within : c.loop.counter ≤ 70368744177664 = omega arith in
+    record {
+      text = s.text;
+      answers = s.answers;
+      reads = record {
+        taken = s.took;
+        made = c.loop.counter;
+        within = within;
+        counted = s.counted;
+        failed = inr (c.loop.invariant.none_failed, all);
+      };
+      answered = s.answered;
+      partial = s.partial;
+      written = s.written;
+      stops = tt;
+    }
+
+pub returns-then-count-eq0-clause-countable : goal.returns-then-count-eq0-clause-countable
+returns-then-count-eq0-clause-countable g c = omega (arith, c.loop.invariant.so_far.lines)
