@@ -77,8 +77,8 @@ MayBeUnread (Ok (Some line.Tick)) = ⊥
 MayBeUnread (Err UnknownKind) = ⊥
 MayBeUnread said = Unit {0}
 
--- Such a line may stay unread where memory runs out; and where a line is read, each network may refuse it so. Tables and
--- lines that are too long take no memory.
+-- Such a line may stay unread where memory runs out; and where a line is read, each network may refuse it so. Tables
+-- and lines that are too long take no memory.
 abbrev pub MayAnswer : Moment → Asked → Answer → Type 0
 MayAnswer m (Says said) Unread = MayBeUnread said
 MayAnswer m (Says (Ok (Some line))) (Replies replies) = MayReplyFrom 0 m.networks line replies

@@ -42,8 +42,8 @@ WrittenSoFar (Err Write) answered old new = AppendsPrefix old.sink.taken new.sin
 WrittenSoFar (Err (Config fault)) answered old new = ⊥
 WrittenSoFar (Err NoMemory) answered old new = ⊥
 
--- A write failed, and reading stopped there: what was read is a text, the answers to whose lines were written whole, and
--- a piece of at most 4,096 octets.
+-- A write failed, and reading stopped there: what was read is a text, the answers to whose lines were written whole,
+-- and a piece of at most 4,096 octets.
 pub record StopsInPiece (m : Moment) (text : List ℕ) (old new : SinkView) : Type 0 where
   pub before : List ℕ
   pub piece : List ℕ
