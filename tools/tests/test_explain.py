@@ -55,7 +55,9 @@ FILES = [
 ]
 # What is told of a fault for which the program isn't run.
 TOLD = [("fault memory", "may not have the memory"), ("fault output", "can't be written"),
-        ("fault thread", "a thread for each trace"), ("fault F3", "a mistake of the program")]
+        ("fault thread", "a thread for each trace"), ("fault F3", "a mistake of the program"),
+        ("fault clock line 7 network 02:00:00:00:00:01", "start the program again"),
+        ("fault memory line 7 network 02:00:00:00:00:01", "may not have the memory")]
 
 
 def octets_of(text):

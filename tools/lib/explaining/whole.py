@@ -96,8 +96,6 @@ def findings_of(texts: Texts, fault: Fault) -> list[Finding]:
         trace = texts.traces[place] if place < len(texts.traces) else None
         is_live = texts.words[:1] == ["live"]
         return trace_lines.explain(trace, fault, bssids_of(texts), is_live) if trace else []
-    if fault.code == "file" and fault.file == STANDARD_INPUT:
-        return []
     return words.explain(fault, texts.words)
 
 
