@@ -223,6 +223,8 @@ class Mistakes(ToolTest):
         self.assertIn("fault L1 line 3\nstandard input:3:1", found)
         self.write("wrong.trace", b"T\nA 4\n")
         self.assertIn("fault L2 trace 1 line 2\nwrong.trace:2:3",
+                      self.run_tool("play", "my.toml", "/dev/stdin", "wrong.trace", given="T\n")[1])
+        self.assertIn("fault L2 trace 1 line 2\nwrong.trace:2:3",
                       self.run_tool("play", "my.toml", "my.trace", "wrong.trace")[1])
 
     def test_where_there_is_no_program(self):
