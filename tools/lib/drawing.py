@@ -140,13 +140,15 @@ class Picture:
         """What the shapes mean: those that occur."""
         used = {mark.what for lane in self.lanes for line in self.lines for mark in lane.marks_at(line.number)}
         letters = {mark.letter for lane in self.lanes for line in self.lines for mark in lane.marks_at(line.number)}
-        states = {span.state for lane in self.lanes for span in lane.spans}
+        states = {span.state for lane in self.lanes for span in lane.spans
+                  if any(strip.overlaps(span.begins, span.ends) for strip in self.strips)}
         entries = [("state", state, state) for state in COLOURS if state in states]
         entries += [("letter", letter, name) for letter, name in LETTERS if letter in letters]
         entries += [("mark", what, name) for what, name in MEANINGS.items()
                     if what in used and what not in ("answered", "left")]
         entries += [("kept bar", "", "as long as it is kept")] * ("kept" in used)
-        entries += [("roaming", "", "in two networks")] * bool(self.roaming)
+        entries += [("roaming", "", "in two networks")] * any(
+            strip.overlaps(roaming.begins, roaming.ends) for roaming in self.roaming for strip in self.strips)
         entries += [("quiet", "", "quiet: nothing new")] * any(column.is_quiet for strip in self.strips
                                                                for column in strip.columns)
         x = float(MARGIN)

@@ -55,7 +55,9 @@ FILES = [
 ]
 # What is told of a fault for which the program isn't run.
 TOLD = [("fault memory", "may not have the memory"), ("fault output", "can't be written"),
-        ("fault thread", "a thread for each trace"), ("fault F3", "a mistake of the program")]
+        ("fault thread", "a thread for each trace"), ("fault F3", "a mistake of the program"),
+        ("fault clock line 7 network 02:00:00:00:00:01", "start the program again"),
+        ("fault memory line 7 network 02:00:00:00:00:01", "may not have the memory")]
 
 
 def octets_of(text):
@@ -220,6 +222,8 @@ class Mistakes(ToolTest):
         self.assertIn("fault L2 line 2\nstandard input:2:3", found)
         self.assertIn("fault L1 line 3\nstandard input:3:1", found)
         self.write("wrong.trace", b"T\nA 4\n")
+        self.assertIn("fault L2 trace 1 line 2\nwrong.trace:2:3",
+                      self.run_tool("play", "my.toml", "/dev/stdin", "wrong.trace", given="T\n")[1])
         self.assertIn("fault L2 trace 1 line 2\nwrong.trace:2:3",
                       self.run_tool("play", "my.toml", "my.trace", "wrong.trace")[1])
 

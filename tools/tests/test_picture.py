@@ -332,6 +332,7 @@ class Choices(PictureTest):
         lines = {int(group.get("data-lines")) for group in shapes.marks()}
         self.assertEqual((min(lines), max(lines)), (17, 26))
         self.assertEqual(len(shapes.of(row=PHONE, what="associated")), 1)
+        self.assertEqual(shapes.of(legend="authenticated"), [])
         by_time = self.of_three("--from", "0.1s", "--to", "0.21s")
         self.assertEqual({int(group.get("data-lines")) for group in by_time.marks()}, lines | {28, 30, 32})
 

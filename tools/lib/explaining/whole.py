@@ -16,11 +16,11 @@ NOTHING_FOUND = "no reason was found: docs/FAULTS.md says of each fault what to 
 
 @dataclass
 class Texts:
-    """What the program was given: its words, a configuration and traces, as far as they can be read."""
+    """What the program was given: its words, a configuration and traces; None for what can't be read."""
 
     words: list[str]
     config: Source | None = None
-    traces: list[Source] = field(default_factory=list)
+    traces: list[Source | None] = field(default_factory=list)
     is_joined: bool = False
     has_separator: bool = True
 
@@ -52,7 +52,7 @@ def texts_of(given_words: list[str], given: bytes | None, name: str = STANDARD_I
         names.remove("--")
     read = [source_of(file) for file in names]
     texts.config = read[0] if read else None
-    texts.traces = [source for source in read[1:] if source]
+    texts.traces = read[1:]
     if given_words[0] == "live":
         texts.traces = [Source(name, given or b"")]
     return texts
@@ -96,8 +96,6 @@ def findings_of(texts: Texts, fault: Fault) -> list[Finding]:
         trace = texts.traces[place] if place < len(texts.traces) else None
         is_live = texts.words[:1] == ["live"]
         return trace_lines.explain(trace, fault, bssids_of(texts), is_live) if trace else []
-    if fault.code == "file" and fault.file == STANDARD_INPUT:
-        return []
     return words.explain(fault, texts.words)
 
 
@@ -123,8 +121,7 @@ def of_good_run(texts: Texts, answer: Answer) -> list[str]:
 
 def odd_in(texts: Texts, output: str) -> list[Finding]:
     """What is odd in a run, or that nothing was found, or that it couldn't be looked at."""
-    names = [word for word in texts.words[1:] if word != "--"]
-    if texts.config is None or not texts.is_joined and len(texts.traces) < len(names) - 1:
+    if texts.config is None or None in texts.traces:
         return [Finding("a text of this run can't be read a second time, so what is odd in it wasn't looked for")]
     try:
         odd = runs.odd(texts.config, texts.traces, output, texts.has_separator)

@@ -15,7 +15,7 @@ MOST_TRACES = 64
 def explain(fault: Fault, words: list[str]) -> list[Finding]:
     """The reasons for a fault that is of no text; none where nothing was found."""
     parts = {"words": of_words, "file": of_file, "sources": of_sources, "memory": of_memory, "output": of_output,
-             "thread": of_thread, "F2": of_finish, "F3": of_finish, "F4": of_finish}
+             "thread": of_thread, "clock": of_clock, "F2": of_finish, "F3": of_finish, "F4": of_finish}
     return parts[fault.code](fault, words) if fault.code in parts else []
 
 
@@ -144,6 +144,12 @@ def of_thread(fault: Fault, words: list[str]) -> list[Finding]:
     """A thread that can't be started."""
     return [Finding("`play` starts a thread for each trace, and the system gave it one too few", None,
                     "`ulimit -u` shows how many a user may have; play fewer traces at once")]
+
+
+def of_clock(fault: Fault, words: list[str]) -> list[Finding]:
+    """A clock that can't go on."""
+    return [Finding("this network has begun 4,294,967,295 beacon intervals, and its clock counts no more", None,
+                    "start the program again")]
 
 
 def of_finish(fault: Fault, words: list[str]) -> list[Finding]:
