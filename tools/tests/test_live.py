@@ -146,9 +146,11 @@ class Radiotap(unittest.TestCase):
         self.assertEqual(radiotap.captured(with_radiotap(data(), present=0xFFFF, fields=bytes(2))).frame, data())
 
     def test_header_for_sending(self):
-        """The rate, and the TX flag that keeps the sequence number; it is a header that reads as sent."""
-        header = radiotap.sending_header(2)
-        self.assertEqual(header.hex(), "00000c00048000000200" + "1000")
+        """The rate, the TX flag that keeps the sequence number, and seven retries to one receiver, none to a group; it
+        is a header that reads as sent."""
+        header = radiotap.sending_header(2, False)
+        self.assertEqual(header.hex(), "00001000048002000200" + "1000" + "07" + "000000")
+        self.assertEqual(radiotap.sending_header(2, True).hex(), "00001000048002000200" + "1000" + "00" + "000000")
         self.assertTrue(radiotap.captured(header + data()).was_sent)
 
 
@@ -491,10 +493,11 @@ class Sending(unittest.TestCase):
     def test_frames_go_out(self):
         """Each by its socket, on the air at the network's lowest basic rate, or its lowest."""
         monitor, wire = Recorder(), Recorder()
-        sender = self.sender("ok 2\nair 02:00:00:00:01:01 8000\nair 02:00:00:00:01:02 8001\nwire 02:00:00:00:01:02 "
-                             + "00" * 14 + "\n", monitor, {OTHER: wire})
-        self.assertEqual(monitor.sent, [radiotap.sending_header(2) + b"\x80\0",
-                                        radiotap.sending_header(0x0B) + b"\x80\1"])
+        beacon, unit = b"\x80\0\0\0" + BROADCAST, b"\x08\2\0\0" + STATION
+        sender = self.sender(f"ok 2\nair 02:00:00:00:01:01 {beacon.hex()}\nair 02:00:00:00:01:02 {unit.hex()}\n"
+                             f"wire 02:00:00:00:01:02 {'00' * 14}\n", monitor, {OTHER: wire})
+        self.assertEqual(monitor.sent, [radiotap.sending_header(2, True) + beacon,
+                                        radiotap.sending_header(0x0B, False) + unit])
         self.assertEqual(wire.sent, [bytes(14)])
         self.assertIsNone(sender.fault)
 
@@ -743,7 +746,7 @@ class Running(WithFiles):
             self.end()
         self.run_bridge(later)
         self.assertEqual(self.status, 0)
-        header = radiotap.sending_header(2)
+        header = radiotap.sending_header(2, True)
         self.assertGreaterEqual(len(self.monitor.sent), 2)
         self.assertEqual(set(self.monitor.sent), {header + bytes.fromhex(BEACON)})
         self.assertEqual(self.wire.sent, [data()])

@@ -11,7 +11,7 @@ from contextlib import ExitStack
 from dataclasses import dataclass
 from typing import BinaryIO
 
-from frames import Frame, address_text
+from frames import Frame, address_text, is_group
 from live.answers import Answer, Ready, ToAir, ToWire, Told, read_answer
 from live.checks import Wanted, check
 from live.faults import Fault
@@ -79,14 +79,15 @@ class Sender(threading.Thread):
         self.signals = signals
         self.monitor: PacketSocket | None = None
         self.wires: dict[bytes, PacketSocket] = {}
-        self.headers: dict[bytes, bytes] = {}
+        self.headers: dict[tuple[bytes, bool], bytes] = {}
         self.ready = threading.Event()
         self.fault: Fault | None = None
         self.counts: Counter[str] = Counter()
 
     def open(self, settings: Settings, monitor: PacketSocket, wires: dict[bytes, PacketSocket]) -> None:
         """From now on frames are sent by these sockets; before, the program answers none."""
-        self.headers = {network.bssid: sending_header(network.sending_rate) for network in settings.networks}
+        self.headers = {(network.bssid, group): sending_header(network.sending_rate, group)
+                        for network in settings.networks for group in (False, True)}
         self.wires = wires
         self.monitor = monitor
 
@@ -105,8 +106,8 @@ class Sender(threading.Thread):
     def take(self, answer: Answer) -> None:
         """Does what an answer says."""
         match answer:
-            case ToAir(bssid, octets) if self.monitor is not None and bssid in self.headers:
-                self.send(self.monitor, self.headers[bssid] + octets, "air")
+            case ToAir(bssid, octets) if self.monitor is not None and (bssid, False) in self.headers:
+                self.send(self.monitor, self.headers[bssid, is_group(octets[4:10])] + octets, "air")
             case ToWire(bssid, octets) if bssid not in self.wires:
                 self.counts["lost, of networks without --wire"] += 1
             case ToWire(bssid, octets) if is_tagged(octets):
