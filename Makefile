@@ -1,7 +1,8 @@
 # The targets of this repository. All need the Rattle toolchain's command `rt` on the path, GNU make, bash, coreutils,
 # diffutils, grep and sed; `wrong`, `bench`, `bench-limits`, `stress` and `fuzz` need python3 too.
 
-.PHONY: run try try-check test wrong refused bench bench-limits stress fuzz apctl test-tools test-live picture captures
+.PHONY: run try try-check test wrong refused bench bench-limits stress fuzz apctl bridge test-tools test-live picture
+.PHONY: captures
 
 # What `run` and `try` give to the program, a configuration and a trace: a file, named from the folder in which make
 # runs.
@@ -72,10 +73,16 @@ test-tools:
 	@tools/install
 	@tools/test
 
-# Tests tools/live beside the gate: first its parts, then, in a guest, unmodified Linux stations that join the networks
-# of the built program. Takes root and Debian's packages debootstrap, e2fsprogs, qemu-system-x86 and python3. The last
-# line is 'N passed, M failed'.
+# The bridge of tools/live, build/bridge/release/bridge, by Debian's own cargo. Takes Debian's packages that
+# tools/bridge/build names, and installs those that are missing.
+bridge:
+	@tools/bridge/build
+
+# Tests tools/live beside the gate: first the parts of its bridge and its own, then, in a guest, unmodified Linux
+# stations that join the networks of the built program. Takes root and Debian's packages debootstrap, e2fsprogs,
+# qemu-system-x86 and python3, and those of `make bridge`. The last line is 'N passed, M failed'.
 test-live: apctl
+	@tools/bridge/build test
 	@tools/test live
 	@tools/test-live
 

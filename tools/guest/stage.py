@@ -32,6 +32,10 @@ set -o pipefail
 {program} "$@" | tee {answers}
 """
 READY, TIMEOUT = "networks are on channel", 30
+TOP = os.path.dirname(os.path.dirname(os.path.dirname(os.path.realpath(__file__))))
+COMPILED = os.path.join(TOP, "build", "bridge", "release", "bridge")
+RECORD_HEADER = struct.Struct("<c6sH")  # of a record of octets: its kind, a BSSID, how many octets follow
+KINDS = {b"A": "air", b"W": "wire"}
 DURATION, RETRY, TIMESTAMP = slice(2, 4), 0x08, slice(24, 32)
 
 
@@ -53,6 +57,25 @@ class Section:
     air: list[str] = field(default_factory=list)
     wire: list[str] = field(default_factory=list)
     table: list[str] = field(default_factory=list)
+
+
+def text_of(answers: bytes) -> str:
+    """What the program wrote, as lines of text, whichever face it has (docs/LIVE.md); a record that was cut is left
+    out."""
+    if not answers.startswith(b"O"):
+        return answers.decode("ascii")
+    lines, place = [], 0
+    while place + RECORD_HEADER.size <= len(answers):
+        kind, bssid, length = RECORD_HEADER.unpack_from(answers, place)
+        octets = answers[place + RECORD_HEADER.size:place + RECORD_HEADER.size + length]
+        place += RECORD_HEADER.size + length
+        if place > len(answers):
+            break
+        if kind in KINDS:
+            lines.append(f"{KINDS[kind]} {address_text(bssid)} {octets.hex()}\n")
+        else:
+            lines.append(octets.decode("ascii") if kind == b"N" else f"ok {bssid[5]}\n")
+    return "".join(lines)
 
 
 def read_answers(text: str) -> dict[str, Section]:
@@ -203,8 +226,8 @@ class Start:
 
     def answered(self) -> str:
         """What the program has written so far."""
-        with open(self.answers, encoding="ascii") as file:
-            return file.read()
+        with open(self.answers, "rb") as file:
+            return text_of(file.read())
 
     def recorded(self) -> list[str]:
         """The lines that the program was given so far, but for the last moments."""
@@ -238,17 +261,23 @@ class Start:
         self.observed.end()
 
     def kill_program(self) -> None:
-        """Kills the program itself: the bridge has to say so, and to end with another status than 0."""
+        """Kills the program itself: that has to be told."""
         self.was_killed = True
-        wanted = os.path.realpath(self.program)
-        found = [int(pid) for pid in os.listdir("/proc") if pid.isdigit() and executable_of(pid) == wanted]
-        for pid in found:
-            os.kill(pid, signal.SIGKILL)
-        if len(found) != 1:
-            raise Failed(f"{len(found)} programs ran")
+        os.kill(process_of(self.program), signal.SIGKILL)
         self.ended(1)
-        if "the program ended by itself" not in self.told():
-            raise Failed(f"the bridge didn't say that the program ended: {self.told()[-500:]}")
+        self.has_told("the program ended by itself")
+
+    def kill_compiled(self) -> None:
+        """Kills the compiled bridge: that has to be told, and the program ends with it."""
+        os.kill(process_of(COMPILED), signal.SIGKILL)
+        self.ended(1)
+        self.has_told("the bridge ended by itself, by the signal SIGKILL")
+        wait_for("the program ends", 20, lambda: not processes_of(self.program))
+
+    def has_told(self, text: str) -> None:
+        """The bridge has to have told this."""
+        if text not in self.told():
+            raise Failed(f"the bridge didn't say '{text}': {self.told()[-500:]}")
 
     def rerun(self, lines: list[str]) -> dict[str, Section]:
         """What `run` reports of these lines."""
@@ -298,6 +327,20 @@ class Start:
             same(f"{self.name}: heard of {net.ssid}", heard[net.bssid],
                  [comparable(bytes.fromhex(octets)) for octets in wrote[net.bssid].air])
         return f"{sum(map(len, heard.values()))} frames heard"
+
+
+def processes_of(executable: str) -> list[int]:
+    """The processes that run this file."""
+    wanted = os.path.realpath(executable)
+    return [int(pid) for pid in os.listdir("/proc") if pid.isdigit() and executable_of(pid) == wanted]
+
+
+def process_of(executable: str) -> int:
+    """The process that runs this file, of which there has to be one."""
+    found = processes_of(executable)
+    if len(found) != 1:
+        raise Failed(f"{executable} runs {len(found)} times")
+    return found[0]
 
 
 def executable_of(pid: str) -> str | None:
