@@ -2,8 +2,8 @@
 # GNU make, bash, coreutils, diffutils, grep and sed; `wrong`, `bench`, `bench-limits`, `stress`, `fuzz`, `documents`
 # and the gate need python3 too. What stands after `##` is what `make help` says of a target.
 
-.PHONY: help run try try-check test wrong refused bench bench-limits stress fuzz apctl documents library test-tools \
-    test-live picture captures install uninstall
+.PHONY: help run try try-check test wrong refused bench bench-limits stress fuzz apctl bridge documents library \
+    test-tools test-live picture captures install uninstall
 
 # Begins nothing: says what there is to make.
 help: ## says this
@@ -94,12 +94,21 @@ test-tools: ## tests the tools for captures and pictures
 	@tools/install
 	@tools/test
 
-# Tests tools/live beside the gate: first its parts, then, in a guest, unmodified Linux stations that join the networks
-# of the built program. Takes root and Debian's packages debootstrap, e2fsprogs, qemu-system-x86 and python3. The last
-# line is 'N passed, M failed'.
+# The bridge of tools/live, build/bridge/release/bridge, by Debian's own cargo. Takes Debian's packages that
+# tools/bridge/build names, and installs those that are missing.
+bridge: ## builds the bridge of tools/live, by Debian's cargo
+	@tools/bridge/build
+
+# Tests tools/live beside the gate: first the parts of its bridge and its own, then, in a guest, unmodified Linux
+# stations that join the networks of the built program, and at last the same on an air that loses frames, with hostapd
+# beside it. Takes root and Debian's packages debootstrap, e2fsprogs, qemu-system-x86 and python3, and those of `make
+# bridge`. Each run in the guest ends with 'N passed, M failed'.
 test-live: apctl ## tests the bridge with real stations in a guest; takes root
+	@tools/bridge/build test
+	@tools/guest/air/build test
 	@tools/test live
 	@tools/test-live
+	@tools/test-live air
 
 # Draws the example of three networks, the picture of README.md, and those of docs/EXAMPLES.md.
 picture: ## draws the pictures of README.md and docs/

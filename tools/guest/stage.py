@@ -18,7 +18,7 @@ NETWORK_TEXT = """
 [[network]]
 bssid = "{bssid}"
 ssid = "{ssid}"
-rates = "82840b16"
+rates = "{rates}"
 dtim = {dtim}
 max_stations = 64
 max_known = 128
@@ -32,7 +32,11 @@ set -o pipefail
 {program} "$@" | tee {answers}
 """
 READY, TIMEOUT = "networks are on channel", 30
-DURATION, RETRY, TIMESTAMP = slice(2, 4), 0x08, slice(24, 32)
+TOP = os.path.dirname(os.path.dirname(os.path.dirname(os.path.realpath(__file__))))
+COMPILED = os.path.join(TOP, "build", "bridge", "release", "bridge")
+RECORD_HEADER = struct.Struct("<c6sH")  # of a record of octets: its kind, a BSSID, how many octets follow
+KINDS = {b"A": "air", b"W": "wire"}
+DURATION, RECEIVER, RETRY, TIMESTAMP = slice(2, 4), slice(4, 10), 0x08, slice(24, 32)
 
 
 @dataclass(frozen=True)
@@ -44,6 +48,7 @@ class Net:
     port: str
     dtim: int = 1
     more: str = ""
+    rates: str = "82840b16"
 
 
 @dataclass
@@ -53,6 +58,25 @@ class Section:
     air: list[str] = field(default_factory=list)
     wire: list[str] = field(default_factory=list)
     table: list[str] = field(default_factory=list)
+
+
+def text_of(answers: bytes) -> str:
+    """What the program wrote, as lines of text, whichever face it has (docs/LIVE.md); a record that was cut is left
+    out."""
+    if not answers.startswith(b"O"):
+        return answers.decode("ascii")
+    lines, place = [], 0
+    while place + RECORD_HEADER.size <= len(answers):
+        kind, bssid, length = RECORD_HEADER.unpack_from(answers, place)
+        octets = answers[place + RECORD_HEADER.size:place + RECORD_HEADER.size + length]
+        place += RECORD_HEADER.size + length
+        if place > len(answers):
+            break
+        if kind in KINDS:
+            lines.append(f"{KINDS[kind]} {address_text(bssid)} {octets.hex()}\n")
+        else:
+            lines.append(octets.decode("ascii") if kind == b"N" else f"ok {bssid[5]}\n")
+    return "".join(lines)
 
 
 def read_answers(text: str) -> dict[str, Section]:
@@ -109,6 +133,11 @@ def comparable(octets: bytes) -> bytes:
     if Frame(octets).is_management(PROBE_RESPONSE):
         text[TIMESTAMP] = bytes(8)
     return bytes(text)
+
+
+def receiver_of(octets: bytes) -> bytes:
+    """Address 1 of a frame."""
+    return octets[RECEIVER]
 
 
 def same(what: str, found: list, wanted: list) -> None:
@@ -174,8 +203,8 @@ class Start:
             os.path.join(self.folder, file) for file in ("config", "record", "answers", "log", "keeping"))
         with open(self.config, "w", encoding="utf-8") as file:
             file.write(RADIO_TEXT.format(version=version))
-            file.writelines(NETWORK_TEXT.format(bssid=net.bssid, ssid=net.ssid, dtim=net.dtim,
-                                                more=net.more) for net in networks)
+            file.writelines(NETWORK_TEXT.format(bssid=net.bssid, ssid=net.ssid, rates=net.rates,
+                                                dtim=net.dtim, more=net.more) for net in networks)
         with open(keeping, "w", encoding="utf-8") as file:
             file.write(KEEPING.format(program=program, answers=self.answers))
         os.chmod(keeping, 0o755)
@@ -203,8 +232,8 @@ class Start:
 
     def answered(self) -> str:
         """What the program has written so far."""
-        with open(self.answers, encoding="ascii") as file:
-            return file.read()
+        with open(self.answers, "rb") as file:
+            return text_of(file.read())
 
     def recorded(self) -> list[str]:
         """The lines that the program was given so far, but for the last moments."""
@@ -238,17 +267,23 @@ class Start:
         self.observed.end()
 
     def kill_program(self) -> None:
-        """Kills the program itself: the bridge has to say so, and to end with another status than 0."""
+        """Kills the program itself: that has to be told."""
         self.was_killed = True
-        wanted = os.path.realpath(self.program)
-        found = [int(pid) for pid in os.listdir("/proc") if pid.isdigit() and executable_of(pid) == wanted]
-        for pid in found:
-            os.kill(pid, signal.SIGKILL)
-        if len(found) != 1:
-            raise Failed(f"{len(found)} programs ran")
+        os.kill(process_of(self.program), signal.SIGKILL)
         self.ended(1)
-        if "the program ended by itself" not in self.told():
-            raise Failed(f"the bridge didn't say that the program ended: {self.told()[-500:]}")
+        self.has_told("the program ended by itself")
+
+    def kill_compiled(self) -> None:
+        """Kills the compiled bridge: that has to be told, and the program ends with it."""
+        os.kill(process_of(COMPILED), signal.SIGKILL)
+        self.ended(1)
+        self.has_told("the bridge ended by itself, by the signal SIGKILL")
+        wait_for("the program ends", 20, lambda: not processes_of(self.program))
+
+    def has_told(self, text: str) -> None:
+        """The bridge has to have told this."""
+        if text not in self.told():
+            raise Failed(f"the bridge didn't say '{text}': {self.told()[-500:]}")
 
     def rerun(self, lines: list[str]) -> dict[str, Section]:
         """What `run` reports of these lines."""
@@ -285,19 +320,38 @@ class Start:
         return f"{taken_out} of {len(self.recorded())} lines taken out"
 
     def agrees_with_observed(self) -> str:
-        """What another radio heard of each network has to be what the program wrote for it."""
+        """What another radio heard of each network has to be what the program wrote for it: for each receiver the same
+        frames in the same order, where one that was sent again counts once."""
         bssids = {address_of(net.bssid): net for net in self.networks}
         heard: dict[str, list[bytes]] = defaultdict(list)
+        last: dict[tuple[bytes, bytes], int] = {}
         for packet in self.observed.packets():
             found = captured(packet)
             frame = Frame(found.frame) if found else None
             if frame and frame.transmitter in bssids:
-                heard[bssids[frame.transmitter].bssid].append(comparable(frame.octets))
+                way = frame.transmitter, frame.receiver
+                if not frame.retry or last.get(way) != frame.sequence_control:
+                    heard[bssids[frame.transmitter].bssid].append(comparable(frame.octets))
+                last[way] = frame.sequence_control
         wrote = read_answers(self.answered())
         for net in self.networks:
-            same(f"{self.name}: heard of {net.ssid}", heard[net.bssid],
-                 [comparable(bytes.fromhex(octets)) for octets in wrote[net.bssid].air])
+            same(f"{self.name}: heard of {net.ssid}", sorted(heard[net.bssid], key=receiver_of),
+                 sorted((comparable(bytes.fromhex(octets)) for octets in wrote[net.bssid].air), key=receiver_of))
         return f"{sum(map(len, heard.values()))} frames heard"
+
+
+def processes_of(executable: str) -> list[int]:
+    """The processes that run this file."""
+    wanted = os.path.realpath(executable)
+    return [int(pid) for pid in os.listdir("/proc") if pid.isdigit() and executable_of(pid) == wanted]
+
+
+def process_of(executable: str) -> int:
+    """The process that runs this file, of which there has to be one."""
+    found = processes_of(executable)
+    if len(found) != 1:
+        raise Failed(f"{executable} runs {len(found)} times")
+    return found[0]
 
 
 def executable_of(pid: str) -> str | None:

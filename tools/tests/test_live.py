@@ -1,10 +1,9 @@
-"""Tests of the bridge tools/live that need neither a radio nor root: what goes on to the program and what doesn't, when
-beacon intervals begin, what a radio says that it can do, and the lines that go in and out."""
+"""Tests of tools/live that need neither a radio nor root: what a radio says that it can do, what is changed on the
+machine and taken back, and how the bridge is started, asked and ended. The bridge, tools/bridge, has tests of its own."""
 import contextlib
 import io
 import os
 import signal
-import socket
 import struct
 import subprocess
 import tempfile
@@ -14,19 +13,15 @@ import unittest
 from contextlib import ExitStack
 from unittest import mock
 
-from frames import BROADCAST, Frame, address_of
-from live import machine, radiotap, setting_up
-from live.answers import Ready, ToAir, Told, ToWire, read_answer
-from live.bridge import Bridge, Sender, Signals, end_program, start_program
-from live.checks import Wanted, check_abilities, check_config, check_left, check_program, check_record, check_wires
+from frames import BROADCAST, address_of
+from live import checks, machine, radiotap, setting_up
+from live.bridge import Bridge, Signals, words_of
+from live.checks import (Wanted, check_abilities, check_bridge, check_config, check_left, check_program, check_record,
+                         check_wires, face_of)
 from live.faults import Fault
 from live.machine import Interface
 from live.phys import read_phy
-from live.program import STATE, Feeder, Program
-from live.receiving import MOST_SENDERS, Air, LeftOut, judge_wired
 from live.settings import Network, Settings, read_settings
-from live.sockets import AUXDATA, MEMBERSHIP, Packet, PacketSocket
-from live.ticks import TIME_UNIT_NS, Ticks
 
 TOOLS = os.path.dirname(os.path.dirname(os.path.realpath(__file__)))
 OURS, OTHER = address_of("02:00:00:00:01:01"), address_of("02:00:00:00:01:02")
@@ -145,168 +140,6 @@ class Radiotap(unittest.TestCase):
         """Fields that don't fit the header's length are not read."""
         self.assertEqual(radiotap.captured(with_radiotap(data(), present=0xFFFF, fields=bytes(2))).frame, data())
 
-    def test_header_for_sending(self):
-        """The rate, and the TX flag that keeps the sequence number; it is a header that reads as sent."""
-        header = radiotap.sending_header(2)
-        self.assertEqual(header.hex(), "00000c00048000000200" + "1000")
-        self.assertTrue(radiotap.captured(header + data()).was_sent)
-
-
-class Hearing(unittest.TestCase):
-    """What of the air goes on."""
-
-    def setUp(self):
-        self.sent = []
-        self.air = Air((OURS, OTHER), self.sent.append)
-
-    def judge(self, frame, **words):
-        """A frame that was heard with a plain header."""
-        return self.air.judge(with_radiotap(frame, **words), False)
-
-    def test_goes_on(self):
-        """Frames to a network of ours, and to all."""
-        self.assertEqual(self.judge(data()), Frame(data()))
-        probe = data(receiver=BROADCAST, control=b"\x40\0")
-        self.assertEqual(self.judge(probe), Frame(probe))
-
-    def test_of_control_frames_polls_alone(self):
-        """A PS-Poll goes on, an acknowledgement and a request to send don't."""
-        poll = b"\xa4\0\x01\xc0" + OURS + STATION
-        self.assertEqual(self.judge(poll), Frame(poll))
-        self.assertEqual(self.judge(b"\xd4\0\0\0" + OURS), LeftOut.CONTROLS)
-        self.assertEqual(self.judge(b"\xb4\0\0\0" + OURS + STATION), LeftOut.CONTROLS)
-
-    def test_left_out(self):
-        """For others, to a group that isn't all, of our own, damaged, short, long, without a header."""
-        self.assertEqual(self.judge(data(receiver=STRANGER)), LeftOut.OTHERS)
-        self.assertEqual(self.judge(data(receiver=b"\1\0\x5e\0\0\1")), LeftOut.OTHERS)
-        self.assertEqual(self.judge(data(transmitter=OTHER)), LeftOut.OWN)
-        self.assertEqual(self.judge(data(), flags=0x40), LeftOut.DAMAGED)
-        self.assertEqual(self.judge(data()[:9]), LeftOut.SHORT)
-        self.assertEqual(self.judge(data(body=bytes(4073))), LeftOut.LONG)
-        self.assertEqual(self.judge(data(body=bytes(4072))), Frame(data(body=bytes(4072))))
-        self.assertEqual(self.air.judge(bytes(3), False), LeftOut.NO_RADIOTAP)
-
-    def test_sent(self):
-        """What this machine sends is left out, and what the radio shows as sent is told."""
-        self.assertEqual(self.air.judge(with_radiotap(data()), True), LeftOut.SENT)
-        self.assertEqual(self.sent, [])
-        beacon = data(transmitter=OURS, receiver=BROADCAST, control=b"\x80\0")
-        self.assertEqual(self.judge(beacon, present=1 << 1 | 1 << 15, fields=bytes(4)), LeftOut.SENT)
-        self.assertEqual(self.sent, [Frame(beacon)])
-
-
-class Repeated(unittest.TestCase):
-    """Frames that were sent again, which a simulated air never has."""
-
-    def setUp(self):
-        self.air = Air((OURS, OTHER))
-
-    def judge(self, **words):
-        """Whether a frame goes on."""
-        return self.air.judge_frame(Frame(data(**words))) != LeftOut.REPEATED
-
-    def test_retry_of_the_last(self):
-        """With Retry and the sequence control of the last: not again, however often."""
-        self.assertTrue(self.judge())
-        self.assertFalse(self.judge(control=b"\x08\x09"))
-        self.assertFalse(self.judge(control=b"\x08\x09"))
-
-    def test_same_number_without_retry(self):
-        """Without Retry it is no repeated frame."""
-        self.assertTrue(self.judge())
-        self.assertTrue(self.judge())
-
-    def test_retry_of_what_was_never_heard(self):
-        """A frame of which only the repetition was heard goes on, and is known then."""
-        self.assertTrue(self.judge(control=b"\x08\x09"))
-        self.assertFalse(self.judge(control=b"\x08\x09"))
-
-    def test_retry_of_an_earlier_one(self):
-        """Only the last one counts."""
-        self.assertTrue(self.judge(sequence=0x10))
-        self.assertTrue(self.judge(sequence=0x20))
-        self.assertTrue(self.judge(sequence=0x10, control=b"\x08\x09"))
-
-    def test_fragments_differ(self):
-        """The fragment's number is part of it."""
-        self.assertTrue(self.judge(sequence=0x10))
-        self.assertTrue(self.judge(sequence=0x11, control=b"\x08\x09"))
-
-    def test_management_and_data_are_one_list(self):
-        """One number counts both; another sender or another network is another list."""
-        self.assertTrue(self.judge(control=b"\xb0\0"))
-        self.assertFalse(self.judge(control=b"\xb0\x08"))
-        self.assertTrue(self.judge(control=b"\xb0\x08", transmitter=STRANGER))
-        self.assertTrue(self.judge(control=b"\xb0\x08", receiver=OTHER))
-        self.assertFalse(self.judge(control=b"\x48\x09"))
-
-    def test_neither_group_nor_poll(self):
-        """Frames to all are never repeated, and a poll has no sequence number."""
-        for _ in range(2):
-            self.assertTrue(self.judge(receiver=BROADCAST, control=b"\x40\x08"))
-            poll = Frame(b"\xa4\x08\x01\xc0" + OURS + STATION + bytes(8))
-            self.assertEqual(self.air.judge_frame(poll), poll)
-
-    def test_short(self):
-        """A frame without a sequence number goes on."""
-        for _ in range(2):
-            self.assertEqual(self.air.judge_frame(Frame(data()[:20])), Frame(data()[:20]))
-
-    def test_memory_is_bounded(self):
-        """Of many senders those heard last are known."""
-        for number in range(MOST_SENDERS + 10):
-            self.judge(transmitter=b"\2\0" + number.to_bytes(4, "big"))
-        self.assertEqual(len(self.air.last), MOST_SENDERS)
-        self.assertFalse(self.judge(transmitter=b"\2\0" + (MOST_SENDERS + 9).to_bytes(4, "big"), control=b"\x08\x09"))
-        self.assertTrue(self.judge(transmitter=b"\2\0" + bytes(4), control=b"\x08\x09"))
-
-
-class Wired(unittest.TestCase):
-    """What of a wired port goes on."""
-
-    FRAME = BROADCAST + STRANGER + b"\x08\x06" + bytes(28)
-
-    def test_goes_on(self):
-        """A frame as it came, also one that no network will read."""
-        self.assertEqual(judge_wired(self.FRAME, False, False), self.FRAME)
-        self.assertEqual(judge_wired(b"", False, False), b"")
-
-    def test_left_out(self):
-        """Of this machine, tagged, too long."""
-        self.assertEqual(judge_wired(self.FRAME, True, False), LeftOut.SENT)
-        self.assertEqual(judge_wired(self.FRAME, False, True), LeftOut.TAGGED)
-        for tag in (b"\x81\0\0\7", b"\x88\xa8\0\7"):
-            self.assertEqual(judge_wired(self.FRAME[:12] + tag + self.FRAME[12:], False, False), LeftOut.TAGGED)
-        self.assertEqual(judge_wired(bytes(4097), False, False), LeftOut.LONG)
-
-    def test_kernels_structures(self):
-        """Their lengths are those of <linux/if_packet.h>."""
-        self.assertEqual((AUXDATA.size, MEMBERSHIP.size), (20, 16))
-
-
-class BeaconIntervals(unittest.TestCase):
-    """When they begin."""
-
-    LENGTH = 100 * TIME_UNIT_NS
-
-    def test_in_time(self):
-        """The first at once, then one each interval."""
-        ticks = Ticks(1000, 100)
-        self.assertEqual([ticks.begins(1000 + at) for at in (0, 1, self.LENGTH - 1, self.LENGTH, self.LENGTH + 1)],
-                         [True, False, False, True, False])
-
-    def test_late(self):
-        """A late one begins at once, the next at the next multiple; those missed are never made."""
-        ticks = Ticks(0, 100)
-        self.assertTrue(ticks.begins(0))
-        self.assertTrue(ticks.begins(self.LENGTH * 7 // 2))
-        self.assertEqual(ticks.due, self.LENGTH * 4)
-        self.assertFalse(ticks.begins(self.LENGTH * 4 - 1))
-        self.assertTrue(ticks.begins(self.LENGTH * 4))
-        self.assertTrue(ticks.begins(self.LENGTH * 6))
-        self.assertEqual(ticks.due, self.LENGTH * 7)
-
 
 class Radios(unittest.TestCase):
     """What `iw` says of a radio."""
@@ -349,7 +182,7 @@ class Machine(unittest.TestCase):
     """What is changed on the machine, by commands that are only kept here, and taken back."""
 
     SETTINGS = Settings(6, 100, (Network(OURS, b"\x82"), Network(OTHER, b"\x82")))
-    WANTED = Wanted("radio.toml", "apctl", "phy9", "mon0", ((OURS, "nowire1"),), None, None)
+    WANTED = Wanted("radio.toml", "apctl", "bridge", "phy9", "mon0", ((OURS, "nowire1"),), None, None)
     # What `ethtool -k` and `ethtool -i` say of a veth.
     ANSWERS = {"-k": "Features for nowire1:\ngeneric-receive-offload: on\nlarge-receive-offload: off [fixed]\n",
                "-i": "driver: veth\n"}
@@ -358,8 +191,7 @@ class Machine(unittest.TestCase):
         self.commands = []
         self.failing = None
         for where, name, value in (
-                (machine, "run", self.run_command), (setting_up.shutil, "which", lambda command: None),
-                (setting_up.SettingUp, "socket", lambda setting, interface: mock.Mock(interface=interface))):
+                (machine, "run", self.run_command), (setting_up.shutil, "which", lambda command: None)):
             patch = mock.patch.object(where, name, value)
             patch.start()
             self.addCleanup(patch.stop)
@@ -381,7 +213,7 @@ class Machine(unittest.TestCase):
 
     def test_radio(self):
         """The channel is set while the monitor interface is alone; what was added is deleted, and nothing else."""
-        made, taken_back, _ = self.changed(lambda setting: setting.open_radio())
+        made, taken_back, _ = self.changed(lambda setting: setting.set_up_radio())
         self.assertEqual(made, [
             "iw phy phy9 interface add mon0 type monitor flags control", "ip link set mon0 mtu 2304",
             "ip link set mon0 up", "iw dev mon0 set freq 2437",
@@ -393,16 +225,16 @@ class Machine(unittest.TestCase):
         """What was done before it is taken back, where one of these fails too the others."""
         self.failing = "iw phy phy9 interface add mon0n2 type managed addr 02:00:00:00:01:02"
         with self.assertRaisesRegex(Fault, "it failed"):
-            self.changed(lambda setting: setting.open_radio())
+            self.changed(lambda setting: setting.set_up_radio())
         self.assertEqual(self.commands[-2:], ["iw dev mon0n1 del", "iw dev mon0 del"])
         self.failing = "iw dev mon0n1 del"
         self.commands.clear()
-        _, taken_back, told = self.changed(lambda setting: setting.open_radio())
+        _, taken_back, told = self.changed(lambda setting: setting.set_up_radio())
         self.assertEqual((taken_back[-1], told), ("iw dev mon0 del", "live: not taken back: it failed\n"))
 
     def test_wires(self):
         """What can be turned off is, and on again; a network without a wire, and an end elsewhere, are told."""
-        made, taken_back, told = self.changed(lambda setting: setting.open_wires())
+        made, taken_back, told = self.changed(lambda setting: setting.set_up_wires())
         self.assertEqual(made, ["ethtool -k nowire1", "ethtool -K nowire1 gro off", "ethtool -i nowire1",
                                 "ip link set nowire1 up"])
         self.assertEqual(taken_back, ["ip link set nowire1 down", "ethtool -K nowire1 gro on"])
@@ -419,7 +251,7 @@ class Machine(unittest.TestCase):
               mock.patch.object(setting_up, "RUNNING", folder.name),
               mock.patch.object(setting_up.shutil, "which", lambda command: "/usr/bin/nmcli"),
               mock.patch.object(setting_up, "reload_network_manager", reloaded)):
-            made, taken_back, _ = self.changed(lambda setting: setting.open_radio())
+            made, taken_back, _ = self.changed(lambda setting: setting.set_up_radio())
         self.assertEqual((made[0], taken_back[-1]), ("reload, True", "reload, False"))
 
     def test_left(self):
@@ -432,134 +264,7 @@ class Machine(unittest.TestCase):
         with mock.patch.object(machine, "interfaces", lambda: there[:1]):
             check_left(self.WANTED, 2)
             with self.assertRaisesRegex(Fault, "too long a name: a-long-monitorn2"):
-                check_left(Wanted("", "", "phy9", "a-long-monitor", (), None, None), 2)
-
-
-class Answers(unittest.TestCase):
-    """The program's lines."""
-
-    def test_known(self):
-        """Frames, tables and faults."""
-        self.assertEqual(read_answer("ok 3"), Ready(3))
-        self.assertEqual(read_answer("air 02:00:00:00:01:01 8000"), ToAir(OURS, b"\x80\0"))
-        self.assertEqual(read_answer("wire 02:00:00:00:01:02 00ff"), ToWire(OTHER, b"\0\xff"))
-        for text in ("network 02:00:00:00:01:01 ssid 6c6162", "events 0 clock 0 unread 0 lost 0 kept 0", "end",
-                     "station 02:aa:00:00:00:01 authenticated", "fault L2 line 7"):
-            self.assertEqual(read_answer(text), Told(text))
-
-    def test_unknown(self):
-        """What isn't known is a fault."""
-        for text in ("", "ok", "air", "air 02:00:00:00:01:01", "air 02:00:00:00:01:01 0", "wire x 00", "hello"):
-            with self.assertRaises(Fault):
-                read_answer(text)
-
-
-class Recorder:
-    """A socket that keeps what is sent, or refuses it."""
-
-    interface = "mon0"
-
-    def __init__(self, fault=None):
-        self.sent = []
-        self.fault = fault
-
-    def send(self, octets):
-        """Keeps it."""
-        if self.fault:
-            raise self.fault
-        self.sent.append(octets)
-
-
-class Woken:
-    """Signals that are never waited for."""
-
-    def wake(self):
-        """Nobody waits."""
-
-
-class Sending(unittest.TestCase):
-    """What is done with the program's answers."""
-
-    def sender(self, text, monitor, wires):
-        """What a sender did with this text of the program."""
-        sender = Sender(io.BytesIO(text.encode()), Woken())
-        settings = Settings(6, 100, (Network(OURS, b"\x0b\x84\x82"), Network(OTHER, b"\x16\x0b")))
-        sender.open(settings, monitor, wires)
-        sender.run()
-        return sender
-
-    def test_frames_go_out(self):
-        """Each by its socket, on the air at the network's lowest basic rate, or its lowest."""
-        monitor, wire = Recorder(), Recorder()
-        sender = self.sender("ok 2\nair 02:00:00:00:01:01 8000\nair 02:00:00:00:01:02 8001\nwire 02:00:00:00:01:02 "
-                             + "00" * 14 + "\n", monitor, {OTHER: wire})
-        self.assertEqual(monitor.sent, [radiotap.sending_header(2) + b"\x80\0",
-                                        radiotap.sending_header(0x0B) + b"\x80\1"])
-        self.assertEqual(wire.sent, [bytes(14)])
-        self.assertIsNone(sender.fault)
-
-    def test_no_wire_and_tags(self):
-        """What a network without a wire sends there is counted, and what has a VLAN's tag isn't sent."""
-        wire = Recorder()
-        sender = self.sender(f"wire 02:00:00:00:01:01 {'00' * 14}\nwire 02:00:00:00:01:02 {'00' * 12}8100\n",
-                             Recorder(), {OTHER: wire})
-        self.assertEqual((wire.sent, sum(sender.counts.values())), ([], 2))
-
-    def test_refused(self):
-        """A frame that the interface refuses is counted, and the next is sent all the same."""
-        refusing = Recorder(OSError(90, "Message too long"))
-        wire = Recorder()
-        with contextlib.redirect_stderr(io.StringIO()) as told:
-            sender = self.sender("air 02:00:00:00:01:01 8000\nair 02:00:00:00:01:01 8000\nwire 02:00:00:00:01:02 00\n",
-                                 refusing, {OTHER: wire})
-        self.assertEqual(sender.counts["refused by mon0: Message too long"], 2)
-        self.assertEqual((told.getvalue().count("refused"), wire.sent), (1, [b"\0"]))
-
-    def test_cut_line(self):
-        """A frame of which the program wrote a part as it ended isn't sent."""
-        monitor = Recorder()
-        sender = self.sender("air 02:00:00:00:01:01 8000\nair 02:00:00:00:01:01 80", monitor, {})
-        self.assertEqual((len(monitor.sent), sender.fault), (1, None))
-
-    def test_unknown_network(self):
-        """An answer for a network that isn't there is the program's fault."""
-        self.assertIsNotNone(self.sender("air 02:00:00:00:01:09 8000\n", Recorder(), {}).fault)
-
-
-class Feeding(unittest.TestCase):
-    """Lines into a pipe that takes little."""
-
-    def test_what_the_pipe_does_not_take_is_kept(self):
-        """Nothing is lost or turned, and the tables are recorded as a comment."""
-        reading, writing = os.pipe()
-        os.set_blocking(writing, False)
-        record = io.BytesIO()
-        with os.fdopen(reading, "rb", buffering=0) as out, os.fdopen(writing, "wb", buffering=0) as pipe:
-            feeder = Feeder(pipe, record)
-            lines = [b"A " + b"%02x" % (number % 256) * 3000 for number in range(50)]
-            for line in lines:
-                feeder.give(line)
-            feeder.give(STATE)
-            self.assertTrue(feeder.pending)
-            taken = b""
-            while feeder.pending:
-                taken += out.read(1 << 20)
-                feeder.flush()
-            feeder.end()
-            while piece := out.read(1 << 20):
-                taken += piece
-        self.assertEqual(taken, b"".join(line + b"\n" for line in [*lines, b"I"]))
-        self.assertEqual(record.getvalue(), b"".join(line + b"\n" for line in [*lines, b"# I"]))
-
-    def test_program_that_ended(self):
-        """What is given to it is lost, and nothing raises."""
-        reading, writing = os.pipe()
-        os.close(reading)
-        with os.fdopen(writing, "wb", buffering=0) as pipe:
-            feeder = Feeder(pipe, None)
-            feeder.give(b"T")
-            self.assertTrue(feeder.is_broken)
-            self.assertFalse(feeder.pending)
+                check_left(Wanted("", "", "", "phy9", "a-long-monitor", (), None, None), 2)
 
 
 class WithFiles(unittest.TestCase):
@@ -581,7 +286,7 @@ class WithFiles(unittest.TestCase):
 
     def wanted(self, program, wires=()):
         """Words."""
-        return Wanted(self.config, program, "phy0", "mon0", tuple(wires), None, None)
+        return Wanted(self.config, program, "bridge", "phy0", "mon0", tuple(wires), None, None)
 
 
 class FilesAndPrograms(WithFiles):
@@ -613,18 +318,6 @@ class FilesAndPrograms(WithFiles):
             with self.assertRaisesRegex(Fault, says):
                 check_wires(self.wanted("", wires), settings)
 
-    def test_program_in_its_own_group(self):
-        """Lines go in and answers come while it runs; it ends with its input, and its status is told."""
-        path = self.write("echoing", "#!/bin/sh\nwhile read -r line; do echo \"$line\"; done\nexit 7\n", 0o755)
-        program = Program(path, self.config)
-        self.assertNotEqual(os.getpgid(program.process.pid), os.getpgid(0))
-        feeder = Feeder(program.input, None)
-        feeder.give(b"end")
-        self.assertEqual(program.output.readline(), b"end\n")
-        feeder.end()
-        self.assertEqual(program.status(), 7)
-        program.output.close()
-
     def test_words(self):
         """--help says what it is; wrong words are told, and a fault is one line and status 1."""
         tool = os.path.join(TOOLS, "live")
@@ -638,172 +331,113 @@ class FilesAndPrograms(WithFiles):
         self.assertEqual((done.returncode, done.stdout, len(done.stderr.splitlines())), (1, "", 1), done.stderr)
 
 
-class Port:
-    """A port in place of a packet socket: `heard` puts packets into it, and `sent` is what was sent by it. A radio's
-    port shows what is sent as such, where `shows` says so."""
-
-    def __init__(self, interface, shows=False):
-        self.interface = interface
-        self.shows = shows
-        self.near, self.far = socket.socketpair(socket.AF_UNIX, socket.SOCK_SEQPACKET)
-        self.sent = []
-
-    def fileno(self):
-        """By which the bridge waits for it."""
-        return self.near.fileno()
-
-    def receive(self):
-        """The next packet."""
-        try:
-            return Packet(self.near.recv(65536, socket.MSG_DONTWAIT), False, False, False)
-        except BlockingIOError:
-            return None
-
-    def send(self, octets):
-        """Keeps what is sent."""
-        self.sent.append(octets)
-        if self.shows:
-            self.far.send(octets)
-
-    def heard(self, octets):
-        """A packet comes."""
-        self.far.send(octets)
-
-    def count_dropped(self):
-        """None is."""
-        return 0
-
-    def close(self):
-        """Closes both ends."""
-        self.near.close()
-        self.far.close()
-
-
-BEACON = "80000000ffffffffffff020000000101020000000101"
-# A program of one network: a beacon for each tick, for each frame heard the same on the wire, for each question a
-# table.
-BEACONING = f"""#!/bin/bash
-[ "$1" = check ] && exit
-echo 'ok 1'
-while read -r word rest; do
-    case $word in
-    T) echo 'air 02:00:00:00:01:01 {BEACON}' ;;
-    A) echo "wire 02:00:00:00:01:01 $rest" ;;
-    I) echo 'end' ;;
-    W) exit 3 ;;
-    esac
+# A bridge in place of the compiled one: it tells what a test wants, and writes what it was asked.
+BRIDGE = """#!/bin/bash
+echo "$*" > {folder}/words
+echo ready
+while read -r request; do
+    echo "$request" >> {folder}/asked
+    {does}
 done
-echo 'network 02:00:00:00:01:01 ssid 6c6162'
+echo status {status}
+{after}
 """
 
 
 class Running(WithFiles):
-    """The whole loop, with ports in place of packet sockets, and a program of a few lines."""
+    """A bridge of a few lines, started and ended as the compiled one is."""
 
     def setUp(self):
         super().setUp()
-        stack = ExitStack()
-        self.addCleanup(lambda: self.program.output.close())
-        self.addCleanup(stack.close)
+        self.stack = ExitStack()
+        self.addCleanup(self.stack.close)
         for number in (signal.SIGINT, signal.SIGTERM, signal.SIGHUP, signal.SIGUSR1):
-            stack.callback(signal.signal, number, signal.getsignal(number))
-        self.told = stack.enter_context(contextlib.redirect_stderr(io.StringIO()))
-        self.signals = Signals(stack)
-        self.monitor, self.wire = Port("mon0", True), Port("wire1")
-        for port in (self.monitor, self.wire):
-            stack.callback(port.close)
-        path = self.write("beaconing", BEACONING, 0o755)
-        self.program, self.sender = start_program(self.wanted(path), self.signals, stack)
-        self.record = io.BytesIO()
-        self.feeder = Feeder(self.program.input, self.record)
+            self.stack.callback(signal.signal, number, signal.getsignal(number))
+        self.told = self.stack.enter_context(contextlib.redirect_stderr(io.StringIO()))
+        self.signals = Signals(self.stack)
 
-    def run_bridge(self, later, tables=None):
-        """Runs the loop; `later` is called by another thread after a while."""
-        settings = read_settings(self.config)
-        self.sender.open(settings, self.monitor, {OURS: self.wire})
-        bridge = Bridge(settings, self.feeder, self.sender, self.signals, tables)
+    def run_bridge(self, later=lambda: None, tables=None, does="[ $request = open ] && echo sending", status=0,
+                   after="true"):
+        """Runs it; `later` is called by another thread after a while."""
+        path = self.write("bridge", BRIDGE.format(folder=self.folder, does=does, status=status, after=after), 0o755)
+        wanted = Wanted(self.config, "apctl", path, "phy0", "mon0", ((OURS, "wire1"),), "a.trace", tables)
+        bridge = Bridge(words_of(wanted, read_settings(self.config), "octets"), self.signals, self.stack)
+        bridge.await_networks()
         timer = threading.Timer(0.5, later)
         timer.start()
         try:
-            bridge.run(self.monitor, {OURS: self.wire})
+            bridge.run("it runs", tables)
         finally:
             timer.join()
-            self.status = end_program(self.program, self.feeder, self.sender)
+            bridge.end()
+
+    def read(self, name):
+        """What the bridge has written."""
+        with open(os.path.join(self.folder, name), encoding="utf-8") as file:
+            return file.read()
 
     def end(self):
-        """Ends the bridge as a person does."""
+        """Ends it as a person does."""
         os.kill(os.getpid(), signal.SIGINT)
 
     def test_runs_and_ends_by_a_signal(self):
-        """Beacons go out, what is heard goes in, the tables come, and the record has all lines."""
+        """It is told what there is, signals are passed on, and what it tells is told."""
         def later():
-            self.monitor.heard(with_radiotap(data()))
             os.kill(os.getpid(), signal.SIGUSR1)
             time.sleep(0.5)
             self.end()
         self.run_bridge(later)
-        self.assertEqual(self.status, 0)
-        header = radiotap.sending_header(2)
-        self.assertGreaterEqual(len(self.monitor.sent), 2)
-        self.assertEqual(set(self.monitor.sent), {header + bytes.fromhex(BEACON)})
-        self.assertEqual(self.wire.sent, [data()])
-        lines = self.record.getvalue().decode().splitlines()
-        self.assertEqual(lines.count("T"), len(self.monitor.sent))
-        self.assertEqual(sorted(set(lines)), ["# I", f"A {data().hex()}", "T"])
-        told = self.told.getvalue().splitlines()
-        self.assertIn("on channel 6", told[0])
-        self.assertEqual(told[1:], ["end", "network 02:00:00:00:01:01 ssid 6c6162"])
+        self.assertEqual(self.read("words").strip(), f"--face octets --monitor mon0 --interval 100 --record a.trace "
+                                                     f"--network 02:00:00:00:01:01/82840b16/wire1 apctl {self.config}")
+        self.assertEqual(self.read("asked"), "open\ntables\n")
+        self.assertEqual(self.told.getvalue(), "live: it runs\nlive: the program ended with status 0; taking down what "
+                                               "was set up\n")
 
     def test_tables_by_the_clock(self):
         """--tables asks by itself."""
         self.run_bridge(self.end, 0.1)
-        self.assertGreaterEqual(self.record.getvalue().count(b"# I\n"), 2)
+        self.assertGreaterEqual(self.read("asked").count("tables\n"), 2)
 
-    def test_radio_that_does_not_send(self):
-        """Where no beacon is seen as sent within a second, it is a fault by name."""
-        self.monitor.shows = False
-        with self.assertRaisesRegex(Fault, "this radio does not send beside its interfaces"):
-            self.run_bridge(lambda: None)
-        self.assertEqual(self.status, 0)
+    def test_fault(self):
+        """What the bridge can't go on with is this program's fault, whatever comes after it."""
+        with self.assertRaisesRegex(Fault, "^wire1: Network is down: was it taken down[?]$"):
+            self.run_bridge(does="break", after="echo 'fault wire1: Network is down: was it taken down?'; exit 1")
+        self.assertIn("the program ended with status 0", self.told.getvalue())
 
-    def test_program_ends_by_itself(self):
-        """It is told, and its status."""
-        with self.assertRaisesRegex(Fault, "the program ended by itself"):
-            self.run_bridge(lambda: self.wire.heard(bytes(14)))
-        self.assertEqual(self.status, 3)
+    def test_killed(self):
+        """A bridge that is killed is told, and so is one that ends as it shouldn't."""
+        with self.assertRaisesRegex(Fault, "the bridge ended by itself, by the signal SIGKILL"):
+            self.run_bridge(does="kill -9 $$")
+        with self.assertRaisesRegex(Fault, "the bridge ended by itself, with status 3"):
+            self.run_bridge(does="exit 3")
 
+    def test_ended_while_it_begins(self):
+        """A signal before the networks are open ends it too."""
+        path = self.write("slow", "#!/bin/bash\nread -r nothing\nexit 0\n", 0o755)
+        bridge = Bridge([path], self.signals, self.stack)
+        timer = threading.Timer(0.3, self.end)
+        timer.start()
+        bridge.await_networks()
+        timer.join()
+        self.assertFalse(bridge.is_ready or bridge.has_to_go_on())
+        bridge.end()
 
-@unittest.skipUnless(os.geteuid() == 0, "it takes root")
-class OnePacketSocket(unittest.TestCase):
-    """A packet socket on the loopback interface, as root."""
+    def test_bridge_that_is_not_there(self):
+        """It is told how it is built, and which packages that takes."""
+        missing = os.path.join(self.folder, "missing")
+        with mock.patch.object(checks.shutil, "which", lambda command: None):
+            with self.assertRaisesRegex(Fault, "install Debian's packages cargo librust-hex-dev.*`make bridge` builds"):
+                check_bridge(missing)
+        with mock.patch.object(checks.shutil, "which", lambda command: command):
+            with self.assertRaisesRegex(Fault, "missing isn't there: `make bridge` builds it"):
+                check_bridge(missing)
+        check_bridge(self.write("there", "", 0o755))
 
-    def test_sends_and_hears(self):
-        """What another socket sends comes once, as received; what this one sends it doesn't hear as outgoing."""
-        try:
-            hearing, sending = PacketSocket("lo"), PacketSocket("lo")
-        except OSError as fault:
-            self.skipTest(f"no packet socket here: {fault}")
-        self.addCleanup(hearing.close)
-        self.addCleanup(sending.close)
-        frame = bytes(12) + b"\x88\xb5" + b"the bridge's own test"
-        sending.send(frame)
-        until, found = time.monotonic() + 5, []
-        while not found and time.monotonic() < until:
-            packet = hearing.receive()
-            if packet and packet.octets == frame:
-                found.append(packet)
-        self.assertEqual([packet.is_outgoing for packet in found], [False])
-        self.assertEqual(hearing.count_dropped(), 0)
-
-    def test_too_long(self):
-        """What an interface refuses is an OSError, as the sender expects it."""
-        try:
-            sending = PacketSocket("lo")
-        except OSError as fault:
-            self.skipTest(f"no packet socket here: {fault}")
-        self.addCleanup(sending.close)
-        with self.assertRaises(OSError):
-            sending.send(bytes(socket.SO_SNDBUF + (1 << 17)))
+    def test_face(self):
+        """Octets where the program has them: it refuses words that it doesn't know with status 2."""
+        for status, face in ((2, "text"), (0, "octets"), (1, "octets")):
+            path = self.write("program", f"#!/bin/sh\n[ \"$*\" = 'live --octets {self.config}' ] && exit {status}\n", 0o755)
+            self.assertEqual(face_of(self.wanted(path)), face)
 
 
 if __name__ == "__main__":

@@ -1,46 +1,41 @@
-"""The bridge while it runs: one thread gives the program what comes, another sends what the program answers."""
+"""The bridge while it runs: tools/bridge, by which frames go; here it is started and ended, signals are passed on to it,
+and what it tells is told."""
 import os
 import select
 import signal
 import socket
-import sys
-import threading
+import subprocess
 import time
-from collections import Counter
 from contextlib import ExitStack
-from dataclasses import dataclass
-from typing import BinaryIO
 
-from frames import Frame, address_text
-from live.answers import Answer, Ready, ToAir, ToWire, Told, read_answer
+from frames import address_text
 from live.checks import Wanted, check
 from live.faults import Fault
-from live.program import STATE, Feeder, Program
-from live.radiotap import sending_header
-from live.receiving import Air, LeftOut, is_tagged, judge_wired
+from live.settings import Network, Settings
 from live.setting_up import SettingUp, tell
-from live.settings import Settings
-from live.sockets import PacketSocket
-from live.ticks import Ticks
 
-SECONDS_TO_BEACON = 1
-SECONDS_TO_READY = 20
-AT_A_TIME = 64  # packets of one socket before the next is looked at
-SECOND = 1_000_000_000
+SECONDS_TO_END = 60
 ENDING = (signal.SIGINT, signal.SIGTERM, signal.SIGHUP)
+OPEN, TABLES = "open", "tables"
+
+
+class Notice:
+    """The first words of what the bridge tells, a line each; it is asked by the lines OPEN and TABLES."""
+
+    READY, SENDING, STATUS, FAULT = "ready", "sending", "status", "fault"
 
 
 class Signals:
-    """What a signal asks for; `waker` becomes readable by a signal, and by `wake` of another thread."""
+    """What a signal asks for; `waker` becomes readable by it."""
 
     def __init__(self, stack: ExitStack) -> None:
         self.is_ending = False
         self.tables_asked = False
-        self.waker, self.woken = socket.socketpair()
-        for end in (self.waker, self.woken):
+        self.waker, woken = socket.socketpair()
+        for end in (self.waker, woken):
             end.setblocking(False)
             stack.callback(end.close)
-        before = signal.set_wakeup_fd(self.woken.fileno(), warn_on_full_buffer=False)
+        before = signal.set_wakeup_fd(woken.fileno(), warn_on_full_buffer=False)
         stack.callback(signal.set_wakeup_fd, before)
         for number in ENDING:
             signal.signal(number, self.end)
@@ -54,13 +49,6 @@ class Signals:
         """The tables are to be shown."""
         self.tables_asked = True
 
-    def wake(self) -> None:
-        """Wakes the thread that waits."""
-        try:
-            self.woken.send(b"\0")
-        except BlockingIOError:
-            pass
-
     def drain(self) -> None:
         """Reads what woke it."""
         try:
@@ -70,251 +58,136 @@ class Signals:
             pass
 
 
-class Sender(threading.Thread):
-    """Reads the program's answers, and sends each at once; counts what was sent, and what an interface refused."""
-
-    def __init__(self, output: BinaryIO, signals: Signals) -> None:
-        super().__init__(daemon=True)
-        self.output = output
-        self.signals = signals
-        self.monitor: PacketSocket | None = None
-        self.wires: dict[bytes, PacketSocket] = {}
-        self.headers: dict[bytes, bytes] = {}
-        self.ready = threading.Event()
-        self.fault: Fault | None = None
-        self.counts: Counter[str] = Counter()
-
-    def open(self, settings: Settings, monitor: PacketSocket, wires: dict[bytes, PacketSocket]) -> None:
-        """From now on frames are sent by these sockets; before, the program answers none."""
-        self.headers = {network.bssid: sending_header(network.sending_rate) for network in settings.networks}
-        self.wires = wires
-        self.monitor = monitor
-
-    def run(self) -> None:
-        """Sends until the program ends its output; a last line without its end is one that it didn't write whole."""
-        try:
-            for line in self.output:
-                if line.endswith(b"\n"):
-                    self.take(read_answer(line[:-1].decode("ascii", "replace")))
-        except Fault as fault:
-            self.fault = fault
-        finally:
-            self.ready.set()
-            self.signals.wake()
-
-    def take(self, answer: Answer) -> None:
-        """Does what an answer says."""
-        match answer:
-            case ToAir(bssid, octets) if self.monitor is not None and bssid in self.headers:
-                self.send(self.monitor, self.headers[bssid] + octets, "air")
-            case ToWire(bssid, octets) if bssid not in self.wires:
-                self.counts["lost, of networks without --wire"] += 1
-            case ToWire(bssid, octets) if is_tagged(octets):
-                self.counts["not sent, since they have a VLAN's tag"] += 1
-            case ToWire(bssid, octets):
-                self.send(self.wires[bssid], octets, "wires")
-            case Told(text):
-                print(text, file=sys.stderr, flush=True)
-            case Ready():
-                self.ready.set()
-            case _:
-                raise Fault("the program answered for a network that it doesn't have")
-
-    def send(self, to: PacketSocket, octets: bytes, where: str) -> None:
-        """Sends a frame; one that the interface refuses is counted, and told the first time."""
-        try:
-            to.send(octets)
-            self.counts[f"sent on the {where}"] += 1
-        except OSError as fault:
-            reason = f"refused by {to.interface}: {fault.strerror}"
-            if not self.counts[reason]:
-                tell(f"a frame of {len(octets)} octets was {reason}; more of them are counted")
-            self.counts[reason] += 1
+def network_word(network: Network, wires: dict[bytes, str]) -> str:
+    """What the bridge is told of a network."""
+    parts = [address_text(network.bssid), network.rates.hex()]
+    return "/".join(parts + [wires[network.bssid]] if network.bssid in wires else parts)
 
 
-@dataclass
-class Heard:
-    """What the other thread gave to the program, and what it left out."""
-
-    given: Counter[str]
-    left_out: Counter[tuple[str, LeftOut]]
-
-    def lines(self) -> list[str]:
-        """A line for each count."""
-        told = [f"{number} lines given: {kind}" for kind, number in sorted(self.given.items())]
-        return told + [f"{number} frames {reason.value} left out: {where}"
-                       for (where, reason), number in sorted(self.left_out.items(), key=str)]
+def words_of(wanted: Wanted, settings: Settings, face: str) -> list[str]:
+    """The words by which the bridge is started."""
+    words = [wanted.bridge, "--face", face, "--monitor", wanted.monitor, "--interval", str(settings.interval)]
+    if wanted.record is not None:
+        words += ["--record", wanted.record]
+    for network in settings.networks:
+        words += ["--network", network_word(network, dict(wanted.wires))]
+    return [*words, wanted.program, wanted.config]
 
 
 class Bridge:
-    """The thread that hears: the radio, the wired ports, the clock, and signals."""
+    """tools/bridge with its program, in a group of its own, so that Ctrl-C in a terminal doesn't end it."""
 
-    def __init__(self, settings: Settings, feeder: Feeder, sender: Sender, signals: Signals,
-                 tables: float | None) -> None:
-        self.settings = settings
-        self.feeder = feeder
-        self.sender = sender
+    def __init__(self, words: list[str], signals: Signals, stack: ExitStack) -> None:
         self.signals = signals
-        self.tables_every = None if tables is None else int(tables * SECOND)
-        self.heard = Heard(Counter(), Counter())
-        self.air = Air(settings.bssids, self.take_sent)
-        self.ticks = Ticks(time.monotonic_ns(), settings.interval)
-        self.tables_due = self.ticks.start + (self.tables_every or 0)
-        self.beacon_due: int | None = self.ticks.start + SECONDS_TO_BEACON * SECOND
-        self.monitor: PacketSocket | None = None
-        self.wires: dict[PacketSocket, bytes] = {}
+        self.notices = b""
+        self.is_ready = self.is_sending = self.is_over = False
+        self.status: int | None = None
+        self.fault: str | None = None
+        try:
+            self.process = subprocess.Popen(words, stdin=subprocess.PIPE, stdout=subprocess.PIPE, bufsize=0,
+                                            start_new_session=True)
+        except OSError as fault:
+            raise Fault(f"{words[0]}: {fault.strerror}") from None
+        assert self.process.stdin and self.process.stdout
+        self.requests, self.output = self.process.stdin, self.process.stdout
+        stack.callback(self.kill)
 
-    def run(self, monitor: PacketSocket, wires: dict[bytes, PacketSocket]) -> None:
-        """Runs until a signal ends it, or a fault."""
-        self.monitor = monitor
-        self.wires = {wire: bssid for bssid, wire in wires.items()}
-        while not self.signals.is_ending:
-            if not self.sender.is_alive():
-                raise self.sender.fault or Fault("the program ended by itself")
-            self.wait()
-            self.signals.drain()
-            self.flush()
-            if not self.feeder.pending:
-                self.take_time()
-            for source in (monitor, *self.wires):
-                self.take_packets(source)
-            if self.beacon_due is not None and time.monotonic_ns() > self.beacon_due:
-                raise Fault("this radio does not send beside its interfaces: no beacon was seen as sent within "
-                            f"{SECONDS_TO_BEACON} second (docs/LIVE.md, 'A USB radio')")
+    def kill(self) -> None:
+        """Ends it at once, where it hasn't ended."""
+        self.process.kill()
+        self.process.wait()
+        self.requests.close()
+        self.output.close()
 
-    def wait(self) -> None:
-        """Waits for what comes first; while the program's input is full, for nothing but room and signals."""
-        if self.feeder.pending:
-            select.select([self.signals.waker], [self.feeder.input], [], 1)
-            return
-        due = min(filter(None, (self.ticks.due, self.beacon_due, self.tables_every and self.tables_due)))
-        seconds = max(0, due - time.monotonic_ns()) / SECOND
-        select.select([self.signals.waker, self.monitor, *self.wires], [], [], seconds)
+    def ask(self, request: str) -> None:
+        """Asks it for something; one that has ended is asked for nothing."""
+        try:
+            self.requests.write(f"{request}\n".encode())
+        except BrokenPipeError:
+            pass
 
-    def flush(self) -> None:
-        """Gives what the program didn't take before."""
-        if self.feeder.pending:
-            self.feeder.flush()
+    def wait(self, seconds: float | None) -> None:
+        """Waits until it tells something, a signal comes, or the time is over; then takes what was told."""
+        readable = select.select([self.signals.waker, self.output], [], [], seconds)[0]
+        self.signals.drain()
+        if self.output in readable:
+            piece = os.read(self.output.fileno(), 4096)
+            self.is_over = not piece
+            *lines, self.notices = (self.notices + piece).split(b"\n")
+            for line in lines:
+                self.take(*line.decode("utf-8", "replace").partition(" ")[::2])
 
-    def take_time(self) -> None:
-        """Begins a beacon interval, and asks for the tables, where it is time."""
-        now = time.monotonic_ns()
-        if self.ticks.begins(now):
-            self.give("T", b"T")
-            self.feeder.flush_record()
-        if self.tables_every and now >= self.tables_due:
-            self.tables_due = now + self.tables_every
-            self.signals.tables_asked = True
-        if self.signals.tables_asked:
-            self.signals.tables_asked = False
-            self.give("I", STATE)
+    def take(self, word: str, rest: str) -> None:
+        """Takes what it tells."""
+        match word:
+            case Notice.READY:
+                self.is_ready = True
+            case Notice.SENDING:
+                self.is_sending = True
+            case Notice.STATUS:
+                self.status = int(rest)
+            case Notice.FAULT:
+                self.fault = rest
 
-    def take_packets(self, source: PacketSocket) -> None:
-        """Gives the program what waits in a socket, as long as it takes it."""
-        for _ in range(AT_A_TIME):
-            if self.feeder.pending:
-                return
-            try:
-                packet = source.receive()
-            except OSError as fault:
-                raise Fault(f"{source.interface}: {fault.strerror}: was it taken down?") from None
-            if packet is None:
-                return
-            if source is self.monitor:
-                self.take_air(packet.octets, packet.is_outgoing)
-            else:
-                self.take_wired(source, self.wires[source], packet.octets, packet.is_outgoing, packet.had_tag)
-                if packet.has_no_checksum:
-                    self.tell_of_checksums(source)
+    def has_to_go_on(self) -> bool:
+        """Whether neither a signal nor a fault ended it."""
+        return not (self.signals.is_ending or self.is_over or self.fault)
 
-    def take_air(self, octets: bytes, is_outgoing: bool) -> None:
-        """Gives what the radio heard."""
-        found = self.air.judge(octets, is_outgoing)
-        if isinstance(found, LeftOut):
-            self.heard.left_out["air", found] += 1
-        else:
-            self.give("A", b"A " + found.octets.hex().encode())
+    def await_networks(self) -> None:
+        """Waits until the program's networks are open."""
+        while self.has_to_go_on() and not self.is_ready:
+            self.wait(None)
 
-    def take_wired(self, source: PacketSocket, bssid: bytes, octets: bytes, is_outgoing: bool, had_tag: bool) -> None:
-        """Gives what came over a wire."""
-        found = judge_wired(octets, is_outgoing, had_tag)
-        if isinstance(found, LeftOut):
-            self.heard.left_out[source.interface, found] += 1
-        else:
-            self.give("W", f"W {address_text(bssid)} {found.hex()}".encode())
+    def run(self, told: str, tables: float | None) -> None:
+        """Lets frames go until a signal or a fault ends it; `told` is told once the first beacon was seen as sent."""
+        self.ask(OPEN)
+        has_told = False
+        due = time.monotonic() + (tables or 0)
+        while self.has_to_go_on():
+            self.wait(max(0.0, due - time.monotonic()) if tables else None)
+            if self.is_sending and not has_told:
+                has_told = True
+                tell(told)
+            if tables and time.monotonic() >= due:
+                due = time.monotonic() + tables
+                self.signals.tables_asked = True
+            if self.signals.tables_asked:
+                self.signals.tables_asked = False
+                self.ask(TABLES)
 
-    def take_sent(self, frame: Frame) -> None:
-        """A frame that the radio shows as sent: the first beacon of ours shows that it sends what it is given."""
-        if self.beacon_due is not None and frame.transmitter in self.settings.bssids:
-            self.beacon_due = None
-            tell(f"{len(self.settings.networks)} networks are on channel {self.settings.channel}; Ctrl-C ends it, "
-                 f"`kill -USR1 {os.getpid()}` shows the tables")
-
-    def tell_of_checksums(self, source: PacketSocket) -> None:
-        """Says once that frames come without checksums."""
-        if not self.heard.given["without checksums"]:
-            tell(f"{source.interface}: frames come without checksums, and stations drop them: on the interface that "
-                 "sends them, `ethtool -K NAME tx off gso off tso off`")
-        self.heard.given["without checksums"] += 1
-
-    def give(self, kind: str, line: bytes) -> None:
-        """Gives a line to the program."""
-        self.heard.given[kind] += 1
-        self.feeder.give(line)
-
-    def tell_counts(self) -> None:
-        """Says what was done."""
-        for line in self.heard.lines():
-            tell(line)
-        for what, number in sorted(self.sender.counts.items()):
-            tell(f"{number} frames {what}")
-        for source in (self.monitor, *self.wires) if self.monitor else ():
-            if source.count_dropped():
-                tell(f"{source.count_dropped()} frames dropped by the kernel at {source.interface}: this machine was "
-                     "too slow for them")
+    def end(self) -> None:
+        """Ends it: the program's tables and the counts come, and its status. A fault where it told one, or was ended."""
+        self.requests.close()
+        until = time.monotonic() + SECONDS_TO_END
+        while not self.is_over and time.monotonic() < until:
+            self.wait(until - time.monotonic())
+        if not self.is_over:
+            self.process.kill()
+        status = self.process.wait()
+        if self.status is not None:
+            tell(f"the program ended with status {self.status}; taking down what was set up")
+        if self.fault is not None or status != 0:
+            raise Fault(self.fault or f"the bridge ended by itself, {reason_of(status)}; taking down what was set up")
 
 
-def start_program(wanted: Wanted, signals: Signals, stack: ExitStack) -> tuple[Program, Sender]:
-    """Starts the program, and waits until its networks are open."""
-    program = Program(wanted.program, wanted.config)
-    stack.callback(program.kill)
-    sender = Sender(program.output, signals)
-    sender.start()
-    if not sender.ready.wait(SECONDS_TO_READY):
-        raise Fault(f"`{wanted.program} live {wanted.config}` answered nothing in {SECONDS_TO_READY} seconds")
-    if sender.fault or not sender.is_alive():
-        raise sender.fault or Fault(f"`{wanted.program} live {wanted.config}` ended with status {program.status()}")
-    return program, sender
-
-
-def end_program(program: Program, feeder: Feeder, sender: Sender) -> int:
-    """Closes the program's input, lets its tables come, and answers its status."""
-    feeder.end()
-    status = program.status()
-    sender.join()
-    return status
+def reason_of(status: int) -> str:
+    """How a child ended."""
+    return f"by the signal {signal.Signals(-status).name}" if status < 0 else f"with status {status}"
 
 
 def serve(wanted: Wanted) -> None:
     """Sets all up, runs, and takes down what was set up."""
     with ExitStack() as stack:
         signals = Signals(stack)
-        settings = check(wanted)
-        program, sender = start_program(wanted, signals, stack)
-        record = None
-        if wanted.record is not None:
-            record = stack.enter_context(open(wanted.record, "xb"))
-        feeder = Feeder(program.input, record)
-        setting_up = SettingUp(wanted, settings, stack)
-        wires = setting_up.open_wires()
-        monitor = setting_up.open_radio()
-        sender.open(settings, monitor, wires)
-        bridge = Bridge(settings, feeder, sender, signals, wanted.tables)
+        settings, face = check(wanted)
+        bridge = Bridge(words_of(wanted, settings, face), signals, stack)
         try:
-            bridge.run(monitor, wires)
+            bridge.await_networks()
+            if bridge.has_to_go_on():
+                setting_up = SettingUp(wanted, settings, stack)
+                setting_up.set_up_wires()
+                setting_up.set_up_radio()
+                bridge.run(f"{len(settings.networks)} networks are on channel {settings.channel}; Ctrl-C ends it, "
+                           f"`kill -USR1 {os.getpid()}` shows the tables", wanted.tables)
         finally:
-            status = end_program(program, feeder, sender)
-            bridge.tell_counts()
-            tell(f"the program ended with status {status}; taking down what was set up")
-        if status != 0:
-            raise Fault(f"the program ended with status {status}")
+            bridge.end()

@@ -1,6 +1,7 @@
 """What has to be so before anything is changed; each fault says what a person can do."""
 import os
 import re
+import shutil
 import subprocess
 from dataclasses import dataclass
 
@@ -12,6 +13,8 @@ from live.phys import MANAGED, MONITOR, Phy, read_phy
 from live.settings import Settings, read_settings
 
 MOST_NAME = 15
+WRONG_WORDS = 2
+CARGO, PACKAGES = "/usr/bin/cargo", "cargo librust-hex-dev librust-libc-dev librust-nix-dev"
 
 
 @dataclass(frozen=True)
@@ -20,6 +23,7 @@ class Wanted:
 
     config: str
     program: str
+    bridge: str
     phy: str
     monitor: str
     wires: tuple[tuple[bytes, str], ...]
@@ -31,15 +35,16 @@ class Wanted:
         return f"{self.monitor}n{place + 1}"
 
 
-def check(wanted: Wanted) -> Settings:
-    """The settings, where all is as it has to be."""
+def check(wanted: Wanted) -> tuple[Settings, str]:
+    """The settings and the program's face, where all is as it has to be."""
     check_rights()
+    check_bridge(wanted.bridge)
     check_program(wanted.program)
     settings = check_config(wanted)
     check_wires(wanted, settings)
     check_radio(wanted, settings)
     check_record(wanted.record)
-    return settings
+    return settings, face_of(wanted)
 
 
 def check_rights() -> None:
@@ -49,6 +54,15 @@ def check_rights() -> None:
     missing = machine.missing_commands()
     if missing:
         raise Fault(f"install Debian's packages {' '.join(missing)}")
+
+
+def check_bridge(bridge: str) -> None:
+    """The bridge has to be built, which takes packages of Debian."""
+    if os.access(bridge, os.X_OK):
+        return
+    if shutil.which(CARGO) is None:
+        raise Fault(f"the bridge isn't built: install Debian's packages {PACKAGES}, and then `make bridge` builds it")
+    raise Fault(f"{bridge} isn't there: `make bridge` builds it")
 
 
 def check_program(program: str) -> None:
@@ -68,6 +82,13 @@ def check_config(wanted: Wanted) -> Settings:
     if done.returncode != 0:
         raise Fault(f"{wanted.config}: {done.stderr.strip()} (docs/FAULTS.md says what to look at)")
     return read_settings(wanted.config)
+
+
+def face_of(wanted: Wanted) -> str:
+    """How the program is spoken to: in records of octets where it has that word, else in lines of text."""
+    words = [wanted.program, "live", "--octets", wanted.config]
+    done = subprocess.run(words, stdin=subprocess.DEVNULL, capture_output=True, check=False)
+    return "text" if done.returncode == WRONG_WORDS else "octets"
 
 
 def check_wires(wanted: Wanted, settings: Settings) -> None:

@@ -1,18 +1,16 @@
-"""Radiotap headers (radiotap.org): what a monitor interface says of a frame, and what is said of one to be sent."""
+"""Radiotap headers (radiotap.org): what a monitor interface says of a frame."""
 import struct
 from dataclasses import dataclass
 
 START = struct.Struct("<BBHI")  # version, padding, length, fields that are present
 PRESENT_LEN, PRESENT_AT = 4, 4
 MORE_PRESENT = 1 << 31
-FLAGS_PRESENT, RATE_PRESENT, RX_FLAGS_PRESENT, TX_FLAGS_PRESENT = 1 << 1, 1 << 2, 1 << 14, 1 << 15
+FLAGS_PRESENT, RX_FLAGS_PRESENT, TX_FLAGS_PRESENT = 1 << 1, 1 << 14, 1 << 15
 # The fields up to the TX flags, in the order of their bits: length and alignment.
 FIELDS = ((8, 8), (1, 1), (1, 1), (4, 2), (2, 1), (1, 1), (1, 1), (2, 2), (2, 2), (2, 2), (1, 1), (1, 1), (1, 1),
           (1, 1), (2, 2), (2, 2))
 HAS_FCS, BAD_FCS = 0x10, 0x40
 BAD_PLCP = 0x0002
-KEEP_SEQUENCE_NUMBER = 0x0010
-SENDING = struct.Struct("<BBHIBxH")  # the start, then the rate and the TX flags
 FCS_LEN = 4
 
 
@@ -57,8 +55,3 @@ def captured(packet: bytes) -> Captured | None:
         damaged |= bool(packet[fields[RX_FLAGS_PRESENT]] & BAD_PLCP)
     frame = packet[length:-FCS_LEN] if flags & HAS_FCS else packet[length:]
     return Captured(frame, damaged, TX_FLAGS_PRESENT in fields)
-
-
-def sending_header(rate: int) -> bytes:
-    """The header of a frame to be sent at this rate, in units of 500 kb/s, with the sequence number that it has."""
-    return SENDING.pack(0, 0, SENDING.size, RATE_PRESENT | TX_FLAGS_PRESENT, rate, KEEP_SEQUENCE_NUMBER)

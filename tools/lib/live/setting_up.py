@@ -11,7 +11,6 @@ from live.checks import Wanted
 from live.faults import Fault
 from live.machine import Interface
 from live.settings import Settings
-from live.sockets import PacketSocket
 
 MTU = 2304
 ADDRESS_MODE, NO_ADDRESS = "/proc/sys/net/ipv6/conf/{}/addr_gen_mode", "1"
@@ -48,15 +47,16 @@ class SettingUp:
         self.settings = settings
         self.stack = stack
 
-    def open_wires(self) -> dict[bytes, PacketSocket]:
-        """Sets the wired ports up, and opens a socket on each."""
+    def set_up_wires(self) -> None:
+        """Sets the wired ports up."""
         for network in self.settings.networks:
             if network.bssid not in dict(self.wanted.wires):
                 tell(f"the network {address_text(network.bssid)} has no --wire: what it sends there is lost")
-        return {bssid: self.open_wire(Interface(name)) for bssid, name in self.wanted.wires}
+        for _, name in self.wanted.wires:
+            self.set_up_wire(Interface(name))
 
-    def open_wire(self, interface: Interface) -> PacketSocket:
-        """Sets one wired port up: it hears all, and no frames are joined to larger ones."""
+    def set_up_wire(self, interface: Interface) -> None:
+        """Sets one wired port up: no frames are joined to larger ones."""
         self.turn_off(interface, RECEIVING)
         other = interface.other_end
         if other is not None:
@@ -66,9 +66,6 @@ class SettingUp:
                  "end: `ethtool -K NAME tx off gso off tso off`")
         if not interface.is_up:
             self.bring_up(interface.name)
-        wire = self.socket(interface.name)
-        wire.hear_all()
-        return wire
 
     def turn_off(self, interface: Interface, offloads: dict[str, str]) -> None:
         """Turns off those offloads that are on."""
@@ -78,7 +75,7 @@ class SettingUp:
             self.change(["ethtool", "-K", interface.name, *(word for short in on for word in (short, "off"))],
                         ["ethtool", "-K", interface.name, *(word for short in on for word in (short, "on"))])
 
-    def open_radio(self) -> PacketSocket:
+    def set_up_radio(self) -> None:
         """Sets the radio up: a monitor interface on the channel, then an interface for each network, by which it
         acknowledges. The channel can only be set while the monitor interface is alone."""
         self.keep_network_manager_out()
@@ -92,7 +89,6 @@ class SettingUp:
             self.add(name, "type", "managed", "addr", address_text(network.bssid))
             self.keep_without_address(name)
             machine.run("ip", "link", "set", name, "up")
-        return self.socket(monitor)
 
     def add(self, name: str, *words: str) -> None:
         """Adds an interface to the radio."""
@@ -116,15 +112,6 @@ class SettingUp:
         """Makes a change that is taken back in the end."""
         machine.run(*words)
         self.stack.callback(take_back, *back)
-
-    def socket(self, name: str) -> PacketSocket:
-        """A socket on an interface."""
-        try:
-            opened = PacketSocket(name)
-        except OSError as fault:
-            raise Fault(f"{name}: no packet socket: {fault.strerror}") from None
-        self.stack.callback(opened.close)
-        return opened
 
     def keep_network_manager_out(self) -> None:
         """Where NetworkManager runs it would scan by the new interfaces, and so move the channel."""

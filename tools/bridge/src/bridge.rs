@@ -1,0 +1,593 @@
+//! The bridge while it runs: one thread that waits for what comes first, and does it.
+use std::collections::BTreeMap;
+use std::io;
+
+use crate::control::{say, Notice, Request, Requests};
+use crate::faces::{Answer, Event};
+use crate::faults::{reason, show, tell, Fault};
+use crate::filter::{monitor_filter, Shown};
+use crate::frames::{Address, Frame, FrameType};
+use crate::poller::{Poller, Ready, Token};
+use crate::program::{Feeder, Program};
+use crate::receiving::{judge_wired, Air, Judged, LeftOut};
+use crate::sending::{Network, Sender};
+use crate::sockets::{Batch, Packet, Port, AT_A_TIME};
+use crate::time::{now, wall_now, Nanos, Ticks, MILLISECOND, SECOND};
+use crate::waiting::{Flow, Source, Waiter, Waiting};
+
+const TO_BEACON: Nanos = SECOND;
+const TO_READY: Nanos = 20 * SECOND;
+const TO_END: Nanos = 20 * SECOND;
+/// How many batches of one socket are read, and pieces of the program's output, before something else is looked at.
+const IN_A_ROW: usize = 4;
+/// The lane of the air; those of wires come after, in the networks' order.
+const AIR: Source = 0;
+
+/// How far the bridge is.
+#[derive(Debug, Clone, Copy, PartialEq, Eq)]
+enum Phase {
+    /// The program opens the networks, until this time.
+    Opening(Nanos),
+    /// `tools/live` sets the interfaces up.
+    SettingUp,
+    /// Frames go.
+    Running,
+    /// What the program still writes is sent.
+    Ending,
+}
+
+/// What was given to the program, by kind.
+#[derive(Debug, Default, Clone, Copy)]
+struct Given {
+    air: u64,
+    wires: u64,
+    ticks: u64,
+    tables: u64,
+    without_checksums: u64,
+}
+
+/// The interfaces, and what waits between them and the program.
+struct Running<P> {
+    sender: Sender<P>,
+    networks: Vec<Network>,
+    air: Air,
+    waiting: Waiting,
+    ticks: Ticks,
+    /// Until when the first beacon has to be seen as sent, while none was.
+    beacon_due: Option<Nanos>,
+    given: Given,
+    left_out: BTreeMap<(Source, LeftOut), u64>,
+    has_told_drops: bool,
+}
+
+/// The program, `tools/live`, and once the interfaces are there, these.
+pub struct Bridge<P, C> {
+    program: Program,
+    feeder: Feeder,
+    requests: Requests<C>,
+    poller: Poller,
+    interval: u16,
+    phase: Phase,
+    running: Option<Running<P>>,
+    batch: Batch,
+    tables_asked: bool,
+    waits_for_room: bool,
+}
+
+impl<P: Port, C: io::Read + std::os::unix::io::AsRawFd> Bridge<P, C> {
+    /// With this program, whose networks aren't open yet, requests of `tools/live`, and a beacon interval in time units.
+    pub fn new(program: Program, feeder: Feeder, requests: Requests<C>, interval: u16) -> Result<Self, Fault> {
+        let poller = Poller::new()?;
+        poller.add(requests.descriptor(), Token::Control, true, false)?;
+        poller.add(program.descriptor(), Token::Output, true, false)?;
+        let phase = Phase::Opening(now() + TO_READY);
+        let (running, batch, tables_asked, waits_for_room) = (None, Batch::new(), false, false);
+        Ok(Bridge { program, feeder, requests, poller, interval, phase, running, batch, tables_asked, waits_for_room })
+    }
+
+    /// Runs until `tools/live` ends it, or until a fault; `open` opens the interfaces once they are there.
+    pub fn serve(&mut self, mut open: impl FnMut() -> Result<Sender<P>, Fault>) -> Result<(), Fault> {
+        let mut outcome = Ok(());
+        while outcome.is_ok() && self.phase != Phase::Ending {
+            outcome = self.step(&mut open);
+        }
+        if let (Err(fault), Phase::Opening(_)) = (&outcome, self.phase) {
+            let _ = self.program.status(0);
+            return Err(fault.clone());
+        }
+        let rest = self.drain();
+        let status = self.program.status(now() + TO_END).map_err(|fault| Fault::of("the program", &fault))?;
+        if let Some(running) = &mut self.running {
+            running.tell_counts();
+        }
+        say(&Notice::Status(status));
+        outcome.and(rest)?;
+        match status {
+            0 => Ok(()),
+            _ => Err(Fault::new(format!("the program ended with status {status}"))),
+        }
+    }
+
+    /// Waits for what comes first, and does what is to be done then.
+    fn step(&mut self, open: &mut impl FnMut() -> Result<Sender<P>, Fault>) -> Result<(), Fault> {
+        let mut found = Vec::new();
+        self.poller.set_due(self.due())?;
+        let most = self.most_wait();
+        self.poller.wait(most, &mut found)?;
+        for ready in found {
+            match ready.token {
+                Token::Control => self.take_requests(open)?,
+                Token::Output => self.take_answers()?,
+                Token::Input | Token::Clock => {}
+                Token::Monitor | Token::Wire(_) => self.take_port(ready)?,
+            }
+        }
+        if self.phase == Phase::Ending {
+            return Ok(());
+        }
+        self.take_time()?;
+        self.feed()?;
+        self.send()
+    }
+
+    /// When something is to be done at the latest.
+    fn due(&self) -> Nanos {
+        match (self.phase, &self.running) {
+            (Phase::Opening(until), _) => until,
+            (Phase::Running, Some(running)) => {
+                let tick = if running.ticks.due() <= now() { now() + MILLISECOND } else { running.ticks.due() };
+                [running.beacon_due, running.sender.due()].into_iter().flatten().fold(tick, Nanos::min)
+            }
+            _ => Nanos::MAX,
+        }
+    }
+
+    /// How many milliseconds to wait at most: the program doesn't say when it has read something.
+    fn most_wait(&self) -> Option<u16> {
+        let waits = self.running.as_ref().map_or(false, |running| !running.waiting.is_empty());
+        (waits && !self.waits_for_room).then_some(1)
+    }
+
+    fn take_requests(&mut self, open: &mut impl FnMut() -> Result<Sender<P>, Fault>) -> Result<(), Fault> {
+        while let Some(request) = self.requests.next() {
+            match (request, self.phase) {
+                (Request::Open, Phase::SettingUp) => self.begin(open()?)?,
+                (Request::Tables, Phase::Running) => self.tables_asked = true,
+                (Request::End, _) => {
+                    self.poller.remove(self.requests.descriptor())?;
+                    self.phase = Phase::Ending;
+                    return Ok(());
+                }
+                _ => {}
+            }
+        }
+        Ok(())
+    }
+
+    /// The interfaces are there: frames go, and the first beacon interval begins.
+    fn begin(&mut self, mut sender: Sender<P>) -> Result<(), Fault> {
+        let networks = sender.networks().to_vec();
+        self.poller.add(sender.monitor().port.descriptor(), Token::Monitor, true, false)?;
+        for place in 0..networks.len() {
+            if let Some(wire) = sender.wire(place) {
+                self.poller.add(wire.port.descriptor(), Token::Wire(place), true, false)?;
+            }
+        }
+        let running = Running::new(sender, networks, self.interval);
+        self.running = Some(running);
+        self.set_filter(Shown::All)?;
+        self.phase = Phase::Running;
+        Ok(())
+    }
+
+    fn set_filter(&mut self, shown: Shown) -> Result<(), Fault> {
+        if let Some(running) = &mut self.running {
+            let bssids: Vec<Address> = running.networks.iter().map(|network| network.bssid).collect();
+            let port = &mut running.sender.monitor().port;
+            let outcome = port.set_filter(&monitor_filter(&bssids, shown));
+            outcome.map_err(|fault| Fault::of(format!("{}: no filter", port.interface()), &fault))?;
+        }
+        Ok(())
+    }
+
+    /// Reads what the program wrote, and sends it.
+    fn take_answers(&mut self) -> Result<(), Fault> {
+        for _ in 0..IN_A_ROW {
+            if !self.program.read()? {
+                break;
+            }
+            let time = now();
+            while let Some(answer) = self.program.next_answer()? {
+                self.take_answer(answer, time)?;
+            }
+            self.send()?;
+        }
+        match (self.program.has_ended(), self.phase) {
+            (true, Phase::Opening(_)) => Err(self.ended_early()),
+            (true, Phase::SettingUp | Phase::Running) => Err(Fault::new("the program ended by itself")),
+            _ => Ok(()),
+        }
+    }
+
+    fn ended_early(&mut self) -> Fault {
+        match self.program.status(now() + SECOND) {
+            Ok(status) => Fault::new(format!("the program ended with status {status} before its networks were open")),
+            Err(fault) => Fault::of("the program", &fault),
+        }
+    }
+
+    fn take_answer(&mut self, answer: Answer, time: Nanos) -> Result<(), Fault> {
+        match (answer, &mut self.running) {
+            (Answer::Told(line), _) => show(&line),
+            (Answer::Ready(_), _) => {
+                if matches!(self.phase, Phase::Opening(_)) {
+                    self.phase = Phase::SettingUp;
+                    say(&Notice::Ready);
+                }
+            }
+            (Answer::Air(bssid, octets), Some(running)) => running.sender.send_on_air(bssid, octets, time)?,
+            (Answer::Wire(bssid, octets), Some(running)) => running.sender.send_on_wire(bssid, octets, time)?,
+            (Answer::Air(..) | Answer::Wire(..), None) => {
+                return Err(Fault::new("the program sent a frame before it was given one"))
+            }
+        }
+        Ok(())
+    }
+
+    /// Reads the packets that wait at an interface, or learns that it has room.
+    fn take_port(&mut self, ready: Ready) -> Result<(), Fault> {
+        let running = match &mut self.running {
+            Some(running) => running,
+            None => return Ok(()),
+        };
+        if ready.can_write {
+            running.unblock(ready.token);
+        }
+        let was_waited_for = running.beacon_due.is_some();
+        if ready.can_read && self.phase == Phase::Running {
+            running.receive(ready.token, &mut self.batch)?;
+        }
+        if was_waited_for && running.beacon_due.is_none() {
+            say(&Notice::Sending);
+            self.set_filter(Shown::Outcomes)?;
+        }
+        Ok(())
+    }
+
+    /// Begins a beacon interval where it is time, and asks for the tables where that was asked for. An interval begins
+    /// only once the program has read the beginning of the one before: what it doesn't read doesn't pile up.
+    fn take_time(&mut self) -> Result<(), Fault> {
+        let time = now();
+        match (self.phase, &mut self.running) {
+            (Phase::Opening(until), _) if time >= until => {
+                return Err(Fault::new(format!("the program answered nothing in {} seconds", TO_READY / SECOND)));
+            }
+            (Phase::Running, Some(running)) => {
+                if time >= running.ticks.due() && self.feeder.has_read_tick() && running.ticks.begins(time) {
+                    self.feeder.say(Event::Tick)?;
+                    self.feeder.flush_record()?;
+                    running.given.ticks += 1;
+                }
+                running.sender.expire(time);
+                if self.tables_asked {
+                    self.tables_asked = false;
+                    self.feeder.say(Event::Tables)?;
+                    running.given.tables += 1;
+                }
+                if running.beacon_due.map_or(false, |due| time > due) {
+                    return Err(Fault::new(format!(
+                        "this radio does not send beside its interfaces: no beacon was seen as sent within {} second \
+                         (docs/LIVE.md, 'A USB radio')",
+                        TO_BEACON / SECOND
+                    )));
+                }
+            }
+            _ => {}
+        }
+        Ok(())
+    }
+
+    /// Says to the program what waits, as far as it has read what was said before.
+    fn feed(&mut self) -> Result<(), Fault> {
+        loop {
+            let is_written = self.feeder.flush()?;
+            self.wait_for_room(!is_written)?;
+            let running = match &mut self.running {
+                Some(running) if is_written => running,
+                _ => return Ok(()),
+            };
+            let time = now();
+            let mut said = 0;
+            let room = if running.waiting.is_empty() { 0 } else { self.feeder.room() };
+            while said < room {
+                match running.waiting.pop(time) {
+                    None => break,
+                    Some((source, waiter)) => {
+                        running.say(source, &waiter, &mut self.feeder)?;
+                        said += 1;
+                    }
+                }
+            }
+            if said == 0 {
+                return Ok(());
+            }
+        }
+    }
+
+    /// Waits for room in the program's input, or no more.
+    fn wait_for_room(&mut self, waits: bool) -> Result<(), Fault> {
+        if waits != self.waits_for_room {
+            self.waits_for_room = waits;
+            match self.feeder.descriptor() {
+                Some(input) if waits => self.poller.add(input, Token::Input, false, true)?,
+                Some(input) => self.poller.remove(input)?,
+                None => {}
+            }
+        }
+        Ok(())
+    }
+
+    /// Sends what waits for the interfaces, and waits for those that have no room.
+    fn send(&mut self) -> Result<(), Fault> {
+        let reads = self.phase == Phase::Running;
+        if let Some(running) = &mut self.running {
+            for (token, descriptor, is_blocked) in running.flush() {
+                self.poller.change(descriptor, token, reads, is_blocked)?;
+            }
+        }
+        Ok(())
+    }
+
+    /// Ends the program's input, and sends and shows what it still writes.
+    fn drain(&mut self) -> Result<(), Fault> {
+        let until = now() + TO_END;
+        if self.phase != Phase::Ending {
+            self.poller.remove(self.requests.descriptor())?;
+            self.phase = Phase::Ending;
+        }
+        if let Some(running) = &mut self.running {
+            running.stop_reading(&self.poller)?;
+        }
+        let mut found = Vec::new();
+        while !self.program.has_ended() && now() < until {
+            if self.feeder.descriptor().is_some() {
+                let is_written = self.feeder.flush()?;
+                self.wait_for_room(!is_written)?;
+                if is_written {
+                    self.feeder.close();
+                }
+            }
+            self.poller.wait(Some(100), &mut found)?;
+            for ready in found.drain(..) {
+                match ready.token {
+                    Token::Output => self.take_answers()?,
+                    Token::Monitor | Token::Wire(_) => self.take_port(ready)?,
+                    _ => {}
+                }
+            }
+            self.send()?;
+        }
+        self.feeder.close();
+        self.feeder.flush_record()
+    }
+}
+
+impl<P: Port> Running<P> {
+    fn new(sender: Sender<P>, networks: Vec<Network>, interval: u16) -> Running<P> {
+        let start = now();
+        Running {
+            sender,
+            air: Air::new(networks.iter().map(|network| network.bssid)),
+            waiting: Waiting::new(1 + networks.len()),
+            networks,
+            ticks: Ticks::new(start, interval),
+            beacon_due: Some(start + TO_BEACON),
+            given: Given::default(),
+            left_out: BTreeMap::new(),
+            has_told_drops: false,
+        }
+    }
+
+    fn unblock(&mut self, token: Token) {
+        match token {
+            Token::Monitor => self.sender.monitor().unblock(),
+            Token::Wire(place) => {
+                if let Some(wire) = self.sender.wire(place) {
+                    wire.unblock();
+                }
+            }
+            _ => {}
+        }
+    }
+
+    /// Reads what waits at an interface, some batches of it at most.
+    fn receive(&mut self, token: Token, batch: &mut Batch) -> Result<(), Fault> {
+        for _ in 0..IN_A_ROW {
+            let port = match token {
+                Token::Wire(place) => match self.sender.wire(place) {
+                    Some(wire) => &mut wire.port,
+                    None => return Ok(()),
+                },
+                _ => &mut self.sender.monitor().port,
+            };
+            let number = port
+                .receive(batch)
+                .map_err(|fault| Fault::new(format!("{}: {}: was it taken down?", port.interface(), reason(&fault))))?;
+            let (time, wall) = (now(), wall_now());
+            for packet in batch.packets() {
+                let waited = packet.arrived.map_or(0, |arrived| wall.saturating_sub(arrived));
+                let arrived = time.saturating_sub(waited.min(SECOND));
+                match token {
+                    Token::Wire(place) => self.take_wired(place, &packet, arrived),
+                    _ => self.take_air(&packet, arrived),
+                }
+            }
+            if number < AT_A_TIME {
+                break;
+            }
+        }
+        self.tell_of_drops();
+        Ok(())
+    }
+
+    fn take_air(&mut self, packet: &Packet<'_>, arrived: Nanos) {
+        match self.air.judge(packet.octets, packet.is_outgoing, packet.is_cut) {
+            Judged::LeftOut(reason) => self.leave_out(AIR, reason),
+            Judged::Sent(frame, outcome) => {
+                self.leave_out(AIR, LeftOut::Sent);
+                self.see_sent(frame);
+                self.sender.shown(frame, outcome, arrived);
+            }
+            Judged::GoesOn(frame) => {
+                self.sender.heard(frame);
+                let waiter = Waiter { flow: flow_of_air(frame), arrived, octets: frame.octets().to_vec() };
+                self.waiting.push(AIR, waiter);
+            }
+        }
+    }
+
+    /// The first frame of ours that the radio shows as sent shows that it sends what it is given.
+    fn see_sent(&mut self, frame: &[u8]) {
+        let is_ours = Address::at(frame, 10).map_or(false, |found| self.sender.place_of(&found).is_some());
+        if is_ours {
+            self.beacon_due = None;
+        }
+    }
+
+    fn take_wired(&mut self, place: usize, packet: &Packet<'_>, arrived: Nanos) {
+        let source = AIR + 1 + place;
+        match judge_wired(packet.octets, packet.is_outgoing, packet.had_tag, packet.is_cut) {
+            Err(reason) => self.leave_out(source, reason),
+            Ok(octets) => {
+                let waiter = Waiter { flow: Some(flow_of_wire(octets)), arrived, octets: octets.to_vec() };
+                self.waiting.push(source, waiter);
+            }
+        }
+        if packet.has_no_checksum {
+            self.tell_of_checksums(place);
+        }
+    }
+
+    fn leave_out(&mut self, source: Source, reason: LeftOut) {
+        *self.left_out.entry((source, reason)).or_default() += 1;
+    }
+
+    /// Says a frame to the program.
+    fn say(&mut self, source: Source, waiter: &Waiter, feeder: &mut Feeder) -> Result<(), Fault> {
+        match source.checked_sub(AIR + 1) {
+            None => {
+                self.given.air += 1;
+                feeder.say(Event::Air(&waiter.octets))
+            }
+            Some(place) => {
+                self.given.wires += 1;
+                feeder.say(Event::Wire(self.networks[place].bssid, &waiter.octets))
+            }
+        }
+    }
+
+    /// Sends what waits, and answers which interfaces got or lost their room by it.
+    fn flush(&mut self) -> Vec<(Token, std::os::unix::io::RawFd, bool)> {
+        let before: Vec<bool> = self.sender.exits().map(|exit| exit.is_waited_for()).collect();
+        self.sender.flush(now());
+        let tokens = std::iter::once(Token::Monitor).chain(
+            self.networks
+                .iter()
+                .enumerate()
+                .filter(|(_, network)| network.wire.is_some())
+                .map(|(place, _)| Token::Wire(place)),
+        );
+        let mut changed = Vec::new();
+        for ((token, exit), before) in tokens.zip(self.sender.exits()).zip(before) {
+            if exit.is_blocked() != before {
+                exit.set_waited_for(exit.is_blocked());
+                changed.push((token, exit.port.descriptor(), exit.is_blocked()));
+            }
+        }
+        changed
+    }
+
+    /// Reads the interfaces no more.
+    fn stop_reading(&mut self, poller: &Poller) -> Result<(), Fault> {
+        poller.change(self.sender.monitor().port.descriptor(), Token::Monitor, false, false)?;
+        for place in 0..self.networks.len() {
+            if let Some(wire) = self.sender.wire(place) {
+                poller.change(wire.port.descriptor(), Token::Wire(place), false, false)?;
+            }
+        }
+        self.sender.exits().for_each(|exit| {
+            exit.unblock();
+            exit.set_waited_for(false);
+        });
+        Ok(())
+    }
+
+    fn interface(&self, source: Source) -> &str {
+        match source.checked_sub(AIR + 1) {
+            None => "the air",
+            Some(place) => self.networks[place].wire.as_deref().unwrap_or("a wire"),
+        }
+    }
+
+    /// Says once that frames come without checksums.
+    fn tell_of_checksums(&mut self, place: usize) {
+        if self.given.without_checksums == 0 {
+            tell(format!(
+                "{}: frames come without checksums, and stations drop them: on the interface that sends them, `ethtool \
+                 -K NAME tx off gso off tso off`",
+                self.interface(AIR + 1 + place)
+            ));
+        }
+        self.given.without_checksums += 1;
+    }
+
+    /// Says once that more comes than goes through.
+    fn tell_of_drops(&mut self) {
+        if !self.has_told_drops && self.waiting.dropped().next().is_some() {
+            self.has_told_drops = true;
+            tell("more comes than goes through: frames are dropped, and counted");
+        }
+    }
+
+    /// Says what was done.
+    fn tell_counts(&mut self) {
+        let Given { air, wires, ticks, tables, without_checksums } = self.given;
+        let given = [("A", air), ("I", tables), ("T", ticks), ("W", wires), ("without checksums", without_checksums)];
+        for (kind, number) in given.into_iter().filter(|(_, number)| *number > 0) {
+            tell(format!("{number} lines given: {kind}"));
+        }
+        for ((source, reason), number) in &self.left_out {
+            tell(format!("{number} frames {reason} left out: {}", self.interface(*source)));
+        }
+        let mut dropped: Vec<_> = self.waiting.dropped().collect();
+        dropped.sort();
+        for (source, reason, number) in dropped {
+            tell(format!("{number} dropped of {}: {reason}", self.interface(source)));
+        }
+        for (what, number) in self.sender.counts() {
+            tell(format!("{number} frames {what}"));
+        }
+        for exit in self.sender.exits() {
+            let (number, interface) = (exit.port.count_dropped(), exit.port.interface());
+            if number > 0 {
+                tell(format!(
+                    "{number} frames dropped by the kernel at {interface}: this machine was too slow for them"
+                ));
+            }
+        }
+    }
+}
+
+/// Whose data a frame of the air is; `None` where it isn't data: a Null frame says whether a station dozes.
+fn flow_of_air(frame: Frame<'_>) -> Option<Flow> {
+    match frame.transmitter() {
+        Some(sender) if frame.frame_type() == FrameType::Data && !frame.is_null() => Some((sender, frame.receiver())),
+        _ => None,
+    }
+}
+
+/// Whose data a frame of a wire is.
+fn flow_of_wire(octets: &[u8]) -> Flow {
+    let nobody = Address::of([0; 6]);
+    (Address::at(octets, 6).unwrap_or(nobody), Address::at(octets, 0).unwrap_or(nobody))
+}

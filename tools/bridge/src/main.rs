@@ -1,0 +1,112 @@
+//! The bridge between the program's word `live` and a Linux machine's radio and wired ports: the way of a frame.
+//! `tools/live` checks all, sets the interfaces up, starts this, and takes down what it set up; docs/LIVE.md tells how.
+//!
+//! ```text
+//!      what comes                                                                        the program
+//!
+//!  mon0 ───▶ filter ───▶ recvmmsg ──▶ receiving ──▶ waiting: a lane of   ──▶ Feeder ═══▶ ┌────────────────┐
+//!            (kernel)    64 at most   judged, or    the air and of each      pipe of 32  │                │
+//!  wire1 ──────────────▶ a call       counted as    wire, which take         events at   │   apctl live   │
+//!  wire2 ──────────────▶              left out      turns; 50 ms at most     most unread │   [--octets]   │
+//!                                                                              ▲         │                │
+//!  the clock, `tables` of tools/live ──────────────────────────────────────────┘         │                │
+//!                                                                                        │                │
+//!  mon0 ◀──┐                                                                             │                │
+//!  wire1 ◀─┼─ sendmmsg ◀─────── sending: a line for each interface, in order; ◀═════════ │                │
+//!  wire2 ◀─┘  64 at most a call    for the air stations: at which rate,         Answers  └────────────────┘
+//!  mon0 ───▶ what became of it ──▶ and again where it is lost
+//!  people ◀──────────────────── lines of tables and faults
+//! ```
+//!
+//! It promises: frames of the air stay in their order, and frames of each wire; the same holds of what is sent by each
+//! wire, and on the air to each receiver. A unit that nobody acknowledged is sent once more, if none went to its station
+//! since. Each frame that comes is given to the program once, or counted as left out or dropped, but for what the
+//! kernel's filter keeps out: control frames, frames for no network, and those that this radio sent to groups. A
+//! beginning of a beacon interval waits for none of the frames that wait. All memory is bounded. One thread does all by
+//! `epoll`, and waits nowhere else but for its ends of standard error and the record.
+//!
+//! It leaves every decision on a frame to the program, and leaves to `tools/live` all that is done once. It speaks with
+//! that by lines: it reads `open`, once the interfaces are there, and `tables`; the end of its input ends it. It writes
+//! `ready`, once the networks are open, `sending`, once the first beacon was seen as sent, `status N` with the program's
+//! status, and `fault TEXT`, after which it ends with status 1.
+#![deny(unsafe_code)]
+
+mod bridge;
+mod control;
+mod faces;
+mod faults;
+mod filter;
+mod frames;
+#[cfg(test)]
+mod mutator;
+mod poller;
+mod program;
+mod radiotap;
+mod rates;
+mod receiving;
+#[cfg(test)]
+mod samples;
+mod sending;
+mod sockets;
+mod stations;
+mod time;
+mod waiting;
+mod words;
+
+use std::process::ExitCode;
+
+use bridge::Bridge;
+use control::{say, Notice, Requests};
+use faults::Fault;
+use program::{Program, Record};
+use sending::Sender;
+use sockets::PacketSocket;
+use words::Words;
+
+/// How many octets wait in the kernel at most to be sent by an interface: so what is sent next never waits long.
+const AIR_ROOM: i32 = 32 << 10;
+const WIRE_ROOM: i32 = 256 << 10;
+const WRONG_WORDS: u8 = 2;
+
+fn main() -> ExitCode {
+    match Words::read(std::env::args().skip(1)) {
+        Err(fault) => {
+            faults::tell(fault);
+            ExitCode::from(WRONG_WORDS)
+        }
+        Ok(words) => match run(&words) {
+            Ok(()) => ExitCode::SUCCESS,
+            Err(fault) => {
+                say(&Notice::Fault(fault));
+                ExitCode::FAILURE
+            }
+        },
+    }
+}
+
+/// Runs the bridge until it is ended, or until a fault.
+fn run(words: &Words) -> Result<(), Fault> {
+    let requests = Requests::new(std::io::stdin())?;
+    let record = words.record.as_deref().map(Record::create).transpose()?;
+    let (program, feeder) = Program::start(&words.program, &words.config, words.face, record)?;
+    Bridge::new(program, feeder, requests, words.interval)?.serve(|| open(words))
+}
+
+/// Opens a socket on the monitor interface and on each wire.
+fn open(words: &Words) -> Result<Sender<PacketSocket>, Fault> {
+    let wires = words.networks.iter().map(|network| network.wire.as_deref().map(open_wire).transpose());
+    let wires = wires.collect::<Result<_, Fault>>()?;
+    let monitor = open_port(&words.monitor, AIR_ROOM)?;
+    Ok(Sender::new(words.networks.clone(), monitor, wires))
+}
+
+/// A wire is heard whole: frames for any receiver.
+fn open_wire(name: &str) -> Result<PacketSocket, Fault> {
+    let wire = open_port(name, WIRE_ROOM)?;
+    wire.hear_all().map_err(|fault| Fault::of(name, &fault))?;
+    Ok(wire)
+}
+
+fn open_port(name: &str, room: i32) -> Result<PacketSocket, Fault> {
+    PacketSocket::open(name, room).map_err(|fault| Fault::of(format!("{name}: no packet socket"), &fault))
+}

@@ -1,0 +1,209 @@
+//! A seeded mutator over what the bridge reads of others: headers of radiotap, frames, and the program's answers. It
+//! tries a million inputs, each a good one that was changed in some places, cut, or joined to another.
+use crate::faces::{Answer, Answers, Face};
+use crate::filter::{monitor_filter, Shown};
+use crate::frames::{is_tagged, Frame, MOST};
+use crate::radiotap::{captured, Outcome};
+use crate::receiving::{judge_wired, Air, Judged};
+use crate::samples::{data, radiotap, Seeded, Unit, OTHER, OURS, STATION};
+use crate::sending::Network;
+use crate::stations::{Stations, MOST_WAIT};
+
+const INPUTS: usize = 1_000_000;
+
+/// Good inputs: packets of a monitor interface.
+fn packets() -> Vec<Vec<u8>> {
+    let longer = Unit { body: vec![7; 1400], ..Unit::default() }.octets();
+    let poll = [&[0xa4, 0, 1, 0xc0][..], OURS.octets(), STATION.octets()].concat();
+    let words = [&(1u32 << 31 | 0x802f).to_le_bytes()[..], &(1u32 << 31).to_le_bytes(), &[0; 4], &[0; 40]].concat();
+    let two = [&[0, 0, 4 + words.len() as u8, 0][..], &words, &data()].concat();
+    vec![
+        radiotap(&data(), 1 << 1, &[0]),
+        radiotap(&[data(), vec![0; 4]].concat(), 1 << 1, &[0x10]),
+        radiotap(&longer, 0x4fff, &[0; 64]),
+        radiotap(&poll, 0x402e, &[0, 2, 0, 0, 0x85, 9, 0xa0, 0, 0xce, 1, 0, 0]),
+        radiotap(&data(), 1 << 15 | 1 << 17 | 1 << 2, &[2, 0, 1, 0, 7]),
+        two,
+    ]
+}
+
+/// Good inputs: answers of the program.
+fn lines() -> Vec<Vec<u8>> {
+    [
+        "ok 2\n",
+        "air 02:00:00:00:01:01 80000000ffffffffffff\n",
+        "wire 02:00:00:00:01:02 0202\n",
+        "fault L2 line 3\n",
+        "end\n",
+    ]
+    .map(|line| line.as_bytes().to_vec())
+    .to_vec()
+}
+
+fn records() -> Vec<Vec<u8>> {
+    [
+        &b"O\0\0\0\0\0\x02\0\0"[..],
+        b"A\x02\0\0\0\x01\x01\x04\0\x80\0\0\0",
+        b"W\x02\0\0\0\x01\x02\0\0",
+        b"N\0\0\0\0\0\0\x04\0end\n",
+    ]
+    .map(<[u8]>::to_vec)
+    .to_vec()
+}
+
+/// A good input, changed.
+fn mutated(seeded: &mut Seeded, good: &[Vec<u8>]) -> Vec<u8> {
+    let mut octets = good[seeded.below(good.len())].clone();
+    for _ in 0..seeded.below(6) {
+        let place = seeded.below(octets.len());
+        match seeded.below(6) {
+            0 => octets.truncate(place),
+            1 => octets.insert(place, seeded.number() as u8),
+            2 => octets.extend(good[seeded.below(good.len())].clone()),
+            3 if !octets.is_empty() => drop(octets.remove(place)),
+            4 if !octets.is_empty() => octets[place] ^= 1 << seeded.below(8),
+            _ if !octets.is_empty() => octets[place] = [0, 1, 0x7f, 0x80, 0xff, b'\n', b' '][seeded.below(7)],
+            _ => {}
+        }
+    }
+    octets
+}
+
+/// What is judged of a packet has to be a part of it that the program may be given.
+#[test]
+fn packets_of_a_monitor_interface() {
+    let (mut seeded, good) = (Seeded(1), packets());
+    let mut air = Air::new([OURS, OTHER]);
+    let mut kinds = [0u32; 3];
+    for _ in 0..INPUTS {
+        let packet = mutated(&mut seeded, &good);
+        if let Some(found) = captured(&packet) {
+            assert!(packet.windows(found.frame.len().max(1)).any(|part| part == found.frame) || found.frame.is_empty());
+        }
+        let is_cut = seeded.below(9) == 0;
+        match air.judge(&packet, seeded.below(9) == 0, is_cut) {
+            Judged::GoesOn(frame) => {
+                kinds[0] += 1;
+                assert!(frame.octets().len() <= MOST && !is_cut && frame.transmitter() != Some(OURS));
+                assert!(
+                    frame.receiver() == OURS || frame.receiver() == OTHER || frame.receiver().octets() == &[0xff; 6]
+                );
+            }
+            Judged::Sent(frame, _) => {
+                kinds[1] += 1;
+                assert!(frame.len() < packet.len());
+            }
+            Judged::LeftOut(_) => kinds[2] += 1,
+        }
+    }
+    assert!(kinds.iter().all(|number| *number > 10_000), "{kinds:?}");
+}
+
+/// Frames of any octets, and of a wire.
+#[test]
+fn frames() {
+    let (mut seeded, good) = (Seeded(2), vec![data(), Unit { body: vec![0; 90], ..Unit::default() }.octets()]);
+    for _ in 0..INPUTS {
+        let octets = mutated(&mut seeded, &good);
+        if let Some(frame) = Frame::of(&octets) {
+            let _ = (frame.frame_type(), frame.retry(), frame.is_null(), frame.is_ps_poll(), frame.sequence_control());
+            assert_eq!(frame.transmitter().is_some(), octets.len() >= 16);
+        }
+        if let Ok(found) = judge_wired(&octets, false, seeded.below(5) == 0, false) {
+            assert!(found == octets && !is_tagged(&octets));
+        }
+    }
+}
+
+/// Answers that are cut anywhere are those of the whole, and one that isn't known ends them alike.
+#[test]
+fn answers_of_the_program() {
+    for (face, good) in [(Face::Text, lines()), (Face::Octets, records())] {
+        let (mut seeded, mut known, mut unknown) = (Seeded(3), 0u32, 0u32);
+        for _ in 0..INPUTS / 2 {
+            let octets = mutated(&mut seeded, &good);
+            let whole = read(face, &octets, octets.len().max(1));
+            assert_eq!(whole, read(face, &octets, 1 + seeded.below(octets.len() + 1)));
+            known += whole.0.len() as u32;
+            unknown += u32::from(whole.1);
+        }
+        assert!(known > 100_000 && unknown > 50_000, "{known} {unknown}");
+    }
+}
+
+/// The answers of octets that come in pieces of this length, and whether one of them isn't known.
+fn read(face: Face, octets: &[u8], length: usize) -> (Vec<Answer>, bool) {
+    let mut answers = Answers::new(face);
+    let mut found = Vec::new();
+    for piece in octets.chunks(length) {
+        answers.take(piece);
+        loop {
+            match answers.next() {
+                Ok(Some(answer)) => found.push(answer),
+                Ok(None) => break,
+                Err(_) => return (found, true),
+            }
+        }
+    }
+    (found, false)
+}
+
+/// Whatever is heard, sent and told, what goes to stations is what was sent, perhaps once more, and none waits for ever.
+#[test]
+fn the_way_to_stations() {
+    let body = [&[0; 4][..], &[1, 4, 0x82, 0x84, 0x0b, 12, 50, 1, 108]].concat();
+    let good = vec![
+        Unit { control: [0, 0], body, ..Unit::default() }.octets(),
+        Unit { control: [0x10, 0], receiver: STATION, transmitter: OURS, body: vec![0; 6], ..Unit::default() }.octets(),
+        Unit { receiver: STATION, transmitter: OURS, ..Unit::default() }.octets(),
+    ];
+    let networks = [Network { bssid: OURS, rates: vec![0x82, 0x84, 12, 108], wire: None }];
+    let (mut seeded, mut stations, mut time) = (Seeded(5), Stations::new(&networks), 0);
+    let (mut sent, mut ready, mut again) = (0u64, 0, 0);
+    for _ in 0..INPUTS / 2 {
+        let mut octets = mutated(&mut seeded, &good);
+        time += seeded.below(1 << 20) as u64;
+        match seeded.below(3) {
+            0 => drop(Frame::of(&octets).map(|frame| stations.hear(frame))),
+            1 => {
+                octets.truncate(MOST);
+                sent += 1;
+                stations.send(octets, time);
+            }
+            _ => {
+                let rate = [None, Some(2), Some(12), Some(108)][seeded.below(4)];
+                let (is_acknowledged, retries) = (seeded.below(2) == 0, seeded.number() as u8);
+                stations.told(&octets, Outcome { is_acknowledged, retries, rate }, time);
+            }
+        }
+        if seeded.below(50) == 0 {
+            stations.expire(time);
+        }
+        while let Some(next) = stations.pop() {
+            ready += 1;
+            again += u64::from(next.frame.get(1).map_or(false, |flags| flags & 0x08 != 0));
+        }
+    }
+    stations.expire(time + MOST_WAIT);
+    while let Some(due) = stations.due() {
+        stations.expire(due);
+    }
+    ready += std::iter::from_fn(|| stations.pop()).count() as u64;
+    assert_eq!(ready, sent + stations.unacknowledged().again);
+    assert!(again > 1000, "{again}");
+}
+
+/// The filter is made of steps that the kernel takes, for any networks.
+#[test]
+fn filters() {
+    for number in 0..=16 {
+        let networks = vec![OURS; number];
+        for shown in [Shown::All, Shown::Outcomes] {
+            let filter = monitor_filter(&networks, shown);
+            for (place, step) in filter.iter().enumerate() {
+                let furthest = place + 1 + usize::from(step.jt.max(step.jf));
+                assert!(furthest <= filter.len(), "{place}");
+            }
+        }
+    }
+}

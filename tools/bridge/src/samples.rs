@@ -1,0 +1,69 @@
+//! Frames that several tests use.
+use crate::frames::Address;
+
+pub const OURS: Address = Address::of([2, 0, 0, 0, 1, 1]);
+pub const OTHER: Address = Address::of([2, 0, 0, 0, 1, 2]);
+pub const STATION: Address = Address::of([2, 0xaa, 0, 0, 0, 1]);
+pub const STRANGER: Address = Address::of([2, 0xbb, 0, 0, 0, 1]);
+
+/// A frame with a header of three addresses: of data from a station to one of our networks unless said otherwise.
+#[derive(Debug, Clone)]
+pub struct Unit {
+    pub control: [u8; 2],
+    pub receiver: Address,
+    pub transmitter: Address,
+    pub sequence: u16,
+    pub body: Vec<u8>,
+}
+
+impl Default for Unit {
+    fn default() -> Unit {
+        Unit { control: [0x08, 0x01], receiver: OURS, transmitter: STATION, sequence: 0x10, body: b"body".to_vec() }
+    }
+}
+
+impl Unit {
+    pub fn octets(&self) -> Vec<u8> {
+        let mut octets = self.control.to_vec();
+        octets.extend([0, 0]);
+        for address in [self.receiver, self.transmitter, Address::BROADCAST] {
+            octets.extend(address.octets());
+        }
+        octets.extend(self.sequence.to_le_bytes());
+        octets.extend(&self.body);
+        octets
+    }
+}
+
+/// The octets of a unit of data from a station.
+pub fn data() -> Vec<u8> {
+    Unit::default().octets()
+}
+
+/// A frame as a monitor interface gives it: the first word of fields, and their octets.
+pub fn radiotap(frame: &[u8], present: u32, fields: &[u8]) -> Vec<u8> {
+    let length = 8 + fields.len() as u16;
+    let mut packet = vec![0, 0];
+    packet.extend(length.to_le_bytes());
+    packet.extend(present.to_le_bytes());
+    packet.extend(fields);
+    packet.extend(frame);
+    packet
+}
+
+/// Numbers that look random, always the same from one seed (SplitMix64).
+pub struct Seeded(pub u64);
+
+impl Seeded {
+    pub fn number(&mut self) -> u64 {
+        self.0 = self.0.wrapping_add(0x9e37_79b9_7f4a_7c15);
+        let mixed = (self.0 ^ self.0 >> 30).wrapping_mul(0xbf58_476d_1ce4_e5b9);
+        let mixed = (mixed ^ mixed >> 27).wrapping_mul(0x94d0_49bb_1331_11eb);
+        mixed ^ mixed >> 31
+    }
+
+    /// A number below this one.
+    pub fn below(&mut self, most: usize) -> usize {
+        (self.number() % most.max(1) as u64) as usize
+    }
+}

@@ -1,0 +1,429 @@
+//! Packet sockets (packet(7)): one on the monitor interface, one on each wired port. What is unsafe of the bridge is
+//! here alone: the calls of the system that no crate has for these sockets.
+#![allow(unsafe_code)]
+use std::ffi::CString;
+use std::io;
+use std::mem::{size_of, size_of_val, zeroed};
+use std::os::unix::io::{AsRawFd, FromRawFd, OwnedFd, RawFd};
+use std::ptr;
+
+use libc::{c_int, c_void, iovec, mmsghdr, sock_filter, sockaddr_ll};
+
+use crate::time::{Nanos, SECOND};
+
+/// How many packets are read or written by one call.
+pub const AT_A_TIME: usize = 64;
+/// The octets that are read of a packet: a frame that goes on has fewer, with its header of radiotap.
+const PACKET_LEN: usize = 8192;
+const CONTROL_LEN: usize = 128;
+const RECEIVING_ROOM: c_int = 16 << 20;
+// What follows is of <linux/if_packet.h>, and not in the crate libc yet.
+const NO_CHECKSUM: u32 = 1 << 3;
+const HAD_TAG: u32 = 1 << 4;
+const OUTGOING: u8 = 4;
+const PACKET_STATISTICS: c_int = 6;
+const PACKET_AUXDATA: c_int = 8;
+const PACKET_IGNORE_OUTGOING: c_int = 23;
+
+/// What the kernel says beside a packet.
+#[repr(C)]
+#[derive(Clone, Copy)]
+struct Auxdata {
+    status: u32,
+    length: u32,
+    captured: u32,
+    mac: u16,
+    net: u16,
+    tag: u16,
+    tag_type: u16,
+}
+
+/// How many packets came since it was asked last, and how many of them were dropped.
+#[repr(C)]
+#[derive(Clone, Copy, Default)]
+struct Statistics {
+    packets: u32,
+    drops: u32,
+}
+
+/// What came by an interface.
+#[derive(Debug, Clone, Copy, PartialEq, Eq)]
+pub struct Packet<'a> {
+    /// Its octets, as many as were read.
+    pub octets: &'a [u8],
+    /// Whether it was longer.
+    pub is_cut: bool,
+    /// Whether this machine sent it.
+    pub is_outgoing: bool,
+    /// Whether the kernel took a VLAN's tag off.
+    pub had_tag: bool,
+    /// Whether its checksum was left to an interface.
+    pub has_no_checksum: bool,
+    /// When it came, by the wall clock, where the kernel says it.
+    pub arrived: Option<Nanos>,
+}
+
+/// By which packets come and go.
+pub trait Port {
+    /// By which one waits for it.
+    fn descriptor(&self) -> RawFd;
+    /// The name of its interface.
+    fn interface(&self) -> &str;
+    /// Reads as many packets as wait and fit, and answers how many: fewer than `AT_A_TIME` where no more wait.
+    fn receive(&mut self, batch: &mut Batch) -> io::Result<usize>;
+    /// Sends the first so many of these frames as the interface has room for, and answers how many. An error is of the
+    /// first one alone: `WouldBlock` where there is no room.
+    fn send(&mut self, frames: &[&[u8]]) -> io::Result<usize>;
+    /// Hears from now on only what a filter lets through.
+    fn set_filter(&mut self, filter: &[sock_filter]) -> io::Result<()>;
+    /// How many packets the kernel has dropped here so far, since nobody read them.
+    fn count_dropped(&mut self) -> u64;
+}
+
+/// A socket that hears all of an interface and sends whole frames by it.
+#[derive(Debug)]
+pub struct PacketSocket {
+    interface: String,
+    socket: OwnedFd,
+    dropped: u64,
+}
+
+impl PacketSocket {
+    /// Opens it; `sending_room` bounds the octets that wait in the kernel to be sent.
+    pub fn open(interface: &str, sending_room: c_int) -> io::Result<PacketSocket> {
+        let index = index_of(interface)?;
+        // SAFETY: no memory is handed over; the descriptor is owned from here on.
+        let socket = unsafe {
+            let kind = libc::SOCK_RAW | libc::SOCK_NONBLOCK | libc::SOCK_CLOEXEC;
+            OwnedFd::from_raw_fd(checked(libc::socket(libc::AF_PACKET, kind, 0))?)
+        };
+        let one: c_int = 1;
+        set_option(&socket, libc::SOL_SOCKET, libc::SO_RCVBUFFORCE, &RECEIVING_ROOM)?;
+        set_option(&socket, libc::SOL_SOCKET, libc::SO_SNDBUFFORCE, &sending_room)?;
+        set_option(&socket, libc::SOL_SOCKET, libc::SO_TIMESTAMPNS, &one)?;
+        set_option(&socket, libc::SOL_PACKET, PACKET_AUXDATA, &one)?;
+        set_option(&socket, libc::SOL_PACKET, PACKET_IGNORE_OUTGOING, &one)?;
+        // SAFETY: all zero is an address; the length is its own.
+        unsafe {
+            let mut address: sockaddr_ll = zeroed();
+            address.sll_family = libc::AF_PACKET as u16;
+            address.sll_protocol = (libc::ETH_P_ALL as u16).to_be();
+            address.sll_ifindex = index;
+            let place = &address as *const sockaddr_ll;
+            checked(libc::bind(socket.as_raw_fd(), place.cast(), size_of::<sockaddr_ll>() as u32))?;
+        }
+        Ok(PacketSocket { interface: interface.to_owned(), socket, dropped: 0 })
+    }
+
+    /// Takes frames for any receiver, as long as the socket is there.
+    pub fn hear_all(&self) -> io::Result<()> {
+        let membership = libc::packet_mreq {
+            mr_ifindex: index_of(&self.interface)?,
+            mr_type: libc::PACKET_MR_PROMISC as u16,
+            mr_alen: 0,
+            mr_address: [0; 8],
+        };
+        set_option(&self.socket, libc::SOL_PACKET, libc::PACKET_ADD_MEMBERSHIP, &membership)
+    }
+}
+
+impl Port for PacketSocket {
+    fn descriptor(&self) -> RawFd {
+        self.socket.as_raw_fd()
+    }
+
+    fn interface(&self) -> &str {
+        &self.interface
+    }
+
+    fn receive(&mut self, batch: &mut Batch) -> io::Result<usize> {
+        batch.receive(self.descriptor())
+    }
+
+    fn send(&mut self, frames: &[&[u8]]) -> io::Result<usize> {
+        send_many(self.descriptor(), frames)
+    }
+
+    fn set_filter(&mut self, filter: &[sock_filter]) -> io::Result<()> {
+        let program = libc::sock_fprog { len: filter.len() as u16, filter: filter.as_ptr() as *mut sock_filter };
+        set_option(&self.socket, libc::SOL_SOCKET, libc::SO_ATTACH_FILTER, &program)
+    }
+
+    fn count_dropped(&mut self) -> u64 {
+        let mut found = Statistics::default();
+        let mut length = size_of_val(&found) as u32;
+        // SAFETY: the kernel writes at most `length` octets into `found`, which is as long.
+        let answer = unsafe {
+            let place: *mut Statistics = &mut found;
+            libc::getsockopt(self.descriptor(), libc::SOL_PACKET, PACKET_STATISTICS, place.cast(), &mut length)
+        };
+        if answer == 0 {
+            self.dropped += u64::from(found.drops);
+        }
+        self.dropped
+    }
+}
+
+/// The number of an interface.
+fn index_of(interface: &str) -> io::Result<c_int> {
+    let name = CString::new(interface)?;
+    // SAFETY: the name ends with its zero octet.
+    match unsafe { libc::if_nametoindex(name.as_ptr()) } {
+        0 => Err(io::Error::last_os_error()),
+        index => Ok(index as c_int),
+    }
+}
+
+/// What a call of the system answered, or its fault.
+fn checked(answer: c_int) -> io::Result<c_int> {
+    if answer < 0 {
+        Err(io::Error::last_os_error())
+    } else {
+        Ok(answer)
+    }
+}
+
+fn set_option<T>(socket: &OwnedFd, level: c_int, name: c_int, value: &T) -> io::Result<()> {
+    let place = value as *const T;
+    // SAFETY: the kernel reads as many octets as the value has.
+    unsafe {
+        checked(libc::setsockopt(socket.as_raw_fd(), level, name, place.cast::<c_void>(), size_of::<T>() as u32))?
+    };
+    Ok(())
+}
+
+/// How many octets of a pipe wait to be read.
+pub fn octets_in_pipe(pipe: RawFd) -> io::Result<usize> {
+    let mut found: c_int = 0;
+    // SAFETY: the kernel writes one number.
+    unsafe { checked(libc::ioctl(pipe, libc::FIONREAD, &mut found as *mut c_int))? };
+    Ok(found.max(0) as usize)
+}
+
+/// Sends frames by one call.
+fn send_many(socket: RawFd, frames: &[&[u8]]) -> io::Result<usize> {
+    let mut vectors: Vec<iovec> = frames
+        .iter()
+        .take(AT_A_TIME)
+        .map(|frame| iovec { iov_base: frame.as_ptr() as *mut c_void, iov_len: frame.len() })
+        .collect();
+    let mut headers: Vec<mmsghdr> = vectors.iter_mut().map(|vector| header_of(vector)).collect();
+    // SAFETY: the headers point to the vectors, these to the frames, all of which outlive the call, and the kernel only
+    // reads the frames.
+    let sent =
+        unsafe { checked(libc::sendmmsg(socket, headers.as_mut_ptr(), headers.len() as u32, libc::MSG_DONTWAIT))? };
+    Ok(sent as usize)
+}
+
+/// The header of a message of one piece, without an address.
+fn header_of(vector: &mut iovec) -> mmsghdr {
+    // SAFETY: all zero is a header without address, pieces and control messages.
+    let mut header: mmsghdr = unsafe { zeroed() };
+    header.msg_hdr.msg_iov = vector;
+    header.msg_hdr.msg_iovlen = 1;
+    header
+}
+
+/// Room for control messages, aligned as they are.
+#[repr(C, align(8))]
+#[derive(Clone)]
+struct Control([u8; CONTROL_LEN]);
+
+/// Room for the packets of one call, and what it read.
+pub struct Batch {
+    octets: Vec<u8>,
+    controls: Vec<Control>,
+    addresses: Vec<sockaddr_ll>,
+    /// Points into the three before, and is pointed to by `headers`: none of them ever grows.
+    vectors: Vec<iovec>,
+    headers: Vec<mmsghdr>,
+    used: usize,
+}
+
+impl Batch {
+    /// Room, in which nothing was read.
+    pub fn new() -> Batch {
+        let mut octets = vec![0; AT_A_TIME * PACKET_LEN];
+        let mut controls = vec![Control([0; CONTROL_LEN]); AT_A_TIME];
+        // SAFETY: all zero is an address.
+        let mut addresses: Vec<sockaddr_ll> = vec![unsafe { zeroed() }; AT_A_TIME];
+        let mut vectors: Vec<iovec> = octets
+            .chunks_mut(PACKET_LEN)
+            .map(|piece| iovec { iov_base: piece.as_mut_ptr().cast(), iov_len: piece.len() })
+            .collect();
+        let headers = vectors
+            .iter_mut()
+            .zip(&mut addresses)
+            .zip(&mut controls)
+            .map(|((vector, address), control)| {
+                let mut header = header_of(vector);
+                header.msg_hdr.msg_name = (address as *mut sockaddr_ll).cast();
+                header.msg_hdr.msg_control = control.0.as_mut_ptr().cast();
+                header
+            })
+            .collect();
+        Batch { octets, controls, addresses, vectors, headers, used: AT_A_TIME }
+    }
+
+    /// Reads as many packets of a socket as wait and fit.
+    pub fn receive(&mut self, socket: RawFd) -> io::Result<usize> {
+        debug_assert_eq!(self.vectors.len(), AT_A_TIME);
+        for header in &mut self.headers[..self.used] {
+            header.msg_hdr.msg_namelen = size_of::<sockaddr_ll>() as u32;
+            header.msg_hdr.msg_controllen = CONTROL_LEN as _;
+            header.msg_hdr.msg_flags = 0;
+        }
+        self.used = 0;
+        let flags = libc::MSG_DONTWAIT | libc::MSG_TRUNC;
+        // SAFETY: each header points to room of this batch, as long as it says; none of it moved since `new`.
+        let found =
+            unsafe { libc::recvmmsg(socket, self.headers.as_mut_ptr(), AT_A_TIME as u32, flags as _, ptr::null_mut()) };
+        match checked(found) {
+            Ok(found) => self.used = found as usize,
+            Err(fault) if fault.kind() == io::ErrorKind::WouldBlock => {}
+            Err(fault) => return Err(fault),
+        }
+        Ok(self.used)
+    }
+
+    /// The packets that were read.
+    pub fn packets(&self) -> impl Iterator<Item = Packet<'_>> {
+        (0..self.used).map(move |place| self.packet(place))
+    }
+
+    fn packet(&self, place: usize) -> Packet<'_> {
+        let length = self.headers[place].msg_len as usize;
+        let begin = place * PACKET_LEN;
+        let (status, arrived) = self.told(place);
+        Packet {
+            octets: &self.octets[begin..begin + length.min(PACKET_LEN)],
+            is_cut: length > PACKET_LEN,
+            is_outgoing: self.addresses[place].sll_pkttype == OUTGOING,
+            had_tag: status & HAD_TAG != 0,
+            has_no_checksum: status & NO_CHECKSUM != 0,
+            arrived,
+        }
+    }
+
+    /// What the kernel says beside a packet: its status, and when it came.
+    fn told(&self, place: usize) -> (u32, Option<Nanos>) {
+        let header = &self.headers[place].msg_hdr;
+        let (mut status, mut arrived) = (0, None);
+        debug_assert!(header.msg_controllen as usize <= size_of_val(&self.controls[place]));
+        // SAFETY: the kernel wrote whole control messages into the room of this header and said how long they are; each
+        // is read as far as its own length says.
+        unsafe {
+            let mut message = libc::CMSG_FIRSTHDR(header);
+            while !message.is_null() {
+                let length = (*message).cmsg_len as usize - (libc::CMSG_LEN(0) as usize);
+                let content = libc::CMSG_DATA(message);
+                match ((*message).cmsg_level, (*message).cmsg_type) {
+                    (libc::SOL_PACKET, PACKET_AUXDATA) if length >= size_of::<Auxdata>() => {
+                        status = ptr::read_unaligned(content.cast::<Auxdata>()).status;
+                    }
+                    (libc::SOL_SOCKET, libc::SCM_TIMESTAMPNS) if length >= size_of::<libc::timespec>() => {
+                        let time = ptr::read_unaligned(content.cast::<libc::timespec>());
+                        arrived = Some(time.tv_sec as Nanos * SECOND + time.tv_nsec as Nanos);
+                    }
+                    _ => {}
+                }
+                message = libc::CMSG_NXTHDR(header, message);
+            }
+        }
+        (status, arrived)
+    }
+}
+
+#[cfg(test)]
+mod tests {
+    use super::*;
+    use crate::filter::{monitor_filter, Shown};
+    use crate::samples::{data, radiotap, OURS, STRANGER};
+    use crate::time::{now, wall_now};
+
+    /// Two sockets on the loopback interface, or `None` where the machine gives none, as without root.
+    fn pair() -> Option<(PacketSocket, PacketSocket)> {
+        match (PacketSocket::open("lo", 1 << 16), PacketSocket::open("lo", 1 << 16)) {
+            (Ok(hearing), Ok(sending)) => Some((hearing, sending)),
+            _ => {
+                eprintln!("no packet socket here: not tried");
+                None
+            }
+        }
+    }
+
+    fn ethernet(mark: &[u8]) -> Vec<u8> {
+        [&[0; 12][..], &[0x88, 0xb5], mark].concat()
+    }
+
+    /// All frames with this mark that come within a while, until so many have come.
+    fn heard(socket: &mut PacketSocket, mark: &[u8], most: usize) -> Vec<Vec<u8>> {
+        let mut batch = Batch::new();
+        let mut found = Vec::new();
+        let until = now() + 2 * SECOND;
+        while found.len() < most && now() < until {
+            socket.receive(&mut batch).unwrap();
+            for packet in batch.packets().filter(|packet| packet.octets.ends_with(mark)) {
+                assert!(!packet.is_outgoing && !packet.is_cut && !packet.had_tag);
+                assert!(wall_now().abs_diff(packet.arrived.unwrap()) < SECOND);
+                found.push(packet.octets.to_vec());
+            }
+        }
+        found
+    }
+
+    #[test]
+    fn many_frames_go_and_come_in_order() {
+        if let Some((mut hearing, mut sending)) = pair() {
+            let frames: Vec<_> =
+                (0..50u8).map(|number| ethernet(&[&[number], &b"bridge's own test"[..]].concat())).collect();
+            let slices: Vec<&[u8]> = frames.iter().map(Vec::as_slice).collect();
+            let mut sent = 0;
+            while sent < frames.len() {
+                sent += sending.send(&slices[sent..]).unwrap();
+            }
+            assert_eq!(heard(&mut hearing, b"bridge's own test", 50), frames);
+            assert_eq!(hearing.count_dropped(), 0);
+        }
+    }
+
+    #[test]
+    fn a_frame_that_is_too_long_is_an_error_and_the_first_ones_go() {
+        if let Some((mut hearing, mut sending)) = pair() {
+            let (good, long) = (ethernet(b"good one"), vec![0; 1 << 17]);
+            assert_eq!(sending.send(&[&good, &long, &good]).unwrap(), 1);
+            assert!(sending.send(&[&long]).is_err());
+            assert_eq!(heard(&mut hearing, b"good one", 1).len(), 1);
+        }
+    }
+
+    #[test]
+    fn a_longer_packet_is_told_as_cut() {
+        if let Some((mut hearing, mut sending)) = pair() {
+            let long = [ethernet(b"cut one"), vec![0; 20_000]].concat();
+            sending.send(&[&long]).unwrap();
+            let mut batch = Batch::new();
+            let until = now() + 2 * SECOND;
+            let mut is_seen = false;
+            while !is_seen && now() < until {
+                hearing.receive(&mut batch).unwrap();
+                is_seen = batch.packets().any(|packet| packet.is_cut && packet.octets == &long[..PACKET_LEN]);
+            }
+            assert!(is_seen);
+        }
+    }
+
+    /// On the loopback interface the kernel gives whole frames of Ethernet, which here begin as headers of radiotap do.
+    #[test]
+    fn the_kernel_takes_the_filter_and_keeps_out_what_it_says() {
+        if let Some((mut hearing, mut sending)) = pair() {
+            hearing.set_filter(&monitor_filter(&[OURS], Shown::Outcomes)).unwrap();
+            let wanted = radiotap(&data(), 1 << 1, &[0; 12]);
+            let mut other = data();
+            other[4..10].copy_from_slice(STRANGER.octets());
+            let other = radiotap(&other, 1 << 1, &[0; 12]);
+            sending.send(&[&other, &wanted, &other, &wanted]).unwrap();
+            assert_eq!(heard(&mut hearing, b"body", 4), [wanted.clone(), wanted]);
+        }
+    }
+}
