@@ -70,6 +70,7 @@ pub struct Bridge<P, C> {
     phase: Phase,
     running: Option<Running<P>>,
     batch: Batch,
+    opening_asked: bool,
     tables_asked: bool,
     waits_for_room: bool,
 }
@@ -81,8 +82,19 @@ impl<P: Port, C: io::Read + std::os::unix::io::AsRawFd> Bridge<P, C> {
         poller.add(requests.descriptor(), Token::Control, true, false)?;
         poller.add(program.descriptor(), Token::Output, true, false)?;
         let phase = Phase::Opening(now() + TO_READY);
-        let (running, batch, tables_asked, waits_for_room) = (None, Batch::new(), false, false);
-        Ok(Bridge { program, feeder, requests, poller, interval, phase, running, batch, tables_asked, waits_for_room })
+        Ok(Bridge {
+            program,
+            feeder,
+            requests,
+            poller,
+            interval,
+            phase,
+            running: None,
+            batch: Batch::new(),
+            opening_asked: false,
+            tables_asked: false,
+            waits_for_room: false,
+        })
     }
 
     /// Runs until `tools/live` ends it, or until a fault; `open` opens the interfaces once they are there.
@@ -116,14 +128,16 @@ impl<P: Port, C: io::Read + std::os::unix::io::AsRawFd> Bridge<P, C> {
         self.poller.wait(most, &mut found)?;
         for ready in found {
             match ready.token {
-                Token::Control => self.take_requests(open)?,
+                Token::Control => self.take_requests()?,
                 Token::Output => self.take_answers()?,
                 Token::Input | Token::Clock => {}
                 Token::Monitor | Token::Wire(_) => self.take_port(ready)?,
             }
         }
-        if self.phase == Phase::Ending {
-            return Ok(());
+        match self.phase {
+            Phase::Ending => return Ok(()),
+            Phase::SettingUp if self.opening_asked => self.begin(open()?)?,
+            _ => {}
         }
         self.take_time()?;
         self.feed()?;
@@ -148,10 +162,10 @@ impl<P: Port, C: io::Read + std::os::unix::io::AsRawFd> Bridge<P, C> {
         (waits && !self.waits_for_room).then_some(1)
     }
 
-    fn take_requests(&mut self, open: &mut impl FnMut() -> Result<Sender<P>, Fault>) -> Result<(), Fault> {
+    fn take_requests(&mut self) -> Result<(), Fault> {
         while let Some(request) = self.requests.next() {
             match (request, self.phase) {
-                (Request::Open, Phase::SettingUp) => self.begin(open()?)?,
+                (Request::Open, _) => self.opening_asked = true,
                 (Request::Tables, Phase::Running) => self.tables_asked = true,
                 (Request::End, _) => {
                     self.poller.remove(self.requests.descriptor())?;
@@ -590,4 +604,253 @@ fn flow_of_air(frame: Frame<'_>) -> Option<Flow> {
 fn flow_of_wire(octets: &[u8]) -> Flow {
     let nobody = Address::of([0; 6]);
     (Address::at(octets, 6).unwrap_or(nobody), Address::at(octets, 0).unwrap_or(nobody))
+}
+
+#[cfg(test)]
+mod tests {
+    use super::*;
+    use crate::faces::Face;
+    use crate::program::Record;
+    use crate::radiotap::sending_header;
+    use crate::samples::{data, radiotap, OURS};
+    use libc::sock_filter;
+    use std::fs::{self, Permissions};
+    use std::io::Write;
+    use std::os::unix::fs::PermissionsExt;
+    use std::os::unix::io::{AsRawFd, RawFd};
+    use std::os::unix::net::{UnixDatagram, UnixStream};
+    use std::path::PathBuf;
+    use std::sync::{Arc, Mutex};
+    use std::thread;
+    use std::time::Duration;
+
+    const BEACON: &str = "80000000ffffffffffff020000000101020000000101";
+    /// A program of one network: a beacon for each tick, for each frame heard the same on the wire, for each question a
+    /// table; a frame of the wire ends it.
+    const LINES: &str = r#"#!/bin/bash
+[ "$*" = "live radio.toml" ] || exit 2
+echo 'ok 1'
+while read -r word rest; do
+    case $word in
+    T) echo 'air 02:00:00:00:01:01 BEACON' ;;
+    A) echo "wire 02:00:00:00:01:01 $rest" ;;
+    I) echo 'end' ;;
+    W) exit 3 ;;
+    esac
+done
+echo 'network 02:00:00:00:01:01 ssid 6c6162'
+"#;
+    /// The same in records.
+    const RECORDS: &str = r#"#!/usr/bin/python3
+import struct, sys
+source, sink, ours = sys.stdin.buffer, sys.stdout.buffer, bytes.fromhex("020000000101")
+def write(kind, bssid=bytes(6), octets=b""):
+    sink.write(kind + bssid + struct.pack("<H", len(octets)) + octets)
+    sink.flush()
+if sys.argv[1:] != ["live", "--octets", "radio.toml"]:
+    sys.exit(2)
+write(b"O", bytes(5) + b"\1")
+while header := source.read(9):
+    kind, bssid, length = struct.unpack("<c6sH", header)
+    octets = source.read(length)
+    if kind == b"T":
+        write(b"A", ours, bytes.fromhex("BEACON"))
+    elif kind == b"A":
+        write(b"W", ours, octets)
+    elif kind == b"I":
+        write(b"N", octets=b"end\n")
+    elif kind == b"W":
+        sys.exit(3)
+write(b"N", octets=b"network 02:00:00:00:01:01 ssid 6c6162\n")
+"#;
+
+    /// A port in place of a packet socket. A radio's shows what is sent by it, where `shows` says so.
+    struct FakePort {
+        interface: &'static str,
+        near: UnixDatagram,
+        far: UnixDatagram,
+        sent: Arc<Mutex<Vec<Vec<u8>>>>,
+        shows: bool,
+    }
+
+    impl Port for FakePort {
+        fn descriptor(&self) -> RawFd {
+            self.near.as_raw_fd()
+        }
+
+        fn interface(&self) -> &str {
+            self.interface
+        }
+
+        fn receive(&mut self, batch: &mut Batch) -> io::Result<usize> {
+            batch.receive(self.descriptor())
+        }
+
+        fn send(&mut self, frames: &[&[u8]]) -> io::Result<usize> {
+            for frame in frames {
+                self.sent.lock().unwrap().push(frame.to_vec());
+                if self.shows {
+                    self.far.send(frame)?;
+                }
+            }
+            Ok(frames.len())
+        }
+
+        fn set_filter(&mut self, _: &[sock_filter]) -> io::Result<()> {
+            Ok(())
+        }
+
+        fn count_dropped(&mut self) -> u64 {
+            0
+        }
+    }
+
+    /// The other ends of a bridge's ports, its requests, and what it sent.
+    struct Stage {
+        folder: PathBuf,
+        requests: UnixStream,
+        air: UnixDatagram,
+        wire: UnixDatagram,
+        sent: Arc<Mutex<Vec<Vec<u8>>>>,
+        sent_on_wire: Arc<Mutex<Vec<Vec<u8>>>>,
+    }
+
+    impl Stage {
+        fn hear(&self, frame: &[u8]) {
+            self.air.send(&radiotap(frame, 1 << 1, &[0])).unwrap();
+        }
+
+        fn record(&self) -> Vec<String> {
+            let text = fs::read_to_string(self.folder.join("record")).unwrap();
+            text.lines().map(str::to_owned).collect()
+        }
+    }
+
+    /// Runs a bridge with a program of these lines, and `later` beside it; gives what came of it, and the stage.
+    fn run(face: Face, text: &str, shows: bool, later: impl FnOnce(&mut Stage) + Send) -> (Result<(), Fault>, Stage) {
+        static NUMBER: Mutex<u32> = Mutex::new(0);
+        let number = {
+            let mut number = NUMBER.lock().unwrap();
+            *number += 1;
+            *number
+        };
+        let folder = std::env::temp_dir().join(format!("bridge-{}-{number}", std::process::id()));
+        fs::create_dir_all(&folder).unwrap();
+        let path = folder.join("program");
+        fs::write(&path, text.replace("BEACON", BEACON)).unwrap();
+        fs::set_permissions(&path, Permissions::from_mode(0o755)).unwrap();
+        let (near, far) = UnixDatagram::pair().unwrap();
+        let (wire_near, wire_far) = UnixDatagram::pair().unwrap();
+        let (asked, requests) = UnixStream::pair().unwrap();
+        let (sent, sent_on_wire) = (Arc::default(), Arc::default());
+        let (air, wire) = (far.try_clone().unwrap(), wire_far.try_clone().unwrap());
+        let mut stage =
+            Stage { folder, requests, air, wire, sent: Arc::clone(&sent), sent_on_wire: Arc::clone(&sent_on_wire) };
+        let monitor = FakePort { interface: "mon0", near, far, sent, shows };
+        let wire = FakePort { interface: "wire1", near: wire_near, far: wire_far, sent: sent_on_wire, shows: false };
+        let outcome = thread::scope(|scope| {
+            let record = Record::create(stage.folder.join("record").to_str().unwrap()).unwrap();
+            scope.spawn(|| {
+                stage.requests.write_all(b"open\n").unwrap();
+                thread::sleep(Duration::from_millis(400));
+                later(&mut stage);
+            });
+            serve(face, path.to_str().unwrap(), record, asked, monitor, wire)
+        });
+        (outcome, stage)
+    }
+
+    fn serve(
+        face: Face,
+        path: &str,
+        record: Record,
+        asked: UnixStream,
+        monitor: FakePort,
+        wire: FakePort,
+    ) -> Result<(), Fault> {
+        let networks = vec![Network { bssid: OURS, rates: vec![0x82], wire: Some("wire1".into()) }];
+        let (program, feeder) = Program::start(path, "radio.toml", face, Some(record))?;
+        let mut bridge = Bridge::new(program, feeder, Requests::new(asked)?, 100)?;
+        let mut ports = Some((monitor, wire));
+        bridge.serve(|| {
+            let (monitor, wire) = ports.take().unwrap();
+            Ok(Sender::new(networks.clone(), monitor, vec![Some(wire)]))
+        })
+    }
+
+    fn end(stage: &mut Stage) {
+        stage.requests.shutdown(std::net::Shutdown::Both).unwrap();
+    }
+
+    #[test]
+    fn it_runs_and_ends_in_both_faces() {
+        for (face, program) in [(Face::Text, LINES), (Face::Octets, RECORDS)] {
+            let (outcome, stage) = run(face, program, true, |stage| {
+                stage.hear(&data());
+                stage.requests.write_all(b"tables\n").unwrap();
+                thread::sleep(Duration::from_millis(400));
+                end(stage);
+            });
+            assert_eq!(outcome, Ok(()), "{face:?}");
+            let beacon = [&sending_header(2, 0)[..], &hex::decode(BEACON).unwrap()].concat();
+            let sent = stage.sent.lock().unwrap().clone();
+            assert!(sent.len() >= 6 && sent.iter().all(|frame| *frame == beacon), "{face:?}: {}", sent.len());
+            assert_eq!(*stage.sent_on_wire.lock().unwrap(), [data()], "{face:?}");
+            let lines = stage.record();
+            assert_eq!(lines.iter().filter(|line| *line == "T").count(), sent.len());
+            let mut others: Vec<_> = lines.iter().filter(|line| *line != "T").cloned().collect();
+            others.sort();
+            assert_eq!(others, ["# I".to_owned(), format!("A {}", hex::encode(data()))], "{face:?}");
+        }
+    }
+
+    #[test]
+    fn a_radio_that_does_not_send_is_told() {
+        let (outcome, _) = run(Face::Text, LINES, false, |_| {});
+        assert!(outcome.unwrap_err().to_string().contains("this radio does not send beside its interfaces"));
+    }
+
+    #[test]
+    fn a_program_that_ends_by_itself_is_told() {
+        for (face, program) in [(Face::Text, LINES), (Face::Octets, RECORDS)] {
+            let (outcome, _) = run(face, program, true, |stage| drop(stage.wire.send(&[0; 14]).unwrap()));
+            assert_eq!(outcome, Err(Fault::new("the program ended by itself")));
+        }
+    }
+
+    #[test]
+    fn what_a_program_says_wrongly_is_told() {
+        for (text, says) in [
+            ("#!/bin/sh\nexit 7\n", "the program ended with status 7 before its networks were open"),
+            ("#!/bin/sh\necho hello; cat\n", "the program wrote what isn't known: hello"),
+            (
+                "#!/bin/sh\necho ok 1; echo air 02:00:00:00:01:09 00; cat >/dev/null\n",
+                "a frame before it was given one",
+            ),
+            (
+                "#!/bin/sh\necho ok 1; read T; echo air 02:00:00:00:01:09 00; cat >/dev/null\n",
+                "a network that it doesn't have",
+            ),
+        ] {
+            let (outcome, _) = run(Face::Text, text, true, |_| {});
+            assert!(outcome.as_ref().unwrap_err().to_string().contains(says), "{outcome:?}");
+        }
+    }
+
+    #[test]
+    fn what_floods_does_not_keep_beacons_and_is_counted() {
+        let slow = LINES.replace("A) echo", "A) sleep 0.01; echo");
+        let (outcome, stage) = run(Face::Text, &slow, true, |stage| {
+            for _ in 0..1000 {
+                stage.hear(&data());
+            }
+            thread::sleep(Duration::from_millis(1500));
+            end(stage);
+        });
+        assert_eq!(outcome, Ok(()));
+        let lines = stage.record();
+        let (ticks, frames) = (lines.iter().filter(|line| *line == "T").count(), lines.len());
+        assert!(ticks > 5, "{ticks}");
+        assert!(frames - ticks < 300, "{frames}");
+    }
 }

@@ -15,6 +15,7 @@ from live.settings import Network, Settings
 from live.setting_up import SettingUp, tell
 
 SECONDS_TO_END = 60
+FIRST = ("nice", "-n", "-15")  # before this machine's other programs: stations wait for what these two send
 ENDING = (signal.SIGINT, signal.SIGTERM, signal.SIGHUP)
 OPEN, TABLES = "open", "tables"
 
@@ -75,7 +76,8 @@ def words_of(wanted: Wanted, settings: Settings, face: str) -> list[str]:
 
 
 class Bridge:
-    """tools/bridge with its program, in a group of its own, so that Ctrl-C in a terminal doesn't end it."""
+    """tools/bridge with its program, in a group of its own, so that Ctrl-C in a terminal doesn't end it, and scheduled
+    before other programs."""
 
     def __init__(self, words: list[str], signals: Signals, stack: ExitStack) -> None:
         self.signals = signals
@@ -84,7 +86,7 @@ class Bridge:
         self.status: int | None = None
         self.fault: str | None = None
         try:
-            self.process = subprocess.Popen(words, stdin=subprocess.PIPE, stdout=subprocess.PIPE, bufsize=0,
+            self.process = subprocess.Popen([*FIRST, *words], stdin=subprocess.PIPE, stdout=subprocess.PIPE, bufsize=0,
                                             start_new_session=True)
         except OSError as fault:
             raise Fault(f"{words[0]}: {fault.strerror}") from None
