@@ -88,8 +88,8 @@ impl Model for RadioPass {
 }
 
 impl RadioPass {
-    /// Makes room for so many frames more in the list of what left (*profile*). `NoMemory` where the growth was
-    /// refused; then nothing has changed.
+    /// Makes room for `count` frames more in the list of what left (*profile*). `NoMemory` where memory ran out; then
+    /// nothing has changed.
     pub fn reserve(&mut self, count: usize) -> Result<(), NoMemory>
         ensures name { self.new.name ≡ self.old.name }
         ensures left { self.new.left ≡ self.old.left }

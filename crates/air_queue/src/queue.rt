@@ -38,7 +38,7 @@ impl Model for AirQueue {
 impl AirQueue {
     /// An empty queue of a capacity in frames, 1 to [`MAX_QUEUE`], with a pass for each of so many networks, 1 to
     /// [`MAX_NETWORKS`], in order of place, and the radio's pass (*profile*). Nothing was pushed and nothing left.
-    /// `NoMemory` where a growth was refused.
+    /// `NoMemory` where memory ran out.
     pub fn open(
         alloc: Global,
         capacity: u16,

@@ -25,7 +25,7 @@ pub struct Left {
     pub items: List<AirItem>,
 }
 
-/// A growth was refused: the queue and its passes, as they were (*profile*).
+/// Memory ran out: the queue and its passes, as they were (*profile*).
 #[derive(Drop)]
 pub struct TakeInFault {
     /// The queue.
@@ -39,7 +39,7 @@ pub struct TakeInFault {
 impl AirQueue {
     /// Ends the queue, once all its passes are back, those of the networks in order of place: takes out what remains,
     /// so that the answer begins with what had left and has of each network what its pass pushed, in that order, and
-    /// nothing else (*profile*). Where a growth was refused, it hands all back unchanged. It may wait for other
+    /// nothing else (*profile*). Where memory ran out, it hands all back unchanged. It may wait for other
     /// threads.
     pub fn take_in<R: Wait>(
         self,

@@ -2,12 +2,12 @@
 //!
 //! Standard input holds a line, which names a trial and says how many allocations come before its calls, and then a
 //! configuration and a trace as `apctl` takes them. Whoever runs the program has one allocation of the run fail, always
-//! of the same number; so of runs with fewer and fewer allocations before the calls, each has the next one of them fail.
+//! of the same number; so of runs with fewer and fewer allocations before the calls, each has the next of them fail.
 //! Standard output then holds a line of what was refused and what the trial wrote: the report, before which the lines
 //! stand that an access point was not given, since memory ran out; or the answers to lines as they came.
 //!
-//! Nothing is promised here beyond what the libraries promise. The trials show on the real calls that a failed allocation
-//! changes nothing, and that what is offered again is taken.
+//! Nothing is promised here beyond what the libraries promise. The trials show on the real calls that a failed
+//! allocation changes nothing, and that what is offered again is taken.
 #![tactic(auto)]
 
 mod access_point;
@@ -31,8 +31,8 @@ use std::sync::Wait;
 use std::thread::Threads;
 use texts::write_twice;
 
-/// Where something beside the calls failed, the trial begins anew; in a run in which one allocation fails this happens once
-/// at most.
+/// Where something beside the calls failed, the trial begins anew; in a run in which one allocation fails this happens
+/// once at most.
 fn main(rt: HostRuntime) -> ExitCode {
     let mut input = Vec::new(rt.alloc());
     if rt.stdin().read_to_end(&mut input).is_err() {

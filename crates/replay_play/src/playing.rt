@@ -28,8 +28,8 @@ impl Gate for Open {
 }
 
 /// Reads a configuration and 1 to 64 traces, plays the traces at once, each as a source with a thread of its own, and
-/// appends the report of all networks to what `out` has taken ([`workers::play`]). For each network by itself it is what
-/// some order of the traces' lines gives, in which each trace keeps its own; which order, the threads decide.
+/// appends the report of all networks to what `out` has taken ([`workers::play`]). For each network by itself it is
+/// what some order of the traces' lines gives, in which each trace keeps its own; which order, the threads decide.
 ///
 /// A fault is the first one of the configuration, else `Sources`, else that of the first trace that has one; these come
 /// before anything is played. `NoThread` where a thread could not be started, `Finish` where the access point could not

@@ -1,5 +1,5 @@
-//! The sources' answers against the networks' histories: what `receipts` tests of callers, whose entries have the events
-//! themselves.
+//! The sources' answers against the networks' histories: what `receipts` tests of callers, whose entries have the
+//! events themselves.
 
 ghost use Rattle.std.specs.Prelude.{◌≡◌, [], IfOk, OnOk, length, List};
 ghost use Rattle.events.specs.declared.line.Line.{Line};

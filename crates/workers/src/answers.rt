@@ -5,7 +5,7 @@ ghost use Rattle.workers.specs.Answers.{answer_of};
 
 use events::Line;
 
-/// What a network made of an event that it heard and did not refuse for want of memory.
+/// What a network made of an event that it heard and did not refuse since memory ran out.
 #[derive(Clone, Copy, Debug, PartialEq, Eq)]
 pub(crate) enum Made {
     /// It took the event, which has this number in its history, from 0.

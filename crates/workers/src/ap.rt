@@ -69,7 +69,7 @@ impl<N: ApName> Ap<N> {
 
     /// Gives a string of octets that was heard on the air to each network that hears it, in order of place, and
     /// answers what each made of it (*profile*). For each that took or refused it the caller has an entry more. A
-    /// refusal of one network does not keep the others from it. `NoMemory` where a growth was refused, before any
+    /// refusal of one network does not keep the others from it. `NoMemory` where memory ran out, before any
     /// network was touched; then the caller is as it was. It may wait for other threads.
     pub fn air<R: Wait>(
         &self,
@@ -276,7 +276,7 @@ impl<N: ApName> Ap<N> {
 
     /// Lets the first frame of the air queue leave, after room was made for it: it is the last that left then.
     /// `false`, and no change, only where the queue was empty at one moment of the call, which tests show;
-    /// `NoMemory`, and no change, where the growth was refused (*profile*). It may wait for other threads.
+    /// `NoMemory`, and no change, where memory ran out (*profile*). It may wait for other threads.
     pub fn leave<R: Wait>(&self, rt: &R, transmitter: &mut Transmitter<N>) -> Result<bool, NoMemory>
         ensures left { IfOk result (λ left. MatchBool left
             ((item : AirItem) × (item.place < length N.config.networks)

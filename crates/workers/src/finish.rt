@@ -41,7 +41,7 @@ pub struct Finished {
 /// Why an access point could not be finished. Its parts are gone then (*profile*).
 #[derive(Clone, Copy, Debug, PartialEq, Eq)]
 pub enum FinishFault {
-    /// F1: a growth was refused.
+    /// F1: memory ran out.
     NoMemory,
     /// F2: a receipt's place, number or event is not there, another receipt repeats it, or the numbers of a caller's
     /// receipts from one network don't rise; or a network was not at its place, which is never met.
@@ -90,7 +90,7 @@ impl fmt::Display for FinishFault {
 
 impl<N: ApName> Ap<N> {
     /// Ends the access point (*profile*): what the callers were told is tested against the histories, all frames that
-    /// wait or are queued leave, and each network has its section. `NoMemory` where a growth was refused, which may be
+    /// wait or are queued leave, and each network has its section. `NoMemory` where memory ran out, which may be
     /// at any point; else the first of these that there is: `BadReceipt`, for a receipt whose place or number is not
     /// there, whose event is another, or which another receipt repeats, and where the numbers of a caller's receipts
     /// from one network don't rise; `Uncovered`, for an event of a history that no receipt tells of; `FullEarly`, for

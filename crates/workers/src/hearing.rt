@@ -16,7 +16,7 @@ use std::sync::Wait;
 
 impl<N: ApName> Ap<N> {
     /// Gives the line with this number to each network that hears it, in order of place, hands on the frames of those
-    /// networks, and keeps what each made of it. `NoMemory` where a growth was refused, to a network too.
+    /// networks, and keeps what each made of it. `NoMemory` where memory ran out, to a network too.
     pub(crate) fn hear<R: Wait>(
         &self,
         rt: &R,

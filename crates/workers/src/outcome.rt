@@ -13,7 +13,7 @@ pub enum Outcome {
     Took(u32),
     /// It refused the event: it has taken as many as it may.
     Full,
-    /// It refused the event: a growth was refused.
+    /// It refused the event, since memory ran out.
     NoMemory,
 }
 

@@ -35,7 +35,7 @@ pub enum PlayFault {
     Sources,
     /// A thread could not be started.
     NoThread,
-    /// A growth was refused, to the program or to a network.
+    /// The program or a network ran out of memory.
     NoMemory,
     /// The access point could not be finished.
     Finish(FinishFault),
@@ -109,10 +109,12 @@ pub struct Played {
 
 /// Feeds the sources' lines into an access point of this configuration, each source by a thread of its own, and
 /// finishes it (*profile*). A source's thread calls the gate before each line, gives the line, and pumps each network;
-/// a `Wire` line whose place is not there does nothing. Frames leave until all sources have ended, and then the last. `Config` with the first fault exactly where the configuration has one, else `Sources` exactly where
-/// there are not 1 to 64 of them; then the first of these that there is: `NoThread` where a thread could not be
-/// started, `NoMemory` where a growth was refused, to the program or to a network, and `Finish` with the fault where
-/// the access point could not be finished for another reason. It may wait for other threads.
+/// a `Wire` line whose place is not there does nothing. Frames leave until all sources have ended, and then the last.
+///
+/// `Config` with the first fault exactly where the configuration has one, else `Sources` exactly where there are not 1
+/// to 64 of them; then the first of these that there is: `NoThread` where a thread could not be started, `NoMemory`
+/// where the program or a network ran out of memory, and `Finish` with the fault where the access point could not be
+/// finished for another reason. It may wait for other threads.
 pub fn play<G: Gate + Sync, R: Threads + Wait + Sync>(
     rt: &R,
     alloc: Global,

@@ -31,7 +31,7 @@ struct Signal {
     enough: u32,
 }
 
-/// What the thread of a source ends with: the answers to its lines, unless a growth was refused.
+/// What the thread of a source ends with: the answers to its lines, unless memory ran out.
 #[derive(Clone, Copy)]
 struct Told<'a, N: ApName> {
     lines: &'a [Line],
@@ -86,7 +86,7 @@ pub(crate) fn run_sources<'a, N: ApName + Send + Sync, G: Gate + Sync, R: Thread
     )
 }
 
-/// For how many frames of one of so many sources the thread that lets frames leave is woken: together they fill half of
+/// For how many frames of one of these sources the thread that lets frames leave is woken: together they fill half of
 /// the queue then.
 fn enough_of(capacity: u16, sources: usize) -> u32 {
     let half = u32::from(capacity) / 2;
@@ -190,7 +190,7 @@ fn join_source<'a, N: ApName, R: Threads>(
     Ok(Answered { lines, answers })
 }
 
-/// Lets frames leave until so many sources have ended and the queue is empty. Where it is empty before, the thread sleeps
+/// Lets frames leave until all sources have ended and the queue is empty. Where it is empty before, the thread sleeps
 /// until it is woken.
 fn transmit<N: ApName, R: Wait>(
     rt: &R,
