@@ -76,7 +76,8 @@ pub struct Bridge<P, R, C> {
 }
 
 impl<P: Port, R: RateChoice, C: io::Read + std::os::unix::io::AsRawFd> Bridge<P, R, C> {
-    /// With this program, whose networks aren't open yet, requests of `tools/live`, and a beacon interval in time units.
+    /// With this program, whose networks aren't open yet, requests of `tools/live`, and a beacon interval in time
+    /// units.
     pub fn new(program: Program, feeder: Feeder, requests: Requests<C>, interval: u16) -> Result<Self, Fault> {
         let poller = Poller::new()?;
         poller.add(requests.descriptor(), Token::Control, true, false)?;
@@ -576,6 +577,9 @@ impl<P: Port, R: RateChoice> Running<P, R> {
         dropped.sort();
         for (source, reason, number) in dropped {
             tell(format!("{number} dropped of {}: {reason}", self.interface(source)));
+        }
+        if !self.waiting.is_empty() {
+            tell(format!("{} frames still waited for the program", self.waiting.len()));
         }
         for (what, number) in self.sender.counts() {
             tell(format!("{number} frames {what}"));
