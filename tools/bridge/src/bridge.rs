@@ -617,7 +617,6 @@ mod tests {
     use crate::program::Record;
     use crate::radiotap::sending_header;
     use crate::samples::{data, radiotap, OURS};
-    use crate::sending::LowestBasicRate;
     use libc::sock_filter;
     use std::fs::{self, Permissions};
     use std::io::Write;
@@ -756,7 +755,8 @@ write(b"N", octets=b"network 02:00:00:00:01:01 ssid 6c6162\n")
         let outcome = thread::scope(|scope| {
             let record = Record::create(stage.folder.join("record").to_str().unwrap()).unwrap();
             scope.spawn(|| {
-                stage.requests.write_all(b"open\n").unwrap();
+                // One that has ended by now reads nothing any more.
+                let _ = stage.requests.write_all(b"open\n");
                 thread::sleep(Duration::from_millis(400));
                 later(&mut stage);
             });
@@ -779,7 +779,7 @@ write(b"N", octets=b"network 02:00:00:00:01:01 ssid 6c6162\n")
         let mut ports = Some((monitor, wire));
         bridge.serve(|| {
             let (monitor, wire) = ports.take().unwrap();
-            Ok(Sender::new(networks.clone(), monitor, vec![Some(wire)], LowestBasicRate::new(&networks)))
+            Ok(Sender::new(networks.clone(), monitor, vec![Some(wire)]))
         })
     }
 
