@@ -76,7 +76,8 @@ pub struct Bridge<P, C> {
 }
 
 impl<P: Port, C: io::Read + std::os::unix::io::AsRawFd> Bridge<P, C> {
-    /// With this program, whose networks aren't open yet, requests of `tools/live`, and a beacon interval in time units.
+    /// With this program, whose networks aren't open yet, requests of `tools/live`, and a beacon interval in time
+    /// units.
     pub fn new(program: Program, feeder: Feeder, requests: Requests<C>, interval: u16) -> Result<Self, Fault> {
         let poller = Poller::new()?;
         poller.add(requests.descriptor(), Token::Control, true, false)?;
@@ -578,6 +579,9 @@ impl<P: Port> Running<P> {
         for (source, reason, number) in dropped {
             tell(format!("{number} dropped of {}: {reason}", self.interface(source)));
         }
+        if !self.waiting.is_empty() {
+            tell(format!("{} frames still waited for the program", self.waiting.len()));
+        }
         for (what, number) in self.sender.counts() {
             tell(format!("{number} frames {what}"));
         }
@@ -751,7 +755,8 @@ write(b"N", octets=b"network 02:00:00:00:01:01 ssid 6c6162\n")
         let outcome = thread::scope(|scope| {
             let record = Record::create(stage.folder.join("record").to_str().unwrap()).unwrap();
             scope.spawn(|| {
-                stage.requests.write_all(b"open\n").unwrap();
+                // One that has ended by now reads nothing any more.
+                let _ = stage.requests.write_all(b"open\n");
                 thread::sleep(Duration::from_millis(400));
                 later(&mut stage);
             });

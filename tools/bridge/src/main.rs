@@ -27,8 +27,8 @@
 //!
 //! It leaves every decision on a frame to the program, and leaves to `tools/live` all that is done once. It speaks with
 //! that by lines: it reads `open`, once the interfaces are there, and `tables`; the end of its input ends it. It writes
-//! `ready`, once the networks are open, `sending`, once the first beacon was seen as sent, `status N` with the program's
-//! status, and `fault TEXT`, after which it ends with status 1.
+//! `ready`, once the networks are open, `sending`, once the first beacon was seen as sent, `status N` with the status of
+//! the program, and `fault TEXT`, after which it ends with status 1.
 #![deny(unsafe_code)]
 
 mod bridge;

@@ -1,8 +1,8 @@
 //! Frames that wait for the program: bounded, and where more comes than goes through, what is dropped.
 //!
 //! Each source of frames, the air or a wire, has a lane of its own, in whose order frames leave; lanes take turns. A
-//! frame of data is dropped where it waited longer than `LONGEST`, where so many younger ones of its sender and receiver
-//! wait as `MOST_OF_FLOW` says, or where its lane is full: always the oldest one. So who sends more than goes through
+//! frame of data is dropped where it waited longer than `LONGEST`, where `MOST_OF_FLOW` younger ones of its sender to
+//! its receiver wait, or where its lane is full: always the oldest one. So who sends more than goes through
 //! loses its own frames, and others don't wait behind them. Management frames and PS-Polls are dropped where a lane is
 //! full of them alone.
 use std::collections::{HashMap, VecDeque};
@@ -152,6 +152,11 @@ impl Waiting {
         None
     }
 
+    /// How many frames wait.
+    pub fn len(&self) -> usize {
+        self.lanes.iter().map(|lane| lane.waiters.len()).sum()
+    }
+
     /// Whether nothing waits.
     pub fn is_empty(&self) -> bool {
         self.lanes.iter().all(|lane| lane.waiters.is_empty())
@@ -196,6 +201,7 @@ mod tests {
             waiting.push(0, data(STATION, 0, mark));
         }
         waiting.push(1, management(0, 10));
+        assert_eq!(waiting.len(), 4);
         assert_eq!(marks(&mut waiting, 0), [(0, 0), (1, 10), (0, 1), (0, 2)]);
         assert!(waiting.is_empty());
         assert_eq!(dropped(&waiting), []);
