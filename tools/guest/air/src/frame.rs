@@ -1,0 +1,115 @@
+//! What the air has to know of a frame (IEEE Std 802.11-2016, 9.2.4): whom it is for, and of which kind it is.
+
+use std::fmt;
+use std::str::FromStr;
+
+const RECEIVER: std::ops::Range<usize> = 4..10;
+const GROUP: u8 = 1;
+const TYPE_AND_SUBTYPE: u8 = 0xfc;
+const RETRY: u8 = 0x08;
+const FLAGS_AT: usize = 1;
+
+/// An address of 48 bits.
+pub type Address = [u8; 6];
+
+/// The kinds of frame that rules tell apart.
+#[derive(Clone, Copy, Debug, PartialEq, Eq, PartialOrd, Ord, Hash)]
+pub enum Kind {
+    Association,
+    Authentication,
+    Beacon,
+    Data,
+    Null,
+    PsPoll,
+    Other,
+}
+
+const NAMES: [(Kind, &str); 7] = [
+    (Kind::Association, "association"),
+    (Kind::Authentication, "authentication"),
+    (Kind::Beacon, "beacon"),
+    (Kind::Data, "data"),
+    (Kind::Null, "null"),
+    (Kind::PsPoll, "ps-poll"),
+    (Kind::Other, "other"),
+];
+
+impl Kind {
+    /// The kind of a frame; requests and responses, and association and reassociation, are one.
+    pub fn of(frame: &[u8]) -> Kind {
+        match frame.first().map(|octet| octet & TYPE_AND_SUBTYPE) {
+            Some(0x00 | 0x10 | 0x20 | 0x30) => Kind::Association,
+            Some(0xb0) => Kind::Authentication,
+            Some(0x80) => Kind::Beacon,
+            Some(0x08 | 0x88) => Kind::Data,
+            Some(0x48 | 0xc8) => Kind::Null,
+            Some(0xa4) => Kind::PsPoll,
+            _ => Kind::Other,
+        }
+    }
+}
+
+impl fmt::Display for Kind {
+    fn fmt(&self, out: &mut fmt::Formatter<'_>) -> fmt::Result {
+        let name = NAMES.iter().find(|(kind, _)| kind == self).map_or("other", |(_, name)| name);
+        out.write_str(name)
+    }
+}
+
+impl FromStr for Kind {
+    type Err = String;
+
+    fn from_str(word: &str) -> Result<Kind, String> {
+        let found = NAMES.iter().find(|(_, name)| *name == word);
+        found.map(|(kind, _)| *kind).ok_or_else(|| format!("no kind of frame is called {word}"))
+    }
+}
+
+/// Whom a frame is for, or None where it is too short to say.
+pub fn receiver(frame: &[u8]) -> Option<Address> {
+    frame.get(RECEIVER)?.try_into().ok()
+}
+
+/// Whether an address is that of a group.
+pub fn is_group(address: Address) -> bool {
+    address[0] & GROUP != 0
+}
+
+/// The frame as it is sent again.
+pub fn again(frame: &[u8]) -> Vec<u8> {
+    let mut octets = frame.to_vec();
+    if let Some(flags) = octets.get_mut(FLAGS_AT) {
+        *flags |= RETRY;
+    }
+    octets
+}
+
+#[cfg(test)]
+mod tests {
+    use super::*;
+
+    #[test]
+    fn kinds_are_told_by_the_first_octet() {
+        for (octet, kind) in [(0x00, Kind::Association), (0x10, Kind::Association), (0xb0, Kind::Authentication),
+                              (0x08, Kind::Data), (0x48, Kind::Null), (0x80, Kind::Beacon), (0xa4, Kind::PsPoll),
+                              (0xc0, Kind::Other), (0x40, Kind::Other)] {
+            assert_eq!(Kind::of(&[octet]), kind);
+        }
+        assert_eq!(Kind::of(&[]), Kind::Other);
+    }
+
+    #[test]
+    fn names_of_kinds_come_back() {
+        for (kind, name) in NAMES {
+            assert_eq!(name.parse(), Ok(kind));
+            assert_eq!(kind.to_string(), name);
+        }
+        assert!("poll".parse::<Kind>().is_err());
+    }
+
+    #[test]
+    fn only_retry_changes_in_a_frame_that_is_sent_again() {
+        assert_eq!(again(&[0x08, 0x01, 7]), [0x08, 0x09, 7]);
+        assert_eq!(again(&[0x08]), [0x08]);
+    }
+}

@@ -1,0 +1,202 @@
+//! An air that loses frames, for the tests: it carries what the simulated radios of `mac80211_hwsim` send.
+//!
+//! It registers with the kernel's simulation (generic netlink, family MAC80211_HWSIM), takes each frame that a radio
+//! sends, decides by its rules and draws of a seed who hears each try, repeats a frame that isn't acknowledged, says how
+//! it was sent, and hands it to those who heard it; all after the time that frame and acknowledgement take on the air.
+//! The module `medium` has how.
+//!
+//! What it leaves to others: which channel a radio is on (the kernel drops a frame of another one) and whether a radio
+//! sleeps or scans (it acknowledges as long as it has an interface with that address). There are no collisions and no
+//! hidden stations. The kernel takes no frame of fewer than 24 octets back, so a PS-Poll is heard by nobody.
+//!
+//! Usage: `air RADIOS SEED`, as root, once the simulation is loaded and before its interfaces are set up, since the
+//! kernel tells a radio's addresses only then. It writes `ready`; then each line of its standard input is answered by
+//! `ok`, or a line `fault ..`, and the end of the input ends it:
+//!
+//! ```text
+//! lose frames|acknowledgements SHARE% [of KIND] [from RADIO] [to RADIO] [at RATE|above RATE]
+//! clear       lose nothing any more
+//! report      before `ok`, a line for what was sent from whom to whom, of which kind, at which rate
+//! forget      begin to count anew
+//! ```
+
+mod frame;
+mod hwsim;
+mod medium;
+mod netlink;
+mod rate;
+mod rules;
+
+use std::io::{self, BufRead};
+use std::process::ExitCode;
+use std::sync::mpsc::{channel, Receiver, RecvTimeoutError, Sender};
+use std::thread;
+use std::time::{Duration, Instant};
+
+use hwsim::Said;
+use medium::{Effect, Medium};
+use netlink::Socket;
+
+/// What wakes the thread that has the medium.
+enum Woken {
+    Kernel(Said),
+    Line(String),
+    End,
+}
+
+fn main() -> ExitCode {
+    match words().and_then(|(radios, seed)| serve(radios, seed)) {
+        Ok(()) => ExitCode::SUCCESS,
+        Err(fault) => {
+            eprintln!("air: {fault}");
+            ExitCode::FAILURE
+        }
+    }
+}
+
+fn words() -> Result<(u16, u64), String> {
+    let words: Vec<String> = std::env::args().skip(1).collect();
+    match &words[..] {
+        [radios, seed] => radios.parse().ok().zip(seed.parse().ok()).ok_or_else(|| "two numbers are wanted".to_owned()),
+        _ => Err("usage: air RADIOS SEED".to_owned()),
+    }
+}
+
+fn serve(radios: u16, seed: u64) -> Result<(), String> {
+    let opened = Socket::open().and_then(|socket| {
+        let family = socket.family(hwsim::FAMILY)?;
+        socket.send(hwsim::register(family))?;
+        Ok((socket.share()?, socket, family))
+    });
+    let (hearing, socket, family) = opened.map_err(|fault| format!("{}: {fault}", hwsim::FAMILY))?;
+    let (sender, woken) = channel();
+    let lines = sender.clone();
+    thread::spawn(move || hear(&hearing, &sender));
+    thread::spawn(move || read(&lines));
+    println!("ready");
+    let mut air = Air { medium: Medium::new(radios, seed), socket, family, refused: 0, begun: Instant::now() };
+    air.run(&woken);
+    Ok(())
+}
+
+/// Gives on what the kernel says, until the socket fails.
+fn hear(socket: &Socket, to: &Sender<Woken>) {
+    loop {
+        let datagram = match socket.receive() {
+            Ok(datagram) => datagram,
+            Err(fault) if fault.raw_os_error() == Some(libc::ENOBUFS) => {
+                eprintln!("air: the kernel dropped frames: this program was too slow for them");
+                continue;
+            }
+            Err(fault) => {
+                eprintln!("air: {fault}");
+                break;
+            }
+        };
+        for said in netlink::messages(&datagram).filter_map(|message| hwsim::read(&message)) {
+            if to.send(Woken::Kernel(said)).is_err() {
+                return;
+            }
+        }
+    }
+    let _ = to.send(Woken::End);
+}
+
+/// Gives on the lines of standard input, and its end.
+fn read(to: &Sender<Woken>) {
+    for line in io::stdin().lock().lines().flatten() {
+        if to.send(Woken::Line(line)).is_err() {
+            return;
+        }
+    }
+    let _ = to.send(Woken::End);
+}
+
+/// The medium, and the kernel for which it carries.
+struct Air {
+    medium: Medium,
+    socket: Socket,
+    family: u16,
+    refused: u64,
+    begun: Instant,
+}
+
+impl Air {
+    fn run(&mut self, woken: &Receiver<Woken>) {
+        loop {
+            let now = self.now();
+            for effect in self.medium.advance(now) {
+                self.tell(&effect);
+            }
+            let next = match self.medium.due() {
+                Some(due) => woken.recv_timeout(Duration::from_nanos(due.saturating_sub(self.now()))),
+                None => woken.recv().map_err(RecvTimeoutError::from),
+            };
+            match next {
+                Ok(Woken::Kernel(said)) => self.take(said),
+                Ok(Woken::Line(line)) => self.answer(&line),
+                Ok(Woken::End) | Err(RecvTimeoutError::Disconnected) => return,
+                Err(RecvTimeoutError::Timeout) => {}
+            }
+        }
+    }
+
+    /// Nanoseconds since this began.
+    fn now(&self) -> u64 {
+        u64::try_from(self.begun.elapsed().as_nanos()).unwrap_or(u64::MAX)
+    }
+
+    fn take(&mut self, said: Said) {
+        match said {
+            Said::Sent(sent) => {
+                let now = self.now();
+                self.medium.take(sent, now);
+            }
+            Said::Has(radio, address) => self.medium.give_address(radio, address),
+            Said::HasNoMore(radio, address) => self.medium.take_address(radio, address),
+            Said::Refused(number) => {
+                if self.refused == 0 {
+                    eprintln!("air: the kernel refused something: {}", io::Error::from_raw_os_error(number));
+                }
+                self.refused += 1;
+            }
+        }
+    }
+
+    fn tell(&mut self, effect: &Effect) {
+        let message = match effect {
+            Effect::Delivered { to, frame, rate, frequency } => {
+                hwsim::delivery(self.family, *to, frame, *rate, *frequency)
+            }
+            Effect::Done { sent, tried, acknowledged } => hwsim::report(self.family, sent, tried, *acknowledged),
+        };
+        if let Err(fault) = self.socket.send(message) {
+            eprintln!("air: {fault}");
+        }
+    }
+
+    fn answer(&mut self, line: &str) {
+        match self.obey(line) {
+            Ok(()) => println!("ok"),
+            Err(fault) => println!("fault {fault}"),
+        }
+    }
+
+    fn obey(&mut self, line: &str) -> Result<(), String> {
+        match line.trim().split_once(' ').unwrap_or((line.trim(), "")) {
+            ("lose", rule) => self.medium.rules.add(rule.parse()?),
+            ("clear", "") => self.medium.rules.clear(),
+            ("forget", "") => self.medium.clear_counts(),
+            ("report", "") => {
+                for (way, count) in self.medium.counts() {
+                    let to = way.to.map_or_else(|| "group".to_owned(), |radio| radio.to_string());
+                    println!("from {} to {to} {} at {} tries {} heard {} acknowledged {}", way.from, way.kind, way.rate,
+                             count.tries, count.heard, count.acknowledged);
+                }
+                println!("refused {}", self.refused);
+            }
+            _ => return Err(format!("nothing is known of the line `{line}`")),
+        }
+        Ok(())
+    }
+}

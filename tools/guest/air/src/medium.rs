@@ -1,0 +1,408 @@
+//! The medium: who sends next, how long a try takes, who hears it, and whether it is acknowledged.
+//!
+//! A machine of states without a clock: it is told what the time is and answers what happened. One frame is on the air
+//! at a time. Radios that have something to send take turns, a try each; before each try comes DIFS and a number of
+//! slots that is drawn from a window which doubles with each try (IEEE Std 802.11-2016, 10.3.4.3), so there are no
+//! collisions. A try that is heard by the radio that it is for is acknowledged; where the frame or the acknowledgement
+//! is lost it is sent again, with Retry set, at the rates and as often as its sender asked.
+
+use std::collections::hash_map::DefaultHasher;
+use std::collections::{BTreeMap, HashMap, VecDeque};
+use std::hash::{Hash, Hasher};
+use std::rc::Rc;
+
+use crate::frame::{again, is_group, receiver, Address, Kind};
+use crate::hwsim::{Attempt, Sent};
+use crate::rate::{Rate, DIFS, SLOT};
+use crate::rules::{Lost, Radio, Rules, Try};
+
+const LEAST_WINDOW: [u64; 2] = [15, 31];
+const MOST_WINDOW: u64 = 1023;
+
+/// What happened on the air.
+#[derive(Debug, PartialEq, Eq)]
+pub enum Effect {
+    /// A radio heard a frame.
+    Delivered { to: Radio, frame: Rc<Vec<u8>>, rate: Rate, frequency: u32 },
+    /// A frame is done with.
+    Done { sent: Sent, tried: Vec<Attempt>, acknowledged: bool },
+}
+
+/// Numbers drawn from a seed: those of a pair of radios don't depend on what others send.
+#[derive(Debug)]
+struct Draws {
+    seed: u64,
+    drawn: HashMap<(Radio, Radio), u64>,
+}
+
+impl Draws {
+    /// A number that any 64 bits are equally likely for.
+    fn number(&mut self, from: Radio, to: Radio) -> u64 {
+        let drawn = self.drawn.entry((from, to)).or_insert(0);
+        *drawn += 1;
+        let mut hasher = DefaultHasher::new();
+        (self.seed, from, to, *drawn).hash(&mut hasher);
+        hasher.finish()
+    }
+
+    /// Whether something of this share happens.
+    fn happens(&mut self, share: f64, from: Radio, to: Radio) -> bool {
+        const BITS: u32 = 53;
+        share > 0.0 && ((self.number(from, to) >> (64 - BITS)) as f64) < share * (1u64 << BITS) as f64
+    }
+}
+
+/// What was sent to whom, at which rate.
+#[derive(Clone, Copy, Debug, PartialEq, Eq, PartialOrd, Ord)]
+pub struct Way {
+    pub from: Radio,
+    /// None where it is for a group, or for an address that no radio has.
+    pub to: Option<Radio>,
+    pub kind: Kind,
+    pub rate: Rate,
+}
+
+/// How often it was tried, heard by the one that it is for, and acknowledged.
+#[derive(Clone, Copy, Debug, Default, PartialEq, Eq)]
+pub struct Count {
+    pub tries: u64,
+    pub heard: u64,
+    pub acknowledged: u64,
+}
+
+#[derive(Debug)]
+struct Exchange {
+    sent: Sent,
+    frame: Rc<Vec<u8>>,
+    kind: Kind,
+    receiver: Option<Address>,
+    tried: Vec<Attempt>,
+    tries: u32,
+}
+
+impl Exchange {
+    fn new(sent: Sent) -> Exchange {
+        Exchange {
+            frame: Rc::new(sent.frame.clone()),
+            kind: Kind::of(&sent.frame),
+            receiver: receiver(&sent.frame),
+            tried: Vec::new(),
+            tries: 0,
+            sent,
+        }
+    }
+
+    fn wants_acknowledgement(&self) -> bool {
+        !self.sent.wants_no_acknowledgement() && self.receiver.map_or(false, |address| !is_group(address))
+    }
+
+    /// The rate of the next try, or None where it was tried as often as its sender asked.
+    fn next_rate(&self) -> Option<Rate> {
+        let mut left = self.tries;
+        self.sent.attempts.iter().find_map(|attempt| match left.checked_sub(u32::from(attempt.count)) {
+            Some(rest) => {
+                left = rest;
+                None
+            }
+            None => Some(attempt.rate),
+        })
+    }
+
+    fn count_try(&mut self, rate: Rate) {
+        let begins = self.begins_attempt();
+        match self.tried.last_mut() {
+            Some(attempt) if !begins => attempt.count += 1,
+            _ => self.tried.push(Attempt { rate, count: 1 }),
+        }
+        self.tries += 1;
+    }
+
+    /// Whether the next try is the first of those at its place in the sender's list.
+    fn begins_attempt(&self) -> bool {
+        let mut ends = self.sent.attempts.iter().scan(0, |sum, attempt| {
+            *sum += u32::from(attempt.count);
+            Some(*sum)
+        });
+        self.tries == 0 || ends.any(|end| end == self.tries)
+    }
+}
+
+#[derive(Clone, Copy, Debug)]
+struct OnAir {
+    from: Radio,
+    rate: Rate,
+    ends: u64,
+}
+
+/// The medium of some radios.
+#[derive(Debug)]
+pub struct Medium {
+    pub rules: Rules,
+    radios: u16,
+    draws: Draws,
+    owners: BTreeMap<Address, Radio>,
+    queues: BTreeMap<Radio, VecDeque<Exchange>>,
+    on_air: Option<OnAir>,
+    last: Radio,
+    counts: BTreeMap<Way, Count>,
+}
+
+impl Medium {
+    /// A medium on which nothing is lost, of the radios from 0 on.
+    pub fn new(radios: u16, seed: u64) -> Medium {
+        Medium {
+            rules: Rules::default(),
+            radios,
+            draws: Draws { seed, drawn: HashMap::new() },
+            owners: BTreeMap::new(),
+            queues: BTreeMap::new(),
+            on_air: None,
+            last: Radio(0),
+            counts: BTreeMap::new(),
+        }
+    }
+
+    /// From now on this radio acknowledges what comes to the address.
+    pub fn give_address(&mut self, radio: Radio, address: Address) {
+        self.owners.insert(address, radio);
+    }
+
+    /// From now on it doesn't.
+    pub fn take_address(&mut self, radio: Radio, address: Address) {
+        if self.owners.get(&address) == Some(&radio) {
+            self.owners.remove(&address);
+        }
+    }
+
+    /// A radio has something to send, at this time in nanoseconds.
+    pub fn take(&mut self, sent: Sent, now: u64) {
+        self.queues.entry(sent.from).or_default().push_back(Exchange::new(sent));
+        if self.on_air.is_none() {
+            self.begin(now);
+        }
+    }
+
+    /// When something happens next, in nanoseconds; None where nothing is on the air.
+    pub fn due(&self) -> Option<u64> {
+        self.on_air.map(|on_air| on_air.ends)
+    }
+
+    /// What has happened by this time, in order.
+    pub fn advance(&mut self, now: u64) -> Vec<Effect> {
+        let mut effects = Vec::new();
+        while let Some(on_air) = self.on_air.filter(|on_air| on_air.ends <= now) {
+            self.end(on_air, &mut effects);
+            self.begin(on_air.ends);
+        }
+        effects
+    }
+
+    /// What was sent since the counts were cleared.
+    pub fn counts(&self) -> impl Iterator<Item = (&Way, &Count)> {
+        self.counts.iter()
+    }
+
+    pub fn clear_counts(&mut self) {
+        self.counts.clear();
+    }
+
+    /// Lets the next radio begin a try, after the one whose turn it was.
+    fn begin(&mut self, at: u64) {
+        let waiting = |(_, queue): &(&Radio, &VecDeque<Exchange>)| !queue.is_empty();
+        let next = self.queues.range(Radio(self.last.0.saturating_add(1))..).find(waiting);
+        let found = next.or_else(|| self.queues.iter().find(waiting));
+        self.on_air = found.and_then(|(from, queue)| queue.front().map(|exchange| (*from, exchange))).map(
+            |(from, exchange)| {
+                let rate = exchange.next_rate().unwrap_or_else(Rate::slowest);
+                let answered = if exchange.wants_acknowledgement() { rate.acknowledgement() } else { 0 };
+                let least = LEAST_WINDOW[usize::from(rate.is_spread())];
+                let window = ((least + 1) << exchange.tries.min(6)).min(MOST_WINDOW + 1);
+                let slots = self.draws.number(from, from) % window;
+                let ends = at + DIFS + slots * SLOT + rate.airtime(exchange.frame.len()) + answered;
+                OnAir { from, rate, ends }
+            },
+        );
+    }
+
+    /// Ends the try that is on the air.
+    fn end(&mut self, on_air: OnAir, effects: &mut Vec<Effect>) {
+        let OnAir { from, rate, .. } = on_air;
+        self.last = from;
+        let mut exchange = match self.queues.get_mut(&from).and_then(VecDeque::pop_front) {
+            Some(exchange) => exchange,
+            None => return,
+        };
+        exchange.count_try(rate);
+        let to = exchange.receiver.and_then(|address| self.owners.get(&address).copied());
+        let was_heard = self.deliver(&exchange, from, rate, to, effects);
+        let kind = exchange.kind;
+        let acknowledged = was_heard
+            && exchange.wants_acknowledgement()
+            && to.map_or(false, |to| {
+                let share = self.rules.share(Lost::Acknowledgements, Try { from, to, rate, kind });
+                !self.draws.happens(share, to, from)
+            });
+        let count = self.counts.entry(Way { from, to, kind, rate }).or_default();
+        count.tries += 1;
+        count.heard += u64::from(was_heard);
+        count.acknowledged += u64::from(acknowledged);
+        if acknowledged || !exchange.wants_acknowledgement() || exchange.next_rate().is_none() {
+            effects.push(Effect::Done { sent: exchange.sent, tried: exchange.tried, acknowledged });
+        } else {
+            exchange.frame = Rc::new(again(&exchange.sent.frame));
+            self.queues.entry(from).or_default().push_front(exchange);
+        }
+    }
+
+    /// Hands a try to all who hear it; answers whether the one that it is for did.
+    fn deliver(&mut self, exchange: &Exchange, from: Radio, rate: Rate, to: Option<Radio>,
+               effects: &mut Vec<Effect>) -> bool {
+        let mut was_heard = false;
+        for radio in (0..self.radios).map(Radio).filter(|radio| *radio != from) {
+            let share = self.rules.share(Lost::Frames, Try { from, to: radio, rate, kind: exchange.kind });
+            if self.draws.happens(share, from, radio) {
+                continue;
+            }
+            was_heard |= to == Some(radio);
+            let (frame, frequency) = (Rc::clone(&exchange.frame), exchange.sent.frequency);
+            effects.push(Effect::Delivered { to: radio, frame, rate, frequency });
+        }
+        was_heard
+    }
+}
+
+#[cfg(test)]
+mod tests {
+    use super::*;
+
+    const STATION: Address = [2, 0, 0, 0, 2, 0];
+    const FOREVER: u64 = u64::MAX / 2;
+
+    fn rate(word: &str) -> Rate {
+        word.parse().unwrap()
+    }
+
+    fn data(from: u16, to: Address, attempts: &[(&str, u8)]) -> Sent {
+        let mut frame = vec![0x08, 0x02, 0, 0];
+        frame.extend_from_slice(&to);
+        frame.resize(100, 0);
+        let attempts = attempts.iter().map(|(word, count)| Attempt { rate: rate(word), count: *count }).collect();
+        Sent { from: Radio(from), frame, attempts, frequency: 2437, cookie: 1, flags: 1 }
+    }
+
+    fn medium(rules: &[&str]) -> Medium {
+        let mut medium = Medium::new(3, 56);
+        medium.give_address(Radio(2), STATION);
+        rules.iter().for_each(|rule| medium.rules.add(rule.parse().unwrap()));
+        medium
+    }
+
+    fn done(effects: &[Effect]) -> Vec<(Vec<(String, u8)>, bool)> {
+        let tried = |tried: &[Attempt]| tried.iter().map(|attempt| (attempt.rate.to_string(), attempt.count)).collect();
+        effects.iter().filter_map(|effect| match effect {
+            Effect::Done { tried: list, acknowledged, .. } => Some((tried(list), *acknowledged)),
+            Effect::Delivered { .. } => None,
+        }).collect()
+    }
+
+    fn heard(effects: &[Effect], radio: u16) -> Vec<bool> {
+        effects.iter().filter_map(|effect| match effect {
+            Effect::Delivered { to, frame, .. } if *to == Radio(radio) => Some(frame[1] & 0x08 != 0),
+            _ => None,
+        }).collect()
+    }
+
+    #[test]
+    fn a_frame_that_is_not_lost_is_heard_once_by_all_others_and_acknowledged() {
+        let mut medium = medium(&[]);
+        medium.take(data(0, STATION, &[("54", 4)]), 0);
+        let effects = medium.advance(FOREVER);
+        assert_eq!(done(&effects), [(vec![("54".to_owned(), 1)], true)]);
+        assert_eq!((heard(&effects, 0), heard(&effects, 1), heard(&effects, 2)), (vec![], vec![false], vec![false]));
+        assert_eq!(medium.due(), None);
+    }
+
+    #[test]
+    fn a_rate_that_is_too_fast_brings_nothing_and_the_next_in_the_list_is_tried() {
+        let mut medium = medium(&["frames 100% to 2 above 6"]);
+        medium.take(data(0, STATION, &[("54", 2), ("24", 1), ("6", 3)]), 0);
+        let effects = medium.advance(FOREVER);
+        let tried = [("54", 2), ("24", 1), ("6", 1)].map(|(rate, count)| (rate.to_owned(), count)).to_vec();
+        assert_eq!(done(&effects), [(tried, true)]);
+        assert_eq!(heard(&effects, 2), [true]);
+        assert_eq!(heard(&effects, 1), [false, true, true, true]);
+    }
+
+    #[test]
+    fn a_lost_acknowledgement_brings_the_frame_again_with_retry() {
+        let mut medium = medium(&["acknowledgements 100% from 0 to 2"]);
+        medium.take(data(0, STATION, &[("54", 3)]), 0);
+        let effects = medium.advance(FOREVER);
+        assert_eq!(done(&effects), [(vec![("54".to_owned(), 3)], false)]);
+        assert_eq!(heard(&effects, 2), [false, true, true]);
+    }
+
+    #[test]
+    fn a_group_is_sent_to_once_and_an_address_of_nobody_as_often_as_asked() {
+        for (to, tries) in [([0xff; 6], 1), ([2, 0, 0, 0, 9, 9], 5)] {
+            let mut medium = medium(&[]);
+            medium.take(data(0, to, &[("1", 5)]), 0);
+            assert_eq!(done(&medium.advance(FOREVER)), [(vec![("1".to_owned(), tries)], false)]);
+        }
+    }
+
+    #[test]
+    fn radios_take_turns_and_each_keeps_its_order() {
+        let mut medium = medium(&["frames 100% from 0 to 2"]);
+        medium.take(data(0, STATION, &[("6", 2)]), 0);
+        medium.take(data(0, STATION, &[("9", 2)]), 0);
+        medium.take(data(1, STATION, &[("12", 1)]), 0);
+        let order: Vec<_> = done(&medium.advance(FOREVER)).into_iter().map(|(tried, _)| tried[0].0.clone()).collect();
+        assert_eq!(order, ["12", "6", "9"]);
+    }
+
+    #[test]
+    fn a_try_takes_its_time_and_nothing_happens_before() {
+        let mut medium = medium(&[]);
+        medium.take(data(0, STATION, &[("1", 1)]), 1000);
+        let least = 1000 + DIFS + rate("1").airtime(100) + rate("1").acknowledgement();
+        let due = medium.due().unwrap();
+        assert!((least..=least + 31 * SLOT).contains(&due));
+        assert!(medium.advance(due - 1).is_empty());
+        assert!(!medium.advance(due).is_empty());
+    }
+
+    #[test]
+    fn shares_are_met_and_come_again_with_the_seed() {
+        let run = || {
+            let mut medium = medium(&["frames 20%"]);
+            (0..5000).for_each(|_| medium.take(data(0, STATION, &[("54", 1)]), 0));
+            done(&medium.advance(FOREVER)).into_iter().map(|(_, acknowledged)| acknowledged).collect::<Vec<_>>()
+        };
+        let first = run();
+        let lost = first.iter().filter(|acknowledged| !**acknowledged).count();
+        assert!((900..1100).contains(&lost), "{lost}");
+        assert_eq!(first, run());
+    }
+
+    #[test]
+    fn what_was_sent_is_counted() {
+        let mut medium = medium(&["acknowledgements 100%"]);
+        medium.take(data(0, STATION, &[("54", 3)]), 0);
+        medium.advance(FOREVER);
+        let way = Way { from: Radio(0), to: Some(Radio(2)), kind: Kind::Data, rate: rate("54") };
+        let found: Vec<_> = medium.counts().map(|(way, count)| (*way, *count)).collect();
+        assert_eq!(found, [(way, Count { tries: 3, heard: 3, acknowledged: 0 })]);
+        medium.clear_counts();
+        assert_eq!(medium.counts().count(), 0);
+    }
+
+    #[test]
+    fn an_address_that_was_taken_away_is_nobodys() {
+        let mut medium = medium(&[]);
+        medium.take_address(Radio(1), STATION);
+        medium.take_address(Radio(2), STATION);
+        medium.take(data(0, STATION, &[("54", 2)]), 0);
+        assert_eq!(done(&medium.advance(FOREVER)), [(vec![("54".to_owned(), 2)], false)]);
+    }
+}
