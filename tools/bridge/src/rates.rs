@@ -1,0 +1,362 @@
+//! The rule of rates: at which rate the next unit to one station is sent, by what became of those before.
+//!
+//! It is Minstrel's rule, as Linux has it (`net/mac80211/rc80211_minstrel_ht.c`), without a clock of its own, and for a
+//! radio that can be asked for one rate a frame. Of each rate the share of tries is kept that was acknowledged, newer
+//! ones counting more; units go at the rate that brings the most octets through, share by time on the air; now and then
+//! one goes at a faster rate, as a sample, with two tries. A unit that nobody acknowledged lets the next one go at the
+//! slowest rate, until an acknowledgement comes, and what was known of the rates above the middle is forgotten, so that
+//! a station that went away is found within a few units. Where rates are untried, each unit samples the middle one of
+//! them: a faster rate is not expected to be heard where a slower one isn't.
+//!
+//! Nothing is sent, heard or timed here: what to do is asked, and what came of it is told.
+use std::time::Duration;
+
+/// In a rate of an element: stations have to have it (IEEE Std 802.11-2016, 9.4.2.3).
+const BASIC: u8 = 0x80;
+/// The rates of the 2.4 GHz band, in units of 500 kb/s, slowest first.
+const BAND: [u8; 12] = [2, 4, 11, 12, 18, 22, 24, 36, 48, 72, 96, 108];
+/// Those of DSSS and HR/DSSS; the others are of OFDM.
+const SPREAD: [u8; 4] = [2, 4, 11, 22];
+/// The length of a unit by which rates are compared, in bits.
+const BITS: f64 = 8.0 * 1200.0;
+/// The weight of one try in a share.
+const WEIGHT: f64 = 1.0 / 8.0;
+/// A share below this is none: the rate is sampled, and not used.
+const LEAST_SHARE: f64 = 0.05;
+/// How often a unit is sent again where no acknowledgement comes; a sample; and one to a station that seems to be gone.
+pub const RETRIES: u8 = 7;
+const SAMPLE_RETRIES: u8 = 1;
+const GONE_RETRIES: u8 = 1;
+/// After so many units in a row without an acknowledgement a station seems to be gone.
+const GONE: u32 = 4;
+/// Where all rates were tried, a unit is a sample after so many others, or after this time.
+const UNITS_PER_SAMPLE: u32 = 16;
+const SAMPLE_EVERY: Duration = Duration::from_millis(500);
+
+/// How a unit is to be sent.
+#[derive(Debug, Clone, Copy, PartialEq, Eq)]
+pub struct Choice {
+    /// In units of 500 kb/s.
+    pub rate: u8,
+    /// How often it is sent again where no acknowledgement comes.
+    pub retries: u8,
+    /// Whether it is sent so to learn of the rate: where it isn't acknowledged, it has to be sent again.
+    pub is_sample: bool,
+}
+
+/// What is known of a rate.
+#[derive(Debug, Clone, Copy, PartialEq)]
+enum Known {
+    /// Nothing: it is worth a sample at once.
+    Untried,
+    /// The share of its tries that was acknowledged, newer ones counting more.
+    Share(f64),
+}
+
+impl Known {
+    /// The share; 0 where nothing is known.
+    fn share(self) -> f64 {
+        match self {
+            Known::Untried => 0.0,
+            Known::Share(share) => share,
+        }
+    }
+
+    /// What is known after one more unit: of so many tries, the last of which was acknowledged, or none.
+    fn after(self, tries: u8, is_acknowledged: bool) -> Known {
+        let fails = i32::from(tries) - i32::from(is_acknowledged);
+        Known::Share(match self {
+            _ if !is_acknowledged => 0.0,
+            Known::Share(share) if share >= LEAST_SHARE => {
+                share * (1.0 - WEIGHT).powi(fails) * (1.0 - WEIGHT) + WEIGHT
+            }
+            _ => 1.0 / f64::from(tries.max(1)),
+        })
+    }
+}
+
+/// A rate that the station and the network have.
+#[derive(Debug, Clone, Copy)]
+struct Rate {
+    rate: u8,
+    known: Known,
+}
+
+impl Rate {
+    /// Bits that it brings through in a microsecond on the air, by its share of acknowledged tries.
+    fn throughput(&self) -> f64 {
+        self.known.share() * self.most_throughput()
+    }
+
+    /// The same if all were acknowledged: preamble, unit, SIFS and acknowledgement (16.3.4, 18.5.3), and DIFS before.
+    fn most_throughput(&self) -> f64 {
+        const SIFS_AND_DIFS: f64 = 60.0;
+        const ACK_BITS: f64 = 8.0 * 14.0;
+        let megabits = f64::from(self.rate) / 2.0;
+        let preamble = if SPREAD.contains(&self.rate) { 192.0 } else { 26.0 };
+        BITS / (SIFS_AND_DIFS + 2.0 * preamble + (BITS + ACK_BITS) / megabits)
+    }
+}
+
+/// The rates of one station, slowest first.
+#[derive(Debug, Clone)]
+pub struct Rates {
+    rates: Vec<Rate>,
+    /// Units in a row that nobody acknowledged, samples not counted.
+    failures: u32,
+    /// Units since the last sample, and when that was.
+    since_sample: u32,
+    sampled: Duration,
+    /// The rate that was sampled last, of those that all were tried.
+    turn: usize,
+}
+
+impl Rates {
+    /// The rates that a station's elements and a network's have both, whether basic or not; `None` where they have none
+    /// of the band's. The slowest is taken for good until a unit shows otherwise.
+    pub fn common(station: &[u8], network: &[u8]) -> Option<Rates> {
+        let has = |octets: &[u8], rate: u8| octets.iter().any(|octet| octet & !BASIC == rate);
+        let common = BAND.iter().copied().filter(|rate| has(station, *rate) && has(network, *rate));
+        let mut rates: Vec<Rate> = common.map(|rate| Rate { rate, known: Known::Untried }).collect();
+        rates.first_mut()?.known = Known::Share(1.0);
+        Some(Rates { rates, failures: 0, since_sample: 0, sampled: Duration::ZERO, turn: 0 })
+    }
+
+    /// How the next unit is to be sent, at this time since any fixed moment.
+    pub fn next(&mut self, now: Duration) -> Choice {
+        match self.sample(now) {
+            Some(place) => {
+                self.since_sample = 0;
+                self.sampled = now;
+                Choice { rate: self.rates[place].rate, retries: SAMPLE_RETRIES, is_sample: true }
+            }
+            None => {
+                self.since_sample = self.since_sample.saturating_add(1);
+                self.again()
+            }
+        }
+    }
+
+    /// How a unit is to be sent that has to come through: one that nobody acknowledged, too.
+    pub fn again(&self) -> Choice {
+        let place = if self.failures == 0 { self.best() } else { 0 };
+        let retries = if self.failures < GONE { RETRIES } else { GONE_RETRIES };
+        Choice { rate: self.rates[place].rate, retries, is_sample: false }
+    }
+
+    /// Whether the last unit was lost, so that the next one waits until it is known what becomes of this one.
+    pub fn is_in_doubt(&self) -> bool {
+        self.failures > 0
+    }
+
+    /// What became of a unit that was sent at a rate: so many tries, the last of which was acknowledged, or none.
+    pub fn told(&mut self, rate: u8, tries: u8, is_acknowledged: bool, is_sample: bool) {
+        let place = match self.rates.iter().position(|known| known.rate == rate) {
+            Some(place) => place,
+            None => return,
+        };
+        let before = self.rates[place].known;
+        self.rates[place].known = before.after(tries, is_acknowledged);
+        match (is_acknowledged, is_sample) {
+            (true, _) => {
+                self.failures = 0;
+                if before.share() < LEAST_SHARE {
+                    self.hope_above(place);
+                }
+            }
+            (false, true) => self.give_up_above(place),
+            (false, false) => {
+                self.failures = self.failures.saturating_add(1);
+                self.forget_above(place);
+            }
+        }
+    }
+
+    /// The rate that brings the most through; the slowest where none brings anything.
+    fn best(&self) -> usize {
+        let better = |best: usize, place: usize| {
+            if self.rates[place].throughput() > self.rates[best].throughput() { place } else { best }
+        };
+        (1..self.rates.len()).fold(0, better)
+    }
+
+    /// The rate to be sampled, where it is time for it.
+    fn sample(&mut self, now: Duration) -> Option<usize> {
+        if self.failures > 0 {
+            return None;
+        }
+        let best = self.best();
+        let throughput = self.rates[best].throughput();
+        let faster = |place: &usize| *place > best && self.rates[*place].most_throughput() > throughput;
+        let candidates: Vec<usize> = (0..self.rates.len()).filter(faster).collect();
+        let untried: Vec<usize> =
+            candidates.iter().copied().filter(|place| self.rates[*place].known == Known::Untried).collect();
+        if !untried.is_empty() {
+            return untried.get(untried.len() / 2).copied();
+        }
+        let is_time = self.since_sample >= UNITS_PER_SAMPLE
+            || self.since_sample > 0 && now.saturating_sub(self.sampled) >= SAMPLE_EVERY;
+        let next = candidates.iter().copied().find(|place| *place > self.turn).or_else(|| candidates.first().copied());
+        next.filter(|_| is_time).map(|place| {
+            self.turn = place;
+            place
+        })
+    }
+
+    /// A rate that brought nothing was heard: those above it that brought nothing may be, too.
+    fn hope_above(&mut self, place: usize) {
+        for rate in self.rates[place + 1..].iter_mut().filter(|rate| rate.known.share() < LEAST_SHARE) {
+            rate.known = Known::Untried;
+        }
+    }
+
+    /// A sample wasn't heard: what is untried above it won't be either.
+    fn give_up_above(&mut self, place: usize) {
+        for rate in self.rates[place + 1..].iter_mut().filter(|rate| rate.known == Known::Untried) {
+            rate.known = Known::Share(0.0);
+        }
+    }
+
+    /// A unit was lost at this rate: nothing is known any more of the rates from the middle on, but for this one and
+    /// those above it, which are given up.
+    fn forget_above(&mut self, place: usize) {
+        for (at, rate) in self.rates.iter_mut().enumerate().skip(place / 2 + 1) {
+            rate.known = if at < place { Known::Untried } else { Known::Share(0.0) };
+        }
+    }
+}
+
+#[cfg(test)]
+mod tests {
+    use super::*;
+
+    const ALL: [u8; 12] = [0x82, 0x84, 0x8b, 0x96, 12, 18, 24, 36, 48, 72, 96, 108];
+
+    fn millis(number: u64) -> Duration {
+        Duration::from_millis(number)
+    }
+
+    /// Sends units, one each ten milliseconds, to a station that hears rates up to one; their choices.
+    fn send(rates: &mut Rates, units: u64, from: u64, most: u8) -> Vec<Choice> {
+        (from..from + units).map(|unit| {
+            let choice = rates.next(millis(10 * unit));
+            let is_heard = choice.rate <= most;
+            let tries = if is_heard { 1 } else { choice.retries + 1 };
+            rates.told(choice.rate, tries, is_heard, choice.is_sample);
+            choice
+        }).collect()
+    }
+
+    fn used(choices: &[Choice]) -> Vec<u8> {
+        choices.iter().filter(|choice| !choice.is_sample).map(|choice| choice.rate).collect()
+    }
+
+    #[test]
+    fn common_rates_are_those_that_both_have_whether_basic_or_not() {
+        let rates = |station: &[u8], network: &[u8]| {
+            Rates::common(station, network).map(|rates| rates.rates.iter().map(|rate| rate.rate).collect::<Vec<_>>())
+        };
+        assert_eq!(rates(&[0x02, 0x96, 108], &[0x82, 0x84, 22, 12]), Some(vec![2, 22]));
+        assert_eq!(rates(&[12], &[0x82]), None);
+        assert_eq!(rates(&[], &ALL), None);
+        // 127 says that HT is wanted (9.4.2.3), and 3 is no rate of the band.
+        assert_eq!(rates(&[0xff, 3, 2], &[0xff, 3, 2]), Some(vec![2]));
+        assert_eq!(rates(&ALL, &ALL), Some(BAND.to_vec()));
+    }
+
+    #[test]
+    fn the_fastest_rate_is_reached_within_a_few_units() {
+        let mut rates = Rates::common(&ALL, &ALL).unwrap();
+        let choices = send(&mut rates, 100, 0, 108);
+        assert!(choices[..3].iter().all(|choice| choice.is_sample));
+        assert!(used(&choices).iter().all(|rate| *rate == 108), "{choices:?}");
+        assert_eq!(used(&choices).len(), 97);
+    }
+
+    #[test]
+    fn a_station_that_has_one_rate_is_sent_to_at_it() {
+        let mut rates = Rates::common(&[2], &ALL).unwrap();
+        let choices = send(&mut rates, 50, 0, 108);
+        assert!(choices.iter().all(|choice| *choice == Choice { rate: 2, retries: RETRIES, is_sample: false }));
+    }
+
+    #[test]
+    fn a_station_that_hears_6_and_nothing_faster_is_soon_sent_to_at_6() {
+        let mut rates = Rates::common(&ALL, &ALL).unwrap();
+        send(&mut rates, 100, 0, 108);
+        let after = send(&mut rates, 100, 100, 12);
+        assert_eq!(after[0], Choice { rate: 108, retries: RETRIES, is_sample: false });
+        assert_eq!(after[1], Choice { rate: 2, retries: RETRIES, is_sample: false });
+        assert!(used(&after[10..]).iter().all(|rate| *rate == 12), "{after:?}");
+        assert!(after[10..].iter().filter(|choice| choice.is_sample).count() < 8);
+    }
+
+    #[test]
+    fn and_again_at_54_once_it_hears_it() {
+        let mut rates = Rates::common(&ALL, &ALL).unwrap();
+        send(&mut rates, 200, 0, 12);
+        let after = send(&mut rates, 100, 200, 108);
+        let reached = after.iter().position(|choice| !choice.is_sample && choice.rate == 108).unwrap();
+        assert!(reached <= 20, "{reached}");
+        assert!(used(&after[reached..]).iter().all(|rate| *rate == 108));
+    }
+
+    #[test]
+    fn a_station_that_is_seldom_sent_to_is_sampled_by_time() {
+        let mut rates = Rates::common(&ALL, &ALL).unwrap();
+        send(&mut rates, 50, 0, 12);
+        let mut samples = 0;
+        for second in 1..=10 {
+            for part in 0..2 {
+                let choice = rates.next(millis(1000 * second + 100 * part));
+                samples += u32::from(choice.is_sample);
+                rates.told(choice.rate, 1, choice.rate <= 12, choice.is_sample);
+            }
+        }
+        assert_eq!(samples, 10);
+    }
+
+    #[test]
+    fn where_a_fifth_of_all_tries_is_lost_units_stay_at_fast_rates() {
+        let mut rates = Rates::common(&ALL, &ALL).unwrap();
+        let mut draw = 1u64;
+        let mut fast = 0;
+        for unit in 0..2000 {
+            let choice = rates.next(millis(10 * unit));
+            let tries = (1..=choice.retries + 1).find(|_| {
+                draw = draw.wrapping_mul(6_364_136_223_846_793_005).wrapping_add(1_442_695_040_888_963_407);
+                (draw >> 33) % 5 != 0
+            });
+            rates.told(choice.rate, tries.unwrap_or(choice.retries + 1), tries.is_some(), choice.is_sample);
+            fast += u32::from(choice.rate >= 72);
+        }
+        assert!(fast > 1900, "{fast}");
+    }
+
+    #[test]
+    fn a_station_that_is_gone_is_tried_less() {
+        let mut rates = Rates::common(&ALL, &ALL).unwrap();
+        let choices = send(&mut rates, 20, 0, 0);
+        let last = choices[19];
+        assert_eq!(last, Choice { rate: 2, retries: GONE_RETRIES, is_sample: false });
+        rates.told(2, 1, true, false);
+        assert_eq!(rates.again().retries, RETRIES);
+    }
+
+    #[test]
+    fn what_is_told_of_a_rate_that_it_has_not_changes_nothing() {
+        let mut rates = Rates::common(&[2, 4], &ALL).unwrap();
+        rates.told(108, 8, false, false);
+        assert_eq!(rates.again(), Choice { rate: 2, retries: RETRIES, is_sample: false });
+    }
+
+    #[test]
+    fn shares_weigh_newer_tries_more() {
+        let good = Known::Share(1.0);
+        assert_eq!(good.after(1, true), good);
+        assert!(good.after(3, true).share() < 0.8);
+        assert_eq!(good.after(8, false), Known::Share(0.0));
+        assert_eq!(Known::Untried.after(2, true), Known::Share(0.5));
+        assert_eq!(Known::Share(0.0).after(1, true), good);
+    }
+}
