@@ -18,7 +18,7 @@ NETWORK_TEXT = """
 [[network]]
 bssid = "{bssid}"
 ssid = "{ssid}"
-rates = "82840b16"
+rates = "{rates}"
 dtim = {dtim}
 max_stations = 64
 max_known = 128
@@ -48,6 +48,7 @@ class Net:
     port: str
     dtim: int = 1
     more: str = ""
+    rates: str = "82840b16"
 
 
 @dataclass
@@ -197,8 +198,8 @@ class Start:
             os.path.join(self.folder, file) for file in ("config", "record", "answers", "log", "keeping"))
         with open(self.config, "w", encoding="utf-8") as file:
             file.write(RADIO_TEXT.format(version=version))
-            file.writelines(NETWORK_TEXT.format(bssid=net.bssid, ssid=net.ssid, dtim=net.dtim,
-                                                more=net.more) for net in networks)
+            file.writelines(NETWORK_TEXT.format(bssid=net.bssid, ssid=net.ssid, rates=net.rates,
+                                                dtim=net.dtim, more=net.more) for net in networks)
         with open(keeping, "w", encoding="utf-8") as file:
             file.write(KEEPING.format(program=program, answers=self.answers))
         os.chmod(keeping, 0o755)

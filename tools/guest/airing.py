@@ -1,0 +1,167 @@
+"""The air that loses frames, as the cases use it, and the two access points that are set beside each other on it."""
+import os
+import re
+import subprocess
+from dataclasses import dataclass
+
+from stage import Net, Start
+from stations import Failed, Host, Station, run, wait_for
+
+READY, DONE = "ready", "ok"
+TRIED = re.compile(r"from (?P<sender>\d+) to (?P<to>\S+) (?P<kind>\S+) at (?P<rate>\S+) tries (?P<tries>\d+) "
+                   r"heard (?P<heard>\d+) acknowledged (?P<acknowledged>\d+)")
+BRIDGE, AP = "br0", "ap0"
+HOSTAPD_TEXT = """interface={interface}
+bridge={bridge}
+driver=nl80211
+ctrl_interface={folder}/control
+ssid={ssid}
+hw_mode=g
+channel=6
+beacon_int=100
+dtim_period=1
+auth_algs=1
+wmm_enabled=0
+basic_rates=10 20
+supported_rates=10 20 55 110 60 90 120 180 240 360 480 540
+"""
+# The same rates as the octets of elements.
+RATES = "82840b160c1218243048606c"
+
+
+@dataclass(frozen=True)
+class Tried:
+    """What one radio sent to another, of one kind of frame at one rate, in Mb/s."""
+
+    sender: int
+    to: str
+    kind: str
+    rate: float
+    tries: int
+    heard: int
+    acknowledged: int
+
+
+class Air:
+    """The program that carries the frames of the simulated radios from now on; `observer` hears all of them."""
+
+    def __init__(self, program: str, radios: int, seed: int, observer: int, log: str) -> None:
+        self.observer = observer
+        with open(log, "wb") as file:
+            self.process = subprocess.Popen([program, str(radios), str(seed)], stdin=subprocess.PIPE,
+                                            stdout=subprocess.PIPE, stderr=file, text=True)
+        if self.process.stdout.readline().strip() != READY:
+            raise Failed(f"the air didn't begin: {log}")
+        self.lose()
+
+    def tell(self, line: str) -> list[str]:
+        """Tells it something, and gives what it answers."""
+        self.process.stdin.write(f"{line}\n")
+        self.process.stdin.flush()
+        answers = []
+        while True:
+            answer = self.process.stdout.readline().strip()
+            if answer == DONE:
+                return answers
+            if not answer or answer.startswith("fault "):
+                raise Failed(f"the air answers `{line}` by `{answer}`")
+            answers.append(answer)
+
+    def lose(self, *rules: str) -> None:
+        """From now on it loses what these rules say, and nothing else."""
+        self.tell("clear")
+        for rule in (*rules, f"frames 0% to {self.observer}"):
+            self.tell(f"lose {rule}")
+
+    def forget(self) -> None:
+        """Begins to count anew."""
+        self.tell("forget")
+
+    def report(self) -> list[Tried]:
+        """What was sent since it began to count."""
+        found = (TRIED.fullmatch(line) for line in self.tell("report"))
+        return [Tried(int(match["sender"]), match["to"], match["kind"], float(match["rate"]), int(match["tries"]),
+                      int(match["heard"]), int(match["acknowledged"])) for match in found if match]
+
+    def end(self) -> None:
+        """Ends it: the kernel carries the frames again."""
+        self.process.stdin.close()
+        self.process.wait(20)
+
+
+class Own:
+    """This access point: the bridge and the program."""
+
+    name = "waltigon"
+
+    def __init__(self, folder: str, bridge: str, program: str, phy: str, bssid: str, ssid: str, host: Host) -> None:
+        self.bssid, self.ssid = bssid, ssid
+        self.start = Start(self.name, folder, bridge, program, phy, (Net(bssid, ssid, host.port, rates=RATES),))
+
+    def begin(self) -> None:
+        """Begins it."""
+        self.start.begin()
+
+    def station(self, address: str) -> str:
+        """What its table says of a station, or nothing."""
+        return self.start.station(self.bssid, address)
+
+    def end(self) -> str:
+        """Ends it; what was written has to be what `run` reports of the record."""
+        self.start.end()
+        return self.start.agrees_with_run()
+
+
+class Hostapd:
+    """Debian's hostapd with the kernel's own access point, bridged to the same wire."""
+
+    name = "hostapd"
+
+    def __init__(self, folder: str, phy: str, bssid: str, ssid: str, host: Host) -> None:
+        self.folder = os.path.join(folder, self.name)
+        os.makedirs(self.folder)
+        self.phy, self.bssid, self.ssid, self.host = phy, bssid, ssid, host
+        self.config, self.log = os.path.join(self.folder, "config"), os.path.join(self.folder, "log")
+        self.process: subprocess.Popen | None = None
+
+    def begin(self) -> None:
+        """Begins it."""
+        with open(self.config, "w", encoding="utf-8") as file:
+            file.write(HOSTAPD_TEXT.format(interface=AP, bridge=BRIDGE, folder=self.folder, ssid=self.ssid))
+        run("iw", "phy", self.phy, "interface", "add", AP, "type", "managed", "addr", self.bssid)
+        run("ip", "link", "add", BRIDGE, "type", "bridge")
+        for name in (self.host.port, BRIDGE):
+            run("ip", "link", "set", name, "addrgenmode", "none")
+        run("ip", "link", "set", self.host.port, "master", BRIDGE, "up")
+        run("ip", "link", "set", BRIDGE, "up")
+        with open(self.log, "wb") as log:
+            self.process = subprocess.Popen(["hostapd", self.config], stdin=subprocess.DEVNULL, stdout=log, stderr=log)
+        wait_for("hostapd begins", 30, lambda: "AP-ENABLED" in self.told() or self.process.poll() is not None)
+        if self.process.poll() is not None:
+            raise Failed(f"hostapd didn't begin: {self.told()}")
+
+    def told(self) -> str:
+        """What it has told so far."""
+        with open(self.log, encoding="utf-8") as file:
+            return file.read()
+
+    def station(self, address: str) -> str:
+        """What the kernel says of a station, or nothing."""
+        return " ".join(run("iw", "dev", AP, "station", "dump").partition(f"Station {address} ")[2].split())
+
+    def end(self) -> str:
+        """Ends it, and takes down what it needed."""
+        self.process.terminate()
+        self.process.wait(20)
+        run("ip", "link", "del", BRIDGE)
+        run("iw", "dev", AP, "del")
+        return ""
+
+
+def heard_at(station: Station) -> float:
+    """The rate in Mb/s at which a station heard its access point last, as the station's kernel says."""
+    text = station.run("iw", "dev", station.interface, "station", "dump")
+    found = re.search(r"rx bitrate:\s+([\d.]+) MBit/s", text)
+    if not found:
+        raise Failed(f"{station.name} says nothing of its rate: {text}")
+    return float(found.group(1))
