@@ -9,7 +9,7 @@
 //! them: a faster rate is not expected to be heard where a slower one isn't.
 //!
 //! Nothing is sent, heard or timed here: what to do is asked, and what came of it is told.
-use std::time::Duration;
+use crate::time::{Nanos, MILLISECOND};
 
 /// In a rate of an element: stations have to have it (IEEE Std 802.11-2016, 9.4.2.3).
 const BASIC: u8 = 0x80;
@@ -31,7 +31,7 @@ const GONE_RETRIES: u8 = 1;
 const GONE: u32 = 4;
 /// Where all rates were tried, a unit is a sample after so many others, or after this time.
 const UNITS_PER_SAMPLE: u32 = 16;
-const SAMPLE_EVERY: Duration = Duration::from_millis(500);
+const SAMPLE_EVERY: Nanos = 500 * MILLISECOND;
 
 /// How a unit is to be sent.
 #[derive(Debug, Clone, Copy, PartialEq, Eq)]
@@ -106,7 +106,7 @@ pub struct Rates {
     failures: u32,
     /// Units since the last sample, and when that was.
     since_sample: u32,
-    sampled: Duration,
+    sampled: Nanos,
     /// The rate that was sampled last, of those that all were tried.
     turn: usize,
 }
@@ -119,11 +119,11 @@ impl Rates {
         let common = BAND.iter().copied().filter(|rate| has(station, *rate) && has(network, *rate));
         let mut rates: Vec<Rate> = common.map(|rate| Rate { rate, known: Known::Untried }).collect();
         rates.first_mut()?.known = Known::Share(1.0);
-        Some(Rates { rates, failures: 0, since_sample: 0, sampled: Duration::ZERO, turn: 0 })
+        Some(Rates { rates, failures: 0, since_sample: 0, sampled: 0, turn: 0 })
     }
 
     /// How the next unit is to be sent, at this time since any fixed moment.
-    pub fn next(&mut self, now: Duration) -> Choice {
+    pub fn next(&mut self, now: Nanos) -> Choice {
         match self.sample(now) {
             Some(place) => {
                 self.since_sample = 0;
@@ -181,7 +181,7 @@ impl Rates {
     }
 
     /// The rate to be sampled, where it is time for it.
-    fn sample(&mut self, now: Duration) -> Option<usize> {
+    fn sample(&mut self, now: Nanos) -> Option<usize> {
         if self.failures > 0 {
             return None;
         }
@@ -232,8 +232,8 @@ mod tests {
 
     const ALL: [u8; 12] = [0x82, 0x84, 0x8b, 0x96, 12, 18, 24, 36, 48, 72, 96, 108];
 
-    fn millis(number: u64) -> Duration {
-        Duration::from_millis(number)
+    fn millis(number: u64) -> Nanos {
+        number * MILLISECOND
     }
 
     /// Sends units, one each ten milliseconds, to a station that hears rates up to one; their choices.

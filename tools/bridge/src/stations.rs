@@ -10,15 +10,15 @@
 //! given all frames at the lowest basic rate.
 use std::collections::{HashMap, VecDeque};
 use std::rc::Rc;
-use std::time::Duration;
 
 use crate::frames::{Address, Frame, FrameType};
 use crate::radiotap::Outcome;
 use crate::rates::{Choice, Rates, RETRIES};
+use crate::time::{Nanos, MILLISECOND};
 
 /// How long the frames for a station wait at most for what became of the one before: a unit that is tried eight times
 /// at 1 Mb/s is on the air for some 100 ms.
-pub const MOST_WAIT: Duration = Duration::from_millis(200);
+pub const MOST_WAIT: Nanos = 200 * MILLISECOND;
 /// The most frames that wait for one station.
 const MOST_HELD: usize = 64;
 /// The most stations that rates are known of, and of which the answer to their request is awaited.
@@ -72,7 +72,7 @@ struct Station {
     last: Option<Last>,
     held: VecDeque<Rc<Vec<u8>>>,
     /// Until when frames for it wait, where they do.
-    waits_until: Option<Duration>,
+    waits_until: Option<Nanos>,
     /// Its turn among all, by which the one is found that wasn't sent to for longest.
     used: u64,
 }
@@ -84,7 +84,7 @@ pub struct Stations {
     stations: HashMap<Pair, Station>,
     joining: VecDeque<(Pair, Rates)>,
     ready: VecDeque<ToSend>,
-    waits: VecDeque<(Duration, Pair)>,
+    waits: VecDeque<(Nanos, Pair)>,
     turns: u64,
     vain: u32,
     was_told: bool,
@@ -121,7 +121,7 @@ impl Stations {
     }
 
     /// A network sends a frame: it is ready now, or once it is known what became of the one before.
-    pub fn send(&mut self, frame: Vec<u8>, now: Duration) {
+    pub fn send(&mut self, frame: Vec<u8>, now: Nanos) {
         let pair = match pair_of(&frame) {
             Some(pair) if !pair.1.is_group() => pair,
             _ => return self.send_plainly(Rc::new(frame), 0),
@@ -141,7 +141,7 @@ impl Stations {
     }
 
     /// The radio tells what became of a frame that it was given.
-    pub fn told(&mut self, frame: &[u8], outcome: Outcome, now: Duration) {
+    pub fn told(&mut self, frame: &[u8], outcome: Outcome, now: Nanos) {
         let pair = match pair_of(frame) {
             Some(pair) => pair,
             None => return,
@@ -178,12 +178,12 @@ impl Stations {
     }
 
     /// When `expire` has something to do.
-    pub fn due(&self) -> Option<Duration> {
+    pub fn due(&self) -> Option<Nanos> {
         self.waits.front().map(|(until, _)| *until)
     }
 
     /// The time is this: what has waited long enough is sent.
-    pub fn expire(&mut self, now: Duration) {
+    pub fn expire(&mut self, now: Nanos) {
         while let Some((until, pair)) = self.waits.front().copied().filter(|(until, _)| *until <= now) {
             self.waits.pop_front();
             if self.stations.get(&pair).map_or(false, |station| station.waits_until == Some(until)) {
@@ -221,7 +221,7 @@ impl Stations {
     }
 
     /// Sends a frame to a station for which nothing waits.
-    fn dispatch(&mut self, pair: Pair, frame: Rc<Vec<u8>>, now: Duration) {
+    fn dispatch(&mut self, pair: Pair, frame: Rc<Vec<u8>>, now: Nanos) {
         let lowest = self.lowest(pair.0);
         self.turns += 1;
         let station = match self.stations.get_mut(&pair) {
@@ -243,7 +243,7 @@ impl Stations {
     }
 
     /// Sends what waited for a station, up to a frame that the others have to wait for.
-    fn release(&mut self, pair: Pair, now: Duration) {
+    fn release(&mut self, pair: Pair, now: Nanos) {
         if let Some(station) = self.stations.get_mut(&pair) {
             station.waits_until = None;
         }
@@ -256,7 +256,7 @@ impl Stations {
     }
 
     /// What comes next for a station waits.
-    fn wait(&mut self, pair: Pair, now: Duration) {
+    fn wait(&mut self, pair: Pair, now: Nanos) {
         let until = now + MOST_WAIT;
         if let Some(station) = self.stations.get_mut(&pair) {
             station.waits_until = Some(until);
@@ -357,8 +357,8 @@ mod tests {
         frame(control, STATION, BSSID, 1, &[0, 0, status, 0, 1, 0xc0])
     }
 
-    fn millis(number: u64) -> Duration {
-        Duration::from_millis(number)
+    fn millis(number: u64) -> Nanos {
+        number * MILLISECOND
     }
 
     fn outcome(rate: u8, retries: u8, is_acknowledged: bool) -> Outcome {

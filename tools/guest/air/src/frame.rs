@@ -90,9 +90,17 @@ mod tests {
 
     #[test]
     fn kinds_are_told_by_the_first_octet() {
-        for (octet, kind) in [(0x00, Kind::Association), (0x10, Kind::Association), (0xb0, Kind::Authentication),
-                              (0x08, Kind::Data), (0x48, Kind::Null), (0x80, Kind::Beacon), (0xa4, Kind::PsPoll),
-                              (0xc0, Kind::Other), (0x40, Kind::Other)] {
+        for (octet, kind) in [
+            (0x00, Kind::Association),
+            (0x10, Kind::Association),
+            (0xb0, Kind::Authentication),
+            (0x08, Kind::Data),
+            (0x48, Kind::Null),
+            (0x80, Kind::Beacon),
+            (0xa4, Kind::PsPoll),
+            (0xc0, Kind::Other),
+            (0x40, Kind::Other),
+        ] {
             assert_eq!(Kind::of(&[octet]), kind);
         }
         assert_eq!(Kind::of(&[]), Kind::Other);

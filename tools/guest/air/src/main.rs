@@ -190,8 +190,10 @@ impl Air {
             ("report", "") => {
                 for (way, count) in self.medium.counts() {
                     let to = way.to.map_or_else(|| "group".to_owned(), |radio| radio.to_string());
-                    println!("from {} to {to} {} at {} tries {} heard {} acknowledged {}", way.from, way.kind, way.rate,
-                             count.tries, count.heard, count.acknowledged);
+                    println!(
+                        "from {} to {to} {} at {} tries {} heard {} acknowledged {}",
+                        way.from, way.kind, way.rate, count.tries, count.heard, count.acknowledged
+                    );
                 }
                 println!("refused {}", self.refused);
             }

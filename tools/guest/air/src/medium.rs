@@ -211,8 +211,8 @@ impl Medium {
         let waiting = |(_, queue): &(&Radio, &VecDeque<Exchange>)| !queue.is_empty();
         let next = self.queues.range(Radio(self.last.0.saturating_add(1))..).find(waiting);
         let found = next.or_else(|| self.queues.iter().find(waiting));
-        self.on_air = found.and_then(|(from, queue)| queue.front().map(|exchange| (*from, exchange))).map(
-            |(from, exchange)| {
+        self.on_air =
+            found.and_then(|(from, queue)| queue.front().map(|exchange| (*from, exchange))).map(|(from, exchange)| {
                 let rate = exchange.next_rate().unwrap_or_else(Rate::slowest);
                 let answered = if exchange.wants_acknowledgement() { rate.acknowledgement() } else { 0 };
                 let least = LEAST_WINDOW[usize::from(rate.is_spread())];
@@ -220,8 +220,7 @@ impl Medium {
                 let slots = self.draws.number(from, from) % window;
                 let ends = at + DIFS + slots * SLOT + rate.airtime(exchange.frame.len()) + answered;
                 OnAir { from, rate, ends }
-            },
-        );
+            });
     }
 
     /// Ends the try that is on the air.
@@ -255,8 +254,14 @@ impl Medium {
     }
 
     /// Hands a try to all who hear it; answers whether the one that it is for did.
-    fn deliver(&mut self, exchange: &Exchange, from: Radio, rate: Rate, to: Option<Radio>,
-               effects: &mut Vec<Effect>) -> bool {
+    fn deliver(
+        &mut self,
+        exchange: &Exchange,
+        from: Radio,
+        rate: Rate,
+        to: Option<Radio>,
+        effects: &mut Vec<Effect>,
+    ) -> bool {
         let mut was_heard = false;
         for radio in (0..self.radios).map(Radio).filter(|radio| *radio != from) {
             let share = self.rules.share(Lost::Frames, Try { from, to: radio, rate, kind: exchange.kind });
@@ -299,17 +304,23 @@ mod tests {
 
     fn done(effects: &[Effect]) -> Vec<(Vec<(String, u8)>, bool)> {
         let tried = |tried: &[Attempt]| tried.iter().map(|attempt| (attempt.rate.to_string(), attempt.count)).collect();
-        effects.iter().filter_map(|effect| match effect {
-            Effect::Done { tried: list, acknowledged, .. } => Some((tried(list), *acknowledged)),
-            Effect::Delivered { .. } => None,
-        }).collect()
+        effects
+            .iter()
+            .filter_map(|effect| match effect {
+                Effect::Done { tried: list, acknowledged, .. } => Some((tried(list), *acknowledged)),
+                Effect::Delivered { .. } => None,
+            })
+            .collect()
     }
 
     fn heard(effects: &[Effect], radio: u16) -> Vec<bool> {
-        effects.iter().filter_map(|effect| match effect {
-            Effect::Delivered { to, frame, .. } if *to == Radio(radio) => Some(frame[1] & 0x08 != 0),
-            _ => None,
-        }).collect()
+        effects
+            .iter()
+            .filter_map(|effect| match effect {
+                Effect::Delivered { to, frame, .. } if *to == Radio(radio) => Some(frame[1] & 0x08 != 0),
+                _ => None,
+            })
+            .collect()
     }
 
     #[test]

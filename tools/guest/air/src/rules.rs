@@ -160,8 +160,19 @@ mod tests {
 
     #[test]
     fn what_is_no_rule_is_refused() {
-        for text in ["", "frames", "frames 20", "frames 120%", "frames x%", "acks 20%", "frames 20% to", "frames 20% to x",
-                     "frames 20% at 7", "frames 20% of poll", "frames 20% near 2"] {
+        for text in [
+            "",
+            "frames",
+            "frames 20",
+            "frames 120%",
+            "frames x%",
+            "acks 20%",
+            "frames 20% to",
+            "frames 20% to x",
+            "frames 20% at 7",
+            "frames 20% of poll",
+            "frames 20% near 2",
+        ] {
             assert!(text.parse::<Rule>().is_err(), "{text}");
         }
     }
