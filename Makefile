@@ -85,6 +85,7 @@ test-live: apctl
 	@tools/bridge/build test
 	@tools/test live
 	@tools/test-live
+	@tools/test-live air
 
 # Draws the example of three networks: the picture of README.md.
 picture:
