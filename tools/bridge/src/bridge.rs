@@ -10,7 +10,7 @@ use crate::frames::{Address, Frame, FrameType};
 use crate::poller::{Poller, Ready, Token};
 use crate::program::{Feeder, Program};
 use crate::receiving::{judge_wired, Air, Judged, LeftOut};
-use crate::sending::{Network, RateChoice, Sender};
+use crate::sending::{Network, Sender};
 use crate::sockets::{Batch, Packet, Port, AT_A_TIME};
 use crate::time::{now, wall_now, Nanos, Ticks, MILLISECOND, SECOND};
 use crate::waiting::{Flow, Source, Waiter, Waiting};
@@ -47,8 +47,8 @@ struct Given {
 }
 
 /// The interfaces, and what waits between them and the program.
-struct Running<P, R> {
-    sender: Sender<P, R>,
+struct Running<P> {
+    sender: Sender<P>,
     networks: Vec<Network>,
     air: Air,
     waiting: Waiting,
@@ -61,21 +61,21 @@ struct Running<P, R> {
 }
 
 /// The program, `tools/live`, and once the interfaces are there, these.
-pub struct Bridge<P, R, C> {
+pub struct Bridge<P, C> {
     program: Program,
     feeder: Feeder,
     requests: Requests<C>,
     poller: Poller,
     interval: u16,
     phase: Phase,
-    running: Option<Running<P, R>>,
+    running: Option<Running<P>>,
     batch: Batch,
     opening_asked: bool,
     tables_asked: bool,
     waits_for_room: bool,
 }
 
-impl<P: Port, R: RateChoice, C: io::Read + std::os::unix::io::AsRawFd> Bridge<P, R, C> {
+impl<P: Port, C: io::Read + std::os::unix::io::AsRawFd> Bridge<P, C> {
     /// With this program, whose networks aren't open yet, requests of `tools/live`, and a beacon interval in time
     /// units.
     pub fn new(program: Program, feeder: Feeder, requests: Requests<C>, interval: u16) -> Result<Self, Fault> {
@@ -99,7 +99,7 @@ impl<P: Port, R: RateChoice, C: io::Read + std::os::unix::io::AsRawFd> Bridge<P,
     }
 
     /// Runs until `tools/live` ends it, or until a fault; `open` opens the interfaces once they are there.
-    pub fn serve(&mut self, mut open: impl FnMut() -> Result<Sender<P, R>, Fault>) -> Result<(), Fault> {
+    pub fn serve(&mut self, mut open: impl FnMut() -> Result<Sender<P>, Fault>) -> Result<(), Fault> {
         let mut outcome = Ok(());
         while outcome.is_ok() && self.phase != Phase::Ending {
             outcome = self.step(&mut open);
@@ -122,7 +122,7 @@ impl<P: Port, R: RateChoice, C: io::Read + std::os::unix::io::AsRawFd> Bridge<P,
     }
 
     /// Waits for what comes first, and does what is to be done then.
-    fn step(&mut self, open: &mut impl FnMut() -> Result<Sender<P, R>, Fault>) -> Result<(), Fault> {
+    fn step(&mut self, open: &mut impl FnMut() -> Result<Sender<P>, Fault>) -> Result<(), Fault> {
         let mut found = Vec::new();
         self.poller.set_due(self.due())?;
         let most = self.most_wait();
@@ -151,7 +151,7 @@ impl<P: Port, R: RateChoice, C: io::Read + std::os::unix::io::AsRawFd> Bridge<P,
             (Phase::Opening(until), _) => until,
             (Phase::Running, Some(running)) => {
                 let tick = if running.ticks.due() <= now() { now() + MILLISECOND } else { running.ticks.due() };
-                running.beacon_due.map_or(tick, |due| due.min(tick))
+                [running.beacon_due, running.sender.due()].into_iter().flatten().fold(tick, Nanos::min)
             }
             _ => Nanos::MAX,
         }
@@ -180,7 +180,7 @@ impl<P: Port, R: RateChoice, C: io::Read + std::os::unix::io::AsRawFd> Bridge<P,
     }
 
     /// The interfaces are there: frames go, and the first beacon interval begins.
-    fn begin(&mut self, mut sender: Sender<P, R>) -> Result<(), Fault> {
+    fn begin(&mut self, mut sender: Sender<P>) -> Result<(), Fault> {
         let networks = sender.networks().to_vec();
         self.poller.add(sender.monitor().port.descriptor(), Token::Monitor, true, false)?;
         for place in 0..networks.len() {
@@ -240,7 +240,7 @@ impl<P: Port, R: RateChoice, C: io::Read + std::os::unix::io::AsRawFd> Bridge<P,
                     say(&Notice::Ready);
                 }
             }
-            (Answer::Air(bssid, octets), Some(running)) => running.sender.send_on_air(bssid, &octets, time)?,
+            (Answer::Air(bssid, octets), Some(running)) => running.sender.send_on_air(bssid, octets, time)?,
             (Answer::Wire(bssid, octets), Some(running)) => running.sender.send_on_wire(bssid, octets, time)?,
             (Answer::Air(..) | Answer::Wire(..), None) => {
                 return Err(Fault::new("the program sent a frame before it was given one"))
@@ -264,7 +264,7 @@ impl<P: Port, R: RateChoice, C: io::Read + std::os::unix::io::AsRawFd> Bridge<P,
         }
         if was_waited_for && running.beacon_due.is_none() {
             say(&Notice::Sending);
-            self.set_filter(if R::LEARNS { Shown::Outcomes } else { Shown::Nothing })?;
+            self.set_filter(Shown::Outcomes)?;
         }
         Ok(())
     }
@@ -283,6 +283,7 @@ impl<P: Port, R: RateChoice, C: io::Read + std::os::unix::io::AsRawFd> Bridge<P,
                     self.feeder.flush_record()?;
                     running.given.ticks += 1;
                 }
+                running.sender.expire(time);
                 if self.tables_asked {
                     self.tables_asked = false;
                     self.feeder.say(Event::Tables)?;
@@ -386,8 +387,8 @@ impl<P: Port, R: RateChoice, C: io::Read + std::os::unix::io::AsRawFd> Bridge<P,
     }
 }
 
-impl<P: Port, R: RateChoice> Running<P, R> {
-    fn new(sender: Sender<P, R>, networks: Vec<Network>, interval: u16) -> Running<P, R> {
+impl<P: Port> Running<P> {
+    fn new(sender: Sender<P>, networks: Vec<Network>, interval: u16) -> Running<P> {
         let start = now();
         Running {
             sender,

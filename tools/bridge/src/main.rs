@@ -40,11 +40,13 @@ mod mutator;
 mod poller;
 mod program;
 mod radiotap;
+mod rates;
 mod receiving;
 #[cfg(test)]
 mod samples;
 mod sending;
 mod sockets;
+mod stations;
 mod time;
 mod waiting;
 mod words;
@@ -55,7 +57,7 @@ use bridge::Bridge;
 use control::{say, Notice, Requests};
 use faults::Fault;
 use program::{Program, Record};
-use sending::{LowestBasicRate, Sender};
+use sending::Sender;
 use sockets::PacketSocket;
 use words::Words;
 
@@ -89,12 +91,11 @@ fn run(words: &Words) -> Result<(), Fault> {
 }
 
 /// Opens a socket on the monitor interface and on each wire.
-fn open(words: &Words) -> Result<Sender<PacketSocket, LowestBasicRate>, Fault> {
+fn open(words: &Words) -> Result<Sender<PacketSocket>, Fault> {
     let wires = words.networks.iter().map(|network| network.wire.as_deref().map(open_wire).transpose());
     let wires = wires.collect::<Result<_, Fault>>()?;
     let monitor = open_port(&words.monitor, AIR_ROOM)?;
-    let rates = LowestBasicRate::new(&words.networks);
-    Ok(Sender::new(words.networks.clone(), monitor, wires, rates))
+    Ok(Sender::new(words.networks.clone(), monitor, wires))
 }
 
 /// A wire is heard whole: frames for any receiver.

@@ -9,6 +9,7 @@
 //! them: a faster rate is not expected to be heard where a slower one isn't.
 //!
 //! Nothing is sent, heard or timed here: what to do is asked, and what came of it is told.
+use crate::radiotap::MOST_RETRIES;
 use crate::time::{Nanos, MILLISECOND};
 
 /// In a rate of an element: stations have to have it (IEEE Std 802.11-2016, 9.4.2.3).
@@ -23,8 +24,7 @@ const BITS: f64 = 8.0 * 1200.0;
 const WEIGHT: f64 = 1.0 / 8.0;
 /// A share below this is none: the rate is sampled, and not used.
 const LEAST_SHARE: f64 = 0.05;
-/// How often a unit is sent again where no acknowledgement comes; a sample; and one to a station that seems to be gone.
-pub const RETRIES: u8 = 7;
+/// How often a sample is sent again where no acknowledgement comes, and a unit to a station that seems to be gone.
 const SAMPLE_RETRIES: u8 = 1;
 const GONE_RETRIES: u8 = 1;
 /// After so many units in a row without an acknowledgement a station seems to be gone.
@@ -67,9 +67,7 @@ impl Known {
         let fails = i32::from(tries) - i32::from(is_acknowledged);
         Known::Share(match self {
             _ if !is_acknowledged => 0.0,
-            Known::Share(share) if share >= LEAST_SHARE => {
-                share * (1.0 - WEIGHT).powi(fails) * (1.0 - WEIGHT) + WEIGHT
-            }
+            Known::Share(share) if share >= LEAST_SHARE => share * (1.0 - WEIGHT).powi(fails) * (1.0 - WEIGHT) + WEIGHT,
             _ => 1.0 / f64::from(tries.max(1)),
         })
     }
@@ -140,7 +138,7 @@ impl Rates {
     /// How a unit is to be sent that has to come through: one that nobody acknowledged, too.
     pub fn again(&self) -> Choice {
         let place = if self.failures == 0 { self.best() } else { 0 };
-        let retries = if self.failures < GONE { RETRIES } else { GONE_RETRIES };
+        let retries = if self.failures < GONE { MOST_RETRIES } else { GONE_RETRIES };
         Choice { rate: self.rates[place].rate, retries, is_sample: false }
     }
 
@@ -175,7 +173,11 @@ impl Rates {
     /// The rate that brings the most through; the slowest where none brings anything.
     fn best(&self) -> usize {
         let better = |best: usize, place: usize| {
-            if self.rates[place].throughput() > self.rates[best].throughput() { place } else { best }
+            if self.rates[place].throughput() > self.rates[best].throughput() {
+                place
+            } else {
+                best
+            }
         };
         (1..self.rates.len()).fold(0, better)
     }
@@ -238,13 +240,15 @@ mod tests {
 
     /// Sends units, one each ten milliseconds, to a station that hears rates up to one; their choices.
     fn send(rates: &mut Rates, units: u64, from: u64, most: u8) -> Vec<Choice> {
-        (from..from + units).map(|unit| {
-            let choice = rates.next(millis(10 * unit));
-            let is_heard = choice.rate <= most;
-            let tries = if is_heard { 1 } else { choice.retries + 1 };
-            rates.told(choice.rate, tries, is_heard, choice.is_sample);
-            choice
-        }).collect()
+        (from..from + units)
+            .map(|unit| {
+                let choice = rates.next(millis(10 * unit));
+                let is_heard = choice.rate <= most;
+                let tries = if is_heard { 1 } else { choice.retries + 1 };
+                rates.told(choice.rate, tries, is_heard, choice.is_sample);
+                choice
+            })
+            .collect()
     }
 
     fn used(choices: &[Choice]) -> Vec<u8> {
@@ -277,7 +281,7 @@ mod tests {
     fn a_station_that_has_one_rate_is_sent_to_at_it() {
         let mut rates = Rates::common(&[2], &ALL).unwrap();
         let choices = send(&mut rates, 50, 0, 108);
-        assert!(choices.iter().all(|choice| *choice == Choice { rate: 2, retries: RETRIES, is_sample: false }));
+        assert!(choices.iter().all(|choice| *choice == Choice { rate: 2, retries: MOST_RETRIES, is_sample: false }));
     }
 
     #[test]
@@ -285,8 +289,8 @@ mod tests {
         let mut rates = Rates::common(&ALL, &ALL).unwrap();
         send(&mut rates, 100, 0, 108);
         let after = send(&mut rates, 100, 100, 12);
-        assert_eq!(after[0], Choice { rate: 108, retries: RETRIES, is_sample: false });
-        assert_eq!(after[1], Choice { rate: 2, retries: RETRIES, is_sample: false });
+        assert_eq!(after[0], Choice { rate: 108, retries: MOST_RETRIES, is_sample: false });
+        assert_eq!(after[1], Choice { rate: 2, retries: MOST_RETRIES, is_sample: false });
         assert!(used(&after[10..]).iter().all(|rate| *rate == 12), "{after:?}");
         assert!(after[10..].iter().filter(|choice| choice.is_sample).count() < 8);
     }
@@ -340,14 +344,14 @@ mod tests {
         let last = choices[19];
         assert_eq!(last, Choice { rate: 2, retries: GONE_RETRIES, is_sample: false });
         rates.told(2, 1, true, false);
-        assert_eq!(rates.again().retries, RETRIES);
+        assert_eq!(rates.again().retries, MOST_RETRIES);
     }
 
     #[test]
     fn what_is_told_of_a_rate_that_it_has_not_changes_nothing() {
         let mut rates = Rates::common(&[2, 4], &ALL).unwrap();
         rates.told(108, 8, false, false);
-        assert_eq!(rates.again(), Choice { rate: 2, retries: RETRIES, is_sample: false });
+        assert_eq!(rates.again(), Choice { rate: 2, retries: MOST_RETRIES, is_sample: false });
     }
 
     #[test]

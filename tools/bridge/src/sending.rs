@@ -4,8 +4,9 @@ use std::io::{self, ErrorKind};
 
 use crate::faults::{reason, tell, Fault};
 use crate::frames::{is_tagged, Address, Frame, FrameType};
-use crate::radiotap::{sending_header, Outcome, MOST_RETRIES};
+use crate::radiotap::{sending_header, Outcome};
 use crate::sockets::{Port, AT_A_TIME};
+use crate::stations::{Stations, ToSend, Unacknowledged};
 use crate::time::Nanos;
 use crate::waiting::LONGEST;
 
@@ -28,49 +29,6 @@ impl Network {
     pub fn lowest_basic_rate(&self) -> u8 {
         let basic = self.rates.iter().filter(|rate| **rate & BASIC != 0).map(|rate| rate & !BASIC).min();
         basic.or_else(|| self.rates.iter().copied().min()).unwrap_or(2)
-    }
-}
-
-/// How a frame to one station is to be sent.
-#[derive(Debug, Clone, Copy, PartialEq, Eq)]
-pub struct Choice {
-    /// The rate, in units of 500 kb/s.
-    pub rate: u8,
-    /// How often it is tried again, beyond the first time, where no acknowledgement comes.
-    pub retries: u8,
-}
-
-/// Chooses the rate of each frame to one station, and learns from what became of it. Frames to a group are sent at the
-/// lowest basic rate, and are not asked for. Networks are named by their places.
-pub trait RateChoice {
-    /// Whether it learns: then the frames to one receiver that the radio shows as sent are read.
-    const LEARNS: bool;
-    /// How the next frame from this network to this station is sent.
-    fn rate_for(&mut self, network: usize, station: Address, now: Nanos) -> Choice;
-    /// What became of a frame from this network to this station.
-    fn learn(&mut self, _network: usize, _station: Address, _outcome: Outcome, _now: Nanos) {}
-    /// A management frame came for this network, as an association request with a station's rates.
-    fn heard(&mut self, _network: usize, _frame: Frame<'_>) {}
-}
-
-/// Each frame at its network's lowest basic rate.
-#[derive(Debug)]
-pub struct LowestBasicRate {
-    rates: Vec<u8>,
-}
-
-impl LowestBasicRate {
-    /// For these networks.
-    pub fn new(networks: &[Network]) -> LowestBasicRate {
-        LowestBasicRate { rates: networks.iter().map(Network::lowest_basic_rate).collect() }
-    }
-}
-
-impl RateChoice for LowestBasicRate {
-    const LEARNS: bool = false;
-
-    fn rate_for(&mut self, network: usize, _: Address, _: Nanos) -> Choice {
-        Choice { rate: self.rates[network], retries: MOST_RETRIES }
     }
 }
 
@@ -197,21 +155,22 @@ impl<P: Port> Exit<P> {
 
 /// Sends the frames of the program's answers by the monitor interface and the wires.
 #[derive(Debug)]
-pub struct Sender<P, R> {
+pub struct Sender<P> {
     monitor: Exit<P>,
     wires: Vec<Option<Exit<P>>>,
     networks: Vec<Network>,
     places: HashMap<Address, usize>,
-    rates: R,
+    stations: Stations,
     counts: Counts,
 }
 
-impl<P: Port, R: RateChoice> Sender<P, R> {
+impl<P: Port> Sender<P> {
     /// For these networks, whose wires are in their order.
-    pub fn new(networks: Vec<Network>, monitor: P, wires: Vec<Option<P>>, rates: R) -> Sender<P, R> {
+    pub fn new(networks: Vec<Network>, monitor: P, wires: Vec<Option<P>>) -> Sender<P> {
         let places = networks.iter().enumerate().map(|(place, network)| (network.bssid, place)).collect();
         let wires = wires.into_iter().map(|wire| wire.map(Exit::new)).collect();
-        Sender { monitor: Exit::new(monitor), wires, networks, places, rates, counts: Counts::new() }
+        let stations = Stations::new(&networks);
+        Sender { monitor: Exit::new(monitor), wires, networks, places, stations, counts: Counts::new() }
     }
 
     /// The networks, in the order of their places.
@@ -220,8 +179,15 @@ impl<P: Port, R: RateChoice> Sender<P, R> {
     }
 
     /// What was sent, and what wasn't.
-    pub fn counts(&self) -> &Counts {
-        &self.counts
+    pub fn counts(&self) -> Counts {
+        let mut counts = self.counts.clone();
+        let Unacknowledged { again, lost } = self.stations.unacknowledged();
+        for (what, number) in [("sent once more, since no acknowledgement came", again), ("never acknowledged", lost)] {
+            if number > 0 {
+                count(&mut counts, what, number);
+            }
+        }
+        counts
     }
 
     /// The place of the network with this address.
@@ -245,20 +211,20 @@ impl<P: Port, R: RateChoice> Sender<P, R> {
     }
 
     /// A network sends a frame on the air; a fault where there is no such network.
-    pub fn send_on_air(&mut self, bssid: Address, octets: &[u8], now: Nanos) -> Result<(), Fault> {
-        let place = self.place(bssid)?;
-        let receiver = Address::at(octets, 4).unwrap_or(Address::BROADCAST);
-        let choice = match receiver.is_group() {
-            true => Choice { rate: self.networks[place].lowest_basic_rate(), retries: 0 },
-            false => self.rates.rate_for(place, receiver, now),
-        };
-        let header = sending_header(choice.rate, choice.retries);
-        let mut whole = Vec::with_capacity(header.len() + octets.len());
-        whole.extend(header);
-        whole.extend(octets);
-        let is_data = Frame::of(octets).map_or(false, |frame| frame.frame_type() == FrameType::Data);
-        self.monitor.push(Leaving { octets: whole, is_data, since: now }, &mut self.counts);
+    pub fn send_on_air(&mut self, bssid: Address, octets: Vec<u8>, now: Nanos) -> Result<(), Fault> {
+        self.place(bssid)?;
+        self.stations.send(octets, now);
+        self.take_ready(now);
         Ok(())
+    }
+
+    /// What is to be sent on the air now waits for the monitor interface, with its header.
+    fn take_ready(&mut self, now: Nanos) {
+        while let Some(ToSend { frame, rate, retries }) = self.stations.pop() {
+            let octets = [&sending_header(rate, retries)[..], &frame].concat();
+            let is_data = Frame::of(&frame).map_or(false, |frame| frame.frame_type() == FrameType::Data);
+            self.monitor.push(Leaving { octets, is_data, since: now }, &mut self.counts);
+        }
     }
 
     /// A network sends a frame on its wire; a fault where there is no such network.
@@ -278,22 +244,24 @@ impl<P: Port, R: RateChoice> Sender<P, R> {
 
     /// The radio shows a frame that it sent, with what became of it.
     pub fn shown(&mut self, frame: &[u8], outcome: Outcome, now: Nanos) {
-        let network = Address::at(frame, 10).and_then(|transmitter| self.place_of(&transmitter));
-        match (network, Address::at(frame, 4)) {
-            (Some(place), Some(station)) if R::LEARNS && !station.is_group() => {
-                self.rates.learn(place, station, outcome, now);
-            }
-            _ => {}
-        }
+        self.stations.told(frame, outcome, now);
+        self.take_ready(now);
     }
 
     /// A frame goes on to the program that was heard on the air.
     pub fn heard(&mut self, frame: Frame<'_>) {
-        if let (true, Some(place)) = (R::LEARNS, self.place_of(&frame.receiver())) {
-            if frame.frame_type() == FrameType::Management {
-                self.rates.heard(place, frame);
-            }
-        }
+        self.stations.hear(frame);
+    }
+
+    /// When `expire` has something to do.
+    pub fn due(&self) -> Option<Nanos> {
+        self.stations.due()
+    }
+
+    /// What has waited long enough for what became of the frame before is sent.
+    pub fn expire(&mut self, now: Nanos) {
+        self.stations.expire(now);
+        self.take_ready(now);
     }
 
     /// Sends what waits, as far as there is room.
@@ -308,6 +276,7 @@ impl<P: Port, R: RateChoice> Sender<P, R> {
 #[cfg(test)]
 mod tests {
     use super::*;
+    use crate::radiotap::MOST_RETRIES;
     use crate::samples::{Unit, OTHER, OURS, STATION};
     use crate::sockets::Batch;
     use libc::sock_filter;
@@ -362,9 +331,8 @@ mod tests {
         ]
     }
 
-    fn sender(monitor: Recorder, wire: Recorder) -> Sender<Recorder, LowestBasicRate> {
-        let rates = LowestBasicRate::new(&networks());
-        Sender::new(networks(), monitor, vec![None, Some(wire)], rates)
+    fn sender(monitor: Recorder, wire: Recorder) -> Sender<Recorder> {
+        Sender::new(networks(), monitor, vec![None, Some(wire)])
     }
 
     fn unit(transmitter: Address, mark: u8) -> Vec<u8> {
@@ -382,15 +350,15 @@ mod tests {
     #[test]
     fn frames_go_out_in_order_each_at_its_rate() {
         let mut sender = sender(Recorder::default(), Recorder::default());
-        sender.send_on_air(OURS, &beacon(), 0).unwrap();
-        sender.send_on_air(OTHER, &unit(OTHER, 1), 0).unwrap();
+        sender.send_on_air(OURS, beacon(), 0).unwrap();
+        sender.send_on_air(OTHER, unit(OTHER, 1), 0).unwrap();
         sender.send_on_wire(OTHER, vec![0; 14], 0).unwrap();
         sender.flush(0);
         let wanted = [with_header(2, true, beacon()), with_header(0x0b, false, unit(OTHER, 1))];
         assert_eq!(sender.monitor.port.sent, wanted);
         assert_eq!(sender.wire(1).unwrap().port.sent, [vec![0; 14]]);
-        let told: Vec<_> = sender.counts().iter().map(|(what, number)| (what.as_str(), *number)).collect();
-        assert_eq!(told, [("sent on the air", 2), ("sent on the wires", 1)]);
+        let told: Vec<_> = sender.counts().into_iter().collect();
+        assert_eq!(told, [("sent on the air".to_owned(), 2), ("sent on the wires".to_owned(), 1)]);
     }
 
     #[test]
@@ -408,7 +376,7 @@ mod tests {
         let mut sender = sender(Recorder { longest: Some(60), ..Recorder::default() }, Recorder::default());
         let long = Unit { transmitter: OURS, receiver: STATION, body: vec![0; 60], ..Unit::default() }.octets();
         for frame in [unit(OURS, 1), long.clone(), long, unit(OURS, 2)] {
-            sender.send_on_air(OURS, &frame, 0).unwrap();
+            sender.send_on_air(OURS, frame, 0).unwrap();
         }
         sender.flush(0);
         assert_eq!(sender.monitor.port.sent, [1, 2].map(|mark| with_header(2, false, unit(OURS, mark))));
@@ -418,7 +386,7 @@ mod tests {
     #[test]
     fn a_network_that_is_not_there_is_the_program_s_fault() {
         let mut sender = sender(Recorder::default(), Recorder::default());
-        assert!(sender.send_on_air(STATION, &beacon(), 0).is_err());
+        assert!(sender.send_on_air(STATION, beacon(), 0).is_err());
         assert!(sender.send_on_wire(STATION, vec![], 0).is_err());
     }
 
@@ -426,7 +394,7 @@ mod tests {
     fn what_waits_for_room_goes_later_and_only_late_data_is_dropped() {
         let mut sender = sender(Recorder { room: Some(1), ..Recorder::default() }, Recorder::default());
         for (frame, since) in [(unit(OURS, 1), 0), (unit(OURS, 2), 0), (beacon(), 0), (unit(OURS, 3), LONGEST)] {
-            sender.send_on_air(OURS, &frame, since).unwrap();
+            sender.send_on_air(OURS, frame, since).unwrap();
         }
         sender.flush(0);
         assert!(sender.monitor().is_blocked());
@@ -446,11 +414,11 @@ mod tests {
     #[test]
     fn what_waits_is_bounded() {
         let mut sender = sender(Recorder { room: Some(0), ..Recorder::default() }, Recorder::default());
-        sender.send_on_air(OURS, &beacon(), 0).unwrap();
+        sender.send_on_air(OURS, beacon(), 0).unwrap();
         let frame =
             Unit { control: [8, 2], transmitter: OURS, receiver: STATION, body: vec![0; 4000], ..Unit::default() };
         for _ in 0..2000 {
-            sender.send_on_air(OURS, &frame.octets(), 0).unwrap();
+            sender.send_on_air(OURS, frame.octets(), 0).unwrap();
             sender.flush(0);
         }
         assert!(sender.monitor.octets <= MOST_OCTETS);
@@ -459,48 +427,26 @@ mod tests {
         assert_eq!(dropped as usize + sender.monitor.leaving.len(), 2001);
     }
 
-    /// A choice that keeps what it learned.
-    #[derive(Default)]
-    struct Learning {
-        learned: Vec<(usize, Address, Outcome, Nanos)>,
-        heard: Vec<(usize, Vec<u8>)>,
-    }
-
-    impl RateChoice for Learning {
-        const LEARNS: bool = true;
-
-        fn rate_for(&mut self, _: usize, _: Address, _: Nanos) -> Choice {
-            Choice { rate: 22, retries: 3 }
-        }
-
-        fn learn(&mut self, network: usize, station: Address, outcome: Outcome, now: Nanos) {
-            self.learned.push((network, station, outcome, now));
-        }
-
-        fn heard(&mut self, network: usize, frame: Frame<'_>) {
-            self.heard.push((network, frame.octets().to_vec()));
-        }
-    }
-
     #[test]
-    fn a_choice_of_rates_is_asked_and_told() {
-        let wires = vec![None, None];
-        let mut sender = Sender::new(networks(), Recorder::default(), wires, Learning::default());
-        sender.send_on_air(OTHER, &unit(OTHER, 1), 0).unwrap();
-        sender.send_on_air(OURS, &beacon(), 0).unwrap();
+    fn a_station_s_rates_are_learned_and_a_lost_unit_is_sent_again() {
+        let mut sender = sender(Recorder::default(), Recorder::default());
+        let body = [&[0; 4][..], &[1, 2, 0x0b, 0x16]].concat();
+        let request = Unit { control: [0, 0], receiver: OTHER, body, ..Unit::default() }.octets();
+        sender.heard(Frame::of(&request).unwrap());
+        let body = vec![0, 0, 0, 0, 1, 0xc0];
+        let response = Unit { control: [0x10, 0], receiver: STATION, transmitter: OTHER, body, ..Unit::default() };
+        sender.send_on_air(OTHER, response.octets(), 0).unwrap();
+        sender.send_on_air(OTHER, unit(OTHER, 1), 0).unwrap();
         sender.flush(0);
-        assert_eq!(sender.monitor.port.sent[0], [sending_header(22, 3).to_vec(), unit(OTHER, 1)].concat());
-        assert_eq!(sender.monitor.port.sent[1], with_header(2, true, beacon()));
-        let outcome = Outcome { is_acknowledged: false, retries: 3, rate: Some(22) };
-        for frame in [unit(OTHER, 1), beacon(), unit(STATION, 1)] {
-            sender.shown(&frame, outcome, 9);
-        }
-        assert_eq!(sender.rates.learned, [(1, STATION, outcome, 9)]);
-        let request = Unit { control: [0, 0], receiver: OTHER, ..Unit::default() }.octets();
-        for frame in [&request, &unit(OTHER, 1)] {
-            sender.heard(Frame::of(frame).unwrap());
-        }
-        assert_eq!(sender.rates.heard, [(1, request)]);
+        let sample = [sending_header(0x16, 1).to_vec(), unit(OTHER, 1)].concat();
+        assert_eq!(sender.monitor.port.sent, [with_header(0x0b, false, response.octets()), sample]);
+        sender.shown(&unit(OTHER, 1), Outcome { is_acknowledged: false, retries: 1, rate: Some(0x16) }, 9);
+        sender.flush(9);
+        let mut again = unit(OTHER, 1);
+        again[1] |= 0x08;
+        assert_eq!(sender.monitor.port.sent[2], with_header(0x0b, false, again));
+        assert_eq!(sender.counts()["sent once more, since no acknowledgement came"], 1);
+        assert!(sender.due().is_some());
     }
 
     #[test]

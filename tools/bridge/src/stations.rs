@@ -12,8 +12,9 @@ use std::collections::{HashMap, VecDeque};
 use std::rc::Rc;
 
 use crate::frames::{Address, Frame, FrameType};
-use crate::radiotap::Outcome;
-use crate::rates::{Choice, Rates, RETRIES};
+use crate::radiotap::{Outcome, MOST_RETRIES};
+use crate::rates::{Choice, Rates};
+use crate::sending::Network;
 use crate::time::{Nanos, MILLISECOND};
 
 /// How long the frames for a station wait at most for what became of the one before: a unit that is tried eight times
@@ -32,7 +33,8 @@ const EXTENDED_RATES: u8 = 50;
 const HEADER_LEN: usize = 24;
 const FLAGS_AT: usize = 1;
 const RETRY: u8 = 0x08;
-const BASIC: u8 = 0x80;
+/// 1 Mb/s.
+const SLOWEST: u8 = 2;
 
 /// A network and a station of it.
 type Pair = (Address, Address);
@@ -50,7 +52,7 @@ pub struct ToSend {
 
 /// What is done with units that nobody acknowledged.
 #[derive(Debug, Clone, Copy, Default, PartialEq, Eq)]
-pub struct Counts {
+pub struct Unacknowledged {
     /// Units that were sent once more.
     pub again: u64,
     /// Units that nobody acknowledged, and that weren't sent once more.
@@ -80,7 +82,7 @@ struct Station {
 /// The stations of all networks, and what is to be sent now.
 #[derive(Debug)]
 pub struct Stations {
-    networks: HashMap<Address, Vec<u8>>,
+    networks: HashMap<Address, Network>,
     stations: HashMap<Pair, Station>,
     joining: VecDeque<(Pair, Rates)>,
     ready: VecDeque<ToSend>,
@@ -88,14 +90,14 @@ pub struct Stations {
     turns: u64,
     vain: u32,
     was_told: bool,
-    counts: Counts,
+    unacknowledged: Unacknowledged,
 }
 
 impl Stations {
-    /// No station yet, of networks with these rates, as the octets of their elements.
-    pub fn new(networks: impl IntoIterator<Item = (Address, Vec<u8>)>) -> Stations {
+    /// No station of these networks yet.
+    pub fn new(networks: &[Network]) -> Stations {
         Stations {
-            networks: networks.into_iter().collect(),
+            networks: networks.iter().map(|network| (network.bssid, network.clone())).collect(),
             stations: HashMap::new(),
             joining: VecDeque::new(),
             ready: VecDeque::new(),
@@ -103,7 +105,7 @@ impl Stations {
             turns: 0,
             vain: 0,
             was_told: false,
-            counts: Counts::default(),
+            unacknowledged: Unacknowledged::default(),
         }
     }
 
@@ -111,7 +113,7 @@ impl Stations {
     pub fn hear(&mut self, frame: Frame<'_>) {
         let found = requested_rates(frame).and_then(|rates| {
             let pair = (frame.receiver(), frame.transmitter()?);
-            Some((pair, Rates::common(&rates, self.networks.get(&pair.0)?)?))
+            Some((pair, Rates::common(&rates, &self.networks.get(&pair.0)?.rates)?))
         });
         if let Some(found) = found {
             self.joining.retain(|(pair, _)| *pair != found.0);
@@ -129,7 +131,7 @@ impl Stations {
         self.join(pair, &frame);
         let frame = Rc::new(frame);
         match self.stations.get_mut(&pair).filter(|_| self.vain < MOST_VAIN) {
-            None => self.send_plainly(frame, RETRIES),
+            None => self.send_plainly(frame, MOST_RETRIES),
             Some(station) if station.waits_until.is_some() => {
                 station.held.push_back(frame);
                 if station.held.len() > MOST_HELD {
@@ -165,15 +167,15 @@ impl Stations {
                 last.was_again = true;
                 last.choice = station.rates.again();
                 let (frame, choice) = (Rc::new(again(&last.frame)), last.choice);
-                self.counts.again += 1;
+                self.unacknowledged.again += 1;
                 self.give(frame, choice);
                 self.wait(pair, now);
             }
             Some(_) => {
-                self.counts.lost += u64::from(is_lost);
+                self.unacknowledged.lost += u64::from(is_lost);
                 self.release(pair, now);
             }
-            None => self.counts.lost += u64::from(is_lost),
+            None => self.unacknowledged.lost += u64::from(is_lost),
         }
     }
 
@@ -198,9 +200,9 @@ impl Stations {
         self.ready.pop_front()
     }
 
-    /// What was done so far.
-    pub fn counts(&self) -> Counts {
-        self.counts
+    /// What became so far of units that nobody acknowledged.
+    pub fn unacknowledged(&self) -> Unacknowledged {
+        self.unacknowledged
     }
 
     /// Where a network tells a station that it is associated, the rates of its request are its rates.
@@ -226,13 +228,13 @@ impl Stations {
         self.turns += 1;
         let station = match self.stations.get_mut(&pair) {
             Some(station) => station,
-            None => return self.send_plainly(frame, RETRIES),
+            None => return self.send_plainly(frame, MOST_RETRIES),
         };
         station.used = self.turns;
         let choice = if is_unit(&frame) {
             station.rates.next(now)
         } else {
-            Choice { rate: lowest, retries: RETRIES, is_sample: false }
+            Choice { rate: lowest, retries: MOST_RETRIES, is_sample: false }
         };
         let waits = choice.is_sample || station.rates.is_in_doubt();
         station.last = Some(Last { frame: Rc::clone(&frame), choice, was_again: false });
@@ -270,15 +272,13 @@ impl Stations {
 
     /// Sends a frame at its network's lowest basic rate.
     fn send_plainly(&mut self, frame: Rc<Vec<u8>>, retries: u8) {
-        let rate = pair_of(&frame).map_or(2, |(bssid, _)| self.lowest(bssid));
+        let rate = pair_of(&frame).map_or(SLOWEST, |(bssid, _)| self.lowest(bssid));
         self.ready.push_back(ToSend { frame, rate, retries });
     }
 
-    /// A network's lowest basic rate, or its lowest where none is basic.
+    /// A network's lowest basic rate.
     fn lowest(&self, bssid: Address) -> u8 {
-        let rates = self.networks.get(&bssid).map_or(&[][..], Vec::as_slice);
-        let lowest = |is_basic: u8| rates.iter().filter(|rate| **rate & BASIC == is_basic).map(|rate| rate & !BASIC).min();
-        lowest(BASIC).or_else(|| lowest(0)).unwrap_or(2)
+        self.networks.get(&bssid).map_or(SLOWEST, Network::lowest_basic_rate)
     }
 }
 
@@ -357,6 +357,10 @@ mod tests {
         frame(control, STATION, BSSID, 1, &[0, 0, status, 0, 1, 0xc0])
     }
 
+    fn networks() -> [Network; 1] {
+        [Network { bssid: Address::of(BSSID), rates: RATES.to_vec(), wire: None }]
+    }
+
     fn millis(number: u64) -> Nanos {
         number * MILLISECOND
     }
@@ -367,11 +371,11 @@ mod tests {
 
     /// The stations once one has joined, and nothing is to be sent.
     fn joined() -> Stations {
-        let mut stations = Stations::new([(Address::of(BSSID), RATES.to_vec())]);
+        let mut stations = Stations::new(&networks());
         stations.hear(Frame::of(&request(0)).unwrap());
         stations.send(response(0x10, 0), millis(0));
         let sent = stations.pop().unwrap();
-        assert_eq!((sent.rate, sent.retries), (2, RETRIES));
+        assert_eq!((sent.rate, sent.retries), (2, MOST_RETRIES));
         stations
     }
 
@@ -393,30 +397,32 @@ mod tests {
     #[test]
     fn a_station_that_joined_is_sent_to_at_its_fastest_rate_soon() {
         for (control, answer) in [(0x00, 0x10), (0x20, 0x30)] {
-            let mut stations = Stations::new([(Address::of(BSSID), RATES.to_vec())]);
+            let mut stations = Stations::new(&networks());
             stations.hear(Frame::of(&request(control)).unwrap());
             stations.send(response(answer, 0), millis(0));
             stations.pop().unwrap();
-            let rates: Vec<u8> = (0..8).map(|number| {
-                stations.send(unit(number), millis(0));
-                let sent = stations.pop().unwrap();
-                stations.told(&sent.frame, outcome(sent.rate, 0, true), millis(0));
-                sent.rate
-            }).collect();
+            let rates: Vec<u8> = (0..8)
+                .map(|number| {
+                    stations.send(unit(number), millis(0));
+                    let sent = stations.pop().unwrap();
+                    stations.told(&sent.frame, outcome(sent.rate, 0, true), millis(0));
+                    sent.rate
+                })
+                .collect();
             assert_eq!(rates[4..], [108; 4], "{rates:?}");
         }
     }
 
     #[test]
     fn one_that_was_refused_or_never_asked_is_sent_to_at_the_lowest_basic_rate() {
-        let mut stations = Stations::new([(Address::of(BSSID), RATES.to_vec())]);
+        let mut stations = Stations::new(&networks());
         stations.send(response(0x10, 0), millis(0));
         stations.hear(Frame::of(&request(0)).unwrap());
         stations.send(response(0x10, 17), millis(0));
         for number in 0..8 {
             stations.send(unit(number), millis(0));
         }
-        assert!(std::iter::from_fn(|| stations.pop()).all(|sent| (sent.rate, sent.retries) == (2, RETRIES)));
+        assert!(std::iter::from_fn(|| stations.pop()).all(|sent| (sent.rate, sent.retries) == (2, MOST_RETRIES)));
     }
 
     #[test]
@@ -426,7 +432,7 @@ mod tests {
         stations.send(frame(0xc0, STATION, BSSID, 2, &[8, 0]), millis(0));
         stations.send(unit(3), millis(0));
         let sent: Vec<_> = std::iter::from_fn(|| stations.pop()).map(|sent| (sent.rate, sent.retries)).collect();
-        assert_eq!(sent, [(2, 0), (2, RETRIES), (108, RETRIES)]);
+        assert_eq!(sent, [(2, 0), (2, MOST_RETRIES), (108, MOST_RETRIES)]);
     }
 
     #[test]
@@ -441,7 +447,7 @@ mod tests {
         assert_eq!(stations.pop(), None);
         stations.told(&second.frame, outcome(2, 0, true), millis(4));
         assert_eq!(sequences(&mut stations), [(10, false)]);
-        assert_eq!(stations.counts(), Counts { again: 1, lost: 0 });
+        assert_eq!(stations.unacknowledged(), Unacknowledged { again: 1, lost: 0 });
     }
 
     #[test]
@@ -455,7 +461,7 @@ mod tests {
         stations.told(&units[1], outcome(108, 7, false), millis(2));
         stations.told(&units[2], outcome(108, 7, false), millis(2));
         assert_eq!(sequences(&mut stations), [(11, true)]);
-        assert_eq!(stations.counts(), Counts { again: 1, lost: 2 });
+        assert_eq!(stations.unacknowledged(), Unacknowledged { again: 1, lost: 2 });
     }
 
     #[test]
@@ -469,7 +475,7 @@ mod tests {
         stations.send(unit(10), millis(3));
         stations.send(unit(11), millis(3));
         assert_eq!(sequences(&mut stations), [(10, false)]);
-        assert_eq!(stations.counts(), Counts { again: 1, lost: 1 });
+        assert_eq!(stations.unacknowledged(), Unacknowledged { again: 1, lost: 1 });
     }
 
     #[test]
@@ -506,7 +512,7 @@ mod tests {
             stations.expire(until);
         }
         let last = std::iter::from_fn(|| stations.pop()).last().unwrap();
-        assert_eq!((last.rate, last.retries), (2, RETRIES));
+        assert_eq!((last.rate, last.retries), (2, MOST_RETRIES));
         stations.send(unit(1), millis(30_000));
         stations.send(unit(2), millis(30_000));
         assert_eq!(sequences(&mut stations), [(1, false), (2, false)]);
@@ -520,7 +526,7 @@ mod tests {
             stations.told(&stranger[..cut], outcome(2, 7, false), millis(1));
         }
         stations.told(&stranger, outcome(2, 7, false), millis(1));
-        assert_eq!((stations.pop(), stations.counts()), (None, Counts::default()));
+        assert_eq!((stations.pop(), stations.unacknowledged()), (None, Unacknowledged::default()));
     }
 
     #[test]
@@ -534,7 +540,7 @@ mod tests {
 
     #[test]
     fn no_more_stations_are_known_than_there_is_room_for() {
-        let mut stations = Stations::new([(Address::of(BSSID), RATES.to_vec())]);
+        let mut stations = Stations::new(&networks());
         for number in 0..=MOST_STATIONS {
             let [.., high, low] = number.to_be_bytes();
             let station = [2, 0, 0, 9, high, low];
