@@ -140,7 +140,9 @@ pub struct Medium {
     pub rules: Rules,
     radios: u16,
     draws: Draws,
-    owners: BTreeMap<Address, Radio>,
+    /// Who acknowledges what comes to an address, and how often that was said: the kernel says it of an interface, and
+    /// again of the address by which it scans, which may be the same.
+    owners: BTreeMap<Address, (Radio, u32)>,
     queues: BTreeMap<Radio, VecDeque<Exchange>>,
     on_air: Option<OnAir>,
     last: Radio,
@@ -164,13 +166,16 @@ impl Medium {
 
     /// From now on this radio acknowledges what comes to the address.
     pub fn give_address(&mut self, radio: Radio, address: Address) {
-        self.owners.insert(address, radio);
+        let owner = self.owners.entry(address).or_insert((radio, 0));
+        *owner = if owner.0 == radio { (radio, owner.1 + 1) } else { (radio, 1) };
     }
 
-    /// From now on it doesn't.
+    /// It doesn't any more, where this was said as often as that it does.
     pub fn take_address(&mut self, radio: Radio, address: Address) {
-        if self.owners.get(&address) == Some(&radio) {
-            self.owners.remove(&address);
+        match self.owners.get_mut(&address) {
+            Some((owner, times)) if *owner == radio && *times > 1 => *times -= 1,
+            Some((owner, _)) if *owner == radio => drop(self.owners.remove(&address)),
+            _ => {}
         }
     }
 
@@ -232,7 +237,7 @@ impl Medium {
             None => return,
         };
         exchange.count_try(rate);
-        let to = exchange.receiver.and_then(|address| self.owners.get(&address).copied());
+        let to = exchange.receiver.and_then(|address| self.owners.get(&address)).map(|owner| owner.0);
         let was_heard = self.deliver(&exchange, from, rate, to, effects);
         let kind = exchange.kind;
         let acknowledged = was_heard
@@ -411,9 +416,11 @@ mod tests {
     #[test]
     fn an_address_that_was_taken_away_is_nobodys() {
         let mut medium = medium(&[]);
-        medium.take_address(Radio(1), STATION);
-        medium.take_address(Radio(2), STATION);
-        medium.take(data(0, STATION, &[("54", 2)]), 0);
-        assert_eq!(done(&medium.advance(FOREVER)), [(vec![("54".to_owned(), 2)], false)]);
+        medium.give_address(Radio(2), STATION);
+        for (radio, tries) in [(1, 1), (2, 1), (2, 2)] {
+            medium.take_address(Radio(radio), STATION);
+            medium.take(data(0, STATION, &[("54", 2)]), 0);
+            assert_eq!(done(&medium.advance(FOREVER)), [(vec![("54".to_owned(), tries)], tries == 1)]);
+        }
     }
 }
