@@ -1,6 +1,6 @@
 //! The filter that the kernel applies to what the monitor interface hears, before the bridge reads it (classic BPF): it
-//! keeps out control frames but PS-Poll, what is for no network, and what this radio sent. What it can't read goes on,
-//! and is judged as ever.
+//! keeps out control frames but PS-Poll, what is for no network, and what this radio sent to groups. What it can't read
+//! goes on, and is judged as ever.
 use libc::sock_filter;
 
 use crate::frames::Address;
@@ -12,8 +12,6 @@ pub enum Shown {
     All,
     /// Those to one receiver come, cut after their addresses: what became of them is learned.
     Outcomes,
-    /// None comes.
-    Nothing,
 }
 
 // Of <linux/bpf_common.h>, and not in the crate libc yet.
@@ -92,7 +90,6 @@ fn of_those_sent(shown: Shown) -> Vec<sock_filter> {
     let begin = plain(LOAD_OCTET, SECOND_PRESENT_OCTET);
     match shown {
         Shown::All => vec![begin, jump(IF_ANY_BIT, TX_FLAGS_BIT, 0, 1), returned(ALL)],
-        Shown::Nothing => vec![begin, jump(IF_ANY_BIT, TX_FLAGS_BIT, 0, 1), returned(NONE)],
         Shown::Outcomes => vec![
             begin,
             jump(IF_ANY_BIT, TX_FLAGS_BIT, 0, 4),
@@ -204,9 +201,7 @@ mod tests {
     fn what_this_radio_sent_comes_as_long_as_it_is_asked_for() {
         let unit = Unit { transmitter: OURS, receiver: STRANGER, ..Unit::default() }.octets();
         let beacon = Unit { transmitter: OURS, receiver: Address::BROADCAST, ..Unit::default() }.octets();
-        for (asked, of_unit, of_beacon) in
-            [(Shown::All, ALL, ALL), (Shown::Outcomes, OUTCOME_LEN, NONE), (Shown::Nothing, NONE, NONE)]
-        {
+        for (asked, of_unit, of_beacon) in [(Shown::All, ALL, ALL), (Shown::Outcomes, OUTCOME_LEN, NONE)] {
             let filter = monitor_filter(&[OURS], asked);
             assert_eq!(
                 (kept(&filter, &shown(&unit)), kept(&filter, &shown(&beacon))),
@@ -218,7 +213,7 @@ mod tests {
 
     #[test]
     fn what_is_cut_goes_on() {
-        let filter = monitor_filter(&[OURS], Shown::Nothing);
+        let filter = monitor_filter(&[OURS], Shown::Outcomes);
         let packet = heard(&data());
         for length in 0..18 {
             assert_eq!(kept(&filter, &packet[..length]), ALL, "{length}");
@@ -231,7 +226,7 @@ mod tests {
     /// It keeps out what would be left out for the same reason, and nothing that goes on.
     #[test]
     fn it_agrees_with_what_is_judged() {
-        let filter = monitor_filter(&[OURS, OTHER], Shown::Nothing);
+        let filter = monitor_filter(&[OURS, OTHER], Shown::Outcomes);
         let mut seeded = Seeded(3);
         let mut out = 0;
         for _ in 0..200_000 {
@@ -243,7 +238,9 @@ mod tests {
             let packet = if seeded.below(8) == 0 { shown(unit) } else { heard(unit) };
             let wanted = match Air::new([OURS, OTHER]).judge(&packet, false, false) {
                 Judged::LeftOut(LeftOut::Controls | LeftOut::Others) => NONE,
-                Judged::Sent(frame, _) if frame.len() >= LEAST as usize => NONE,
+                Judged::Sent(frame, _) if frame.len() < LEAST as usize => ALL,
+                Judged::Sent(frame, _) if frame[RECEIVER_AT as usize] & 1 != 0 => NONE,
+                Judged::Sent(..) => OUTCOME_LEN,
                 _ => ALL,
             };
             assert_eq!(kept(&filter, &packet), wanted, "{packet:?}");

@@ -12,16 +12,18 @@
 //!  the clock, `tables` of tools/live ──────────────────────────────────────────┘         │                │
 //!                                                                                        │                │
 //!  mon0 ◀──┐                                                                             │                │
-//!  wire1 ◀─┼─ sendmmsg ◀─────── sending: a line for each interface, in order, ◀═════════ │                │
-//!  wire2 ◀─┘  64 at most a call          with a radio header for the air        Answers  └────────────────┘
+//!  wire1 ◀─┼─ sendmmsg ◀─────── sending: a line for each interface, in order; ◀═════════ │                │
+//!  wire2 ◀─┘  64 at most a call    for the air stations: at which rate,         Answers  └────────────────┘
+//!  mon0 ───▶ what became of it ──▶ and again where it is lost
 //!  people ◀──────────────────── lines of tables and faults
 //! ```
 //!
 //! It promises: frames of the air stay in their order, and frames of each wire; the same holds of what is sent by each
-//! interface. Each frame that comes is given to the program once, or counted as left out or dropped, but for what the
-//! kernel's filter keeps out: control frames, frames for no network, and those that this radio sent. A beginning of a
-//! beacon interval waits for none of the frames that wait. All memory is bounded. One thread does all by `epoll`, and
-//! waits nowhere else but for its ends of standard error and the record.
+//! interface, where a unit that nobody acknowledged is sent once more if none went to its station since. Each frame that
+//! comes is given to the program once, or counted as left out or dropped, but for what the kernel's filter keeps out:
+//! control frames, frames for no network, and those that this radio sent to groups. A beginning of a beacon interval
+//! waits for none of the frames that wait. All memory is bounded. One thread does all by `epoll`, and waits nowhere else
+//! but for its ends of standard error and the record.
 //!
 //! It leaves every decision on a frame to the program, and leaves to `tools/live` all that is done once. It speaks with
 //! that by lines: it reads `open`, once the interfaces are there, and `tables`; the end of its input ends it. It writes

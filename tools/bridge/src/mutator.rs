@@ -3,9 +3,11 @@
 use crate::faces::{Answer, Answers, Face};
 use crate::filter::{monitor_filter, Shown};
 use crate::frames::{is_tagged, Frame, MOST};
-use crate::radiotap::captured;
+use crate::radiotap::{captured, Outcome};
 use crate::receiving::{judge_wired, Air, Judged};
 use crate::samples::{data, radiotap, Seeded, Unit, OTHER, OURS, STATION};
+use crate::sending::Network;
+use crate::stations::{Stations, MOST_WAIT};
 
 const INPUTS: usize = 1_000_000;
 
@@ -146,12 +148,57 @@ fn read(face: Face, octets: &[u8], length: usize) -> (Vec<Answer>, bool) {
     (found, false)
 }
 
+/// Whatever is heard, sent and told, what goes to stations is what was sent, perhaps once more, and none waits for ever.
+#[test]
+fn the_way_to_stations() {
+    let body = [&[0; 4][..], &[1, 4, 0x82, 0x84, 0x0b, 12, 50, 1, 108]].concat();
+    let good = vec![
+        Unit { control: [0, 0], body, ..Unit::default() }.octets(),
+        Unit { control: [0x10, 0], receiver: STATION, transmitter: OURS, body: vec![0; 6], ..Unit::default() }.octets(),
+        Unit { receiver: STATION, transmitter: OURS, ..Unit::default() }.octets(),
+    ];
+    let networks = [Network { bssid: OURS, rates: vec![0x82, 0x84, 12, 108], wire: None }];
+    let (mut seeded, mut stations, mut time) = (Seeded(5), Stations::new(&networks), 0);
+    let (mut sent, mut ready, mut again) = (0u64, 0, 0);
+    for _ in 0..INPUTS / 2 {
+        let mut octets = mutated(&mut seeded, &good);
+        time += seeded.below(1 << 20) as u64;
+        match seeded.below(3) {
+            0 => drop(Frame::of(&octets).map(|frame| stations.hear(frame))),
+            1 => {
+                octets.truncate(MOST);
+                sent += 1;
+                stations.send(octets, time);
+            }
+            _ => {
+                let rate = [None, Some(2), Some(12), Some(108)][seeded.below(4)];
+                let (is_acknowledged, retries) = (seeded.below(2) == 0, seeded.number() as u8);
+                stations.told(&octets, Outcome { is_acknowledged, retries, rate }, time);
+            }
+        }
+        if seeded.below(50) == 0 {
+            stations.expire(time);
+        }
+        while let Some(next) = stations.pop() {
+            ready += 1;
+            again += u64::from(next.frame.get(1).map_or(false, |flags| flags & 0x08 != 0));
+        }
+    }
+    stations.expire(time + MOST_WAIT);
+    while let Some(due) = stations.due() {
+        stations.expire(due);
+    }
+    ready += std::iter::from_fn(|| stations.pop()).count() as u64;
+    assert_eq!(ready, sent + stations.unacknowledged().again);
+    assert!(again > 1000, "{again}");
+}
+
 /// The filter is made of steps that the kernel takes, for any networks.
 #[test]
 fn filters() {
     for number in 0..=16 {
         let networks = vec![OURS; number];
-        for shown in [Shown::All, Shown::Outcomes, Shown::Nothing] {
+        for shown in [Shown::All, Shown::Outcomes] {
             let filter = monitor_filter(&networks, shown);
             for (place, step) in filter.iter().enumerate() {
                 let furthest = place + 1 + usize::from(step.jt.max(step.jf));

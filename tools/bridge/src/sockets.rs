@@ -417,7 +417,7 @@ mod tests {
     #[test]
     fn the_kernel_takes_the_filter_and_keeps_out_what_it_says() {
         if let Some((mut hearing, mut sending)) = pair() {
-            hearing.set_filter(&monitor_filter(&[OURS], Shown::Nothing)).unwrap();
+            hearing.set_filter(&monitor_filter(&[OURS], Shown::Outcomes)).unwrap();
             let wanted = radiotap(&data(), 1 << 1, &[0; 12]);
             let mut other = data();
             other[4..10].copy_from_slice(STRANGER.octets());
