@@ -79,10 +79,12 @@ bridge:
 	@tools/bridge/build
 
 # Tests tools/live beside the gate: first the parts of its bridge and its own, then, in a guest, unmodified Linux
-# stations that join the networks of the built program. Takes root and Debian's packages debootstrap, e2fsprogs,
-# qemu-system-x86 and python3, and those of `make bridge`. The last line is 'N passed, M failed'.
+# stations that join the networks of the built program, and at last the same on an air that loses frames, with hostapd
+# beside it. Takes root and Debian's packages debootstrap, e2fsprogs, qemu-system-x86 and python3, and those of `make
+# bridge`. Each run in the guest ends with 'N passed, M failed'.
 test-live: apctl
 	@tools/bridge/build test
+	@tools/guest/air/build test
 	@tools/test live
 	@tools/test-live
 	@tools/test-live air

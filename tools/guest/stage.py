@@ -36,7 +36,7 @@ TOP = os.path.dirname(os.path.dirname(os.path.dirname(os.path.realpath(__file__)
 COMPILED = os.path.join(TOP, "build", "bridge", "release", "bridge")
 RECORD_HEADER = struct.Struct("<c6sH")  # of a record of octets: its kind, a BSSID, how many octets follow
 KINDS = {b"A": "air", b"W": "wire"}
-DURATION, RETRY, TIMESTAMP = slice(2, 4), 0x08, slice(24, 32)
+DURATION, RECEIVER, RETRY, TIMESTAMP = slice(2, 4), slice(4, 10), 0x08, slice(24, 32)
 
 
 @dataclass(frozen=True)
@@ -133,6 +133,11 @@ def comparable(octets: bytes) -> bytes:
     if Frame(octets).is_management(PROBE_RESPONSE):
         text[TIMESTAMP] = bytes(8)
     return bytes(text)
+
+
+def receiver_of(octets: bytes) -> bytes:
+    """Address 1 of a frame."""
+    return octets[RECEIVER]
 
 
 def same(what: str, found: list, wanted: list) -> None:
@@ -315,18 +320,23 @@ class Start:
         return f"{taken_out} of {len(self.recorded())} lines taken out"
 
     def agrees_with_observed(self) -> str:
-        """What another radio heard of each network has to be what the program wrote for it."""
+        """What another radio heard of each network has to be what the program wrote for it: for each receiver the same
+        frames in the same order, where one that was sent again counts once."""
         bssids = {address_of(net.bssid): net for net in self.networks}
         heard: dict[str, list[bytes]] = defaultdict(list)
+        last: dict[tuple[bytes, bytes], int] = {}
         for packet in self.observed.packets():
             found = captured(packet)
             frame = Frame(found.frame) if found else None
             if frame and frame.transmitter in bssids:
-                heard[bssids[frame.transmitter].bssid].append(comparable(frame.octets))
+                way = frame.transmitter, frame.receiver
+                if not frame.retry or last.get(way) != frame.sequence_control:
+                    heard[bssids[frame.transmitter].bssid].append(comparable(frame.octets))
+                last[way] = frame.sequence_control
         wrote = read_answers(self.answered())
         for net in self.networks:
-            same(f"{self.name}: heard of {net.ssid}", heard[net.bssid],
-                 [comparable(bytes.fromhex(octets)) for octets in wrote[net.bssid].air])
+            same(f"{self.name}: heard of {net.ssid}", sorted(heard[net.bssid], key=receiver_of),
+                 sorted((comparable(bytes.fromhex(octets)) for octets in wrote[net.bssid].air), key=receiver_of))
         return f"{sum(map(len, heard.values()))} frames heard"
 
 

@@ -19,11 +19,11 @@
 //! ```
 //!
 //! It promises: frames of the air stay in their order, and frames of each wire; the same holds of what is sent by each
-//! interface, where a unit that nobody acknowledged is sent once more if none went to its station since. Each frame that
-//! comes is given to the program once, or counted as left out or dropped, but for what the kernel's filter keeps out:
-//! control frames, frames for no network, and those that this radio sent to groups. A beginning of a beacon interval
-//! waits for none of the frames that wait. All memory is bounded. One thread does all by `epoll`, and waits nowhere else
-//! but for its ends of standard error and the record.
+//! wire, and on the air to each receiver. A unit that nobody acknowledged is sent once more, if none went to its station
+//! since. Each frame that comes is given to the program once, or counted as left out or dropped, but for what the
+//! kernel's filter keeps out: control frames, frames for no network, and those that this radio sent to groups. A
+//! beginning of a beacon interval waits for none of the frames that wait. All memory is bounded. One thread does all by
+//! `epoll`, and waits nowhere else but for its ends of standard error and the record.
 //!
 //! It leaves every decision on a frame to the program, and leaves to `tools/live` all that is done once. It speaks with
 //! that by lines: it reads `open`, once the interfaces are there, and `tables`; the end of its input ends it. It writes
