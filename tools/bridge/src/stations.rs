@@ -154,7 +154,7 @@ impl Stations {
         };
         self.was_told = true;
         let last = station.last.as_mut().filter(|last| number(&last.frame) == number(frame));
-        let is_sample = last.as_ref().map_or(false, |last| last.choice.is_sample && !last.was_again);
+        let is_sample = last.as_ref().map_or(false, |last| last.choice.is_sample);
         if is_unit(frame) {
             let rate = outcome.rate.or_else(|| last.as_ref().map(|last| last.choice.rate));
             let tries = outcome.retries.saturating_add(1);
