@@ -617,7 +617,6 @@ mod tests {
     use crate::program::Record;
     use crate::radiotap::sending_header;
     use crate::samples::{data, radiotap, OURS};
-    use crate::sending::LowestBasicRate;
     use libc::sock_filter;
     use std::fs::{self, Permissions};
     use std::io::Write;
@@ -780,7 +779,7 @@ write(b"N", octets=b"network 02:00:00:00:01:01 ssid 6c6162\n")
         let mut ports = Some((monitor, wire));
         bridge.serve(|| {
             let (monitor, wire) = ports.take().unwrap();
-            Ok(Sender::new(networks.clone(), monitor, vec![Some(wire)], LowestBasicRate::new(&networks)))
+            Ok(Sender::new(networks.clone(), monitor, vec![Some(wire)]))
         })
     }
 
