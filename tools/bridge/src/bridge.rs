@@ -829,7 +829,7 @@ write(b"N", octets=b"network 02:00:00:00:01:01 ssid 6c6162\n")
             ("#!/bin/sh\nexit 7\n", "the program ended with status 7 before its networks were open"),
             ("#!/bin/sh\necho hello; cat\n", "the program wrote what isn't known: hello"),
             (
-                "#!/bin/sh\necho ok 1; echo air 02:00:00:00:01:09 00; cat >/dev/null\n",
+                "#!/bin/sh\nprintf 'ok 1\\nair 02:00:00:00:01:09 00\\n'; cat >/dev/null\n",
                 "a frame before it was given one",
             ),
             (
