@@ -2,17 +2,24 @@
 use std::collections::BTreeMap;
 use std::io;
 
+use crate::clients::{Clients, Question};
 use crate::control::{say, Notice, Request, Requests};
 use crate::faces::{Answer, Event};
-use crate::faults::{reason, show, tell, Fault};
+use crate::faults::{reason, tell, Fault};
 use crate::filter::{monitor_filter, Shown};
 use crate::frames::{Address, Frame, FrameType};
+use crate::log::{self, Level};
+use crate::operating::{Errand, Operating};
+use crate::own_frames::is_null_of_network;
 use crate::poller::{Poller, Ready, Token};
 use crate::program::{Feeder, Program};
+use crate::radiotap::reception;
 use crate::receiving::{judge_wired, Air, Judged, LeftOut};
 use crate::sending::{Network, Sender};
 use crate::sockets::{Batch, Packet, Port, AT_A_TIME};
-use crate::time::{now, wall_now, Nanos, Ticks, MILLISECOND, SECOND};
+use crate::status::{error, Faults, Named, Status};
+use crate::tables::{Asker, Tables};
+use crate::time::{now, wall_now, Lateness, Nanos, Ticks, MILLISECOND, SECOND};
 use crate::waiting::{Flow, Source, Waiter, Waiting};
 
 const TO_BEACON: Nanos = SECOND;
@@ -22,6 +29,26 @@ const TO_END: Nanos = 20 * SECOND;
 const IN_A_ROW: usize = 4;
 /// The lane of the air; those of wires come after, in the networks' order.
 const AIR: Source = 0;
+
+/// The subtype and type of a beacon, in the first octet of Frame Control.
+const BEACON: u8 = 0x80;
+/// How often `tools/live` is told at most that the program answers.
+const ALIVE_EVERY: Nanos = SECOND;
+
+/// How it is asked to run.
+#[derive(Debug, Clone, PartialEq, Eq)]
+pub struct Manner {
+    /// The radio's name.
+    pub phy: String,
+    /// Its channel.
+    pub channel: u8,
+    /// The beacon interval in time units.
+    pub interval: u16,
+    /// After how long an associated station of which nothing was heard is asked; `None` asks nobody.
+    pub most_silence: Option<Nanos>,
+    /// Whether `tools/live` is told that the program answers.
+    pub tells_alive: bool,
+}
 
 /// How far the bridge is.
 #[derive(Debug, Clone, Copy, PartialEq, Eq)]
@@ -52,7 +79,10 @@ struct Running<P> {
     networks: Vec<Network>,
     air: Air,
     waiting: Waiting,
+    operating: Operating,
+    tables: Tables,
     ticks: Ticks,
+    beacons: Lateness,
     /// Until when the first beacon has to be seen as sent, while none was.
     beacon_due: Option<Nanos>,
     given: Given,
@@ -65,20 +95,30 @@ pub struct Bridge<P, C> {
     program: Program,
     feeder: Feeder,
     requests: Requests<C>,
+    clients: Option<Clients>,
     poller: Poller,
-    interval: u16,
+    manner: Manner,
+    began: Nanos,
+    faults: Faults,
+    alive_told: Nanos,
     phase: Phase,
     running: Option<Running<P>>,
     batch: Batch,
     opening_asked: bool,
     tables_asked: bool,
+    dismissing: bool,
     waits_for_room: bool,
 }
 
 impl<P: Port, C: io::Read + std::os::unix::io::AsRawFd> Bridge<P, C> {
-    /// With this program, whose networks aren't open yet, requests of `tools/live`, and a beacon interval in time
-    /// units.
-    pub fn new(program: Program, feeder: Feeder, requests: Requests<C>, interval: u16) -> Result<Self, Fault> {
+    /// With this program, whose networks aren't open yet, requests of `tools/live`, and a socket by which others ask.
+    pub fn new(
+        program: Program,
+        feeder: Feeder,
+        requests: Requests<C>,
+        clients: Option<Clients>,
+        manner: Manner,
+    ) -> Result<Self, Fault> {
         let poller = Poller::new()?;
         poller.add(requests.descriptor(), Token::Control, true, false)?;
         poller.add(program.descriptor(), Token::Output, true, false)?;
@@ -87,13 +127,18 @@ impl<P: Port, C: io::Read + std::os::unix::io::AsRawFd> Bridge<P, C> {
             program,
             feeder,
             requests,
+            clients,
             poller,
-            interval,
+            manner,
+            began: now(),
+            faults: Faults::default(),
+            alive_told: 0,
             phase,
             running: None,
             batch: Batch::new(),
             opening_asked: false,
             tables_asked: false,
+            dismissing: false,
             waits_for_room: false,
         })
     }
@@ -133,6 +178,7 @@ impl<P: Port, C: io::Read + std::os::unix::io::AsRawFd> Bridge<P, C> {
                 Token::Output => self.take_answers()?,
                 Token::Input | Token::Clock => {}
                 Token::Monitor | Token::Wire(_) => self.take_port(ready)?,
+                Token::Listener | Token::Client(_) => self.take_client(ready)?,
             }
         }
         match self.phase {
@@ -141,6 +187,7 @@ impl<P: Port, C: io::Read + std::os::unix::io::AsRawFd> Bridge<P, C> {
             _ => {}
         }
         self.take_time()?;
+        self.answer_clients()?;
         self.feed()?;
         self.send()
     }
@@ -168,6 +215,10 @@ impl<P: Port, C: io::Read + std::os::unix::io::AsRawFd> Bridge<P, C> {
             match (request, self.phase) {
                 (Request::Open, _) => self.opening_asked = true,
                 (Request::Tables, Phase::Running) => self.tables_asked = true,
+                (Request::Dismiss, Phase::Running) => {
+                    self.dismissing = true;
+                    self.running.iter_mut().for_each(|running| running.operating.dismiss());
+                }
                 (Request::End, _) => {
                     self.poller.remove(self.requests.descriptor())?;
                     self.phase = Phase::Ending;
@@ -188,8 +239,10 @@ impl<P: Port, C: io::Read + std::os::unix::io::AsRawFd> Bridge<P, C> {
                 self.poller.add(wire.port.descriptor(), Token::Wire(place), true, false)?;
             }
         }
-        let running = Running::new(sender, networks, self.interval);
-        self.running = Some(running);
+        if let Some(clients) = &self.clients {
+            self.poller.add(clients.descriptor(), Token::Listener, true, false)?;
+        }
+        self.running = Some(Running::new(sender, networks, &self.manner));
         self.set_filter(Shown::All)?;
         self.phase = Phase::Running;
         Ok(())
@@ -233,20 +286,99 @@ impl<P: Port, C: io::Read + std::os::unix::io::AsRawFd> Bridge<P, C> {
 
     fn take_answer(&mut self, answer: Answer, time: Nanos) -> Result<(), Fault> {
         match (answer, &mut self.running) {
-            (Answer::Told(line), _) => show(&line),
+            (Answer::Told(line), _) => self.take_told(&line, time),
             (Answer::Ready(_), _) => {
                 if matches!(self.phase, Phase::Opening(_)) {
                     self.phase = Phase::SettingUp;
                     say(&Notice::Ready);
                 }
             }
-            (Answer::Air(bssid, octets), Some(running)) => running.sender.send_on_air(bssid, octets, time)?,
+            (Answer::Air(bssid, octets), Some(running)) => {
+                let is_beacon = octets.first() == Some(&BEACON);
+                running.send_on_air(bssid, octets, time)?;
+                if is_beacon {
+                    self.tell_after_beacon(time);
+                }
+            }
             (Answer::Wire(bssid, octets), Some(running)) => running.sender.send_on_wire(bssid, octets, time)?,
             (Answer::Air(..) | Answer::Wire(..), None) => {
                 return Err(Fault::new("the program sent a frame before it was given one"))
             }
         }
         Ok(())
+    }
+
+    /// A line of the program for people: of a table, or a fault.
+    fn take_told(&mut self, line: &str, time: Nanos) {
+        if line.starts_with("fault ") {
+            self.faults.push(line, time);
+            log::write_event(Level::Warning, line);
+        } else if self.running.as_mut().map_or(true, |running| running.take_table_line(line, time)) {
+            log::write_plain(line);
+        }
+    }
+
+    /// Tells `tools/live` what beacons show.
+    fn tell_after_beacon(&mut self, time: Nanos) {
+        if self.manner.tells_alive && time >= self.alive_told + ALIVE_EVERY {
+            self.alive_told = time;
+            say(&Notice::Alive);
+        }
+        let dismisses = self.running.as_ref().map_or(false, |running| running.operating.dismisses());
+        if self.dismissing && !dismisses {
+            self.dismissing = false;
+            say(&Notice::Dismissed);
+        }
+    }
+
+    /// Somebody connects, or a client wrote or reads.
+    fn take_client(&mut self, ready: Ready) -> Result<(), Fault> {
+        match (ready.token, &mut self.clients) {
+            (Token::Listener, Some(clients)) => clients.accept(&self.poller, now()),
+            (Token::Client(place), Some(clients)) => {
+                clients.take(place, ready.can_read, ready.can_write, now());
+                Ok(())
+            }
+            _ => Ok(()),
+        }
+    }
+
+    /// Answers the questions of clients; the program is asked for its tables where somebody waits for them.
+    fn answer_clients(&mut self) -> Result<(), Fault> {
+        let time = now();
+        let (clients, running) = match (&mut self.clients, &mut self.running) {
+            (Some(clients), Some(running)) if self.phase == Phase::Running => (clients, running),
+            _ => return Ok(()),
+        };
+        while let Some((place, question)) = clients.next() {
+            match question {
+                Question::Status => clients.wait(place, time),
+                Question::Kick { .. } if !clients.is_root(place) => {
+                    clients.answer(place, &error("only root may kick a station"));
+                }
+                Question::Kick { bssid, station } => {
+                    let outcome = running.kick(bssid, station, time);
+                    let answer = outcome.map_or_else(|fault| error(&fault), |()| "{\"kicked\":true}".to_owned());
+                    clients.answer(place, &answer);
+                }
+                Question::Unknown => {
+                    clients.answer(place, &error("no such question: there are `status` and `kick BSSID ADDRESS`"));
+                }
+            }
+        }
+        let waiting = clients.waiting();
+        if !waiting.is_empty() && running.tables.are_wanted(time) {
+            self.feeder.say(Event::Tables)?;
+            running.tables.ask(Asker::Status, time);
+            running.given.tables += 1;
+        }
+        for (place, since) in waiting {
+            if running.tables.are_new(time) || running.tables.is_late(since, time) {
+                let line = running.status(&self.manner, self.began, &self.faults, time).line();
+                clients.answer(place, &line);
+            }
+        }
+        clients.flush(&self.poller, time)
     }
 
     /// Reads the packets that wait at an interface, or learns that it has room.
@@ -287,6 +419,7 @@ impl<P: Port, C: io::Read + std::os::unix::io::AsRawFd> Bridge<P, C> {
                 if self.tables_asked {
                     self.tables_asked = false;
                     self.feeder.say(Event::Tables)?;
+                    running.tables.ask(Asker::People, time);
                     running.given.tables += 1;
                 }
                 if running.beacon_due.map_or(false, |due| time > due) {
@@ -318,7 +451,7 @@ impl<P: Port, C: io::Read + std::os::unix::io::AsRawFd> Bridge<P, C> {
                 match running.waiting.pop(time) {
                     None => break,
                     Some((source, waiter)) => {
-                        running.say(source, &waiter, &mut self.feeder)?;
+                        running.say(source, &waiter, &mut self.feeder, time)?;
                         said += 1;
                     }
                 }
@@ -362,6 +495,10 @@ impl<P: Port, C: io::Read + std::os::unix::io::AsRawFd> Bridge<P, C> {
         }
         if let Some(running) = &mut self.running {
             running.stop_reading(&self.poller)?;
+            // The socket is tools/live's too, and would be waited for even once it was closed here.
+            if let Some(clients) = self.clients.take() {
+                self.poller.remove(clients.descriptor())?;
+            }
         }
         let mut found = Vec::new();
         while !self.program.has_ended() && now() < until {
@@ -388,19 +525,104 @@ impl<P: Port, C: io::Read + std::os::unix::io::AsRawFd> Bridge<P, C> {
 }
 
 impl<P: Port> Running<P> {
-    fn new(sender: Sender<P>, networks: Vec<Network>, interval: u16) -> Running<P> {
+    fn new(sender: Sender<P>, networks: Vec<Network>, manner: &Manner) -> Running<P> {
         let start = now();
+        let bssids = || networks.iter().map(|network| network.bssid);
         Running {
             sender,
-            air: Air::new(networks.iter().map(|network| network.bssid)),
+            air: Air::new(bssids()),
             waiting: Waiting::new(1 + networks.len()),
+            operating: Operating::new(bssids().collect(), manner.most_silence),
+            tables: Tables::new(networks.len()),
             networks,
-            ticks: Ticks::new(start, interval),
+            ticks: Ticks::new(start, manner.interval),
+            beacons: Lateness::default(),
             beacon_due: Some(start + TO_BEACON),
             given: Given::default(),
             left_out: BTreeMap::new(),
             has_told_drops: false,
         }
+    }
+
+    /// A network sends a frame on the air, and behind it what the bridge has to send.
+    fn send_on_air(&mut self, bssid: Address, octets: Vec<u8>, time: Nanos) -> Result<(), Fault> {
+        if octets.first() == Some(&BEACON) {
+            self.beacons.count(time.saturating_sub(self.ticks.last_due()));
+        }
+        let errands = self.operating.answered(bssid, &octets, time);
+        self.sender.send_on_air(bssid, octets, time)?;
+        self.run(errands, time);
+        Ok(())
+    }
+
+    /// Sends and says what the bridge has to by itself.
+    fn run(&mut self, errands: Vec<Errand>, time: Nanos) {
+        for errand in errands {
+            match errand {
+                Errand::Send { place, frame, retries } => self.sender.send_own(place, &frame, retries, time),
+                Errand::Say(octets) => self.waiting.push(AIR, Waiter { flow: None, arrived: time, octets }),
+            }
+        }
+    }
+
+    /// A station is forgotten, since a person asked for it; an answer where it can't be.
+    fn kick(&mut self, bssid: Address, station: Address, time: Nanos) -> Result<(), String> {
+        let errands = self.operating.kick(bssid, station, time)?;
+        self.run(errands, time);
+        Ok(())
+    }
+
+    /// Takes a line of a table, and answers whether it is to be shown; the stations are those of whole tables.
+    fn take_table_line(&mut self, line: &str, time: Nanos) -> bool {
+        let before = self.tables.came();
+        let is_shown = self.tables.take(line, time);
+        if self.tables.came() != before {
+            for (place, table) in self.tables.last().unwrap_or_default().iter().enumerate() {
+                let known = table.stations.iter().map(|(address, (state, _))| (*address, *state)).collect();
+                self.operating.roster().agree(place, &known, time);
+            }
+        }
+        is_shown
+    }
+
+    /// What is going on.
+    fn status<'a>(&'a mut self, manner: &'a Manner, began: Nanos, faults: &'a Faults, now: Nanos) -> Status<'a> {
+        self.beacons.missed = self.ticks.missed();
+        let (drops, left_out) = (self.drops(), self.left_out());
+        Status {
+            phy: &manner.phy,
+            channel: manner.channel,
+            began,
+            faults,
+            beacons: &self.beacons,
+            drops,
+            left_out,
+            networks: &self.networks,
+            roster: self.operating.roster(),
+            tables: &self.tables,
+            now,
+        }
+    }
+
+    /// What was dropped or lost, by what people call it.
+    fn drops(&mut self) -> Named {
+        let waiting = self.waiting.dropped();
+        let mut found: Named =
+            waiting.map(|(source, reason, number)| (format!("{}: {reason}", self.interface(source)), number)).collect();
+        found.extend(self.sender.counts().into_iter().filter(|(what, _)| !what.starts_with("sent ")));
+        for exit in self.sender.exits() {
+            let number = exit.port.count_dropped();
+            if number > 0 {
+                found.insert(format!("{}: dropped by the kernel", exit.port.interface()), number);
+            }
+        }
+        found
+    }
+
+    /// What was left out, by what people call it.
+    fn left_out(&self) -> Named {
+        let counts = self.left_out.iter();
+        counts.map(|((source, reason), number)| (format!("{}: {reason}", self.interface(*source)), *number)).collect()
     }
 
     fn unblock(&mut self, token: Token) {
@@ -451,10 +673,14 @@ impl<P: Port> Running<P> {
             Judged::Sent(frame, outcome) => {
                 self.leave_out(AIR, LeftOut::Sent);
                 self.see_sent(frame);
-                self.sender.shown(frame, outcome, arrived);
+                self.operating.shown(frame, outcome, arrived);
+                if !is_null_of_network(frame) {
+                    self.sender.shown(frame, outcome, arrived);
+                }
             }
             Judged::GoesOn(frame) => {
                 self.sender.heard(frame);
+                self.operating.heard(frame, reception(packet.octets), arrived);
                 let waiter = Waiter { flow: flow_of_air(frame), arrived, octets: frame.octets().to_vec() };
                 self.waiting.push(AIR, waiter);
             }
@@ -488,10 +714,11 @@ impl<P: Port> Running<P> {
     }
 
     /// Says a frame to the program.
-    fn say(&mut self, source: Source, waiter: &Waiter, feeder: &mut Feeder) -> Result<(), Fault> {
+    fn say(&mut self, source: Source, waiter: &Waiter, feeder: &mut Feeder, time: Nanos) -> Result<(), Fault> {
         match source.checked_sub(AIR + 1) {
             None => {
                 self.given.air += 1;
+                self.operating.said(&waiter.octets, time);
                 feeder.say(Event::Air(&waiter.octets))
             }
             Some(place) => {
@@ -775,7 +1002,14 @@ write(b"N", octets=b"network 02:00:00:00:01:01 ssid 6c6162\n")
     ) -> Result<(), Fault> {
         let networks = vec![Network { bssid: OURS, rates: vec![0x82], wire: Some("wire1".into()) }];
         let (program, feeder) = Program::start(path, "radio.toml", face, Some(record))?;
-        let mut bridge = Bridge::new(program, feeder, Requests::new(asked)?, 100)?;
+        let manner = Manner {
+            phy: "phy0".into(),
+            channel: 6,
+            interval: 100,
+            most_silence: Some(300 * SECOND),
+            tells_alive: false,
+        };
+        let mut bridge = Bridge::new(program, feeder, Requests::new(asked)?, None, manner)?;
         let mut ports = Some((monitor, wire));
         bridge.serve(|| {
             let (monitor, wire) = ports.take().unwrap();

@@ -13,6 +13,8 @@ pub enum Request {
     Open,
     /// The tables are to be shown.
     Tables,
+    /// All stations are to be told that they have to join again.
+    Dismiss,
     /// The bridge is to end.
     End,
 }
@@ -24,6 +26,10 @@ pub enum Notice {
     Ready,
     /// The first beacon was seen as sent.
     Sending,
+    /// The program answers, and beacons are sent; told once a second at most.
+    Alive,
+    /// All stations were told that they have to join again.
+    Dismissed,
     /// The program has ended with this status.
     Status(i32),
     /// The bridge ends, since this is so.
@@ -35,6 +41,8 @@ pub fn say(notice: &Notice) {
     let line = match notice {
         Notice::Ready => "ready\n".to_owned(),
         Notice::Sending => "sending\n".to_owned(),
+        Notice::Alive => "alive\n".to_owned(),
+        Notice::Dismissed => "dismissed\n".to_owned(),
         Notice::Status(status) => format!("status {status}\n"),
         Notice::Fault(fault) => format!("fault {}\n", fault.to_string().replace('\n', " ")),
     };
@@ -71,6 +79,7 @@ impl<R: Read + AsRawFd> Requests<R> {
                 match &line[..place] {
                     b"open" => return Some(Request::Open),
                     b"tables" => return Some(Request::Tables),
+                    b"dismiss" => return Some(Request::Dismiss),
                     _ => continue,
                 }
             }
@@ -102,8 +111,9 @@ mod tests {
         other.write_all(b"open\nhello\ntab").unwrap();
         assert_eq!(requests.next(), Some(Request::Open));
         assert_eq!(requests.next(), None);
-        other.write_all(b"les\n").unwrap();
+        other.write_all(b"les\ndismiss\n").unwrap();
         assert_eq!(requests.next(), Some(Request::Tables));
+        assert_eq!(requests.next(), Some(Request::Dismiss));
         drop(other);
         assert_eq!(requests.next(), Some(Request::End));
         assert_eq!(requests.next(), Some(Request::End));

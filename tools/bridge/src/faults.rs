@@ -1,6 +1,8 @@
 //! Why the bridge can't begin or go on, for a person who can act on it.
 use std::fmt;
-use std::io::{self, Write};
+use std::io;
+
+use crate::log::{self, Level};
 
 /// What has to be changed on this machine, in the configuration or in the words.
 #[derive(Debug, Clone, PartialEq, Eq)]
@@ -40,16 +42,7 @@ pub fn reason(fault: &io::Error) -> String {
     }
 }
 
-/// Says something to the person on standard error. Where nobody reads that any more, nothing is to be done.
+/// Says something to the person on standard error.
 pub fn tell(text: impl fmt::Display) {
-    write_line(&format!("live: {text}\n"));
-}
-
-/// Shows a line of the program on standard error.
-pub fn show(line: &str) {
-    write_line(&format!("{line}\n"));
-}
-
-fn write_line(line: &str) {
-    let _ = io::stderr().write_all(line.as_bytes());
+    log::write(Level::Notice, text);
 }

@@ -26,41 +26,58 @@
 //! `epoll`, and waits nowhere else but for its ends of standard error and the record.
 //!
 //! It leaves every decision on a frame to the program, and leaves to `tools/live` all that is done once. It speaks with
-//! that by lines: it reads `open`, once the interfaces are there, and `tables`; the end of its input ends it. It writes
-//! `ready`, once the networks are open, `sending`, once the first beacon was seen as sent, `status N` with the status of
-//! the program, and `fault TEXT`, after which it ends with status 1.
+//! that by lines: it reads `open`, once the interfaces are there, `tables`, and `dismiss`, by which all stations are told
+//! to join again; the end of its input ends it. It writes `ready`, once the networks are open, `sending`, once the first
+//! beacon was seen as sent, `alive` while the program answers, `dismissed`, `status N` with the status of the program,
+//! and `fault TEXT`, after which it ends with status 1.
+//!
+//! By itself (`operating`) it watches which stations there are, tells what happens to them, and asks those that have
+//! fallen silent whether they are there; for one that isn't it tells the program that the station left. It answers who
+//! connects to its socket (`clients`).
 #![deny(unsafe_code)]
 
 mod bridge;
+mod clients;
 mod control;
 mod faces;
 mod faults;
 mod filter;
 mod frames;
+mod log;
+mod meaning;
 #[cfg(test)]
 mod mutator;
+mod operating;
+mod own_frames;
 mod poller;
 mod program;
 mod radiotap;
 mod rates;
 mod receiving;
+mod roster;
 #[cfg(test)]
 mod samples;
 mod sending;
+mod silence;
 mod sockets;
 mod stations;
+mod status;
+mod tables;
 mod time;
 mod waiting;
 mod words;
 
+use std::os::unix::io::RawFd;
 use std::process::ExitCode;
 
-use bridge::Bridge;
+use bridge::{Bridge, Manner};
+use clients::Clients;
 use control::{say, Notice, Requests};
 use faults::Fault;
 use program::{Program, Record};
 use sending::Sender;
-use sockets::PacketSocket;
+use sockets::{inherited_listener, PacketSocket};
+use time::{Nanos, SECOND};
 use words::Words;
 
 /// How many octets wait in the kernel at most to be sent by an interface: so what is sent next never waits long.
@@ -88,8 +105,24 @@ fn main() -> ExitCode {
 fn run(words: &Words) -> Result<(), Fault> {
     let requests = Requests::new(std::io::stdin())?;
     let record = words.record.as_deref().map(Record::create).transpose()?;
+    if let Some(record) = record.as_ref().filter(|record| Some(record.path()) != words.record.as_deref()) {
+        faults::tell(format!("the record is {}", record.path()));
+    }
     let (program, feeder) = Program::start(&words.program, &words.config, words.face, record)?;
-    Bridge::new(program, feeder, requests, words.interval)?.serve(|| open(words))
+    let clients = words.socket.map(listen).transpose()?;
+    let manner = Manner {
+        phy: words.phy.clone(),
+        channel: words.channel,
+        interval: words.interval,
+        most_silence: Some(Nanos::from(words.idle) * SECOND).filter(|silence| *silence > 0),
+        tells_alive: words.tells_alive,
+    };
+    Bridge::new(program, feeder, requests, clients, manner)?.serve(|| open(words))
+}
+
+/// The socket by which whoever wants asks the bridge.
+fn listen(descriptor: RawFd) -> Result<Clients, Fault> {
+    Clients::new(inherited_listener(descriptor).map_err(|fault| Fault::of("--socket", &fault))?)
 }
 
 /// Opens a socket on the monitor interface and on each wire.

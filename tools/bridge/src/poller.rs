@@ -22,11 +22,19 @@ pub enum Token {
     Clock,
     /// The monitor interface.
     Monitor,
+    /// Somebody who connects to ask something.
+    Listener,
+    /// The client of this place.
+    Client(usize),
     /// The wire of the network of this place.
     Wire(usize),
 }
 
-const FIRST_WIRE: u64 = 5;
+/// How many clients there are at most.
+pub const MOST_CLIENTS: usize = 16;
+const FIRST_CLIENT: u64 = 6;
+const LAST_CLIENT: u64 = FIRST_CLIENT + MOST_CLIENTS as u64 - 1;
+const FIRST_WIRE: u64 = LAST_CLIENT + 1;
 
 impl Token {
     fn number(self) -> u64 {
@@ -36,6 +44,8 @@ impl Token {
             Token::Input => 2,
             Token::Clock => 3,
             Token::Monitor => 4,
+            Token::Listener => 5,
+            Token::Client(place) => FIRST_CLIENT + place as u64,
             Token::Wire(place) => FIRST_WIRE + place as u64,
         }
     }
@@ -47,6 +57,8 @@ impl Token {
             2 => Token::Input,
             3 => Token::Clock,
             4 => Token::Monitor,
+            5 => Token::Listener,
+            FIRST_CLIENT..=LAST_CLIENT => Token::Client((number - FIRST_CLIENT) as usize),
             _ => Token::Wire((number - FIRST_WIRE) as usize),
         }
     }
@@ -150,6 +162,15 @@ mod tests {
     use crate::time::{now, MILLISECOND};
     use std::io::Write;
     use std::os::unix::net::UnixStream;
+
+    #[test]
+    fn each_token_has_a_number_of_its_own() {
+        let clients = (0..MOST_CLIENTS).map(Token::Client);
+        let all = [Token::Control, Token::Output, Token::Input, Token::Clock, Token::Monitor, Token::Listener];
+        for token in all.into_iter().chain(clients).chain((0..20).map(Token::Wire)) {
+            assert_eq!(Token::of(token.number()), token);
+        }
+    }
 
     #[test]
     fn what_comes_first_ends_the_wait() {

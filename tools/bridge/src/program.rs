@@ -21,6 +21,8 @@ const PIECE_LEN: usize = 1 << 16;
 /// take, a beacon interval above all.
 const MOST_UNREAD: usize = 32;
 const EVERY: Duration = Duration::from_millis(5);
+/// The most files that records of one name have.
+const MOST_RECORDS: u32 = 10_000;
 
 /// `PROGRAM live CONFIG` or `PROGRAM live --octets CONFIG`.
 #[derive(Debug)]
@@ -213,11 +215,25 @@ pub struct Record {
 }
 
 impl Record {
-    /// A new file, which isn't there yet.
+    /// A new file: of this name, or where that is there already with the first number behind it that isn't.
     pub fn create(path: &str) -> Result<Record, Fault> {
-        let file = OpenOptions::new().write(true).create_new(true).open(path);
-        let file = file.map_err(|fault| Fault::of(format!("--record {path}"), &fault))?;
-        Ok(Record { path: path.to_owned(), file: BufWriter::with_capacity(PIECE_LEN, file), line: Vec::new() })
+        for number in 0..MOST_RECORDS {
+            let name = if number == 0 { path.to_owned() } else { format!("{path}.{number}") };
+            match OpenOptions::new().write(true).create_new(true).open(&name) {
+                Ok(file) => {
+                    let file = BufWriter::with_capacity(PIECE_LEN, file);
+                    return Ok(Record { path: name, file, line: Vec::new() });
+                }
+                Err(fault) if fault.kind() == ErrorKind::AlreadyExists => {}
+                Err(fault) => return Err(Fault::of(format!("--record {name}"), &fault)),
+            }
+        }
+        Err(Fault::new(format!("--record {path}: {MOST_RECORDS} files of this name are there: take old ones away")))
+    }
+
+    /// The file's name.
+    pub fn path(&self) -> &str {
+        &self.path
     }
 
     fn write(&mut self, event: Event<'_>) -> Result<(), Fault> {
@@ -231,5 +247,23 @@ impl Record {
 
     fn flush(&mut self) -> Result<(), Fault> {
         self.file.flush().map_err(|fault| Fault::of(format!("--record {}", self.path), &fault))
+    }
+}
+
+#[cfg(test)]
+mod tests {
+    use super::*;
+
+    #[test]
+    fn a_record_that_is_there_is_continued_by_a_number() {
+        let folder = std::env::temp_dir().join(format!("records-{}", std::process::id()));
+        std::fs::create_dir_all(&folder).unwrap();
+        let path = folder.join("today").to_str().unwrap().to_owned();
+        let names: Vec<String> = (0..3).map(|_| Record::create(&path).unwrap().path().to_owned()).collect();
+        assert_eq!(names, [path.clone(), format!("{path}.1"), format!("{path}.2")]);
+        std::fs::remove_file(&names[1]).unwrap();
+        assert_eq!(Record::create(&path).unwrap().path(), names[1]);
+        std::fs::remove_dir_all(&folder).unwrap();
+        assert!(Record::create(&path).unwrap_err().to_string().contains("No such file or directory"));
     }
 }

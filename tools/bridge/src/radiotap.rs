@@ -5,6 +5,7 @@ const PRESENT_AT: usize = 4;
 const PRESENT_LEN: usize = 4;
 const FLAGS: usize = 1;
 const RATE: usize = 2;
+const SIGNAL: usize = 5;
 const RX_FLAGS: usize = 14;
 /// The bit of the field that only a frame has that was sent here.
 pub const TX_FLAGS: usize = 15;
@@ -83,6 +84,27 @@ pub fn captured(packet: &[u8]) -> Option<Captured<'_>> {
         rate: fields.octet(RATE),
     });
     Some(Captured { frame, is_damaged, outcome })
+}
+
+/// How a frame was heard.
+#[derive(Debug, Clone, Copy, Default, PartialEq, Eq)]
+pub struct Reception {
+    /// With which signal, in dBm.
+    pub signal: Option<i8>,
+    /// At which rate, in units of 500 kb/s.
+    pub rate: Option<u8>,
+}
+
+/// What the header of a packet of a monitor interface says of how it was heard.
+pub fn reception(packet: &[u8]) -> Reception {
+    let length = packet.get(2..4).map_or(0, |two| usize::from(u16::from_le_bytes([two[0], two[1]])));
+    match packet.get(..length).filter(|header| header.len() >= START_LEN) {
+        None => Reception::default(),
+        Some(header) => {
+            let fields = Fields::of(header);
+            Reception { signal: fields.octet(SIGNAL).map(|octet| octet as i8), rate: fields.octet(RATE) }
+        }
+    }
 }
 
 /// Where the fields of a header stand.
@@ -187,6 +209,16 @@ mod tests {
         let other_version = [vec![1], radiotap(&data(), 0, &[])[1..].to_vec()].concat();
         for packet in [vec![], vec![0; 7], other_version, vec![0, 0, 99, 0, 0, 0, 0, 0], vec![0, 0, 4, 0, 0, 0, 0, 0]] {
             assert_eq!(captured(&packet), None, "{packet:?}");
+        }
+    }
+
+    #[test]
+    fn how_a_frame_was_heard_is_told() {
+        let heard = radiotap(&data(), 1 << 2 | 1 << 3 | 1 << 5, &[22, 0, 0x85, 9, 0xa0, 0, 0xe2]);
+        assert_eq!(reception(&heard), Reception { signal: Some(-30), rate: Some(22) });
+        assert_eq!(reception(&radiotap(&data(), 1 << 1, &[0])), Reception::default());
+        for packet in [&[][..], &[0, 0, 99, 0, 0xff, 0xff, 0, 0], &[0; 8], &[0, 0, 8, 0, 0x24, 0, 0, 0]] {
+            assert_eq!(reception(packet), Reception::default(), "{packet:?}");
         }
     }
 

@@ -227,6 +227,13 @@ impl<P: Port> Sender<P> {
         }
     }
 
+    /// The bridge sends a frame of its own for a network: at the lowest basic rate, behind what waits for the air.
+    pub fn send_own(&mut self, place: usize, frame: &[u8], retries: u8, now: Nanos) {
+        let rate = self.networks[place].lowest_basic_rate();
+        let octets = [&sending_header(rate, retries)[..], frame].concat();
+        self.monitor.push(Leaving { octets, is_data: false, since: now }, &mut self.counts);
+    }
+
     /// A network sends a frame on its wire; a fault where there is no such network.
     pub fn send_on_wire(&mut self, bssid: Address, octets: Vec<u8>, now: Nanos) -> Result<(), Fault> {
         let place = self.place(bssid)?;

@@ -5,6 +5,7 @@ use std::ffi::CString;
 use std::io;
 use std::mem::{size_of, size_of_val, zeroed};
 use std::os::unix::io::{AsRawFd, FromRawFd, OwnedFd, RawFd};
+use std::os::unix::net::UnixListener;
 use std::ptr;
 
 use libc::{c_int, c_void, iovec, mmsghdr, sock_filter, sockaddr_ll};
@@ -198,6 +199,34 @@ pub fn octets_in_pipe(pipe: RawFd) -> io::Result<usize> {
     // SAFETY: the kernel writes one number.
     unsafe { checked(libc::ioctl(pipe, libc::FIONREAD, &mut found as *mut c_int))? };
     Ok(found.max(0) as usize)
+}
+
+/// The listening socket that this process was started with, whose number `tools/live` gave.
+pub fn inherited_listener(number: RawFd) -> io::Result<UnixListener> {
+    let mut is_listening: c_int = 0;
+    let mut length = size_of_val(&is_listening) as u32;
+    // SAFETY: the kernel writes at most `length` octets into the number, which is as long.
+    unsafe {
+        let place: *mut c_int = &mut is_listening;
+        checked(libc::getsockopt(number, libc::SOL_SOCKET, libc::SO_ACCEPTCONN, place.cast(), &mut length))?;
+    }
+    if is_listening == 0 {
+        return Err(io::Error::from_raw_os_error(libc::EINVAL));
+    }
+    // SAFETY: the descriptor is a socket, and nothing else of this process owns it.
+    Ok(unsafe { UnixListener::from_raw_fd(number) })
+}
+
+/// The user who connected a socket of this machine.
+pub fn user_of(socket: RawFd) -> io::Result<u32> {
+    let mut found = libc::ucred { pid: 0, uid: u32::MAX, gid: u32::MAX };
+    let mut length = size_of_val(&found) as u32;
+    // SAFETY: the kernel writes at most `length` octets into `found`, which is as long.
+    unsafe {
+        let place: *mut libc::ucred = &mut found;
+        checked(libc::getsockopt(socket, libc::SOL_SOCKET, libc::SO_PEERCRED, place.cast(), &mut length))?;
+    }
+    Ok(found.uid)
 }
 
 /// Sends frames by one call.

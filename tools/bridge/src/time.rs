@@ -26,6 +26,32 @@ fn read(clock: ClockId) -> Nanos {
     }
 }
 
+/// How late beacons were given to the radio.
+#[derive(Debug, Clone, Default, PartialEq, Eq)]
+pub struct Lateness {
+    /// How many were given to it.
+    pub sent: u64,
+    /// How late the latest was.
+    pub worst: Nanos,
+    /// How many beacon intervals were never made.
+    pub missed: u64,
+    total: Nanos,
+}
+
+impl Lateness {
+    /// One was given to the radio so late.
+    pub fn count(&mut self, late: Nanos) {
+        self.sent += 1;
+        self.worst = self.worst.max(late);
+        self.total = self.total.saturating_add(late);
+    }
+
+    /// How late they were on the average.
+    pub fn mean(&self) -> Nanos {
+        self.total / self.sent.max(1)
+    }
+}
+
 /// The beginnings of beacon intervals of so many time units, from the start on. One that is late begins at once, and
 /// the next at the next multiple from the start: those that were missed are never made.
 #[derive(Debug, Clone, PartialEq, Eq)]
@@ -33,12 +59,14 @@ pub struct Ticks {
     start: Nanos,
     length: Nanos,
     due: Nanos,
+    last_due: Nanos,
+    missed: u64,
 }
 
 impl Ticks {
     /// The first begins at the start.
     pub fn new(start: Nanos, interval: u16) -> Ticks {
-        Ticks { start, length: Nanos::from(interval.max(1)) * TIME_UNIT, due: start }
+        Ticks { start, length: Nanos::from(interval.max(1)) * TIME_UNIT, due: start, last_due: start, missed: 0 }
     }
 
     /// When the next begins.
@@ -51,8 +79,20 @@ impl Ticks {
         if now < self.due {
             return false;
         }
+        self.last_due = self.due;
+        self.missed += (now - self.due) / self.length;
         self.due = self.start + ((now - self.start) / self.length + 1) * self.length;
         true
+    }
+
+    /// When the last one that began was due.
+    pub fn last_due(&self) -> Nanos {
+        self.last_due
+    }
+
+    /// How many were never made.
+    pub fn missed(&self) -> u64 {
+        self.missed
     }
 }
 
@@ -74,10 +114,18 @@ mod tests {
         let mut ticks = Ticks::new(0, 100);
         assert!(ticks.begins(0));
         assert!(ticks.begins(LENGTH * 7 / 2));
-        assert_eq!(ticks.due(), LENGTH * 4);
+        assert_eq!((ticks.due(), ticks.last_due(), ticks.missed()), (LENGTH * 4, LENGTH, 2));
         assert!(!ticks.begins(LENGTH * 4 - 1));
         assert!(ticks.begins(LENGTH * 4));
         assert!(ticks.begins(LENGTH * 6));
-        assert_eq!(ticks.due(), LENGTH * 7);
+        assert_eq!((ticks.due(), ticks.last_due(), ticks.missed()), (LENGTH * 7, LENGTH * 5, 3));
+    }
+
+    #[test]
+    fn lateness_is_counted() {
+        let mut late = Lateness::default();
+        assert_eq!(late.mean(), 0);
+        [3, 5, 1].into_iter().for_each(|nanos| late.count(nanos));
+        assert_eq!((late.sent, late.worst, late.mean()), (3, 5, 3));
     }
 }

@@ -1,12 +1,16 @@
 //! The words of the bridge, which `tools/live` gives it.
 use std::fmt;
+use std::ops::RangeInclusive;
+use std::os::unix::io::RawFd;
+use std::str::FromStr;
 
 use crate::faces::Face;
 use crate::frames::Address;
 use crate::sending::Network;
 
 /// How it is called.
-pub const USAGE: &str = "bridge --face text|octets --monitor NAME --interval UNITS [--record FILE] \
+pub const USAGE: &str = "bridge --face text|octets --phy NAME --channel NUMBER --monitor NAME --interval UNITS \
+                         [--idle SECONDS] [--socket DESCRIPTOR] [--alive] [--record FILE] \
                          --network BSSID/RATES[/WIRE]... PROGRAM CONFIG";
 
 /// What the words ask for.
@@ -14,10 +18,20 @@ pub const USAGE: &str = "bridge --face text|octets --monitor NAME --interval UNI
 pub struct Words {
     /// How the program is spoken to.
     pub face: Face,
+    /// The radio.
+    pub phy: String,
+    /// Its channel.
+    pub channel: u8,
     /// The monitor interface.
     pub monitor: String,
     /// The beacon interval in time units.
     pub interval: u16,
+    /// After how many seconds an associated station of which nothing was heard is asked; 0 asks nobody.
+    pub idle: u32,
+    /// The listening socket by which it is asked, as a descriptor.
+    pub socket: Option<RawFd>,
+    /// Whether it is told that the program answers.
+    pub tells_alive: bool,
     /// The file of the record.
     pub record: Option<String>,
     /// The networks in the order of the configuration.
@@ -38,18 +52,29 @@ impl fmt::Display for NotWords {
     }
 }
 
+/// After how many seconds a silent station is asked unless it is said.
+const IDLE: u32 = 300;
+/// The descriptors below are standard input, output and error.
+const FIRST_DESCRIPTOR: RawFd = 3;
+
 impl Words {
     /// Reads them.
     pub fn read(words: impl IntoIterator<Item = String>) -> Result<Words, NotWords> {
         let mut words = words.into_iter();
         let (mut face, mut monitor, mut interval, mut record) = (None, None, None, None);
+        let (mut phy, mut channel, mut idle, mut socket, mut tells_alive) = (None, None, IDLE, None, false);
         let (mut networks, mut rest) = (Vec::new(), Vec::new());
         while let Some(word) = words.next() {
             let mut value = || words.next().ok_or_else(|| NotWords(format!("{word} lacks its value")));
             match word.as_str() {
                 "--face" => face = Some(read_face(&value()?)?),
+                "--phy" => phy = Some(value()?),
+                "--channel" => channel = Some(read_number(&value()?, "channel", 1..=14)?),
                 "--monitor" => monitor = Some(value()?),
-                "--interval" => interval = Some(read_interval(&value()?)?),
+                "--interval" => interval = Some(read_number(&value()?, "beacon interval", 1..=u16::MAX)?),
+                "--idle" => idle = read_number(&value()?, "number of seconds", 0..=u32::MAX)?,
+                "--socket" => socket = Some(read_number(&value()?, "descriptor", FIRST_DESCRIPTOR..=RawFd::MAX)?),
+                "--alive" => tells_alive = true,
                 "--record" => record = Some(value()?),
                 "--network" => networks.push(read_network(&value()?)?),
                 _ => rest.push(word),
@@ -62,8 +87,13 @@ impl Words {
         }
         Ok(Words {
             face: face.ok_or_else(|| lacks("--face"))?,
+            phy: phy.ok_or_else(|| lacks("--phy"))?,
+            channel: channel.ok_or_else(|| lacks("--channel"))?,
             monitor: monitor.ok_or_else(|| lacks("--monitor"))?,
             interval: interval.ok_or_else(|| lacks("--interval"))?,
+            idle,
+            socket,
+            tells_alive,
             record,
             networks,
             program,
@@ -80,8 +110,9 @@ fn read_face(text: &str) -> Result<Face, NotWords> {
     }
 }
 
-fn read_interval(text: &str) -> Result<u16, NotWords> {
-    text.parse().ok().filter(|units| *units > 0).ok_or_else(|| NotWords(format!("{text} is no beacon interval")))
+/// A number within limits.
+fn read_number<N: FromStr + PartialOrd>(text: &str, what: &str, limits: RangeInclusive<N>) -> Result<N, NotWords> {
+    text.parse().ok().filter(|number| limits.contains(number)).ok_or_else(|| NotWords(format!("{text} is no {what}")))
 }
 
 fn read_network(text: &str) -> Result<Network, NotWords> {
@@ -100,8 +131,9 @@ mod tests {
     use super::*;
     use crate::samples::{OTHER, OURS};
 
-    const GOOD: &str = "--face octets --monitor mon0 --interval 100 --record r --network 02:00:00:00:01:01/8284/wire1 \
-                        --network 02:00:00:00:01:02/16 apctl config";
+    const GOOD: &str = "--face octets --phy phy0 --channel 6 --monitor mon0 --interval 100 --idle 60 --socket 5 \
+                        --alive --record r --network 02:00:00:00:01:01/8284/wire1 --network 02:00:00:00:01:02/16 apctl \
+                        config";
 
     fn read(text: &str) -> Result<Words, NotWords> {
         Words::read(text.split_whitespace().map(str::to_owned))
@@ -115,14 +147,21 @@ mod tests {
         ];
         let wanted = Words {
             face: Face::Octets,
+            phy: "phy0".into(),
+            channel: 6,
             monitor: "mon0".into(),
             interval: 100,
+            idle: 60,
+            socket: Some(5),
+            tells_alive: true,
             record: Some("r".into()),
             networks,
             program: "apctl".into(),
             config: "config".into(),
         };
         assert_eq!(read(GOOD), Ok(wanted));
+        let fewer = read(&GOOD.replace("--idle 60 --socket 5 --alive", "")).unwrap();
+        assert_eq!((fewer.idle, fewer.socket, fewer.tells_alive), (300, None, false));
     }
 
     #[test]
@@ -131,6 +170,11 @@ mod tests {
             ("octets", "words"),
             ("--face octets", ""),
             ("--monitor mon0", ""),
+            ("--phy phy0", ""),
+            ("--channel 6", ""),
+            ("--channel 6", "--channel 15"),
+            ("--idle 60", "--idle x"),
+            ("--socket 5", "--socket 2"),
             ("100", "0"),
             ("100", "70000"),
             ("--interval 100", ""),
@@ -144,6 +188,6 @@ mod tests {
         ] {
             assert!(read(&GOOD.replacen(old, new, 1)).is_err(), "{old} {new}");
         }
-        assert!(read("--face text --monitor mon0 --interval 100 apctl config").is_err());
+        assert!(read("--face text --phy phy0 --channel 6 --monitor mon0 --interval 100 apctl config").is_err());
     }
 }

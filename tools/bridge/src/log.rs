@@ -1,0 +1,143 @@
+//! What is told to people on standard error. Where the journal of systemd reads it, a line begins with its level
+//! (sd-daemon(3)), and the journal has the time; else lines of what happened begin with the time, in UTC.
+use std::fmt;
+use std::io::{self, Write};
+use std::os::unix::fs::MetadataExt;
+
+use crate::time::{wall_now, Nanos, SECOND};
+
+/// How many lines are written in a second at most that stations can cause.
+const MOST_A_SECOND: u64 = 50;
+const SECONDS_A_DAY: u64 = 86_400;
+
+/// How much a line matters.
+#[derive(Debug, Clone, Copy, PartialEq, Eq)]
+pub enum Level {
+    /// Something isn't as it should be.
+    Warning,
+    /// A person may want to look.
+    Notice,
+    /// So it goes.
+    Info,
+}
+
+impl Level {
+    /// Its number of syslog(3).
+    fn number(self) -> u8 {
+        match self {
+            Level::Warning => 4,
+            Level::Notice => 5,
+            Level::Info => 6,
+        }
+    }
+}
+
+/// Writes a line of this bridge. Where nobody reads it any more, nothing is to be done.
+pub fn write(level: Level, text: impl fmt::Display) {
+    let start = if is_journal() { format!("<{}>", level.number()) } else { String::new() };
+    write_line(&format!("{start}live: {text}\n"));
+}
+
+/// Writes a line of what happened now.
+pub fn write_event(level: Level, text: impl fmt::Display) {
+    let start = if is_journal() { format!("<{}>", level.number()) } else { format!("{} ", date(wall_now())) };
+    write_line(&format!("{start}live: {text}\n"));
+}
+
+/// Writes a line of the program as it stands.
+pub fn write_plain(line: &str) {
+    write_line(&format!("{line}\n"));
+}
+
+fn write_line(line: &str) {
+    let _ = io::stderr().write_all(line.as_bytes());
+}
+
+/// Whether standard error is the journal's: then the variable names its device and inode.
+fn is_journal() -> bool {
+    let stream = std::env::var("JOURNAL_STREAM").ok();
+    stream.zip(std::fs::metadata("/proc/self/fd/2").ok()).map_or(false, |(stream, found)| {
+        stream == format!("{}:{}", found.dev(), found.ino())
+    })
+}
+
+/// A moment of the wall clock, as `2026-11-25T22:30:50Z`.
+fn date(moment: Nanos) -> String {
+    let (days, second) = (moment / SECOND / SECONDS_A_DAY, moment / SECOND % SECONDS_A_DAY);
+    let (year, month, day) = civil(days);
+    let (hour, minute, second) = (second / 3600, second / 60 % 60, second % 60);
+    format!("{year:04}-{month:02}-{day:02}T{hour:02}:{minute:02}:{second:02}Z")
+}
+
+/// Year, month and day of so many days after the first of January 1970 (the Gregorian calendar repeats after 146,097
+/// days; here a year begins with March, so that its odd day comes last).
+fn civil(days: u64) -> (u64, u64, u64) {
+    let shifted = days + 719_468;
+    let (era, day_of_era) = (shifted / 146_097, shifted % 146_097);
+    let year_of_era = (day_of_era - day_of_era / 1460 + day_of_era / 36_524 - day_of_era / 146_096) / 365;
+    let day_of_year = day_of_era - (365 * year_of_era + year_of_era / 4 - year_of_era / 100);
+    let shifted_month = (5 * day_of_year + 2) / 153;
+    let day = day_of_year - (153 * shifted_month + 2) / 5 + 1;
+    let month = if shifted_month < 10 { shifted_month + 3 } else { shifted_month - 9 };
+    (era * 400 + year_of_era + u64::from(month <= 2), month, day)
+}
+
+/// Bounds the lines that stations can cause: what is more is counted, and told once the second is over.
+#[derive(Debug, Default)]
+pub struct Bounded {
+    second: Nanos,
+    lines: u64,
+}
+
+impl Bounded {
+    /// Writes a line, or counts it.
+    pub fn write(&mut self, level: Level, text: impl fmt::Display, now: Nanos) {
+        self.tell_left_out(now);
+        self.lines += 1;
+        if self.lines <= MOST_A_SECOND {
+            write_event(level, text);
+        }
+    }
+
+    /// Tells how many lines were left out, where a second is over.
+    pub fn tell_left_out(&mut self, now: Nanos) {
+        if now >= self.second + SECOND {
+            let left_out = self.lines.saturating_sub(MOST_A_SECOND);
+            if left_out > 0 {
+                write_event(Level::Notice, format_args!("{left_out} more lines of stations in one second"));
+            }
+            (self.second, self.lines) = (now, 0);
+        }
+    }
+}
+
+#[cfg(test)]
+mod tests {
+    use super::*;
+
+    #[test]
+    fn moments_are_written_as_dates() {
+        for (seconds, wanted) in [
+            (0, "1970-01-01T00:00:00Z"),
+            (951_782_399, "2000-02-28T23:59:59Z"),
+            (951_782_400, "2000-02-29T00:00:00Z"),
+            (951_868_800, "2000-03-01T00:00:00Z"),
+            (1_795_645_850, "2026-11-25T22:30:50Z"),
+            (4_107_542_399, "2100-02-28T23:59:59Z"),
+            (4_107_542_400, "2100-03-01T00:00:00Z"),
+        ] {
+            assert_eq!(date(seconds * SECOND), wanted);
+        }
+    }
+
+    #[test]
+    fn lines_of_a_second_are_bounded() {
+        let mut bounded = Bounded::default();
+        for line in 0..MOST_A_SECOND + 7 {
+            bounded.write(Level::Info, format_args!("line {line} of a test"), 5 * SECOND);
+        }
+        assert_eq!(bounded.lines, MOST_A_SECOND + 7);
+        bounded.tell_left_out(6 * SECOND);
+        assert_eq!(bounded.lines, 0);
+    }
+}

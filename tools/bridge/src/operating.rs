@@ -1,0 +1,291 @@
+//! What the bridge does by itself beside the way of frames: it knows the stations from the frames that pass, tells what
+//! happens to them, asks those that have fallen silent, and lets the program know who is gone. Whatever it tells the
+//! program is an event as any other: a station's deauthentication, which stands in the record too.
+use crate::frames::{Address, Frame};
+use crate::log::{Bounded, Level};
+use crate::own_frames::{
+    deauthentication, departure, disassociation, is_null_of_network, null, number_beside, INACTIVITY, LEAVING,
+};
+use crate::radiotap::{Outcome, Reception};
+use crate::roster::{Forgotten, Member, News, Roster, State};
+use crate::silence::{Silence, Step};
+use crate::time::{Nanos, SECOND};
+
+/// How often a question is tried again where nobody acknowledges it, and how often what a station is told that is there.
+const QUESTION_RETRIES: u8 = 3;
+const WORD_RETRIES: u8 = 3;
+
+/// What is to be done for it.
+#[derive(Debug, Clone, PartialEq, Eq)]
+pub enum Errand {
+    /// The network of this place sends a frame, and so often again where nobody acknowledges it.
+    Send { place: usize, frame: Vec<u8>, retries: u8 },
+    /// The program is told of a frame as of one that was heard.
+    Say(Vec<u8>),
+}
+
+/// What is known, and what is to be done.
+#[derive(Debug)]
+pub struct Operating {
+    bssids: Vec<Address>,
+    roster: Roster,
+    silence: Silence,
+    log: Bounded,
+    /// Of each network the sequence number of its last frame.
+    numbers: Vec<u16>,
+    /// The networks whose stations have still to be told that they have to join again.
+    to_dismiss: Vec<usize>,
+}
+
+impl Operating {
+    /// Of these networks; who was silent for so long is asked, or nobody.
+    pub fn new(bssids: Vec<Address>, most_silence: Option<Nanos>) -> Operating {
+        Operating {
+            roster: Roster::new(bssids.clone()),
+            silence: Silence::new(most_silence, bssids.len()),
+            log: Bounded::default(),
+            numbers: vec![0; bssids.len()],
+            to_dismiss: Vec::new(),
+            bssids,
+        }
+    }
+
+    /// The stations.
+    pub fn roster(&mut self) -> &mut Roster {
+        &mut self.roster
+    }
+
+    /// A frame was heard that goes on to the program.
+    pub fn heard(&mut self, frame: Frame<'_>, reception: Reception, now: Nanos) {
+        self.roster.heard(frame, reception, now);
+    }
+
+    /// A frame of the air is said to the program.
+    pub fn said(&mut self, octets: &[u8], now: Nanos) {
+        self.roster.said(octets, now);
+        self.tell(now);
+    }
+
+    /// The radio tells what became of a frame that it was given.
+    pub fn shown(&mut self, frame: &[u8], outcome: Outcome, now: Nanos) {
+        let is_unit = frame.first() == Some(&0x08) && !is_null_of_network(frame);
+        self.roster.shown(frame, outcome, is_unit, now);
+    }
+
+    /// The program has a network send a frame; answers what is to be done behind it.
+    pub fn answered(&mut self, bssid: Address, octets: &[u8], now: Nanos) -> Vec<Errand> {
+        let place = match self.roster.place_of(&bssid) {
+            Some(place) => place,
+            None => return Vec::new(),
+        };
+        if let Some(number) = Frame::of(octets).and_then(|frame| frame.sequence_control()) {
+            self.numbers[place] = number >> 4;
+        }
+        let mut errands = Vec::new();
+        if let Some(tim) = self.roster.answered(place, octets, now) {
+            for step in self.silence.behind_beacon(&mut self.roster, place, tim.dtim_count == 0, now) {
+                errands.extend(self.take_step(place, step));
+            }
+            errands.extend(self.dismiss_behind_beacon(place));
+        }
+        self.tell(now);
+        errands
+    }
+
+    /// A person wants a station to be forgotten, which has to be known.
+    pub fn kick(&mut self, bssid: Address, station: Address, now: Nanos) -> Result<Vec<Errand>, String> {
+        let place = self.roster.place_of(&bssid).ok_or_else(|| format!("{bssid} is no network of these"))?;
+        let known = self.roster.station(&(place, station)).filter(|station| !station.is_leaving);
+        let state = known.ok_or_else(|| format!("{bssid} has no station {station}"))?.state;
+        let errands = self.forget((place, station), state, Forgotten::Kicked, WORD_RETRIES);
+        self.tell(now);
+        Ok(errands)
+    }
+
+    /// All stations are to be told that they have to join again, each behind the next beacon of its network.
+    pub fn dismiss(&mut self) {
+        self.to_dismiss = (0..self.bssids.len()).collect();
+    }
+
+    /// Whether stations of a network have still to be told so.
+    pub fn dismisses(&self) -> bool {
+        !self.to_dismiss.is_empty()
+    }
+
+    fn dismiss_behind_beacon(&mut self, place: usize) -> Option<Errand> {
+        let found = self.to_dismiss.iter().position(|network| *network == place)?;
+        self.to_dismiss.remove(found);
+        let frame = deauthentication(self.bssids[place], Address::BROADCAST, LEAVING, self.number(place));
+        Some(Errand::Send { place, frame, retries: 0 })
+    }
+
+    fn take_step(&mut self, place: usize, step: Step) -> Vec<Errand> {
+        match step {
+            Step::Ask(station) => {
+                let frame = null(self.bssids[place], station, self.number(place));
+                vec![Errand::Send { place, frame, retries: QUESTION_RETRIES }]
+            }
+            Step::Forget(station, why) => match self.roster.station(&(place, station)).map(|station| station.state) {
+                Some(state) => self.forget((place, station), state, why, 0),
+                None => Vec::new(),
+            },
+        }
+    }
+
+    /// A station is told that it is forgotten, and the program that it left.
+    fn forget(&mut self, member: Member, state: State, why: Forgotten, retries: u8) -> Vec<Errand> {
+        let (place, station) = member;
+        let (bssid, number) = (self.bssids[place], self.number(place));
+        self.roster.forget(member, why);
+        let frame = match state {
+            State::Associated(_) => disassociation(bssid, station, INACTIVITY, number),
+            State::Authenticated => deauthentication(bssid, station, INACTIVITY, number),
+        };
+        vec![Errand::Send { place, frame, retries }, Errand::Say(departure(bssid, station))]
+    }
+
+    fn number(&self, place: usize) -> u16 {
+        number_beside(self.numbers[place])
+    }
+
+    /// Tells what happened to stations.
+    fn tell(&mut self, now: Nanos) {
+        self.log.tell_left_out(now);
+        for ((place, station), news) in self.roster.take_news() {
+            let (level, text) = sentence(station, self.bssids[place], news);
+            self.log.write(level, text, now);
+        }
+    }
+}
+
+/// What happened to a station of a network, for people.
+fn sentence(station: Address, bssid: Address, news: News) -> (Level, String) {
+    match news {
+        News::Joins { aid, listen } => {
+            (Level::Info, format!("{station} joins {bssid}: identifier {aid}, listen interval {listen}"))
+        }
+        News::Leaves { reason } => (Level::Info, format!("{station} leaves {bssid}: reason {reason}")),
+        News::DozesTooLong { beacons, listen } => (
+            Level::Notice,
+            format!(
+                "{station} of {bssid} dozes too long: units wait for it since {beacons} beacons, and its listen \
+                 interval is {listen}"
+            ),
+        ),
+        News::Refused { status, is_association } => {
+            let what = if is_association { "association" } else { "authentication" };
+            (Level::Notice, format!("{station} is refused by {bssid}: {what}, status {status}"))
+        }
+        News::SentAway { reason } => (Level::Info, format!("{station} is sent away by {bssid}: reason {reason}")),
+        News::Forgotten(Forgotten::Silent(silence)) => {
+            let seconds = silence / SECOND;
+            (Level::Info, format!("{station} is forgotten by {bssid}: it is silent since {seconds} seconds"))
+        }
+        News::Forgotten(Forgotten::Kicked) => {
+            (Level::Info, format!("{station} is forgotten by {bssid}: it was kicked"))
+        }
+    }
+}
+
+#[cfg(test)]
+mod tests {
+    use super::*;
+    use crate::samples::{OTHER, OURS, STATION, STRANGER};
+
+    /// A frame of a network, with a sequence number.
+    fn of_network(control: u8, receiver: Address, number: u16, body: &[u8]) -> Vec<u8> {
+        let head = [&[control, 0, 0, 0][..], receiver.octets(), OURS.octets(), OURS.octets()].concat();
+        [&head[..], &(number << 4).to_le_bytes(), body].concat()
+    }
+
+    fn beacon(number: u16) -> Vec<u8> {
+        of_network(0x80, Address::BROADCAST, number, &[&[0; 12][..], &[5, 4, 0, 1, 0, 0]].concat())
+    }
+
+    /// Our network with a station that is associated.
+    fn joined() -> Operating {
+        let mut operating = Operating::new(vec![OTHER, OURS], Some(5 * SECOND));
+        operating.answered(OURS, &of_network(0xb0, STATION, 1, &[0, 0, 2, 0, 0, 0]), 0);
+        operating.answered(OURS, &of_network(0x10, STATION, 2, &[1, 0, 0, 0, 1, 0xc0]), 0);
+        operating
+    }
+
+    #[test]
+    fn who_is_silent_is_asked_and_forgotten() {
+        let mut operating = joined();
+        assert_eq!(operating.answered(OURS, &beacon(3), 4 * SECOND), []);
+        for number in 4..7 {
+            let frame = null(OURS, STATION, number + 2048);
+            let wanted = [Errand::Send { place: 1, frame, retries: 3 }];
+            assert_eq!(operating.answered(OURS, &beacon(number), (number + 1).into() * SECOND), wanted);
+        }
+        let frame = disassociation(OURS, STATION, INACTIVITY, 2055);
+        let wanted = [Errand::Send { place: 1, frame, retries: 0 }, Errand::Say(departure(OURS, STATION))];
+        assert_eq!(operating.answered(OURS, &beacon(7), 8 * SECOND), wanted);
+        operating.said(&departure(OURS, STATION), 8 * SECOND);
+        assert_eq!(operating.answered(OURS, &beacon(8), 30 * SECOND), []);
+        assert_eq!(operating.roster().station(&(1, STATION)), None);
+    }
+
+    #[test]
+    fn who_acknowledges_stays() {
+        let mut operating = joined();
+        assert_eq!(operating.answered(OURS, &beacon(3), 5 * SECOND).len(), 1);
+        let outcome = Outcome { is_acknowledged: true, retries: 2, rate: Some(2) };
+        operating.shown(&null(OURS, STATION, 9), outcome, 5 * SECOND);
+        for second in 6..10 {
+            assert_eq!(operating.answered(OURS, &beacon(4), second * SECOND), []);
+        }
+        assert_eq!(operating.roster().station(&(1, STATION)).unwrap().to.rate, None);
+    }
+
+    #[test]
+    fn who_is_kicked_goes_at_once() {
+        let mut operating = joined();
+        let errands = operating.kick(OURS, STATION, 0).unwrap();
+        let frame = disassociation(OURS, STATION, INACTIVITY, 2050);
+        let wanted = [Errand::Send { place: 1, frame, retries: 3 }, Errand::Say(departure(OURS, STATION))];
+        assert_eq!(errands, wanted);
+        for (bssid, station, says) in
+            [(OURS, STATION, "has no station"), (OURS, STRANGER, "has no station"), (STRANGER, STATION, "no network")]
+        {
+            assert!(operating.kick(bssid, station, 0).unwrap_err().contains(says));
+        }
+        operating.answered(OURS, &of_network(0xb0, STRANGER, 9, &[0, 0, 2, 0, 0, 0]), 0);
+        let frame = deauthentication(OURS, STRANGER, INACTIVITY, 2057);
+        let wanted = Errand::Send { place: 1, frame, retries: 3 };
+        assert_eq!(operating.kick(OURS, STRANGER, 0).unwrap()[0], wanted);
+    }
+
+    #[test]
+    fn all_are_told_behind_the_next_beacon() {
+        let mut operating = joined();
+        operating.dismiss();
+        let frame = deauthentication(OURS, Address::BROADCAST, LEAVING, 2051);
+        assert_eq!(operating.answered(OURS, &beacon(3), 0), [Errand::Send { place: 1, frame, retries: 0 }]);
+        assert!(operating.dismisses());
+        assert_eq!(operating.answered(OURS, &beacon(4), 0), []);
+        assert_eq!(operating.answered(OTHER, &beacon(3), 0).len(), 1);
+        assert!(!operating.dismisses());
+    }
+
+    #[test]
+    fn what_happened_is_a_sentence() {
+        for (news, wanted) in [
+            (News::Joins { aid: 3, listen: 5 }, "joins 02:00:00:00:01:01: identifier 3, listen interval 5"),
+            (News::Leaves { reason: 3 }, "leaves 02:00:00:00:01:01: reason 3"),
+            (News::Refused { status: 17, is_association: true }, "is refused by 02:00:00:00:01:01: association, status 17"),
+            (News::SentAway { reason: 7 }, "is sent away by 02:00:00:00:01:01: reason 7"),
+            (
+                News::Forgotten(Forgotten::Silent(61 * SECOND)),
+                "is forgotten by 02:00:00:00:01:01: it is silent since 61 seconds",
+            ),
+            (News::Forgotten(Forgotten::Kicked), "is forgotten by 02:00:00:00:01:01: it was kicked"),
+        ] {
+            assert_eq!(sentence(STATION, OURS, news).1, format!("02:aa:00:00:00:01 {wanted}"));
+        }
+        let long = sentence(STATION, OURS, News::DozesTooLong { beacons: 6, listen: 5 });
+        assert_eq!(long.0, Level::Notice);
+        assert!(long.1.contains("dozes too long") && long.1.ends_with("its listen interval is 5"), "{}", long.1);
+    }
+}

@@ -1,0 +1,545 @@
+//! The stations that the networks know, as the frames that pass show them; the program isn't asked.
+//!
+//! A station is entered where the program answers its authentication with status 0, and taken out where its
+//! deauthentication is said to the program. So the roster holds every station that the program knows, and for a moment
+//! may hold one more: where an answer was on its way while the station left.
+use std::collections::{BTreeMap, HashMap};
+
+use crate::frames::{Address, Frame};
+use crate::meaning::{answered, said, Answered, Said, Tim};
+use crate::radiotap::{Outcome, Reception};
+use crate::time::Nanos;
+
+/// A network's place, and the address of a station of it.
+pub type Member = (usize, Address);
+
+/// How far a station has joined its network.
+#[derive(Debug, Clone, Copy, PartialEq, Eq)]
+pub enum State {
+    /// It is authenticated, and not associated.
+    Authenticated,
+    /// It is associated, with this identifier.
+    Associated(u16),
+}
+
+/// Why a station is forgotten.
+#[derive(Debug, Clone, Copy, PartialEq, Eq)]
+pub enum Forgotten {
+    /// Nothing was heard of it for so long, and it didn't answer.
+    Silent(Nanos),
+    /// A person asked for it.
+    Kicked,
+}
+
+/// What happened to a station.
+#[derive(Debug, Clone, Copy, PartialEq, Eq)]
+pub enum News {
+    /// It joined, with this identifier and this listen interval.
+    Joins { aid: u16, listen: u16 },
+    /// It left, for this reason.
+    Leaves { reason: u16 },
+    /// Units wait for it since so many beacons, and it polled none.
+    DozesTooLong { beacons: u32, listen: u16 },
+    /// Its request was refused with this status: an association, or else an authentication.
+    Refused { status: u16, is_association: bool },
+    /// It sent what only stations may send that have joined, and was told so, for this reason.
+    SentAway { reason: u16 },
+    /// It is forgotten.
+    Forgotten(Forgotten),
+}
+
+/// What was sent to a station or heard of it: data with a unit, in whole frames.
+#[derive(Debug, Clone, Copy, Default, PartialEq, Eq)]
+pub struct Traffic {
+    /// Their octets.
+    pub octets: u64,
+    /// Their number.
+    pub frames: u64,
+    /// The rate of the last one, in units of 500 kb/s, where the radio says it.
+    pub rate: Option<u8>,
+}
+
+impl Traffic {
+    fn count(&mut self, octets: usize) {
+        self.octets += octets as u64;
+        self.frames += 1;
+    }
+}
+
+/// Whether a station was asked if it is there.
+#[derive(Debug, Clone, Copy, Default, PartialEq, Eq)]
+pub struct Asked {
+    /// When it is to be looked at again.
+    pub due: Nanos,
+    /// How often it was asked since it was heard.
+    pub times: u32,
+}
+
+/// What is known of a station.
+#[derive(Debug, Clone, PartialEq, Eq)]
+pub struct Station {
+    /// How far it has joined.
+    pub state: State,
+    /// Whether it dozes.
+    pub dozes: bool,
+    /// Since when it has this state.
+    pub since: Nanos,
+    /// When a frame or an acknowledgement of it was heard last.
+    pub heard: Nanos,
+    /// The signal of its last frame in dBm.
+    pub signal: Option<i8>,
+    /// What was sent to it.
+    pub to: Traffic,
+    /// What was heard of it.
+    pub from: Traffic,
+    /// Whether it was asked.
+    pub asked: Asked,
+    /// Whether the program is about to be told that it left.
+    pub is_leaving: bool,
+    /// Its turn among all: the order in which they were entered.
+    pub turn: u64,
+    listen: u16,
+    wanted_listen: u16,
+}
+
+/// The stations of all networks.
+#[derive(Debug)]
+pub struct Roster {
+    bssids: Vec<Address>,
+    places: HashMap<Address, usize>,
+    stations: HashMap<Member, Station>,
+    associated: HashMap<(usize, u16), Address>,
+    /// Of each network, for how many beacons in a row units were told of, by the station's identifier.
+    told_of: Vec<BTreeMap<u16, u32>>,
+    refusals: Vec<BTreeMap<u16, u64>>,
+    entered: Vec<Member>,
+    news: Vec<(Member, News)>,
+    turns: u64,
+}
+
+impl Roster {
+    /// No stations of these networks.
+    pub fn new(bssids: Vec<Address>) -> Roster {
+        let places = bssids.iter().enumerate().map(|(place, bssid)| (*bssid, place)).collect();
+        Roster {
+            places,
+            stations: HashMap::new(),
+            associated: HashMap::new(),
+            told_of: vec![BTreeMap::new(); bssids.len()],
+            refusals: vec![BTreeMap::new(); bssids.len()],
+            bssids,
+            entered: Vec::new(),
+            news: Vec::new(),
+            turns: 0,
+        }
+    }
+
+    /// A frame was heard that is for a network.
+    pub fn heard(&mut self, frame: Frame<'_>, reception: Reception, now: Nanos) {
+        if let Some(station) = self.sender(frame).and_then(|member| self.stations.get_mut(&member)) {
+            station.heard = now;
+            station.signal = reception.signal.or(station.signal);
+            station.from.rate = reception.rate.or(station.from.rate);
+        }
+    }
+
+    /// The radio tells what became of a frame that it was given.
+    pub fn shown(&mut self, frame: &[u8], outcome: Outcome, is_unit: bool, now: Nanos) {
+        let member = Frame::of(frame).and_then(|frame| self.receiver(frame));
+        if let Some(station) = member.and_then(|member| self.stations.get_mut(&member)) {
+            if outcome.is_acknowledged {
+                station.heard = now;
+            }
+            if is_unit {
+                station.to.rate = outcome.rate.or(station.to.rate);
+            }
+        }
+    }
+
+    /// A frame of the air is said to the program.
+    pub fn said(&mut self, octets: &[u8], now: Nanos) {
+        let found = Frame::of(octets).and_then(|frame| {
+            let member = self.sender(frame)?;
+            Some((member, said(frame, self.bssids[member.0])?))
+        });
+        if let Some((member, what)) = found {
+            self.take_said(member, what, octets.len(), now);
+        }
+    }
+
+    fn take_said(&mut self, member: Member, what: Said, length: usize, now: Nanos) {
+        let station = match self.stations.get_mut(&member) {
+            Some(station) => station,
+            None => return,
+        };
+        match (what, station.state) {
+            (Said::Association { listen }, _) => station.wanted_listen = listen,
+            (Said::Disassociation { reason }, State::Associated(_)) => {
+                self.set_state(member, State::Authenticated, now);
+                self.news.push((member, News::Leaves { reason }));
+            }
+            (Said::Deauthentication { reason }, _) => {
+                let was_leaving = station.is_leaving;
+                self.take_out(member);
+                if !was_leaving {
+                    self.news.push((member, News::Leaves { reason }));
+                }
+            }
+            (Said::Data { dozes, is_unit }, State::Associated(aid)) => {
+                station.dozes = dozes;
+                if is_unit {
+                    station.from.count(length);
+                }
+                self.told_of[member.0].remove(&aid);
+            }
+            (Said::Poll, State::Associated(aid)) => drop(self.told_of[member.0].remove(&aid)),
+            _ => {}
+        }
+    }
+
+    /// The program has a network send a frame; answers what a beacon says.
+    pub fn answered(&mut self, place: usize, octets: &[u8], now: Nanos) -> Option<Tim> {
+        let frame = Frame::of(octets)?;
+        let member = (place, frame.receiver());
+        match answered(frame)? {
+            Answered::Authentication { status: 0 } => self.authenticate(member, now),
+            Answered::Authentication { status } => self.refuse(member, status, false),
+            Answered::Association { status: 0, aid } => self.associate(member, aid, now),
+            Answered::Association { status, .. } => self.refuse(member, status, true),
+            Answered::SentAway { reason } => self.news.push((member, News::SentAway { reason })),
+            Answered::Unit => {
+                if let Some(station) = self.stations.get_mut(&member) {
+                    station.to.count(octets.len());
+                }
+            }
+            Answered::Beacon(tim) => {
+                self.count_beacon(place, &tim);
+                return Some(tim);
+            }
+        }
+        None
+    }
+
+    /// A station is to be forgotten: the program is about to be told that it left.
+    pub fn forget(&mut self, member: Member, why: Forgotten) {
+        if let Some(station) = self.stations.get_mut(&member) {
+            if !station.is_leaving {
+                station.is_leaving = true;
+                self.news.push((member, News::Forgotten(why)));
+            }
+        }
+    }
+
+    /// What the program's tables say: a network knows these stations, and no others.
+    pub fn agree(&mut self, place: usize, known: &HashMap<Address, State>, now: Nanos) {
+        let gone: Vec<Member> = self
+            .stations
+            .keys()
+            .filter(|(found, address)| *found == place && !known.contains_key(address))
+            .copied()
+            .collect();
+        gone.into_iter().for_each(|member| self.take_out(member));
+        for (address, state) in known {
+            if !self.stations.contains_key(&(place, *address)) {
+                self.authenticate((place, *address), now);
+                self.set_state((place, *address), *state, now);
+            }
+        }
+    }
+
+    /// The place of a network.
+    pub fn place_of(&self, bssid: &Address) -> Option<usize> {
+        self.places.get(bssid).copied()
+    }
+
+    /// A station.
+    pub fn station(&self, member: &Member) -> Option<&Station> {
+        self.stations.get(member)
+    }
+
+    /// A station, of which it is to be noted whether it was asked.
+    pub fn asked(&mut self, member: &Member) -> Option<&mut Asked> {
+        self.stations.get_mut(member).map(|station| &mut station.asked)
+    }
+
+    /// The stations of a network, in the order in which they were entered.
+    pub fn stations_of(&self, place: usize) -> Vec<(Address, &Station)> {
+        let mut found: Vec<_> = self
+            .stations
+            .iter()
+            .filter(|((network, _), _)| *network == place)
+            .map(|((_, address), station)| (*address, station))
+            .collect();
+        found.sort_by_key(|(_, station)| station.turn);
+        found
+    }
+
+    /// How often a network refused, by status.
+    pub fn refusals(&self, place: usize) -> &BTreeMap<u16, u64> {
+        &self.refusals[place]
+    }
+
+    /// The stations that were entered since this was asked last.
+    pub fn take_entered(&mut self) -> Vec<Member> {
+        std::mem::take(&mut self.entered)
+    }
+
+    /// What happened since this was asked last.
+    pub fn take_news(&mut self) -> Vec<(Member, News)> {
+        std::mem::take(&mut self.news)
+    }
+
+    fn sender(&self, frame: Frame<'_>) -> Option<Member> {
+        Some((self.place_of(&frame.receiver())?, frame.transmitter()?))
+    }
+
+    fn receiver(&self, frame: Frame<'_>) -> Option<Member> {
+        Some((self.place_of(&frame.transmitter()?)?, frame.receiver()))
+    }
+
+    /// An unknown station is entered; one that is known is authenticated only.
+    fn authenticate(&mut self, member: Member, now: Nanos) {
+        if self.stations.contains_key(&member) {
+            self.set_state(member, State::Authenticated, now);
+            return;
+        }
+        self.turns += 1;
+        let station = Station {
+            state: State::Authenticated,
+            dozes: false,
+            since: now,
+            heard: now,
+            signal: None,
+            to: Traffic::default(),
+            from: Traffic::default(),
+            asked: Asked::default(),
+            is_leaving: false,
+            turn: self.turns,
+            listen: 0,
+            wanted_listen: 0,
+        };
+        self.stations.insert(member, station);
+        self.entered.push(member);
+    }
+
+    fn associate(&mut self, member: Member, aid: u16, now: Nanos) {
+        if !self.stations.contains_key(&member) {
+            self.authenticate(member, now);
+        }
+        self.set_state(member, State::Associated(aid), now);
+        if let Some(station) = self.stations.get_mut(&member) {
+            station.listen = station.wanted_listen;
+            (station.to, station.from) = (Traffic::default(), Traffic::default());
+            self.news.push((member, News::Joins { aid, listen: station.listen }));
+        }
+    }
+
+    fn refuse(&mut self, member: Member, status: u16, is_association: bool) {
+        *self.refusals[member.0].entry(status).or_default() += 1;
+        self.news.push((member, News::Refused { status, is_association }));
+    }
+
+    /// Sets a known station's state: it is active, and its identifier is free or its own.
+    fn set_state(&mut self, member: Member, state: State, now: Nanos) {
+        self.free_identifier(member);
+        if let Some(station) = self.stations.get_mut(&member) {
+            station.state = state;
+            station.since = now;
+            station.dozes = false;
+            if let State::Associated(aid) = state {
+                self.associated.insert((member.0, aid), member.1);
+            }
+        }
+    }
+
+    fn free_identifier(&mut self, member: Member) {
+        if let Some(State::Associated(aid)) = self.stations.get(&member).map(|station| station.state) {
+            self.told_of[member.0].remove(&aid);
+            if self.associated.get(&(member.0, aid)) == Some(&member.1) {
+                self.associated.remove(&(member.0, aid));
+            }
+        }
+    }
+
+    fn take_out(&mut self, member: Member) {
+        self.free_identifier(member);
+        self.stations.remove(&member);
+    }
+
+    /// Counts for how many beacons in a row units are told of; a station for which they are told of for more beacons
+    /// than its listen interval dozes too long (9.4.1.6).
+    fn count_beacon(&mut self, place: usize, tim: &Tim) {
+        if tim.aids.is_empty() && self.told_of[place].is_empty() {
+            return;
+        }
+        let before = std::mem::take(&mut self.told_of[place]);
+        for aid in &tim.aids {
+            let beacons = before.get(aid).map_or(1, |number| number.saturating_add(1));
+            self.told_of[place].insert(*aid, beacons);
+            let member = self.associated.get(&(place, *aid)).map(|address| (place, *address));
+            let station = member.and_then(|member| Some((member, self.stations.get(&member)?)));
+            if let Some((member, station)) = station.filter(|(_, found)| beacons == u32::from(found.listen) + 1) {
+                self.news.push((member, News::DozesTooLong { beacons, listen: station.listen }));
+            }
+        }
+    }
+}
+
+#[cfg(test)]
+mod tests {
+    use super::*;
+    use crate::own_frames::departure;
+    use crate::samples::{OTHER, OURS, STATION, STRANGER};
+    use crate::time::SECOND;
+
+    const FIRST: Member = (0, STATION);
+    const PLAIN: Reception = Reception { signal: Some(-40), rate: Some(22) };
+
+    fn roster() -> Roster {
+        Roster::new(vec![OURS, OTHER])
+    }
+
+    fn frame(control: [u8; 2], receiver: Address, sender: Address, body: &[u8]) -> Vec<u8> {
+        let head = [&[control[0], control[1], 0, 0][..], receiver.octets(), sender.octets(), OURS.octets()].concat();
+        [&head[..], &[0x10, 0], body].concat()
+    }
+
+    fn authenticated(roster: &mut Roster, station: Address, status: u8) {
+        roster.answered(0, &frame([0xb0, 0], station, OURS, &[0, 0, 2, 0, status, 0]), SECOND);
+    }
+
+    fn associated(roster: &mut Roster, station: Address, status: u8, aid: u8) {
+        roster.said(&frame([0, 0], OURS, station, &[1, 0, 2, 0]), SECOND);
+        roster.answered(0, &frame([0x10, 0], station, OURS, &[1, 0, status, 0, aid, 0xc0]), 2 * SECOND);
+    }
+
+    fn joined() -> Roster {
+        let mut roster = roster();
+        authenticated(&mut roster, STATION, 0);
+        associated(&mut roster, STATION, 0, 1);
+        assert_eq!(roster.take_news(), [(FIRST, News::Joins { aid: 1, listen: 2 })]);
+        roster
+    }
+
+    fn beacon(roster: &mut Roster, bits: u8) -> Option<Tim> {
+        let body = [&[0; 12][..], &[5, 4, 0, 1, 0, bits]].concat();
+        roster.answered(0, &frame([0x80, 0], Address::BROADCAST, OURS, &body), 3 * SECOND)
+    }
+
+    #[test]
+    fn a_station_joins_and_leaves() {
+        let mut roster = joined();
+        let found = roster.station(&FIRST).unwrap();
+        assert_eq!((found.state, found.since), (State::Associated(1), 2 * SECOND));
+        roster.said(&frame([0xa0, 0], OURS, STATION, &[8, 0]), 4 * SECOND);
+        assert_eq!(roster.station(&FIRST).unwrap().state, State::Authenticated);
+        roster.said(&frame([0xa0, 0], OURS, STATION, &[8, 0]), 4 * SECOND);
+        roster.said(&frame([0xc0, 0], OURS, STATION, &[3, 0]), 5 * SECOND);
+        assert_eq!(roster.station(&FIRST), None);
+        let left = [(FIRST, News::Leaves { reason: 8 }), (FIRST, News::Leaves { reason: 3 })];
+        assert_eq!(roster.take_news(), left);
+        assert_eq!(roster.take_entered(), [FIRST]);
+    }
+
+    #[test]
+    fn who_is_refused_is_not_entered() {
+        let mut roster = roster();
+        authenticated(&mut roster, STATION, 1);
+        assert_eq!(roster.station(&FIRST), None);
+        authenticated(&mut roster, STATION, 0);
+        associated(&mut roster, STATION, 17, 0);
+        assert_eq!(roster.station(&FIRST).unwrap().state, State::Authenticated);
+        roster.answered(0, &frame([0xc0, 0], STRANGER, OURS, &[6, 0]), SECOND);
+        let wanted = [
+            (FIRST, News::Refused { status: 1, is_association: false }),
+            (FIRST, News::Refused { status: 17, is_association: true }),
+            ((0, STRANGER), News::SentAway { reason: 6 }),
+        ];
+        assert_eq!(roster.take_news(), wanted);
+        assert_eq!(roster.refusals(0).iter().collect::<Vec<_>>(), [(&1, &1), (&17, &1)]);
+        assert!(roster.refusals(1).is_empty());
+    }
+
+    #[test]
+    fn frames_and_acknowledgements_are_signs_of_life() {
+        let mut roster = joined();
+        let unit = frame([0x08, 0x11], OURS, STATION, &[1; 10]);
+        roster.heard(Frame::of(&unit).unwrap(), PLAIN, 9 * SECOND);
+        roster.said(&unit, 9 * SECOND);
+        let found = roster.station(&FIRST).unwrap();
+        assert_eq!((found.heard, found.signal, found.dozes), (9 * SECOND, Some(-40), true));
+        assert_eq!(found.from, Traffic { octets: 34, frames: 1, rate: Some(22) });
+        let sent = frame([0x08, 0x02], STATION, OURS, &[1; 20]);
+        roster.answered(0, &sent, 10 * SECOND);
+        let outcome = |is_acknowledged| Outcome { is_acknowledged, retries: 0, rate: Some(108) };
+        roster.shown(&sent, outcome(false), true, 10 * SECOND);
+        assert_eq!(roster.station(&FIRST).unwrap().heard, 9 * SECOND);
+        roster.shown(&sent, outcome(true), true, 11 * SECOND);
+        let found = roster.station(&FIRST).unwrap();
+        assert_eq!((found.heard, found.to), (11 * SECOND, Traffic { octets: 44, frames: 1, rate: Some(108) }));
+        roster.said(&frame([0x48, 0x01], OURS, STATION, &[]), 12 * SECOND);
+        assert!(!roster.station(&FIRST).unwrap().dozes);
+    }
+
+    #[test]
+    fn who_dozes_too_long_is_told_of_once() {
+        let mut roster = joined();
+        let too_long = (FIRST, News::DozesTooLong { beacons: 3, listen: 2 });
+        for _ in 0..5 {
+            assert_eq!(beacon(&mut roster, 0x02), Some(Tim { dtim_count: 0, aids: vec![1] }));
+        }
+        assert_eq!(roster.take_news(), [too_long]);
+        let poll = [&[0xa4, 0x10, 1, 0xc0][..], OURS.octets(), STATION.octets()].concat();
+        roster.said(&poll, SECOND);
+        for _ in 0..2 {
+            beacon(&mut roster, 0x02);
+        }
+        beacon(&mut roster, 0);
+        beacon(&mut roster, 0x02);
+        assert_eq!(roster.take_news(), []);
+        for _ in 0..3 {
+            beacon(&mut roster, 0x02);
+        }
+        assert_eq!(roster.take_news(), [too_long]);
+    }
+
+    #[test]
+    fn who_is_forgotten_leaves_without_a_word() {
+        let mut roster = joined();
+        roster.forget(FIRST, Forgotten::Kicked);
+        roster.forget(FIRST, Forgotten::Kicked);
+        assert_eq!(roster.take_news(), [(FIRST, News::Forgotten(Forgotten::Kicked))]);
+        assert!(roster.station(&FIRST).unwrap().is_leaving);
+        roster.said(&departure(OURS, STATION), SECOND);
+        assert_eq!(roster.station(&FIRST), None);
+        assert_eq!(roster.take_news(), []);
+    }
+
+    #[test]
+    fn an_identifier_goes_to_another_station() {
+        let mut roster = joined();
+        authenticated(&mut roster, STATION, 0);
+        authenticated(&mut roster, STRANGER, 0);
+        associated(&mut roster, STRANGER, 0, 1);
+        roster.said(&departure(OURS, STATION), SECOND);
+        roster.take_news();
+        for _ in 0..3 {
+            beacon(&mut roster, 0x02);
+        }
+        assert_eq!(roster.take_news(), [((0, STRANGER), News::DozesTooLong { beacons: 3, listen: 2 })]);
+        let order: Vec<_> = roster.stations_of(0).into_iter().map(|(address, _)| address).collect();
+        assert_eq!(order, [STRANGER]);
+    }
+
+    #[test]
+    fn the_program_s_tables_are_right() {
+        let mut roster = joined();
+        let known = HashMap::from([(STRANGER, State::Associated(4))]);
+        roster.agree(1, &HashMap::new(), SECOND);
+        assert!(roster.station(&FIRST).is_some());
+        roster.agree(0, &known, SECOND);
+        assert_eq!(roster.station(&FIRST), None);
+        assert_eq!(roster.station(&(0, STRANGER)).unwrap().state, State::Associated(4));
+        assert_eq!(roster.take_entered(), [FIRST, (0, STRANGER)]);
+    }
+}
