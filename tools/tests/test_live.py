@@ -1,9 +1,12 @@
 """Tests of tools/live that need neither a radio nor root: what a radio says that it can do, what is changed on the
-machine and taken back, and how the bridge is started, asked and ended. The bridge, tools/bridge, has tests of its own."""
+machine and taken back, how the bridge is started, asked and ended, and what is said to a manager of services. The bridge,
+tools/bridge, has tests of its own."""
 import contextlib
 import io
+import json
 import os
 import signal
+import socket
 import struct
 import subprocess
 import tempfile
@@ -14,13 +17,15 @@ from contextlib import ExitStack
 from unittest import mock
 
 from frames import BROADCAST, address_of
-from live import checks, machine, radiotap, setting_up
-from live.bridge import Bridge, Signals, words_of
-from live.checks import (Wanted, check_abilities, check_bridge, check_config, check_left, check_program, check_record,
-                         check_wires, face_of)
+from live import asking, changes, checks, machine, radiotap, serving, setting_up, telling
+from live.bridge import Bridge, Signals
+from live.changes import Change, Changes
+from live.checks import (Plan, Wanted, check_abilities, check_bridge, check_config, check_left, check_names, check_port,
+                         check_program, check_record, check_wires, face_of, read_wires)
 from live.faults import Fault
 from live.machine import Interface
 from live.phys import read_phy
+from live.service import Service
 from live.settings import Network, Settings, read_settings
 
 TOOLS = os.path.dirname(os.path.dirname(os.path.realpath(__file__)))
@@ -178,11 +183,17 @@ class Radios(unittest.TestCase):
         check_abilities("phy0", read_phy(SIMULATED), self.settings(16))
 
 
-class Machine(unittest.TestCase):
-    """What is changed on the machine, by commands that are only kept here, and taken back."""
+class OnMachine(unittest.TestCase):
+    """A machine whose commands are only kept here."""
 
     SETTINGS = Settings(6, 100, (Network(OURS, b"\x82"), Network(OTHER, b"\x82")))
-    WANTED = Wanted("radio.toml", "apctl", "bridge", "phy9", "mon0", ((OURS, "nowire1"),), None, None)
+    WIRES = ((OURS, "nowire1"),)
+    WANTED = Wanted("radio.toml", "apctl", "bridge", "phy9", "mon0", WIRES, None, None)
+    RADIO = [
+        "iw phy phy9 interface add mon0 type monitor flags control", "ip link set mon0 mtu 2304",
+        "ip link set mon0 up", "iw dev mon0 set freq 2437",
+        "iw phy phy9 interface add mon0n1 type managed addr 02:00:00:00:01:01", "ip link set mon0n1 up",
+        "iw phy phy9 interface add mon0n2 type managed addr 02:00:00:00:01:02", "ip link set mon0n2 up"]
     # What `ethtool -k` and `ethtool -i` say of a veth.
     ANSWERS = {"-k": "Features for nowire1:\ngeneric-receive-offload: on\nlarge-receive-offload: off [fixed]\n",
                "-i": "driver: veth\n"}
@@ -190,6 +201,11 @@ class Machine(unittest.TestCase):
     def setUp(self):
         self.commands = []
         self.failing = None
+        folder = tempfile.TemporaryDirectory()
+        self.addCleanup(folder.cleanup)
+        self.folder = folder.name
+        self.made = Changes("phy9", self.folder)
+        self.addCleanup(self.made.close)
         for where, name, value in (
                 (machine, "run", self.run_command), (setting_up.shutil, "which", lambda command: None)):
             patch = mock.patch.object(where, name, value)
@@ -203,68 +219,155 @@ class Machine(unittest.TestCase):
             raise Fault("it failed")
         return self.ANSWERS.get(words[1], "") if words[0] == "ethtool" else ""
 
-    def changed(self, opening):
-        """The commands of one half of setting up, and those that take it back; what was told."""
+
+class Machine(OnMachine):
+    """What is changed on the machine, and taken back."""
+
+    def changed(self, *plans):
+        """The commands by which one plan after the other is followed, and those that take all back; what was told."""
         with contextlib.redirect_stderr(io.StringIO()) as told:
             with ExitStack() as stack:
-                opening(setting_up.SettingUp(self.WANTED, self.SETTINGS, stack))
+                setting = setting_up.SettingUp(self.WANTED, self.made, stack)
+                for plan in plans:
+                    setting.follow(plan)
                 before = len(self.commands)
         return self.commands[:before], self.commands[before:], told.getvalue()
 
+    def plan(self, bssids=(OURS, OTHER), wires=(), channel=6):
+        """A plan of networks with these addresses."""
+        return Plan(Settings(channel, 100, tuple(Network(bssid, b"\x82") for bssid in bssids)), wires, "text")
+
     def test_radio(self):
         """The channel is set while the monitor interface is alone; what was added is deleted, and nothing else."""
-        made, taken_back, _ = self.changed(lambda setting: setting.set_up_radio())
-        self.assertEqual(made, [
-            "iw phy phy9 interface add mon0 type monitor flags control", "ip link set mon0 mtu 2304",
-            "ip link set mon0 up", "iw dev mon0 set freq 2437",
-            "iw phy phy9 interface add mon0n1 type managed addr 02:00:00:00:01:01", "ip link set mon0n1 up",
-            "iw phy phy9 interface add mon0n2 type managed addr 02:00:00:00:01:02", "ip link set mon0n2 up"])
+        made, taken_back, _ = self.changed(self.plan())
+        self.assertEqual(made, self.RADIO)
         self.assertEqual(taken_back, ["iw dev mon0n2 del", "iw dev mon0n1 del", "iw dev mon0 del"])
+        self.assertEqual(os.listdir(self.folder), ["phy9.lock"])
+
+    def test_what_stays_is_left_alone(self):
+        """A plan like the one before changes nothing; one with another network that one's interface alone."""
+        made, taken_back, _ = self.changed(self.plan(), self.plan(), self.plan((OURS, STRANGER)), self.plan((OURS,)))
+        self.assertEqual(made[len(self.RADIO):], [
+            "iw dev mon0n2 del", "iw phy phy9 interface add mon0n2 type managed addr 02:bb:00:00:00:01",
+            "ip link set mon0n2 up", "iw dev mon0n2 del"])
+        self.assertEqual(taken_back, ["iw dev mon0n1 del", "iw dev mon0 del"])
+
+    def test_another_channel(self):
+        """It can only be set while the monitor interface is alone: all of the radio is set up anew, and no wire is."""
+        made, _, _ = self.changed(self.plan((OURS,), self.WIRES), self.plan((OURS,), self.WIRES, 11))
+        self.assertEqual(made[10:], [
+            "iw dev mon0n1 del", "iw dev mon0 del", *self.RADIO[:3], "iw dev mon0 set freq 2462", *self.RADIO[4:6]])
+
+    def test_wires_that_change(self):
+        """A wire that is given no more is taken back before another is set up."""
+        self.changed(self.plan((OURS,), self.WIRES), self.plan((OURS,), ((OURS, "nowire2"),)))
+        self.assertEqual(self.commands[10:13], [
+            "ip link set nowire1 down", "ethtool -K nowire1 gro on", "ethtool -k nowire2"])
 
     def test_fault_in_the_middle(self):
         """What was done before it is taken back, where one of these fails too the others."""
         self.failing = "iw phy phy9 interface add mon0n2 type managed addr 02:00:00:00:01:02"
         with self.assertRaisesRegex(Fault, "it failed"):
-            self.changed(lambda setting: setting.set_up_radio())
+            self.changed(self.plan())
         self.assertEqual(self.commands[-2:], ["iw dev mon0n1 del", "iw dev mon0 del"])
         self.failing = "iw dev mon0n1 del"
         self.commands.clear()
-        _, taken_back, told = self.changed(lambda setting: setting.set_up_radio())
-        self.assertEqual((taken_back[-1], told), ("iw dev mon0 del", "live: not taken back: it failed\n"))
+        _, taken_back, told = self.changed(self.plan())
+        self.assertEqual(taken_back[-1], "iw dev mon0 del")
+        self.assertIn("live: not taken back: it failed\n", told)
 
     def test_wires(self):
         """What can be turned off is, and on again; a network without a wire, and an end elsewhere, are told."""
-        made, taken_back, told = self.changed(lambda setting: setting.set_up_wires())
-        self.assertEqual(made, ["ethtool -k nowire1", "ethtool -K nowire1 gro off", "ethtool -i nowire1",
-                                "ip link set nowire1 up"])
-        self.assertEqual(taken_back, ["ip link set nowire1 down", "ethtool -K nowire1 gro on"])
+        made, taken_back, told = self.changed(self.plan(wires=self.WIRES))
+        self.assertEqual(made[:4], ["ethtool -k nowire1", "ethtool -K nowire1 gro off", "ethtool -i nowire1",
+                                    "ip link set nowire1 up"])
+        self.assertEqual(taken_back[-2:], ["ip link set nowire1 down", "ethtool -K nowire1 gro on"])
         self.assertIn("the network 02:00:00:00:01:02 has no --wire", told)
         self.assertIn("`ethtool -K NAME tx off gso off tso off`", told)
 
     def test_network_manager(self):
         """Where it runs it is told to leave these interfaces alone before one is made, and in the end no more."""
-        folder = tempfile.TemporaryDirectory()
-        self.addCleanup(folder.cleanup)
-        path = os.path.join(folder.name, "conf.d", "mon0.conf")
+        path = os.path.join(self.folder, "conf.d", "mon0.conf")
         reloaded = mock.Mock(side_effect=lambda: self.commands.append(f"reload, {os.path.exists(path)}"))
-        with (mock.patch.object(setting_up, "UNMANAGED", os.path.join(folder.name, "conf.d", "{}.conf")),
-              mock.patch.object(setting_up, "RUNNING", folder.name),
+        with (mock.patch.object(setting_up, "UNMANAGED", os.path.join(self.folder, "conf.d", "{}.conf")),
+              mock.patch.object(setting_up, "RUNNING", self.folder),
               mock.patch.object(setting_up.shutil, "which", lambda command: "/usr/bin/nmcli"),
-              mock.patch.object(setting_up, "reload_network_manager", reloaded)):
-            made, taken_back, _ = self.changed(lambda setting: setting.set_up_radio())
+              mock.patch.object(setting_up, "reload_network_manager", reloaded),
+              mock.patch.object(changes, "reload_network_manager", reloaded)):
+            made, taken_back, _ = self.changed(self.plan())
         self.assertEqual((made[0], taken_back[-1]), ("reload, True", "reload, False"))
 
     def test_left(self):
-        """What a bridge that was killed left is told with the commands; others' names are not ours."""
+        """What others made is told with the commands; other names are not looked at, nor what an earlier start left."""
         there = [Interface(name) for name in ("lo", "mon0", "mon0n1", "mon0n12", "mon0x", "mon01")]
         with mock.patch.object(machine, "interfaces", lambda: there):
-            with self.assertRaisesRegex(Fault, "^mon0, mon0n1, mon0n12: there already.*"
-                                               "`iw dev mon0 del; iw dev mon0n1 del; iw dev mon0n12 del`$"):
-                check_left(self.WANTED, 2)
-        with mock.patch.object(machine, "interfaces", lambda: there[:1]):
-            check_left(self.WANTED, 2)
-            with self.assertRaisesRegex(Fault, "too long a name: a-long-monitorn2"):
-                check_left(Wanted("", "", "", "phy9", "a-long-monitor", (), None, None), 2)
+            with self.assertRaisesRegex(Fault, "^mon0n1, mon0n12: there already.*"
+                                               "`iw dev mon0n1 del; iw dev mon0n12 del`"):
+                check_left(self.WANTED, ["mon0"])
+            check_left(self.WANTED, ["mon0", "mon0n1", "mon0n12"])
+        check_names(self.WANTED, 2)
+        with self.assertRaisesRegex(Fault, "too long a name: a-long-monitorn2"):
+            check_names(Wanted("", "", "", "phy9", "a-long-monitor", (), None, None), 2)
+
+
+class KilledBefore(OnMachine):
+    """What a start left that was killed, as the next one finds it."""
+
+    RADIOS = {"mon0": "phy9", "mon0n1": "phy9", "mon0n2": "phy3", "nowire1": None}
+
+    def kill(self, *made):
+        """A start makes these changes and is killed; answers what the next one finds."""
+        for change in made:
+            self.made.add(change)
+        self.made.close()
+        again = Changes("phy9", self.folder)
+        self.addCleanup(again.close)
+        for name in ("radio", "exists"):
+            answers = self.RADIOS.get if name == "radio" else self.RADIOS.__contains__
+            patch = mock.patch.object(Interface, name, property(lambda found, answers=answers: answers(found.name)))
+            patch.start()
+            self.addCleanup(patch.stop)
+        self.addCleanup(setattr, self, "made", again)
+        self.made = again
+        return again
+
+    def test_own_is_taken_back(self):
+        """In reverse order, and what isn't there any more, or is another radio's, is left alone."""
+        names = ("mon0", "mon0n1", "mon0n2", "mon0n3")
+        again = self.kill(Change(changes.OFFLOADS, "nowire1", ("gro", "lro")), Change(changes.UP, "nowire1"),
+                          Change(changes.UP, "nowire2"), *(Change(changes.INTERFACE, name) for name in names))
+        self.assertEqual(again.left_interfaces(), ["mon0", "mon0n1"])
+        with contextlib.redirect_stderr(io.StringIO()) as told:
+            again.take_back_left()
+        self.assertEqual(self.commands, ["iw dev mon0n1 del", "iw dev mon0 del", "ip link set nowire1 down",
+                                         "ethtool -K nowire1 gro on lro on"])
+        self.assertIn("was killed; taking back what it left: interface mon0n1, interface mon0, up nowire1", told.getvalue())
+        self.assertEqual((again.left, os.path.exists(again.path)), ([], False))
+
+    def test_country(self):
+        """It is set back too."""
+        with contextlib.redirect_stderr(io.StringIO()):
+            self.kill(Change(changes.COUNTRY, "00")).take_back_left()
+        self.assertEqual(self.commands, ["iw reg set 00"])
+
+    def test_one_at_a_time(self):
+        """While one runs, another is refused; once it has ended there is nothing to take back."""
+        with self.assertRaisesRegex(Fault, "^phy9: another tools/live serves this radio$"):
+            Changes("phy9", self.folder)
+        Changes("phy8", self.folder).close()
+        self.made.close()
+        again = Changes("phy9", self.folder)
+        self.assertEqual(again.left, [])
+        self.made = again
+
+    def test_file_that_is_no_list(self):
+        """It is told, with what can be done."""
+        self.made.close()
+        for text in ("", "[1]", '{"a": 1}', '[["interface"]]'):
+            with open(self.made.path, "w", encoding="utf-8") as file:
+                file.write(text)
+            with self.assertRaisesRegex(Fault, "take it away where no tools/live runs"):
+                Changes("phy9", self.folder)
 
 
 class WithFiles(unittest.TestCase):
@@ -306,8 +409,40 @@ class FilesAndPrograms(WithFiles):
         refusing = self.write("refusing", "#!/bin/sh\necho fault C4 >&2\nexit 1\n", 0o755)
         with self.assertRaisesRegex(Fault, "fault C4"):
             check_config(self.wanted(refusing))
-        with self.assertRaisesRegex(Fault, "is there already"):
-            check_record(self.config)
+        wanted = Wanted("", "", "", "phy0", "mon0", (), os.path.join(self.folder, "none", "record"), None)
+        with self.assertRaisesRegex(Fault, "its folder isn't there"):
+            check_record(wanted, read_settings(self.config))
+
+    def test_record_that_run_does_not_read_whole(self):
+        """It is told where `max_events` ends it; a record that is there is no fault."""
+        wanted = Wanted("", "", "", "phy0", "mon0", (), self.config, None)
+        with contextlib.redirect_stderr(io.StringIO()) as told:
+            check_record(wanted, read_settings(self.config))
+        self.assertIn("ends with 100 events of the network 02:00:00:00:01:01", told.getvalue())
+        longest = self.write("longest.toml", CONFIG.replace("max_events = 100", "max_events = 1000000"))
+        with contextlib.redirect_stderr(io.StringIO()) as told:
+            check_record(wanted, read_settings(longest))
+        self.assertEqual(told.getvalue(), "")
+
+    def test_wires_of_a_file(self):
+        """A line each; what stands behind `#` is skipped, and what is no wire is told."""
+        path = self.write("wires", "# wires\n\n02:00:00:00:01:01=eth1 # lab\n 02:00:00:00:01:02=eth2\n")
+        self.assertEqual(read_wires(path), ((OURS, "eth1"), (OTHER, "eth2")))
+        self.assertEqual(read_wires(None), ())
+        for text in ("eth1\n", "02:00:00:00:01:01=\n", "02:00=eth1\n"):
+            with self.assertRaisesRegex(Fault, "^--wires "):
+                read_wires(self.write("wires", text))
+        with self.assertRaisesRegex(Fault, "No such file"):
+            read_wires(os.path.join(self.folder, "nothing"))
+
+    def test_port_that_is_taken(self):
+        """It is told before anything is changed."""
+        with socket.socket() as taken:
+            taken.bind(("127.0.0.1", 0))
+            taken.listen()
+            with self.assertRaisesRegex(Fault, "Address already in use"):
+                check_port(taken.getsockname()[1])
+        check_port(None)
 
     def test_faults_of_wires(self):
         """A BSSID that isn't there, a network or an interface given twice, an interface that isn't one for this."""
@@ -316,23 +451,130 @@ class FilesAndPrograms(WithFiles):
                             ([(OURS, "nothing0")], "no such interface"), ([(OURS, "../lo")], "no such interface"),
                             ([(OURS, "lo")], "no interface of Ethernet")):
             with self.assertRaisesRegex(Fault, says):
-                check_wires(self.wanted("", wires), settings)
+                check_wires(self.wanted(""), settings, tuple(wires))
 
     def test_words(self):
         """--help says what it is; wrong words are told, and a fault is one line and status 1."""
         tool = os.path.join(TOOLS, "live")
         said = subprocess.run([tool, "--help"], capture_output=True, text=True, check=True).stdout
         self.assertIn("--phy", said)
-        for words in ([], [self.config], [self.config, "--phy", "phy0", "--wire", "x=y"],
-                      [self.config, "--phy", "phy0", "--tables", "0"]):
+        phy = [self.config, "--phy", "phy0"]
+        for words in ([], [self.config], [*phy, "--wire", "x=y"], [*phy, "--tables", "0"], [*phy, "--idle", "-1"],
+                      [*phy, "--country", "Germany"], [*phy, "--status", "70000"], ["kick"], ["kick", "x", "y"],
+                      ["status", "more"]):
             self.assertEqual(subprocess.run([tool, *words], capture_output=True, check=False).returncode, 2, words)
         done = subprocess.run([tool, self.config, "--phy", "phy0", "--program", os.path.join(self.folder, "apctl")],
                               capture_output=True, text=True, check=False)
         self.assertEqual((done.returncode, done.stdout, len(done.stderr.splitlines())), (1, "", 1), done.stderr)
+        done = subprocess.run([tool, "status", "--phy", "no-such-radio"], capture_output=True, text=True, check=False)
+        self.assertEqual((done.returncode, done.stdout), (1, ""))
+        self.assertIn("no-such-radio.sock: no bridge answers", done.stderr)
 
 
-# A bridge in place of the compiled one: it tells what a test wants, and writes what it was asked.
+class Asked(WithFiles):
+    """The socket by which a bridge is asked."""
+
+    def setUp(self):
+        super().setUp()
+        patch = mock.patch.object(changes, "RUN", self.folder)
+        patch.start()
+        self.addCleanup(patch.stop)
+        self.stack = ExitStack()
+        self.addCleanup(self.stack.close)
+
+    def answer(self, phy, text):
+        """Answers one question, and gives what was asked."""
+        with mock.patch.object(asking.os, "chown", mock.Mock()):
+            listening = asking.listen(phy, self.stack)
+        asked = []
+
+        def take():
+            with listening.accept()[0] as client, client.makefile("rw") as file:
+                asked.append(file.readline())
+                file.write(text)
+                file.flush()
+        thread = threading.Thread(target=take)
+        thread.start()
+        self.addCleanup(thread.join)
+        return asked
+
+    def test_answers(self):
+        """An answer is an object of JSON; an error is a fault, and so is what is no answer."""
+        asked = self.answer("phy0", '{"kicked": true}\n')
+        self.assertEqual(asking.ask(None, "kick a b"), {"kicked": True})
+        self.assertEqual(asked, ["kick a b\n"])
+        self.answer("phy1", json.dumps({"error": "no such station"}) + "\n")
+        with self.assertRaisesRegex(Fault, "^no such station$"):
+            asking.ask("phy1", "kick a b")
+        self.answer("phy2", "")
+        with self.assertRaisesRegex(Fault, "phy2.sock: no bridge answers"):
+            asking.ask("phy2", "status")
+        with self.assertRaisesRegex(Fault, "bridges run for phy0, phy1, phy2: say which by --phy"):
+            asking.ask(None, "status")
+
+    def test_none_runs(self):
+        """It is told; a socket that was left is made anew, and only root and the page's group may ask."""
+        with self.assertRaisesRegex(Fault, "no bridge runs"):
+            asking.ask(None, "status")
+        self.write("phy0.sock", "left")
+        self.answer("phy0", "{}\n")
+        self.assertEqual(os.stat(asking.socket_path("phy0")).st_mode & 0o777, 0o660)
+        self.assertEqual(asking.ask("phy0", "status"), {})
+        self.stack.close()
+        self.assertEqual(os.listdir(self.folder), ["radio.toml"])
+
+
+class Told(WithFiles):
+    """What is said to people, the journal, and a manager of services."""
+
+    def test_levels(self):
+        """A line has its level where standard error is the journal's, and else none."""
+        with open(os.path.join(self.folder, "journal"), "w+", encoding="utf-8") as file:
+            found = os.fstat(file.fileno())
+            for stream, wanted in ((f"{found.st_dev}:{found.st_ino}", "<4>live: hello\n"), ("1:2", "live: hello\n")):
+                file.seek(0)
+                file.truncate()
+                with mock.patch.dict(os.environ, {"JOURNAL_STREAM": stream}), mock.patch("sys.stderr", file):
+                    telling.tell("hello", telling.WARNING)
+                file.seek(0)
+                self.assertEqual(file.read(), wanted)
+
+    def service(self, **more):
+        """A manager of services, as a socket, and what speaks to it."""
+        path = os.path.join(self.folder, "notify")
+        manager = socket.socket(socket.AF_UNIX, socket.SOCK_DGRAM)
+        self.addCleanup(manager.close)
+        manager.bind(path)
+        with mock.patch.dict(os.environ, {"NOTIFY_SOCKET": path, **more}):
+            return manager, Service()
+
+    def test_service(self):
+        """It is told that stations are served, and that all is well where it watches."""
+        manager, service = self.service(WATCHDOG_USEC="1000000", WATCHDOG_PID=str(os.getpid()))
+        service.ready("3 networks")
+        service.alive()
+        service.stopping()
+        told = [manager.recv(100) for _ in range(3)]
+        self.assertEqual(told, [b"READY=1\nSTATUS=3 networks", b"WATCHDOG=1", b"STOPPING=1"])
+        service.reloading()
+        self.assertRegex(manager.recv(100), rb"^RELOADING=1\nMONOTONIC_USEC=\d+$")
+
+    def test_no_watchdog(self):
+        """Where it watches another process, or nothing started this, it is told nothing."""
+        manager, service = self.service(WATCHDOG_USEC="1000000", WATCHDOG_PID="1")
+        service.alive()
+        manager.setblocking(False)
+        with self.assertRaises(BlockingIOError):
+            manager.recv(100)
+        with mock.patch.dict(os.environ):
+            os.environ.pop("NOTIFY_SOCKET", None)
+            Service().ready("nobody hears it")
+
+
+# A bridge in place of the compiled one: it tells what a test wants, and writes what it was asked. Where the file `fails`
+# is there, it doesn't begin.
 BRIDGE = """#!/bin/bash
+[ ! -e {folder}/fails ] || {{ echo "fault it doesn't begin"; exit 1; }}
 echo "$*" > {folder}/words
 echo ready
 while read -r request; do
@@ -342,6 +584,9 @@ done
 echo status {status}
 {after}
 """
+
+
+SENDS = "[ $request = open ] && echo sending; [ $request = dismiss ] && echo dismissed"
 
 
 class Running(WithFiles):
@@ -354,22 +599,32 @@ class Running(WithFiles):
         for number in (signal.SIGINT, signal.SIGTERM, signal.SIGHUP, signal.SIGUSR1):
             self.stack.callback(signal.signal, number, signal.getsignal(number))
         self.told = self.stack.enter_context(contextlib.redirect_stderr(io.StringIO()))
-        self.signals = Signals(self.stack)
 
-    def run_bridge(self, later=lambda: None, tables=None, does="[ $request = open ] && echo sending", status=0,
-                   after="true"):
-        """Runs it; `later` is called by another thread after a while."""
+    def run_bridge(self, later=lambda: None, tables=None, does=SENDS, status=0, after="true"):
+        """Runs it; `later` is called by another thread after a while. Of the machine nothing is changed: what is set up
+        is only kept."""
         path = self.write("bridge", BRIDGE.format(folder=self.folder, does=does, status=status, after=after), 0o755)
-        wanted = Wanted(self.config, "apctl", path, "phy0", "mon0", ((OURS, "wire1"),), "a.trace", tables)
-        bridge = Bridge(words_of(wanted, read_settings(self.config), "octets"), self.signals, self.stack)
-        bridge.await_networks()
-        timer = threading.Timer(0.5, later)
-        timer.start()
-        try:
-            bridge.run("it runs", tables)
-        finally:
-            timer.join()
-            bridge.end()
+        wires = ((OURS, "wire1"),)
+        wanted = Wanted(self.config, "apctl", path, "phy0", "mon0", wires, "a.trace", tables)
+        self.followed = []
+        setting_up = mock.Mock(follow=self.followed.append)
+        with ExitStack() as stack:
+            for where, name, value in (
+                    (changes, "RUN", self.folder), (asking.os, "chown", mock.Mock()),
+                    (serving, "check_rights", mock.Mock()), (serving, "SettingUp", lambda *_: setting_up),
+                    (serving, "check", lambda *_: Plan(read_settings(self.config), wires, "octets")),
+                    (serving, "check_again", lambda _, before: self.check_again(before))):
+                stack.enter_context(mock.patch.object(where, name, value))
+            timer = threading.Timer(0.5, later)
+            timer.start()
+            try:
+                serving.serve(wanted)
+            finally:
+                timer.join()
+
+    def check_again(self, before):
+        """The configuration is read again: where it isn't one that is a fault."""
+        return Plan(read_settings(self.config), before.wires, before.face)
 
     def read(self, name):
         """What the bridge has written."""
@@ -387,11 +642,50 @@ class Running(WithFiles):
             time.sleep(0.5)
             self.end()
         self.run_bridge(later)
-        self.assertEqual(self.read("words").strip(), f"--face octets --monitor mon0 --interval 100 --record a.trace "
-                                                     f"--network 02:00:00:00:01:01/82840b16/wire1 apctl {self.config}")
+        self.assertRegex(self.read("words"),
+                         "^--face octets --phy phy0 --channel 6 --monitor mon0 --interval 100 --idle 300 --socket [0-9]+ "
+                         f"--record a.trace --network 02:00:00:00:01:01/82840b16/wire1 apctl {self.config}\n$")
         self.assertEqual(self.read("asked"), "open\ntables\n")
-        self.assertEqual(self.told.getvalue(), "live: it runs\nlive: the program ended with status 0; taking down what "
-                                               "was set up\n")
+        self.assertRegex(self.told.getvalue(), "^live: 1 networks are on channel 6; Ctrl-C ends it, .*\nlive: the program "
+                                               "ended with status 0; taking down what was set up\n$")
+        self.assertEqual(len(self.followed), 1)
+        self.assertFalse(os.path.exists(os.path.join(self.folder, "phy0.sock")))
+
+    def test_reload(self):
+        """By SIGHUP another bridge is started, stations are told to join again, and what is set up follows."""
+        def later():
+            self.write("radio.toml", CONFIG.replace("channel = 6", "channel = 11"))
+            os.kill(os.getpid(), signal.SIGHUP)
+            time.sleep(0.8)
+            self.end()
+        self.run_bridge(later)
+        self.assertEqual(self.read("asked"), "open\ndismiss\nopen\n")
+        self.assertEqual([plan.settings.channel for plan in self.followed], [6, 11])
+        told = self.told.getvalue()
+        for text in ("reading ", "ended with status 0; it begins anew", "1 networks are on channel 11", "taking down"):
+            self.assertIn(text, told)
+
+    def test_reload_with_a_fault(self):
+        """All stays as it is, and the fault is told."""
+        def later():
+            self.write("radio.toml", "channel = ")
+            os.kill(os.getpid(), signal.SIGHUP)
+            time.sleep(0.8)
+            self.end()
+        self.run_bridge(later)
+        self.assertEqual((self.read("asked"), len(self.followed)), ("open\n", 1))
+        self.assertIn("all stays as it is", self.told.getvalue())
+
+    def test_reload_that_does_not_begin(self):
+        """Where the program doesn't begin with the new configuration, the one before goes on."""
+        def later():
+            self.write("fails", "")
+            os.kill(os.getpid(), signal.SIGHUP)
+            time.sleep(0.8)
+            self.end()
+        self.run_bridge(later)
+        self.assertEqual(self.read("asked"), "open\n")
+        self.assertIn("it doesn't begin: all stays as it is", self.told.getvalue())
 
     def test_tables_by_the_clock(self):
         """--tables asks by itself."""
@@ -414,7 +708,7 @@ class Running(WithFiles):
     def test_ended_while_it_begins(self):
         """A signal before the networks are open ends it too."""
         path = self.write("slow", "#!/bin/bash\nread -r nothing\nexit 0\n", 0o755)
-        bridge = Bridge([path], self.signals, self.stack)
+        bridge = Bridge([path], Signals(self.stack), self.stack)
         timer = threading.Timer(0.3, self.end)
         timer.start()
         bridge.await_networks()

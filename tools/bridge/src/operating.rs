@@ -217,7 +217,7 @@ mod tests {
         for number in 4..7 {
             let frame = null(OURS, STATION, number + 2048);
             let wanted = [Errand::Send { place: 1, frame, retries: 3 }];
-            assert_eq!(operating.answered(OURS, &beacon(number), (number + 1).into() * SECOND), wanted);
+            assert_eq!(operating.answered(OURS, &beacon(number), Nanos::from(number + 1) * SECOND), wanted);
         }
         let frame = disassociation(OURS, STATION, INACTIVITY, 2055);
         let wanted = [Errand::Send { place: 1, frame, retries: 0 }, Errand::Say(departure(OURS, STATION))];

@@ -1,5 +1,4 @@
-"""The bridge while it runs: tools/bridge, by which frames go; here it is started and ended, signals are passed on to it,
-and what it tells is told."""
+"""tools/bridge, by which frames go, as a child: it is started, asked, told of and ended here."""
 import os
 import select
 import signal
@@ -9,21 +8,22 @@ import time
 from contextlib import ExitStack
 
 from frames import address_text
-from live.checks import Wanted, check
+from live.checks import Plan, Wanted
 from live.faults import Fault
-from live.settings import Network, Settings
-from live.setting_up import SettingUp, tell
+from live.settings import Network
+from live.telling import tell
 
-SECONDS_TO_END = 60
+SECONDS_TO_END, SECONDS_TO_DISMISS = 60, 5
 FIRST = ("nice", "-n", "-15")  # before this machine's other programs: stations wait for what these two send
-ENDING = (signal.SIGINT, signal.SIGTERM, signal.SIGHUP)
-OPEN, TABLES = "open", "tables"
+ENDING = (signal.SIGINT, signal.SIGTERM)
+OPEN, TABLES, DISMISS = "open", "tables", "dismiss"
 
 
 class Notice:
-    """The first words of what the bridge tells, a line each; it is asked by the lines OPEN and TABLES."""
+    """The first words of what the bridge tells, a line each; it is asked by the lines OPEN, TABLES and DISMISS."""
 
-    READY, SENDING, STATUS, FAULT = "ready", "sending", "status", "fault"
+    READY, SENDING, ALIVE, DISMISSED = "ready", "sending", "alive", "dismissed"
+    STATUS, FAULT = "status", "fault"
 
 
 class Signals:
@@ -32,6 +32,7 @@ class Signals:
     def __init__(self, stack: ExitStack) -> None:
         self.is_ending = False
         self.tables_asked = False
+        self.reload_asked = False
         self.waker, woken = socket.socketpair()
         for end in (self.waker, woken):
             end.setblocking(False)
@@ -41,6 +42,7 @@ class Signals:
         for number in ENDING:
             signal.signal(number, self.end)
         signal.signal(signal.SIGUSR1, self.ask)
+        signal.signal(signal.SIGHUP, self.reload)
 
     def end(self, *_: object) -> None:
         """The bridge is to end."""
@@ -49,6 +51,10 @@ class Signals:
     def ask(self, *_: object) -> None:
         """The tables are to be shown."""
         self.tables_asked = True
+
+    def reload(self, *_: object) -> None:
+        """The configuration is to be read again."""
+        self.reload_asked = True
 
     def drain(self) -> None:
         """Reads what woke it."""
@@ -65,13 +71,18 @@ def network_word(network: Network, wires: dict[bytes, str]) -> str:
     return "/".join(parts + [wires[network.bssid]] if network.bssid in wires else parts)
 
 
-def words_of(wanted: Wanted, settings: Settings, face: str) -> list[str]:
-    """The words by which the bridge is started."""
-    words = [wanted.bridge, "--face", face, "--monitor", wanted.monitor, "--interval", str(settings.interval)]
+def words_of(wanted: Wanted, plan: Plan, descriptor: int, tells_alive: bool) -> list[str]:
+    """The words by which the bridge is started, with the descriptor of the socket by which it is asked."""
+    settings = plan.settings
+    words = [wanted.bridge, "--face", plan.face, "--phy", wanted.phy, "--channel", str(settings.channel),
+             "--monitor", wanted.monitor, "--interval", str(settings.interval), "--idle", str(wanted.idle),
+             "--socket", str(descriptor)]
+    if tells_alive:
+        words += ["--alive"]
     if wanted.record is not None:
         words += ["--record", wanted.record]
     for network in settings.networks:
-        words += ["--network", network_word(network, dict(wanted.wires))]
+        words += ["--network", network_word(network, dict(plan.wires))]
     return [*words, wanted.program, wanted.config]
 
 
@@ -79,15 +90,16 @@ class Bridge:
     """tools/bridge with its program, in a group of its own, so that Ctrl-C in a terminal doesn't end it, and scheduled
     before other programs."""
 
-    def __init__(self, words: list[str], signals: Signals, stack: ExitStack) -> None:
+    def __init__(self, words: list[str], signals: Signals, stack: ExitStack, descriptors: tuple[int, ...] = ()) -> None:
         self.signals = signals
         self.notices = b""
-        self.is_ready = self.is_sending = self.is_over = False
+        self.is_ready = self.is_sending = self.is_over = self.was_dismissed = False
+        self.alive = 0  # how often it told that the program answers
         self.status: int | None = None
         self.fault: str | None = None
         try:
             self.process = subprocess.Popen([*FIRST, *words], stdin=subprocess.PIPE, stdout=subprocess.PIPE, bufsize=0,
-                                            start_new_session=True)
+                                            start_new_session=True, pass_fds=descriptors)
         except OSError as fault:
             raise Fault(f"{words[0]}: {fault.strerror}") from None
         assert self.process.stdin and self.process.stdout
@@ -126,6 +138,10 @@ class Bridge:
                 self.is_ready = True
             case Notice.SENDING:
                 self.is_sending = True
+            case Notice.ALIVE:
+                self.alive += 1
+            case Notice.DISMISSED:
+                self.was_dismissed = True
             case Notice.STATUS:
                 self.status = int(rest)
             case Notice.FAULT:
@@ -140,24 +156,14 @@ class Bridge:
         while self.has_to_go_on() and not self.is_ready:
             self.wait(None)
 
-    def run(self, told: str, tables: float | None) -> None:
-        """Lets frames go until a signal or a fault ends it; `told` is told once the first beacon was seen as sent."""
-        self.ask(OPEN)
-        has_told = False
-        due = time.monotonic() + (tables or 0)
-        while self.has_to_go_on():
-            self.wait(max(0.0, due - time.monotonic()) if tables else None)
-            if self.is_sending and not has_told:
-                has_told = True
-                tell(told)
-            if tables and time.monotonic() >= due:
-                due = time.monotonic() + tables
-                self.signals.tables_asked = True
-            if self.signals.tables_asked:
-                self.signals.tables_asked = False
-                self.ask(TABLES)
+    def dismiss(self) -> None:
+        """Has all stations told that they have to join again."""
+        self.ask(DISMISS)
+        until = time.monotonic() + SECONDS_TO_DISMISS
+        while not (self.was_dismissed or self.is_over or self.fault) and time.monotonic() < until:
+            self.wait(until - time.monotonic())
 
-    def end(self) -> None:
+    def end(self, afterwards: str = "taking down what was set up") -> None:
         """Ends it: the program's tables and the counts come, and its status. A fault where it told one, or was ended."""
         self.requests.close()
         until = time.monotonic() + SECONDS_TO_END
@@ -167,29 +173,11 @@ class Bridge:
             self.process.kill()
         status = self.process.wait()
         if self.status is not None:
-            tell(f"the program ended with status {self.status}; taking down what was set up")
+            tell(f"the program ended with status {self.status}; {afterwards}")
         if self.fault is not None or status != 0:
-            raise Fault(self.fault or f"the bridge ended by itself, {reason_of(status)}; taking down what was set up")
+            raise Fault(self.fault or f"the bridge ended by itself, {reason_of(status)}; {afterwards}")
 
 
 def reason_of(status: int) -> str:
     """How a child ended."""
     return f"by the signal {signal.Signals(-status).name}" if status < 0 else f"with status {status}"
-
-
-def serve(wanted: Wanted) -> None:
-    """Sets all up, runs, and takes down what was set up."""
-    with ExitStack() as stack:
-        signals = Signals(stack)
-        settings, face = check(wanted)
-        bridge = Bridge(words_of(wanted, settings, face), signals, stack)
-        try:
-            bridge.await_networks()
-            if bridge.has_to_go_on():
-                setting_up = SettingUp(wanted, settings, stack)
-                setting_up.set_up_wires()
-                setting_up.set_up_radio()
-                bridge.run(f"{len(settings.networks)} networks are on channel {settings.channel}; Ctrl-C ends it, "
-                           f"`kill -USR1 {os.getpid()}` shows the tables", wanted.tables)
-        finally:
-            bridge.end()

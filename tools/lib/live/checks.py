@@ -2,49 +2,92 @@
 import os
 import re
 import shutil
+import socket
 import subprocess
-from dataclasses import dataclass
+import time
+from contextlib import ExitStack
+from dataclasses import dataclass, replace
 
-from frames import address_text
-from live import machine
+from frames import address_of, address_text
+from live import changes, machine
+from live.changes import Change, Changes
 from live.faults import Fault
 from live.machine import Interface
 from live.phys import MANAGED, MONITOR, Phy, read_phy
-from live.settings import Settings, read_settings
+from live.settings import MOST_EVENTS, Settings, read_settings
+from live.telling import tell
 
+Wires = tuple[tuple[bytes, str], ...]
 MOST_NAME = 15
+COUNTRY_SECONDS = 3.0
+LOCAL = "127.0.0.1"
 WRONG_WORDS = 2
 CARGO, PACKAGES = "/usr/bin/cargo", "cargo librust-hex-dev librust-libc-dev librust-nix-dev"
 
 
 @dataclass(frozen=True)
 class Wanted:
-    """What the words ask for; `wires` are pairs of a BSSID and an interface."""
+    """What the words ask for; `wires` are pairs of a BSSID and an interface, and more of them stand in the file
+    `wires_file`. Stations of which nothing was heard for `idle` seconds are asked, with 0 nobody is."""
 
     config: str
     program: str
     bridge: str
     phy: str
     monitor: str
-    wires: tuple[tuple[bytes, str], ...]
+    wires: Wires
     record: str | None
     tables: float | None
+    idle: int = 300
+    country: str | None = None
+    wires_file: str | None = None
+    status: int | None = None
 
     def network_interface(self, place: int) -> str:
         """The interface that stands for the network of this place, so that the radio acknowledges what comes to it."""
         return f"{self.monitor}n{place + 1}"
 
 
-def check(wanted: Wanted) -> tuple[Settings, str]:
-    """The settings and the program's face, where all is as it has to be."""
-    check_rights()
+@dataclass(frozen=True)
+class Plan:
+    """What is to be served: the settings of a configuration in which no fault was found, the wires, and how the program
+    is spoken to."""
+
+    settings: Settings
+    wires: Wires
+    face: str
+
+
+def check(wanted: Wanted, made: Changes, stack: ExitStack) -> Plan:
+    """The plan, where all is as it has to be. What an earlier start left is taken back, and the country is set: all else
+    of this machine stays as it is."""
     check_bridge(wanted.bridge)
     check_program(wanted.program)
     settings = check_config(wanted)
-    check_wires(wanted, settings)
-    check_radio(wanted, settings)
-    check_record(wanted.record)
-    return settings, face_of(wanted)
+    wires = wanted.wires + read_wires(wanted.wires_file)
+    check_wires(wanted, settings, wires)
+    check_port(wanted.status)
+    check_record(wanted, settings)
+    check_radio(wanted, settings, made, stack)
+    return Plan(settings, wires, face_of(wanted))
+
+
+def check_again(wanted: Wanted, before: Plan) -> Plan:
+    """The plan of a configuration that is read again while a bridge runs; nothing is changed. A wire of the words whose
+    network is there no more is told, and not used."""
+    settings = check_config(wanted)
+    known = [(bssid, name) for bssid, name in wanted.wires if bssid in settings.bssids]
+    for bssid, name in set(wanted.wires) - set(known):
+        tell(f"--wire {address_text(bssid)}={name}: no network has this BSSID any more: this wire isn't used")
+    wires = tuple(known) + read_wires(wanted.wires_file)
+    check_wires(wanted, settings, wires)
+    check_names(wanted, len(settings.networks))
+    for place in range(len(before.settings.networks), len(settings.networks)):
+        name = wanted.network_interface(place)
+        if Interface(name).exists:
+            raise Fault(f"{name}: there already, and not of this bridge")
+    check_abilities(wanted.phy, read_phy(machine.run("iw", "phy", wanted.phy, "info")), settings)
+    return replace(before, settings=settings, wires=wires)
 
 
 def check_rights() -> None:
@@ -91,10 +134,30 @@ def face_of(wanted: Wanted) -> str:
     return "text" if done.returncode == WRONG_WORDS else "octets"
 
 
-def check_wires(wanted: Wanted, settings: Settings) -> None:
+def wire_of(text: str) -> tuple[bytes, str]:
+    """A wire as `BSSID=INTERFACE`; ValueError where it is none."""
+    bssid, separator, name = text.partition("=")
+    if not separator or not name:
+        raise ValueError(f"{text} is no BSSID=INTERFACE")
+    return address_of(bssid), name
+
+
+def read_wires(path: str | None) -> Wires:
+    """The wires of a file, `BSSID=INTERFACE` a line; empty lines, and what stands behind `#`, are skipped."""
+    if path is None:
+        return ()
+    try:
+        with open(path, encoding="utf-8") as file:
+            lines = [line.partition("#")[0].strip() for line in file]
+        return tuple(wire_of(line) for line in lines if line)
+    except (OSError, ValueError) as fault:
+        raise Fault(f"--wires {path}: {fault}") from None
+
+
+def check_wires(wanted: Wanted, settings: Settings, wires: Wires) -> None:
     """Each wired port has to be of one network, and to serve nothing else."""
-    bssids, names = [bssid for bssid, _ in wanted.wires], [name for _, name in wanted.wires]
-    for bssid, name in wanted.wires:
+    bssids, names = [bssid for bssid, _ in wires], [name for _, name in wires]
+    for bssid, name in wires:
         if bssid not in settings.bssids:
             raise Fault(f"--wire {address_text(bssid)}={name}: no network of {wanted.config} has this BSSID")
         if bssids.count(bssid) > 1:
@@ -122,30 +185,65 @@ def check_wire(interface: Interface) -> None:
                     f"off by `ip link set {name} addrgenmode none` and `ip address flush dev {name}`, or give another")
 
 
-def check_radio(wanted: Wanted, settings: Settings) -> None:
+def check_radio(wanted: Wanted, settings: Settings, made: Changes, stack: ExitStack) -> None:
     """The radio has to be there, to be free, and to be able to do what is asked."""
     if wanted.phy not in machine.radios():
         raise Fault(f"{wanted.phy}: there is no such radio; there are: {' '.join(machine.radios()) or 'none'}")
-    check_left(wanted, len(settings.networks))
+    check_names(wanted, len(settings.networks))
+    check_left(wanted, made.left_interfaces())
+    made.take_back_left()
     for interface in machine.interfaces():
         if interface.radio == wanted.phy and interface.is_up:
             raise Fault(f"{wanted.phy} has the interface {interface.name}, which is up: keep NetworkManager from it by "
                         f"`nmcli device set {interface.name} managed no` where that runs, and then `ip link set "
                         f"{interface.name} down`")
+    set_country(wanted.country, made, stack)
     check_abilities(wanted.phy, read_phy(machine.run("iw", "phy", wanted.phy, "info")), settings)
 
 
-def check_left(wanted: Wanted, networks: int) -> None:
-    """No interface of an earlier bridge may be left."""
+def check_names(wanted: Wanted, networks: int) -> None:
+    """The names of the interfaces to be made must not be too long."""
     longest = wanted.network_interface(networks - 1)
     if len(longest) > MOST_NAME:
         raise Fault(f"--monitor {wanted.monitor}: too long a name: {longest} has more than {MOST_NAME} characters")
+
+
+def check_left(wanted: Wanted, own: list[str]) -> None:
+    """No interface may be there that has such a name, but those that an earlier start for this radio left."""
     left = [interface.name for interface in machine.interfaces()
-            if re.fullmatch(rf"{re.escape(wanted.monitor)}(n\d+)?", interface.name)]
+            if re.fullmatch(rf"{re.escape(wanted.monitor)}(n\d+)?", interface.name) and interface.name not in own]
     if left:
         commands = "; ".join(f"iw dev {name} del" for name in left)
-        raise Fault(f"{', '.join(left)}: there already, of a bridge that runs or of one that was killed; where none "
-                    f"runs, this removes them: `{commands}`")
+        raise Fault(f"{', '.join(left)}: there already, and made by no earlier start for {wanted.phy}; where nothing "
+                    f"uses them, this removes them: `{commands}`, or take other names by --monitor")
+
+
+def set_country(country: str | None, made: Changes, stack: ExitStack) -> None:
+    """Sets the country whose rules of the air hold, until the end."""
+    before = machine.country()
+    if country is None or country == before:
+        return
+    change = Change(changes.COUNTRY, before)
+    made.add(change)
+    stack.callback(made.take_back, change)
+    machine.run("iw", "reg", "set", country)
+    until = time.monotonic() + COUNTRY_SECONDS
+    while machine.country() != country:
+        if time.monotonic() > until:
+            raise Fault(f"--country {country}: the kernel keeps to {machine.country()}: is Debian's package "
+                        "wireless-regdb installed?")
+        time.sleep(0.1)
+
+
+def check_port(port: int | None) -> None:
+    """Nothing else may be served at this port."""
+    if port is not None:
+        with socket.socket() as trying:
+            try:
+                trying.setsockopt(socket.SOL_SOCKET, socket.SO_REUSEADDR, 1)
+                trying.bind((LOCAL, port))
+            except OSError as fault:
+                raise Fault(f"--status {port}: {fault.strerror}") from None
 
 
 def check_abilities(name: str, phy: Phy, settings: Settings) -> None:
@@ -164,9 +262,13 @@ def check_abilities(name: str, phy: Phy, settings: Settings) -> None:
                     "choose another, or set the country by `iw reg set`")
 
 
-def check_record(path: str | None) -> None:
-    """One file for each start."""
-    if path is not None and os.path.lexists(path):
-        raise Fault(f"--record {path}: is there already, and a record has one start")
-    if path is not None and not os.path.isdir(os.path.dirname(path) or "."):
-        raise Fault(f"--record {path}: its folder isn't there")
+def check_record(wanted: Wanted, settings: Settings) -> None:
+    """The record's folder has to be there; how far `run` goes with it is told."""
+    if wanted.record is None:
+        return
+    if not os.path.isdir(os.path.dirname(wanted.record) or "."):
+        raise Fault(f"--record {wanted.record}: its folder isn't there")
+    for network in settings.networks:
+        if network.max_events < MOST_EVENTS:
+            tell(f"--record {wanted.record}: `run` on it ends with {network.max_events} events of the network "
+                 f"{address_text(network.bssid)}, its `max_events`; `max_events = {MOST_EVENTS}` goes furthest")

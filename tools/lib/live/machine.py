@@ -8,6 +8,7 @@ from dataclasses import dataclass
 from live.faults import Fault
 
 PACKAGES = {"iw": "iw", "ip": "iproute2", "ethtool": "ethtool"}
+COUNTRY = re.compile(r"^country (\w\w):", re.MULTILINE)
 RADIOS, INTERFACES = "/sys/class/ieee80211", "/sys/class/net"
 ETHERNET, IS_UP = 1, 1
 OFFLOAD = re.compile(r"^(?P<name>[a-z-]+): (?P<value>on|off)(?P<fixed> \[fixed\])?")
@@ -41,6 +42,12 @@ def read_file(*path: str) -> str | None:
             return file.read().strip()
     except OSError:
         return None
+
+
+def country() -> str:
+    """The country whose rules of the air hold on this machine, `00` where none was set."""
+    match = COUNTRY.search(run("iw", "reg", "get"))
+    return match[1] if match else "00"
 
 
 @dataclass(frozen=True)

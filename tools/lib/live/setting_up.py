@@ -1,59 +1,100 @@
-"""What the bridge changes on this machine, and how each of it is taken back."""
+"""What the bridge changes on this machine, part by part: when the configuration is read again, those parts alone are
+taken back that it has no more."""
 import os
 import shutil
-import subprocess
-import sys
 from contextlib import ExitStack
+from dataclasses import dataclass
 
 from frames import address_text
-from live import machine
-from live.checks import Wanted
-from live.faults import Fault
+from live import changes, machine
+from live.changes import Change, Changes, reload_network_manager
+from live.checks import Plan, Wanted
 from live.machine import Interface
-from live.settings import Settings
+from live.telling import tell
 
 MTU = 2304
-ADDRESS_MODE, NO_ADDRESS = "/proc/sys/net/ipv6/conf/{}/addr_gen_mode", "1"
+ADDRESS_MODE, NO_ADDRESS = "/proc/sys/net/ipv6/conf/{}/addr_gen_mode", "none"
+ADDRESS_MODES = {"0": "eui64", "1": "none", "2": "stable_secret", "3": "random"}
 RUNNING, UNMANAGED = "/run/NetworkManager", "/run/NetworkManager/conf.d/{}.conf"
 # What `ethtool -K` calls an offload, and `ethtool -k`.
 RECEIVING = {"gro": "generic-receive-offload", "lro": "large-receive-offload"}
 SENDING = {"tx": "tx-checksumming", "gso": "generic-segmentation-offload", "tso": "tcp-segmentation-offload"}
 
 
-def tell(text: str) -> None:
-    """Says something to the person on standard error."""
-    print(f"live: {text}", file=sys.stderr, flush=True)
+@dataclass(frozen=True)
+class WirePart:
+    """The wired port of a network."""
+
+    interface: str
 
 
-def take_back(*words: str) -> None:
-    """Takes a change back; where that fails it is told, and the next is taken back."""
-    try:
-        machine.run(*words)
-    except Fault as fault:
-        tell(f"not taken back: {fault}")
+@dataclass(frozen=True)
+class RadioPart:
+    """The monitor interface, on the channel of this frequency."""
+
+    frequency: int
 
 
-def set_address_mode(name: str, mode: str) -> None:
-    """Sets how the kernel makes an interface's own IPv6 address."""
-    with open(ADDRESS_MODE.format(name), "w", encoding="ascii") as file:
-        file.write(mode)
+@dataclass(frozen=True)
+class NetworkPart:
+    """The interface that stands for a network; one on another channel is another one, since the channel can only be set
+    while the monitor interface is alone."""
+
+    interface: str
+    bssid: bytes
+    frequency: int
+
+
+Part = WirePart | RadioPart | NetworkPart
 
 
 class SettingUp:
     """Makes the changes; `stack` takes them back in reverse order."""
 
-    def __init__(self, wanted: Wanted, settings: Settings, stack: ExitStack) -> None:
+    def __init__(self, wanted: Wanted, made: Changes, stack: ExitStack) -> None:
         self.wanted = wanted
-        self.settings = settings
-        self.stack = stack
+        self.made = made
+        self.parts: dict[Part, ExitStack] = {}
+        self.stack = stack  # of the part that is being set up
+        stack.callback(self.take_down)
 
-    def set_up_wires(self) -> None:
-        """Sets the wired ports up."""
-        for network in self.settings.networks:
-            if network.bssid not in dict(self.wanted.wires):
+    def follow(self, plan: Plan) -> None:
+        """Takes down what isn't in the plan, and sets up what isn't there; all else stays as it is."""
+        for network in plan.settings.networks:
+            if network.bssid not in dict(plan.wires):
                 tell(f"the network {address_text(network.bssid)} has no --wire: what it sends there is lost")
-        for _, name in self.wanted.wires:
-            self.set_up_wire(Interface(name))
+        wanted = self.parts_of(plan)
+        for part in reversed(list(self.parts)):
+            if part not in wanted:
+                self.parts.pop(part).close()
+        for part in wanted:
+            if part not in self.parts:
+                self.stack = self.parts[part] = ExitStack()
+                self.set_up(part)
+
+    def parts_of(self, plan: Plan) -> list[Part]:
+        """What a plan takes, in the order in which it is set up."""
+        frequency = plan.settings.frequency
+        networks = [NetworkPart(self.wanted.network_interface(place), network.bssid, frequency)
+                    for place, network in enumerate(plan.settings.networks)]
+        return [*(WirePart(name) for _, name in plan.wires), RadioPart(frequency), *networks]
+
+    def take_down(self) -> None:
+        """Takes all back."""
+        while self.parts:
+            self.parts.popitem()[1].close()
+
+    def set_up(self, part: Part) -> None:
+        """Sets one part up."""
+        match part:
+            case WirePart(name):
+                self.set_up_wire(Interface(name))
+            case RadioPart(frequency):
+                self.set_up_radio(frequency)
+            case NetworkPart(name, bssid):
+                self.add(name, "type", "managed", "addr", address_text(bssid))
+                self.keep_without_address(name)
+                machine.run("ip", "link", "set", name, "up")
 
     def set_up_wire(self, interface: Interface) -> None:
         """Sets one wired port up: no frames are joined to larger ones."""
@@ -72,60 +113,55 @@ class SettingUp:
         found = interface.offloads()
         on = [short for short, name in offloads.items() if found.get(name)]
         if on:
-            self.change(["ethtool", "-K", interface.name, *(word for short in on for word in (short, "off"))],
-                        ["ethtool", "-K", interface.name, *(word for short in on for word in (short, "on"))])
+            self.change(Change(changes.OFFLOADS, interface.name, tuple(on)),
+                        "ethtool", "-K", interface.name, *(word for short in on for word in (short, "off")))
 
-    def set_up_radio(self) -> None:
-        """Sets the radio up: a monitor interface on the channel, then an interface for each network, by which it
-        acknowledges. The channel can only be set while the monitor interface is alone."""
+    def set_up_radio(self, frequency: int) -> None:
+        """Sets the radio up: a monitor interface on the channel, before the interfaces of the networks, by which the
+        radio acknowledges."""
         self.keep_network_manager_out()
         monitor = self.wanted.monitor
         self.add(monitor, "type", "monitor", "flags", "control")
         machine.run("ip", "link", "set", monitor, "mtu", str(MTU))
         machine.run("ip", "link", "set", monitor, "up")
-        machine.run("iw", "dev", monitor, "set", "freq", str(self.settings.frequency))
-        for place, network in enumerate(self.settings.networks):
-            name = self.wanted.network_interface(place)
-            self.add(name, "type", "managed", "addr", address_text(network.bssid))
-            self.keep_without_address(name)
-            machine.run("ip", "link", "set", name, "up")
+        machine.run("iw", "dev", monitor, "set", "freq", str(frequency))
 
     def add(self, name: str, *words: str) -> None:
         """Adds an interface to the radio."""
-        self.change(["iw", "phy", self.wanted.phy, "interface", "add", name, *words], ["iw", "dev", name, "del"])
+        self.change(Change(changes.INTERFACE, name), "iw", "phy", self.wanted.phy, "interface", "add", name, *words)
 
     def bring_up(self, name: str) -> None:
         """Sets an interface up, without an address of its own."""
-        before = self.keep_without_address(name)
-        if before is not None:
-            self.stack.callback(set_address_mode, name, before)
-        self.change(["ip", "link", "set", name, "up"], ["ip", "link", "set", name, "down"])
-
-    def keep_without_address(self, name: str) -> str | None:
-        """Lets the kernel give an interface no IPv6 address; answers how it would have made one, None without IPv6."""
         before = machine.read_file(ADDRESS_MODE.format(name))
-        if before is not None:
-            set_address_mode(name, NO_ADDRESS)
-        return before
+        if ADDRESS_MODES.get(before or "", NO_ADDRESS) != NO_ADDRESS:
+            self.change(Change(changes.ADDRESS_MODE, name, (ADDRESS_MODES[before or ""],)),
+                        "ip", "link", "set", name, "addrgenmode", NO_ADDRESS)
+        self.change(Change(changes.UP, name), "ip", "link", "set", name, "up")
 
-    def change(self, words: list[str], back: list[str]) -> None:
-        """Makes a change that is taken back in the end."""
-        machine.run(*words)
-        self.stack.callback(take_back, *back)
+    def keep_without_address(self, name: str) -> None:
+        """Lets the kernel give an interface of ours no IPv6 address, where it has IPv6."""
+        if machine.read_file(ADDRESS_MODE.format(name)) is not None:
+            machine.run("ip", "link", "set", name, "addrgenmode", NO_ADDRESS)
+
+    def change(self, change: Change, *words: str) -> None:
+        """Makes a change that is taken back in the end, or by the next start where this one is killed."""
+        self.made.add(change)
+        try:
+            machine.run(*words)
+        except BaseException:
+            self.made.forget(change)
+            raise
+        self.stack.callback(self.made.take_back, change)
 
     def keep_network_manager_out(self) -> None:
         """Where NetworkManager runs it would scan by the new interfaces, and so move the channel."""
         if shutil.which("nmcli") is None or not os.path.isdir(RUNNING):
             return
         path = UNMANAGED.format(self.wanted.monitor)
+        change = Change(changes.UNMANAGED, path)
+        self.made.add(change)
         os.makedirs(os.path.dirname(path), exist_ok=True)
         with open(path, "w", encoding="utf-8") as file:
             file.write(f"[keyfile]\nunmanaged-devices+=interface-name:{self.wanted.monitor}*\n")
-        self.stack.callback(reload_network_manager)
-        self.stack.callback(os.unlink, path)
+        self.stack.callback(self.made.take_back, change)
         reload_network_manager()
-
-
-def reload_network_manager() -> None:
-    """Lets NetworkManager read its files again."""
-    subprocess.run(["nmcli", "general", "reload", "conf"], capture_output=True, check=False, start_new_session=True)

@@ -7,14 +7,16 @@ from live.faults import Fault
 
 BASIC = 0x80
 JAPANESE_CHANNEL, JAPANESE_FREQUENCY = 14, 2484
+MOST_EVENTS = 1_000_000
 
 
 @dataclass(frozen=True)
 class Network:
-    """One network: its BSSID, and its rates as the octets of its elements."""
+    """One network: its BSSID, its rates as the octets of its elements, and how many events `run` takes of it."""
 
     bssid: bytes
     rates: bytes
+    max_events: int = MOST_EVENTS
 
     @property
     def sending_rate(self) -> int:
@@ -47,7 +49,7 @@ def read_settings(path: str) -> Settings:
     try:
         with open(path, "rb") as file:
             text = tomllib.load(file)
-        networks = tuple(Network(address_of(table["bssid"]), bytes.fromhex(table["rates"]))
+        networks = tuple(Network(address_of(table["bssid"]), bytes.fromhex(table["rates"]), table["max_events"])
                          for table in text["network"])
         return Settings(text["channel"], text["interval"], networks)
     except (OSError, ValueError, KeyError, TypeError) as fault:

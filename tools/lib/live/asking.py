@@ -1,0 +1,68 @@
+"""The socket by which a bridge that runs is asked, from both sides: made here for the bridge, and asked for a person."""
+import glob
+import grp
+import json
+import os
+import socket
+from contextlib import ExitStack
+
+from live import changes
+from live.faults import Fault
+
+ASKING_GROUP = "nogroup"  # of the page that shows what is going on; only root may ask for more
+SECONDS = 5.0
+
+
+def socket_path(phy: str) -> str:
+    """Where the bridge of a radio is asked."""
+    return os.path.join(changes.RUN, f"{phy}.sock")
+
+
+def listen(phy: str, stack: ExitStack) -> socket.socket:
+    """A socket that listens there, in place of one that an earlier start left; it goes in the end."""
+    path = socket_path(phy)
+    if os.path.lexists(path):
+        os.unlink(path)
+    listening = socket.socket(socket.AF_UNIX, socket.SOCK_STREAM | socket.SOCK_CLOEXEC)
+    stack.callback(listening.close)
+    before = os.umask(0o117)
+    try:
+        listening.bind(path)
+    finally:
+        os.umask(before)
+    stack.callback(os.unlink, path)
+    try:
+        os.chown(path, 0, grp.getgrnam(ASKING_GROUP).gr_gid)
+    except KeyError:
+        pass
+    listening.listen()
+    return listening
+
+
+def sole_phy() -> str:
+    """The radio of the one bridge that runs."""
+    found = [os.path.basename(path).removesuffix(".sock") for path in sorted(glob.glob(socket_path("*")))]
+    if not found:
+        raise Fault(f"no bridge runs: there is no {socket_path('PHY')}")
+    if len(found) > 1:
+        raise Fault(f"bridges run for {', '.join(found)}: say which by --phy")
+    return found[0]
+
+
+def ask(phy: str | None, question: str) -> dict:
+    """What a bridge that runs answers to a question; its error is a fault."""
+    path = socket_path(phy or sole_phy())
+    try:
+        with socket.socket(socket.AF_UNIX, socket.SOCK_STREAM) as asking:
+            asking.settimeout(SECONDS)
+            asking.connect(path)
+            asking.sendall(f"{question}\n".encode())
+            with asking.makefile(encoding="utf-8") as file:
+                answer = json.loads(file.readline())
+    except TimeoutError:
+        raise Fault(f"{path}: no answer within {SECONDS:.0f} seconds") from None
+    except (OSError, ValueError) as fault:
+        raise Fault(f"{path}: no bridge answers: {fault}") from None
+    if "error" in answer:
+        raise Fault(answer["error"])
+    return answer

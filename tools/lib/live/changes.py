@@ -1,0 +1,145 @@
+"""What is changed on this machine, each with how it is taken back; and the file under /run by which a start knows what an
+earlier one left that was killed."""
+import fcntl
+import json
+import os
+import shutil
+import subprocess
+from dataclasses import astuple, dataclass
+
+from live import machine
+from live.faults import Fault
+from live.machine import Interface
+from live.telling import WARNING, tell
+
+RUN = "/run/waltigon"
+INTERFACE, OFFLOADS, UP, ADDRESS_MODE, UNMANAGED, COUNTRY = (
+    "interface", "offloads", "up", "address mode", "unmanaged", "country")
+
+
+@dataclass(frozen=True)
+class Change:
+    """A change of this kind to what has this name."""
+
+    kind: str
+    name: str
+    more: tuple[str, ...] = ()
+
+    def take_back(self) -> None:
+        """Takes it back; where that fails it is told, and what comes next is taken back."""
+        try:
+            match self.kind:
+                case "interface":
+                    machine.run("iw", "dev", self.name, "del")
+                case "offloads":
+                    machine.run("ethtool", "-K", self.name, *(word for short in self.more for word in (short, "on")))
+                case "up":
+                    machine.run("ip", "link", "set", self.name, "down")
+                case "address mode":
+                    machine.run("ip", "link", "set", self.name, "addrgenmode", *self.more)
+                case "unmanaged":
+                    os.unlink(self.name)
+                    reload_network_manager()
+                case "country":
+                    machine.run("iw", "reg", "set", self.name)
+        except (Fault, OSError) as fault:
+            tell(f"not taken back: {fault}", WARNING)
+
+    def is_left(self, phy: str) -> bool:
+        """Whether there still is something to take back; an interface of another radio is somebody else's."""
+        match self.kind:
+            case "interface":
+                return Interface(self.name).radio == phy
+            case "unmanaged":
+                return os.path.exists(self.name)
+            case "country":
+                return True
+            case _:
+                return Interface(self.name).exists
+
+
+def reload_network_manager() -> None:
+    """Lets NetworkManager read its files again."""
+    if shutil.which("nmcli") is not None:
+        subprocess.run(["nmcli", "general", "reload", "conf"], capture_output=True, check=False, start_new_session=True)
+
+
+class Changes:
+    """The changes for one radio, as the file PHY.made lists them: each before it is made, and until it is taken back. So
+    the next start finds all that one left that was killed. PHY.lock is locked as long as one runs."""
+
+    def __init__(self, phy: str, folder: str = "") -> None:
+        folder = folder or RUN
+        self.phy = phy
+        self.path = os.path.join(folder, f"{phy}.made")
+        self.made: list[Change] = []
+        try:
+            os.makedirs(folder, exist_ok=True)
+            self.lock = open(os.path.join(folder, f"{phy}.lock"), "a", encoding="ascii")
+        except OSError as fault:
+            raise Fault(f"{folder}: {fault.strerror}") from None
+        try:
+            fcntl.flock(self.lock, fcntl.LOCK_EX | fcntl.LOCK_NB)
+        except OSError:
+            self.close()
+            raise Fault(f"{phy}: another tools/live serves this radio") from None
+        try:
+            self.left = self.read()
+        except Fault:
+            self.close()
+            raise
+
+    def close(self) -> None:
+        """Lets another have the radio."""
+        self.lock.close()
+
+    def read(self) -> list[Change]:
+        """What the file lists."""
+        try:
+            with open(self.path, encoding="utf-8") as file:
+                return [Change(kind, name, tuple(more)) for kind, name, more in json.load(file)]
+        except FileNotFoundError:
+            return []
+        except (OSError, ValueError, TypeError) as fault:
+            raise Fault(f"{self.path}: not read: {fault}; take it away where no tools/live runs") from None
+
+    def write(self) -> None:
+        """Writes the file anew, so that it is whole at any moment; without changes there is none."""
+        changes = self.left + self.made
+        if not changes:
+            if os.path.exists(self.path):
+                os.unlink(self.path)
+            return
+        with open(f"{self.path}.new", "w", encoding="utf-8") as file:
+            json.dump([astuple(change) for change in changes], file)
+        os.replace(f"{self.path}.new", self.path)
+
+    def add(self, change: Change) -> None:
+        """It is about to be made."""
+        self.made.append(change)
+        self.write()
+
+    def take_back(self, change: Change) -> None:
+        """Takes one back."""
+        change.take_back()
+        self.forget(change)
+
+    def forget(self, change: Change) -> None:
+        """It was taken back, or not made."""
+        self.made.remove(change)
+        self.write()
+
+    def left_interfaces(self) -> list[str]:
+        """The interfaces of the radio that an earlier start left."""
+        return [change.name for change in self.left if change.kind == INTERFACE and change.is_left(self.phy)]
+
+    def take_back_left(self) -> None:
+        """Takes back what an earlier start left, and tells so."""
+        left = [change for change in reversed(self.left) if change.is_left(self.phy)]
+        if left:
+            names = ", ".join(f"{change.kind} {change.name}" for change in left)
+            tell(f"an earlier start for {self.phy} was killed; taking back what it left: {names}")
+        for change in left:
+            change.take_back()
+        self.left = []
+        self.write()
