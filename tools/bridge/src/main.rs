@@ -33,6 +33,7 @@
 
 mod bridge;
 mod control;
+mod digits;
 mod faces;
 mod faults;
 mod filter;
