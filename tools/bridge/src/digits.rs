@@ -13,11 +13,15 @@ pub fn push(octets: &[u8], to: &mut Vec<u8>) {
 
 /// The octets of digits in either case; `None` where one is no digit, or one is left over.
 pub fn read(digits: &[u8]) -> Option<Vec<u8>> {
-    let others = digits.iter().fold(0, |others, digit| others | u8::from(!digit.is_ascii_hexdigit()));
+    let others = digits.iter().fold(0, |others, digit| others | u8::from(!is_digit(*digit)));
     if others != 0 || digits.len() % 2 != 0 {
         return None;
     }
-    Some(digits.chunks_exact(2).map(|pair| value(pair[0]) << 4 | value(pair[1])).collect())
+    let mut octets = vec![0; digits.len() / 2];
+    for (octet, pair) in octets.iter_mut().zip(digits.chunks_exact(2)) {
+        *octet = octet_of([pair[0], pair[1]]);
+    }
+    Some(octets)
 }
 
 /// Both digits of an octet: each half, and where it is above nine the distance from `:` to `a` more.
@@ -27,9 +31,18 @@ fn of(octet: u8) -> [u8; 2] {
     halves.wrapping_add(0x3030).wrapping_add(above_nine.wrapping_mul(39)).to_le_bytes()
 }
 
-/// What a digit stands for: its low four bits, and nine more for a letter.
-fn value(digit: u8) -> u8 {
-    (digit & 0x0f).wrapping_add((digit >> 6).wrapping_mul(9))
+/// Whether it is a digit of either case.
+fn is_digit(text: u8) -> bool {
+    let (is_number, is_letter) = (text.wrapping_sub(b'0') < 10, (text | 0x20).wrapping_sub(b'a') < 6);
+    is_number | is_letter
+}
+
+/// The octet of two digits: of each the low four bits, and nine more for a letter.
+fn octet_of(digits: [u8; 2]) -> u8 {
+    let digits = u16::from_le_bytes(digits);
+    let letters = digits >> 6 & 0x0101;
+    let halves = (digits & 0x0f0f).wrapping_add(letters.wrapping_mul(9));
+    (halves << 4 | halves >> 8) as u8
 }
 
 #[cfg(test)]

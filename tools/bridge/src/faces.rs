@@ -161,12 +161,13 @@ fn next_line(octets: &[u8], from: usize) -> Result<Option<(Answer, usize)>, Unkn
     }
 }
 
-/// Where the first line ends; whether a piece has the end is asked first, since that takes many octets a step.
+/// Where the first line ends. Whether a piece has an end is asked of all its octets, without a branch at each.
 fn end_of_line(octets: &[u8]) -> Option<usize> {
-    const PIECE: usize = 128;
+    const PIECE: usize = 256;
     let is_end = |octet: &u8| *octet == b'\n';
-    let piece = octets.chunks(PIECE).position(|piece| piece.contains(&b'\n'))?;
-    octets[piece * PIECE..].iter().position(is_end).map(|place| piece * PIECE + place)
+    let has_end = |piece: &[u8]| piece.iter().fold(false, |found, octet| found | is_end(octet));
+    let begin = PIECE * octets.chunks(PIECE).position(has_end)?;
+    octets[begin..].iter().position(is_end).map(|place| begin + place)
 }
 
 /// What a line says, without its end.
