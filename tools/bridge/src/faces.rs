@@ -2,6 +2,7 @@
 //! records of octets (docs/LIVE.md). All else of the bridge knows events and answers alone.
 use std::fmt;
 
+use crate::digits;
 use crate::frames::Address;
 
 /// How the program is spoken to.
@@ -70,23 +71,16 @@ pub fn say_line(event: Event<'_>, to: &mut Vec<u8>) {
     match event {
         Event::Air(octets) => {
             to.extend(b"A ");
-            push_digits(octets, to);
+            digits::push(octets, to);
         }
         Event::Wire(bssid, octets) => {
             to.extend(format!("W {bssid} ").as_bytes());
-            push_digits(octets, to);
+            digits::push(octets, to);
         }
         Event::Tick => to.push(b'T'),
         Event::Tables => to.push(b'I'),
     }
     to.push(b'\n');
-}
-
-/// Appends octets as digits of lower case.
-fn push_digits(octets: &[u8], to: &mut Vec<u8>) {
-    let begin = to.len();
-    to.resize(begin + 2 * octets.len(), 0);
-    hex::encode_to_slice(octets, &mut to[begin..]).expect("there are two digits for each octet");
 }
 
 /// Appends the record of an event: its kind, a BSSID, a length with the low octet first, and so many octets.
@@ -157,7 +151,7 @@ fn unknown(octets: &[u8]) -> Unknown {
 
 /// The answer of the first line, with the line's length; where it ends is looked for from this place on.
 fn next_line(octets: &[u8], from: usize) -> Result<Option<(Answer, usize)>, Unknown> {
-    match octets[from..].iter().position(|octet| *octet == b'\n') {
+    match end_of_line(&octets[from..]) {
         None => Ok(None),
         Some(place) => {
             let line = &octets[..from + place];
@@ -165,6 +159,15 @@ fn next_line(octets: &[u8], from: usize) -> Result<Option<(Answer, usize)>, Unkn
             Ok(Some((answer, line.len() + 1)))
         }
     }
+}
+
+/// Where the first line ends. Whether a piece has an end is asked of all its octets, without a branch at each.
+fn end_of_line(octets: &[u8]) -> Option<usize> {
+    const PIECE: usize = 256;
+    let is_end = |octet: &u8| *octet == b'\n';
+    let has_end = |piece: &[u8]| piece.iter().fold(false, |found, octet| found | is_end(octet));
+    let begin = PIECE * octets.chunks(PIECE).position(has_end)?;
+    octets[begin..].iter().position(is_end).map(|place| begin + place)
 }
 
 /// What a line says, without its end.
@@ -185,7 +188,7 @@ fn read_line(line: &[u8]) -> Option<Answer> {
 fn read_frame(text: &[u8]) -> Option<(Address, Vec<u8>)> {
     let place = text.iter().position(|octet| *octet == b' ')?;
     let bssid = std::str::from_utf8(&text[..place]).ok()?.parse().ok()?;
-    Some((bssid, hex::decode(&text[place + 1..]).ok()?))
+    Some((bssid, digits::read(&text[place + 1..])?))
 }
 
 /// The first word, and what follows the space behind it.

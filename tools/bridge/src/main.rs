@@ -39,6 +39,7 @@
 mod bridge;
 mod clients;
 mod control;
+mod digits;
 mod faces;
 mod faults;
 mod filter;
