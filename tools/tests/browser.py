@@ -91,8 +91,9 @@ class Browser:
                  features=[{"name": "prefers-color-scheme", "value": "dark" if is_dark else "light"}])
 
     def open(self, url):
-        """Opens a page."""
+        """Opens a page, and waits until it is there."""
         self.ask("Page.navigate", url=url)
+        self.wait("document.readyState === 'complete'")
 
     def value(self, script):
         """What a script answers in its page."""
@@ -106,9 +107,10 @@ class Browser:
         until = time.monotonic() + SECONDS
         while not self.value(script):
             if time.monotonic() > until:
-                raise AssertionError(f"still not: {script}\n{self.value('document.body.innerText')}")
+                raise AssertionError(f"still not: {script}\n{self.value('document.body?.innerText')}")
             time.sleep(0.05)
 
     def picture(self, is_whole=True):
         """Its page as a PNG: the whole of it, or what its window shows."""
-        return base64.b64decode(self.ask("Page.captureScreenshot", format="png", captureBeyondViewport=is_whole)["data"])
+        told = self.ask("Page.captureScreenshot", format="png", captureBeyondViewport=is_whole)
+        return base64.b64decode(told["data"])

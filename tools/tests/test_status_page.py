@@ -17,12 +17,16 @@ TEXT = "document.body.innerText"
 
 def twenty():
     """Three networks with twenty stations, as a busy evening has."""
-    stations = [station(number, since=37.0 * number ** 2, heard=0.1 * number, signal=-28 - 2 * number,
-                        dozes=number % 3 == 0, kept=number % 3 and 0 or number % 4, rate_to=(108, 96, 22, 11)[number % 4],
-                        octets_to=917 * 9 ** (number % 9), octets_from=411 * 7 ** (number % 9),
-                        frames_to=3 * 5 ** (number % 7), frames_from=2 * 4 ** (number % 7)) for number in range(1, 21)]
+    stations = []
+    for number in range(1, 21):
+        dozes, frames = number % 3 == 0, 3 * 5 ** (number % 7)
+        stations.append(station(
+            number, since=37.0 * number ** 2, heard=0.1 * number, signal=-28 - 2 * number, dozes=dozes,
+            kept=number % 4 if dozes else 0, rate_to=(108, 96, 22, 11)[number % 4], rate_from=(108, 72, 48)[number % 3],
+            frames_to=frames, frames_from=frames * 2 // 3, octets_to=frames * 917, octets_from=frames * 71))
     return document(
-        network(1, "Gäste ☕".encode(), stations[:12], refusals={"1": 5, "18": 1}), network(2, b"office", stations[12:19]),
+        network(1, "Gäste ☕".encode(), stations[:12], refusals={"1": 5, "18": 1}),
+        network(2, b"office", stations[12:19]),
         network(3, b"devices", [stations[19], *map(only_known, range(300, 318))], wire=None),
         since=93784.5, drops={"the air: frames of data that had waited 50 ms": 3},
         left_out={"the air: sent again, and taken before": 12, "wire1: with a VLAN's tag": 4})
@@ -78,9 +82,10 @@ class Shown(unittest.TestCase):
             self.assertIn(one["bssid"], text)
             for told in one["stations"]:
                 self.assertEqual(told["address"] in text, told["state"] == "associated", told)
-        for words in ("Gäste ☕", "20 (6 doze)", "1 d 2 h", "0.4 ms, 7.9 ms", "no wire", "−30 dBm",
-                      "54 Mb/s", "5.5 Mb/s", "5 by status 1 (max_known reached, or another SSID)",
-                      "18 stations that only authenticated", "Proved: ", "Not proved, only tested: "):
+        for words in ("Gäste ☕", "20 (6 doze)", "e4965d3, channel 6, phy0", "1 d 2 h", "0.4 ms, 7.9 ms", "no wire",
+                      "−30 dBm", "54 Mb/s", "5.5 Mb/s", "2.8 kB", "375 frames",
+                      "5 by status 1 (max_known reached, or another SSID)",
+                      "18 stations that only authenticated", "Proved of the program", "Not proved, only tested: "):
             self.assertIn(words, text)
         self.assertEqual(self.browser.faults, [])
 
@@ -139,7 +144,7 @@ class Shown(unittest.TestCase):
     def test_nobody_answered_yet(self):
         self.told = Untold("the bridge doesn't answer")
         self.browser.open(self.server.url)
-        self.browser.wait(f"{TEXT}.includes('No answer yet: 503 the bridge doesn')")
+        self.browser.wait(f"{TEXT}.includes('No answer yet: the bridge doesn')")
         self.look("nothing_yet")
 
     def test_what_is_there_stays_the_same_while_it_is_refreshed(self):

@@ -1,10 +1,10 @@
 """The status document, as it is served: what `ask` tells, and what is added to it for whoever reads it."""
 
-PROVED = ("Proved: for the lines that it is given, the program makes for each network exactly the frames, stations and "
-          "counts that this network alone would have, and nothing that other networks hear, send or refuse changes them.")
-NOT_PROVED = ("Not proved, only tested: the bridge between the radio, the wires and these lines, all that is timed, "
-              "counted or shown here, and this page; and the networks are open, so whoever is near can hear and join "
-              "them.")
+PROVED = ("Proved of the program that make apctl builds: for the lines that it is given, less those that it tells as "
+          "faults, it makes for each network exactly the frames, stations and counts that this network alone would "
+          "have, and nothing that other networks hear, send or refuse changes them.")
+NOT_PROVED = ("Not proved, only tested: the bridge between the radio, the wires and these lines, all that is timed or "
+              "counted by it, and this page; and the networks are open, so whoever is near can hear and join them.")
 NO_NAME = "(no name)"
 
 
@@ -13,8 +13,8 @@ class Untold(Exception):
 
 
 def name_of(ssid: str) -> str:
-    """What is shown of an SSID, which may hold any 32 octets and comes in hexadecimal: its text where it is valid UTF-8,
-    else the digits. What would not be seen in a text, or turn the letters beside it around, is escaped."""
+    """What is shown of an SSID, which may hold any 32 octets and comes in hexadecimal: its text where it is valid
+    UTF-8, else the digits. What would not be seen in a text, or turn the letters beside it around, is escaped."""
     octets = bytes.fromhex(ssid)
     try:
         text = octets.decode("utf-8")

@@ -11,7 +11,7 @@ CONTENT_TYPE = "text/plain; version=0.0.4; charset=utf-8"
 ASSOCIATED = "associated"
 STATES = ("authenticated", ASSOCIATED)
 PER_MILLISECOND = 1e-3
-RATE_UNIT = 500_000  # bits per second
+RATE_UNIT = 62_500  # octets per second: 500 kb/s
 
 
 class Kind:
@@ -119,7 +119,7 @@ def of_stations(networks: list[dict]) -> Iterator[Family]:
     """What is told of each station that is associated."""
     octets = counter("station_octets", "Octets of units to and from a station.")
     frames = counter("station_frames", "Frames to and from a station.")
-    rates = gauge("station_rate_bits_per_second", "The rate at which a station was last sent to and heard.")
+    rates = gauge("station_rate_bytes_per_second", "The rate at which a station was last sent to and heard, in octets.")
     signal = gauge("station_signal_dbm", "How strongly a station was last heard.")
     kept = gauge("station_kept_units", "Units that are kept for a station while it dozes.")
     dozes = gauge("station_dozes", "1 where a station dozes, else 0.")

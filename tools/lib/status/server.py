@@ -73,7 +73,6 @@ class Handler(BaseHTTPRequestHandler):
 
     server: "Server"
     protocol_version = default_request_version = "HTTP/1.1"
-    server_version, sys_version = "waltigon", ""
 
     def handle(self) -> None:
         """Reads a request, and answers it."""
@@ -144,6 +143,10 @@ class Handler(BaseHTTPRequestHandler):
         """Sends a fault, which is one line of text."""
         status = HTTPStatus(code)
         self.send(status, PLAIN, f"{code} {message or explain or status.phrase}\n")
+
+    def version_string(self) -> str:
+        """What the header Server says."""
+        return "waltigon"
 
     def log_message(self, *_: object) -> None:
         """Requests aren't told."""
