@@ -5,6 +5,7 @@ import shutil
 import subprocess
 from dataclasses import dataclass
 
+from explaining.whole import explain_config
 from frames import address_text
 from live import machine
 from live.faults import Fault
@@ -80,7 +81,8 @@ def check_config(wanted: Wanted) -> Settings:
     except OSError as fault:
         raise Fault(f"{wanted.program} can't be run: {fault.strerror}") from None
     if done.returncode != 0:
-        raise Fault(f"{wanted.config}: {done.stderr.strip()} (docs/FAULTS.md says what to look at)")
+        said, *reasons = explain_config(wanted.config, done.stderr.strip())
+        raise Fault("\n".join([f"{wanted.config}: {said}", *reasons]))
     return read_settings(wanted.config)
 
 
