@@ -6,6 +6,7 @@ import subprocess
 import tomllib
 import zlib
 from collections import Counter
+from types import SimpleNamespace
 
 import mistakes
 from common import CASES, PROGRAM, ROOT, THREE, ToolTest, heard, input_of, needs_program, tool, with_report
@@ -14,6 +15,8 @@ from explaining.answers import Answer, read_fault, run_program
 from explaining.source import Source
 from explaining.toml_scan import NoToml, scan
 from frames import BROADCAST
+from live.checks import check_config
+from live.faults import Fault as LiveFault
 from mistakes import CONFIG, PROBE, TRACE
 from reading import hears, request_of, unread_kind, wired_unread_kind
 from texts import read_text
@@ -162,6 +165,32 @@ class Mistakes(ToolTest):
                 self.write("my.trace", octets_of(mistake.trace))
                 words = ["run", self.path("my.toml"), self.path("my.trace")]
             self.assertEqual(run_program(PROGRAM, words, given).errors, f"{mistake.said}\n", mistake.says)
+
+    @needs_program
+    def test_bridge_shows_it(self):
+        """Where the program refuses a configuration, tools/live tells the fault and its reason."""
+        count = 0
+        for mistake in mistakes.TEXTS:
+            if mistake.trace is not None or mistake.is_joined:
+                continue
+            self.write("my.toml", octets_of(mistake.config))
+            config = self.path("my.toml")
+            with self.assertRaises(LiveFault) as caught:
+                check_config(SimpleNamespace(config=config, program=PROGRAM))
+            told = str(caught.exception).replace(config, "my.toml")
+            self.assertEqual(told.split("\n")[0], f"my.toml: {mistake.said}")
+            for words in mistake.says:
+                self.assertIn(words, told)
+            count += 1
+        self.assertGreater(count, 50)
+
+    def test_bridge_shows_what_is_no_fault(self):
+        """What a program says that is no line of a fault is shown as it is."""
+        self.write("program", b"#!/bin/sh\necho killed by somebody >&2\nexit 9\n")
+        os.chmod(self.path("program"), 0o755)
+        with self.assertRaises(LiveFault) as caught:
+            check_config(SimpleNamespace(config="my.toml", program=self.path("program")))
+        self.assertEqual(str(caught.exception), "my.toml: killed by somebody")
 
     def write(self, name, octets):
         """A file of the test's folder."""

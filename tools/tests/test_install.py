@@ -1,12 +1,19 @@
-"""Tests of share/install, the pages of man and the sample configuration: what is installed works and is taken away
-again, and no file of others is touched."""
+"""Tests of share/install, the pages of man, completion and the sample configuration: what is installed works and is
+taken away again, and no file of others is touched."""
 import glob
 import os
+import pty
+import select
 import shutil
+import signal
 import subprocess
+import time
 import unittest
 
 from common import CASES, PROGRAM, ROOT, ToolTest, needs_program
+
+SECONDS = 60
+BELL = "\a"
 
 
 class Install(ToolTest):
@@ -99,6 +106,62 @@ class Pages(ToolTest):
             self.assertEqual((done.returncode, done.stderr), (0, ""), page)
             for section in ("NAME", "DESCRIPTION", "EXAMPLES", "SEE ALSO"):
                 self.assertIn(f"\n{section}\n", done.stdout, page)
+
+
+class Terminal:
+    """A program in a terminal, as a person has it."""
+
+    def __init__(self, words, folder):
+        self.process, self.end = pty.fork()
+        if self.process == 0:
+            os.chdir(folder)
+            os.execvpe(words[0], words, {**os.environ, "TERM": "dumb"})
+        self.said = ""
+
+    def type(self, text, until):
+        """Types something, and answers what is said from then until all of these were said."""
+        begins = len(self.said)
+        os.write(self.end, text.encode())
+        due = time.monotonic() + SECONDS
+        while not all(words in self.said[begins:] for words in until):
+            if not select.select([self.end], [], [], max(0, due - time.monotonic()))[0]:
+                raise AssertionError(f"{text!r}: not said: {until} in {self.said[begins:]!r}")
+            self.said += os.read(self.end, 1 << 16).decode("utf-8", "replace")
+        return self.said[begins:]
+
+    def close(self):
+        """Ends it."""
+        os.kill(self.process, signal.SIGKILL)
+        os.waitpid(self.process, 0)
+        os.close(self.end)
+
+
+@unittest.skipUnless(shutil.which("zsh"), "zsh isn't there: apt-get install zsh")
+class Completion(ToolTest):
+    """Completion in a real zsh."""
+
+    def completed(self, typed, *until):
+        """What zsh shows where this is typed, and then the key for completion."""
+        terminal = Terminal(["zsh", "-f", "-i"], self.folder)
+        self.addCleanup(terminal.close)
+        folder = os.path.join(ROOT, "share", "completions")
+        terminal.type(f"fpath=({folder} $fpath); autoload -Uz compinit; compinit -u -D; PROMPT='re''ady> '\n",
+                      ["ready> "])
+        return terminal.type(f"{typed}\t", until)
+
+    def test_words_and_files_are_offered(self):
+        """Its commands; a configuration for each, traces where there may be some, and nothing behind them."""
+        for name in ("my.toml", "other.toml", "a.trace", "b.trace"):
+            with open(self.path(name), "w", encoding="ascii"):
+                pass
+        self.completed("apctl ", "check", "run", "play", "live", "answer lines as they come")
+        self.completed("apctl pl", "apctl play ")
+        for word in ("check", "run", "play", "live"):
+            self.assertNotIn("trace", self.completed(f"apctl {word} ", "my.toml", "other.toml"), word)
+        for typed in ("run my.toml ", "play my.toml ", "play my.toml a.trace "):
+            self.completed(f"apctl {typed}", "a.trace", "b.trace")
+        for typed in ("check my.toml ", "live my.toml ", "run my.toml a.trace "):
+            self.assertNotIn("b.trace", self.completed(f"apctl {typed}", BELL), typed)
 
 
 class Sample(ToolTest):

@@ -8,6 +8,7 @@ import time
 from contextlib import ExitStack
 from dataclasses import dataclass, replace
 
+from explaining.whole import explain_config
 from frames import address_of, address_text
 from live import changes, machine
 from live.changes import Change, Changes
@@ -123,7 +124,8 @@ def check_config(wanted: Wanted) -> Settings:
     except OSError as fault:
         raise Fault(f"{wanted.program} can't be run: {fault.strerror}") from None
     if done.returncode != 0:
-        raise Fault(f"{wanted.config}: {done.stderr.strip()} (docs/FAULTS.md says what to look at)")
+        said, *reasons = explain_config(wanted.config, done.stderr.strip())
+        raise Fault("\n".join([f"{wanted.config}: {said}", *reasons]))
     return read_settings(wanted.config)
 
 

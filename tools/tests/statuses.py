@@ -1,0 +1,69 @@
+"""Status documents for tests, and a bridge that only has its socket."""
+import json
+import os
+import socket
+import threading
+
+
+def station(number, **other):
+    """A station that is associated, or what `other` makes of it."""
+    return {"address": f"02:aa:00:00:{number >> 8:02x}:{number & 255:02x}", "state": "associated", "aid": number,
+            "dozes": False, "since": 102.5, "heard": 0.25, "signal": -30, "rate_to": 108, "rate_from": 11,
+            "octets_to": 10240, "octets_from": 9000, "frames_to": 20, "frames_from": 1, "kept": 0, **other}
+
+
+def only_known(number):
+    """A station that only authenticated."""
+    return station(number, state="authenticated", aid=None, signal=None, rate_to=None, rate_from=None, octets_to=0,
+                   octets_from=0, frames_to=0, frames_from=0, kept=None)
+
+
+def network(number, ssid, stations=(), **other):
+    """A network with these stations; `ssid` in octets."""
+    return {"bssid": f"02:00:00:00:01:{number:02x}", "ssid": ssid.hex(), "wire": f"wire{number}",
+            "counts": {"events": 84, "clock": 46, "unread": 3, "lost": 2, "kept": 1}, "refusals": {},
+            "stations": list(stations), **other}
+
+
+def document(*networks, **other):
+    """A status document of these networks."""
+    return {"version": "e4965d3", "since": 12.345, "phy": "phy0", "channel": 6, "reloads": 0, "faults": [],
+            "beacons": {"sent": 1234, "late_ms_mean": 0.412, "late_ms_worst": 7.9, "missed": 0}, "drops": {},
+            "left_out": {}, "networks": list(networks), **other}
+
+
+class FakeBridge:
+    """The bridge's socket: each line is answered by what `answer` makes of it, in octets; by None it is closed."""
+
+    def __init__(self, path, answer):
+        self.path, self.answer = path, answer
+        self.listener = socket.socket(socket.AF_UNIX)
+        self.listener.bind(path)
+        self.listener.listen()
+        os.chmod(path, 0o666)
+        threading.Thread(target=self.serve, daemon=True).start()
+
+    def serve(self):
+        """Serves one client after the other until it is closed."""
+        while True:
+            try:
+                client, _ = self.listener.accept()
+            except OSError:
+                return
+            with client, client.makefile("rb") as lines:
+                for line in lines:
+                    answer = self.answer(line)
+                    if answer is None:
+                        break
+                    client.sendall(answer)
+
+    def close(self):
+        """Ends it, and takes its socket away."""
+        os.unlink(self.path)
+        self.listener.shutdown(socket.SHUT_RDWR)
+        self.listener.close()
+
+
+def line_of(told):
+    """A document as the bridge writes it."""
+    return json.dumps(told).encode() + b"\n"

@@ -1,0 +1,182 @@
+"""Tests of the status page in a real browser, as a telephone and a desk show it. Where STATUS_PICTURES names a folder,
+its pictures are put there."""
+import os
+import unittest
+
+from browser import Browser, needs_chromium
+from status.document import Untold
+from status.server import serve
+from statuses import document, network, only_known, station
+
+TELEPHONE, DESK = (390, 844), (1280, 800)
+MARKUP = b'<img src=x onerror="x=1"></h2>&amp;'
+PICTURES = os.environ.get("STATUS_PICTURES")
+IS_WIDER = "document.documentElement.scrollWidth > document.documentElement.clientWidth"
+TEXT = "document.body.innerText"
+
+
+def twenty():
+    """Three networks with twenty stations, as a busy evening has."""
+    stations = []
+    for number in range(1, 21):
+        dozes, frames = number % 3 == 0, 3 * 5 ** (number % 7)
+        stations.append(station(
+            number, since=37.0 * number ** 2, heard=0.1 * number, signal=-28 - 2 * number, dozes=dozes,
+            kept=number % 4 if dozes else 0, rate_to=(108, 96, 22, 11)[number % 4], rate_from=(108, 72, 48)[number % 3],
+            frames_to=frames, frames_from=frames * 2 // 3, octets_to=frames * 917, octets_from=frames * 71))
+    return document(
+        network(1, "Gäste ☕".encode(), stations[:12], refusals={"1": 5, "18": 1}),
+        network(2, b"office", stations[12:19]),
+        network(3, b"devices", [stations[19], *map(only_known, range(300, 318))], wire=None),
+        since=93784.5, drops={"the air: frames of data that had waited 50 ms": 3},
+        left_out={"the air: sent again, and taken before": 12, "wire1: with a VLAN's tag": 4})
+
+
+@needs_chromium
+class Shown(unittest.TestCase):
+    """The page."""
+
+    @classmethod
+    def setUpClass(cls):
+        cls.browser = Browser()
+        cls.addClassCleanup(cls.browser.close)
+
+    def setUp(self):
+        self.told = twenty()
+        self.server = self.serve(0)
+        self.browser.size(*DESK)
+        self.browser.faults.clear()
+
+    def serve(self, port):
+        """Serves what is told."""
+        server = serve(port, self.ask)
+        self.addCleanup(server.close)
+        return server
+
+    def ask(self):
+        """What is told, or why nothing is."""
+        if isinstance(self.told, Exception):
+            raise self.told
+        return self.told
+
+    def open(self):
+        """Opens the page, and waits until something is told."""
+        self.browser.open(self.server.url)
+        self.browser.wait("document.getElementById('touch')?.textContent.startsWith('in touch')")
+
+    def look(self, name):
+        """On a telephone and on a desk the page isn't wider than the window, in light and in dark."""
+        for kind, size in (("telephone", TELEPHONE), ("desk", DESK)):
+            for is_dark in (False, True):
+                self.browser.size(*size, is_dark)
+                self.assertFalse(self.browser.value(IS_WIDER), f"{name} is wider than a {kind}")
+                if PICTURES:
+                    with open(os.path.join(PICTURES, f"{name}_{kind}{'_dark' * is_dark}.png"), "wb") as file:
+                        file.write(self.browser.picture())
+
+    def test_twenty_stations(self):
+        self.open()
+        self.look("twenty")
+        text = self.browser.value(TEXT)
+        for one in self.told["networks"]:
+            self.assertIn(one["bssid"], text)
+            for told in one["stations"]:
+                self.assertEqual(told["address"] in text, told["state"] == "associated", told)
+        for words in ("Gäste ☕", "20 (6 doze)", "e4965d3, channel 6, phy0", "1 d 2 h", "0.4 ms, 7.9 ms", "no wire",
+                      "−30 dBm", "54 Mb/s", "5.5 Mb/s", "2.8 kB", "375 frames",
+                      "5 by status 1 (max_known reached, or another SSID)",
+                      "18 stations that only authenticated", "Proved of the program", "Not proved, only tested: "):
+            self.assertIn(words, text)
+        self.assertEqual(self.browser.faults, [])
+
+    def test_those_that_only_authenticated_unfold_and_stay_so(self):
+        self.open()
+        self.browser.value("document.querySelectorAll('#networks details')[2].open = true")
+        self.assertIn("02:aa:00:00:01:2c", self.browser.value(TEXT))
+        self.told["networks"][2]["stations"].append(only_known(400))
+        self.browser.wait(f"{TEXT}.includes('19 stations that only authenticated')")
+        self.assertIn("02:aa:00:00:01:90", self.browser.value(TEXT))
+        self.look("unfolded")
+
+    def test_no_station(self):
+        self.told = document(network(1, b"guests"), network(2, b"office", counts=None))
+        self.open()
+        self.look("none")
+        text = self.browser.value(TEXT)
+        self.assertEqual(text.count("No station is here."), 2)
+        self.assertIn("no counts yet", text)
+        self.assertEqual(self.browser.faults, [])
+
+    def test_a_name_that_is_markup_is_shown_as_it_is(self):
+        long = b"W" * 32
+        self.told = document(
+            network(1, MARKUP, [station(1, address="<b>02:aa</b>", state="<i>")], wire="<u>"), network(2, long),
+            network(3, b"\xff<b>"), network(4, "\u202eevil\n".encode()), version="<b>1</b>", drops={"<b>": 1},
+            faults=[{"seconds": 3.2, "text": "fault <b>"}])
+        self.open()
+        self.look("markup")
+        names = self.browser.value("[...document.querySelectorAll('#networks h2')].map(node => node.textContent)")
+        self.assertEqual(names, [MARKUP.decode(), long.decode(), "hex ff3c623e", "\\u{202e}evil\\x0a"])
+        self.assertEqual(self.browser.value("document.querySelectorAll('main b, main i, main u, main img').length"), 0)
+        self.assertEqual(self.browser.value("typeof x"), "undefined")
+        self.assertEqual(self.browser.value("getComputedStyle(document.body).margin"), "0px", "its style holds")
+        self.assertEqual(self.browser.faults, [])
+
+    def test_the_bridge_ended_and_is_there_again(self):
+        self.open()
+        self.told = Untold("no access point runs at /run/waltigon/phy0.sock")
+        self.browser.wait(f"{TEXT}.includes('no access point runs at /run/waltigon/phy0.sock')")
+        self.assertRegex(self.browser.value(TEXT), r"Lost touch \d+\.\d s ago, and what is shown is of \d\d:\d\d:\d\d")
+        self.look("ended")
+        port = self.server.server_address[1]
+        self.server.close()
+        self.browser.wait(f"{TEXT}.includes('nobody answers here')")
+        self.assertIn("02:aa:00:00:00:01", self.browser.value(TEXT), "what was known is still shown")
+        self.assertTrue(self.browser.value("document.title.startsWith('lost touch')"))
+        self.told = document(network(1, b"guests", [station(77)]))
+        self.server = self.serve(port)
+        self.browser.wait("document.getElementById('touch').textContent.startsWith('in touch')")
+        text = self.browser.value(TEXT)
+        self.assertIn("02:aa:00:00:00:4d", text)
+        self.assertNotIn("02:aa:00:00:00:01", text)
+        self.assertNotIn("Lost touch", text)
+
+    def test_nobody_answered_yet(self):
+        self.told = Untold("the bridge doesn't answer")
+        self.browser.open(self.server.url)
+        self.browser.wait(f"{TEXT}.includes('No answer yet: the bridge doesn')")
+        self.look("nothing_yet")
+
+    def test_what_is_there_stays_the_same_while_it_is_refreshed(self):
+        self.open()
+        self.browser.value("marked = [...document.querySelectorAll('td.address')]; marked[3].scrollIntoView(); 0")
+        stations = self.told["networks"][0]["stations"]
+        gone, first = stations.pop(2), station(500, since=0.5)
+        stations.insert(0, first)
+        stations[4]["octets_to"] = 5_000_000
+        self.browser.wait(f"{TEXT}.includes('{first['address']}')")
+        text = self.browser.value(TEXT)
+        self.assertIn("5.0 MB", text)
+        self.assertNotIn(gone["address"], text)
+        self.assertEqual(self.browser.value(
+            "[...document.querySelectorAll('td.address')].filter(cell => marked.includes(cell)).length"), 37)
+        self.assertEqual(self.browser.value(
+            "[...document.querySelectorAll('#networks table:not(.only) td.address')].map(cell => cell.textContent)"),
+            [told["address"] for one in self.told["networks"] for told in one["stations"] if told["aid"] is not None])
+
+    def test_ten_thousand_strangers_are_counted(self):
+        self.told = document(network(1, b"guests", [station(1), *map(only_known, range(2, 10002))]))
+        self.open()
+        text = self.browser.value(TEXT)
+        self.assertIn("10,000 stations that only authenticated", text)
+        self.assertIn("and 9,500 stations more", text)
+        self.browser.wait("document.querySelectorAll('.only tbody tr').length === 500")
+
+    def test_a_page_of_elsewhere_is_told_nothing(self):
+        self.browser.open("about:blank")
+        self.assertEqual(self.browser.value(f"fetch('{self.server.url}status.json').then(() => 'read', () => 'kept')"),
+                         "kept")
+
+
+if __name__ == "__main__":
+    unittest.main()
