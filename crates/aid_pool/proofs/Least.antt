@@ -70,7 +70,7 @@ first_free is_out k (suc n) a free some from to before =
           (λ m f t. elim (cases_eq m a) [ inl same ↦ rw same here | inr other ↦ before m f (omega arith) ])
     ] refl
 
--- a set of fewer than 2007 numbers leaves one free, of the first so many and one
+-- a set of fewer than 2007 numbers leaves one free, at most one above their count
 pub least_of_set : (s : Numbers) → set.len s < 2007 → IsLeastFree (set.contains s) (least_free (set.contains s)) × (least_free (set.contains s) ≤ set.len s + 1)
 least_of_set s few =
     let some = free_within (set.len s + 1) s (omega arith) in

@@ -5,7 +5,7 @@ use Rattle.std.specs.Prelude.{◌++◌, map, replicate}
 use Rattle.ap_config.specs.Configuration.{of_radio, of_network, network_fault, networks_fault, fault_of}
 use Rattle.ap_config.specs.declared.config.NetConfig.{NetConfig}
 use Rattle.ap_config.specs.declared.config.ConfigFault.{ConfigFault}
-use Rattle.ap_config.proofs.Samples.{network, radio}
+use Rattle.ap_config.specs.Samples.{network, radio}
 
 -- the radio with this network alone
 abbrev fault_with : NetConfig → Option ConfigFault
@@ -92,7 +92,7 @@ an_ssid_of_33_octets_is_refused = refl
 
 -- ---- rates
 
--- so many different rates, from 1 on
+-- sixteen different rates, from 1 on
 abbrev sixteen_rates : List ℕ
 sixteen_rates = 1 ∷ 2 ∷ 3 ∷ 4 ∷ 5 ∷ 6 ∷ 7 ∷ 8 ∷ 9 ∷ 10 ∷ 11 ∷ 12 ∷ 13 ∷ 14 ∷ 15 ∷ 16 ∷ []
 

@@ -90,7 +90,7 @@ pub const EVENT_LIMITS: Limits = Limits {
     most: MAX_EVENTS,
 };
 
-/// Whether a radio may have so many networks.
+/// Whether a radio may have this number of networks.
 pub fn count_fits(networks: usize) -> bool
     ensures { result ≡ count_fits networks }
 {

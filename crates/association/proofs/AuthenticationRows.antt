@@ -1,7 +1,7 @@
 -- What the definitions say of some requests to authenticate, and of their answers.
 use Rattle.std.proofs.Common.{◌≡◌, true, false, [], ◌∷◌, refl}
-use Rattle.mac_frame.proofs.Samples.{network, station}
-use Rattle.association.proofs.Samples.{other_station, frame}
+use Rattle.mac_frame.specs.Samples.{network, station}
+use Rattle.association.specs.Samples.{other_station, frame}
 use Rattle.association.specs.Authentication.{auth_status, authentication}
 
 -- ---- statuses

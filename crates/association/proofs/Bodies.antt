@@ -28,7 +28,7 @@ FindsElements = (body : List ℕ) (es : List Pair) → AreOctets body → elemen
 
 -- ---- the fields of a body
 
--- what stands after so many octets
+-- what stands after the first k octets
 after : (body p q : List ℕ) (k : ℕ) → body ≡ p ++ q → length p ≡ k → drop k body ≡ q
 after body p q k whole len =
     ap (λ (n : ℕ). drop n body) (sym len) ∙ ap (drop (length p)) whole ∙ drop-append_seam p q
@@ -61,7 +61,7 @@ two_fields body =
     ∙ ap (λ q. take 2 body ++ q) rest
     ∙ sym (append_assoc (take 2 body) (take 2 (drop 2 body)) (drop 4 body))
 
--- and a third one of so many octets
+-- and a third one of m octets
 three_fields : (body : List ℕ) (m : ℕ)
     → body ≡ ((take 2 body ++ take 2 (drop 2 body)) ++ take m (drop 4 body)) ++ drop m (drop 4 body)
 three_fields body m =

@@ -1,8 +1,8 @@
 -- What the definitions say of some requests to associate, and of their answers.
 use Rattle.std.proofs.Common.{◌≡◌, true, false, List, [], ◌∷◌, refl}
-use Rattle.mac_frame.proofs.Samples.{network, station}
+use Rattle.mac_frame.specs.Samples.{network, station}
 use Rattle.elements.specs.Elements.{Pair}
-use Rattle.association.proofs.Samples.{other_station, frame, four_rates, ssid}
+use Rattle.association.specs.Samples.{other_station, frame, four_rates, ssid}
 use Rattle.association.specs.Joining.{assoc_status, aid_field, association_response}
 
 -- ---- statuses

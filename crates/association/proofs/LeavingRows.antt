@@ -1,8 +1,8 @@
 -- What the definitions say of some notices.
 use Rattle.std.proofs.Common.{◌≡◌, [], ◌∷◌, refl}
 use Rattle.station_state.specs.declared.class.Notice.TheVariants.{Deauthenticate, Disassociate}
-use Rattle.mac_frame.proofs.Samples.{network, station}
-use Rattle.association.proofs.Samples.{frame}
+use Rattle.mac_frame.specs.Samples.{network, station}
+use Rattle.association.specs.Samples.{frame}
 use Rattle.association.specs.Leaving.{notice_frame}
 
 an_unknown_station_is_deauthenticated :

@@ -5,11 +5,11 @@ use Rattle.elements.specs.Elements.{Pair, elements_of, elements_within}
 use Rattle.mac_frame.specs.Address.{broadcast}
 use Rattle.mac_frame.specs.declared.frame.Unread.{Unread}
 use Rattle.mac_frame.specs.declared.frame.Unread.TheVariants.{Short, Kind, Flags, Direction, Address, Body, TooLong}
-use Rattle.mac_frame.proofs.Samples.{network, station, host, frame as frame_of_parts}
+use Rattle.mac_frame.specs.Samples.{network, station, host, frame as frame_of_parts}
 use Rattle.station_state.specs.declared.class.Class.TheVariants.{One, Two, Three}
 use Rattle.association.specs.Asked.{class_of}
 use Rattle.association.specs.Request.{Request, Probe, Auth, Assoc, Disassoc, Deauth, Msdu, Null, Poll, request_of}
-use Rattle.association.proofs.Samples.{ssid}
+use Rattle.association.specs.Samples.{ssid}
 
 -- a management frame to the network, by its first octet
 abbrev managed : ℕ → List ℕ → List ℕ
@@ -29,7 +29,7 @@ pub numbers_are_read_low_octet_first :
     ≡ Ok (Auth station 0x0201 0x0403)
 numbers_are_read_low_octet_first = refl
 
--- what is read of the first so many octets
+-- what is read of the first octets, for each of these lengths
 abbrev cut_at : List ℕ → List ℕ → List (Result Request Unread)
 cut_at lengths x = map (λ n. request_of network (take n x)) lengths
 

@@ -6,3 +6,4 @@ pub mod Joining
 pub mod Leaving
 pub mod Request
 pub mod Asked
+pub mod Samples

@@ -12,7 +12,7 @@ use Rattle.mac_frame.specs.declared.frame.Unread.TheVariants.{Body}
 abbrev pub number_at : List ℕ → ℕ → ℕ
 number_at body place = from_le_bytes w16 (take 2 (drop place body))
 
--- what is read of a body that has so many octets of fixed fields; any shorter one is a fault
+-- what is read of a body that begins with fixed fields of this length; any shorter one is a fault
 abbrev pub with_fixed : {A : Type 0} → ℕ → List ℕ → Result A Unread → Result A Unread
 with_fixed fixed body read = if nat_lt (length body) fixed then Err Body else read
 

@@ -5,7 +5,7 @@ use Rattle.beacon.specs.Advert.{Announced, timestamp, fixed_fields, network_elem
 use Rattle.beacon.specs.Beacon.{dtim_count, beacon_tim, beacon_body, beacon}
 use Rattle.beacon.proofs.Samples.{lab, four_rates, nine_rates}
 
--- the network when so many beacon intervals have begun
+-- the network at a clock, which counts the beacon intervals
 at_clock : ℕ → List ℕ → Announced
 at_clock clock rates = record (lab rates) { clock = clock }
 

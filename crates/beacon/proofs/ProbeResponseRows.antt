@@ -1,7 +1,7 @@
 -- What the definitions say of some probe responses.
 use Rattle.std.proofs.Common.{◌≡◌, [], ◌∷◌, ◌++◌, refl}
 use Rattle.std.specs.Int.{w64, to_le_bytes}
-use Rattle.mac_frame.proofs.Samples.{station}
+use Rattle.mac_frame.specs.Samples.{station}
 use Rattle.beacon.specs.Advert.{timestamp, fixed_fields, network_elements}
 use Rattle.beacon.specs.ProbeResponse.{probe_response_body, probe_response}
 use Rattle.beacon.proofs.Samples.{lab, four_rates, nine_rates}

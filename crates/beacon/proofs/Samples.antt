@@ -1,6 +1,6 @@
 -- The network of which the rows speak.
 use Rattle.std.proofs.Common.{ℕ, List, [], ◌∷◌}
-use Rattle.mac_frame.proofs.Samples.{network}
+use Rattle.mac_frame.specs.Samples.{network}
 use Rattle.beacon.specs.Advert.{Announced}
 
 -- a network 02:00:00:00:00:01 named lab on channel 6, with a beacon interval of 100 time units

@@ -26,7 +26,7 @@ announced a = record {
   clock = a.clock;
 }
 
--- Timestamp (9.4.1.10), in microseconds: the clock counts beacon intervals of so many time units of 1024 (profile)
+-- Timestamp (9.4.1.10), in microseconds: a clock of beacon intervals, each of these time units of 1024 (profile)
 unfoldable pub timestamp : ℕ → ℕ → List ℕ
 timestamp clock interval = to_le_bytes w64 (clock * interval * 1024)
 

@@ -15,7 +15,7 @@ const LEAST_TIM_LEN: usize = 6;
 
 /// Appends a whole beacon to the broadcast address (9.3.3.3), of a network whose clock is at least 1, with an SSID of
 /// at most 32 octets (9.4.2.2), 1 to 16 rates (*profile*) and a sequence number below 4096 (9.2.4.4.2). `period`, at
-/// least 1, is the DTIM period: one of so many beacons is a DTIM (9.4.2.6). `group` tells whether units for the group
+/// least 1, is the DTIM period: each `period`-th beacon is a DTIM (9.4.2.6). `group` tells whether units for the group
 /// are kept, which the TIM of a DTIM alone shows; `bits` has the association identifiers of the stations for which
 /// units are kept. After `NoMemory` `out` is as it was.
 pub fn write_beacon(

@@ -2,12 +2,11 @@
 -- fault.
 use Rattle.std.proofs.Common.{◌≡◌, ℕ, ◌+◌, ◌≤◌, ◌⊎◌, inl, inr, Bool, true, false, ltb, List, ◌++◌, length, take, drop}
 use Rattle.std.proofs.Common.{Result, Ok, Err, if◌then◌else◌, refl, sym, ◌∙◌, ap, subst, ⊎_elim, arith, length-append}
-use Rattle.std.proofs.Common.{append_assoc}
+use Rattle.std.proofs.Common.{append_assoc, length-drop}
 use Rattle.std.proofs.lemmas.Bool.{le-ltb, le-leb, lt-leb, leb-true, ltb-false, and_from, and_parts}
 use Rattle.std.proofs.lemmas.List.{length-take-le, take-append-drop, take_at, drop_at, drop-drop}
 use Rattle.mac_frame.specs.declared.frame.Unread.{Unread}
 use Rattle.mac_frame.specs.declared.frame.Unread.TheVariants.{Short, Body, TooLong}
-use Rattle.mac_frame.proofs.Headers.{part_length}
 use Rattle.bridge.specs.declared.ethernet.Kind.{Kind}
 use Rattle.bridge.specs.declared.ethernet.Kind.TheVariants.{Typed, Sized}
 use Rattle.bridge.specs.Ethernet.{Ethernet, number, is_type, is_length, IsParted, IsOfKind, IsEthernet, number_of}
@@ -67,8 +66,8 @@ parted y long =
       field = field;
       string = sym whole;
       destination_len = length-take-le 6 y (omega arith);
-      source_len = part_length y 6 6 (omega arith);
-      field_len = part_length y 2 12 (omega arith);
+      source_len = length-take-le 6 (drop 6 y) (omega (arith, length-drop 6 y));
+      field_len = length-take-le 2 (drop 12 y) (omega (arith, length-drop 12 y));
       number_is = refl;
     }
 

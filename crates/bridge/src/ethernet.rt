@@ -98,7 +98,7 @@ fn typed_payload(rest: &[u8]) -> Result<&[u8], Unread>
     Ok(rest)
 }
 
-/// The payload of a frame that names its length: so many octets of what follows.
+/// The payload of a frame that names its length: the first `len` octets of what follows.
 fn sized_payload(rest: &[u8], len: usize) -> Result<&[u8], Unread>
     ensures { MatchResult result
         (λ payload. (payload.now ≡ take len rest.now) × (len ≤ length rest.now))

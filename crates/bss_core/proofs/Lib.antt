@@ -1,3 +1,4 @@
+pub mod FrameLaws
 pub mod RadioFrames
 pub mod RadioChanges
 pub mod RadioKeeps

@@ -13,9 +13,8 @@ use Rattle.events.specs.declared.event.Event.{Event}
 use Rattle.events.specs.declared.air_item.AirItem.{AirItem}
 use Rattle.bss_core.specs.declared.radio.step.Step.{Step}
 use Rattle.bss_core.specs.declared.radio.step.Step.TheVariants.{Take, Hand, Leave}
-use Rattle.network.proofs.SentFrames.{air-push}
 use Rattle.bss_core.proofs.RadioSteps.{at_each_place, after_steps-follow, events-part}
-use Rattle.events.proofs.Items.{items_of-append, items_of-other, items_of-same}
+use Rattle.bss_core.proofs.FrameLaws.{FrameLaws}
 
 -- ---- the frame with a number
 
@@ -66,12 +65,12 @@ accounts_first c = record {
 }
 
 -- an event leaves what was handed
-tallies_event : (c : RadioConfig) (place : ℕ) (out : List (List ℕ)) (p : Place) (event : Event) → Tallies c place out p → Tallies c place out (record p { events = p.events ++ event ∷ [] })
-tallies_event c place out p event h =
+tallies_event : FrameLaws → (c : RadioConfig) (place : ℕ) (out : List (List ℕ)) (p : Place) (event : Event) → Tallies c place out p → Tallies c place out (record p { events = p.events ++ event ∷ [] })
+tallies_event laws c place out p event h =
     let s = setting_at c place in
     let old : List (List ℕ) = (alone s p.events).air in
     let more : List (List ℕ) = sent_by s p.events event in
-    let now : (alone s (p.events ++ event ∷ [])).air ≡ old ++ more = air-push s p.events event in
+    let now : (alone s (p.events ++ event ∷ [])).air ≡ old ++ more = laws.sent s p.events event in
     let count = ap length now ∙ length-append old more in
     record {
       sent = omega (arith, h.sent);
@@ -88,16 +87,16 @@ tallies_frame c place out p octets h is =
       all = ap (λ (fs : List (List ℕ)). fs ++ octets ∷ []) h.all ∙ sym (take-frame frames p.handed octets is);
     }
 
-accounts_event : (c : RadioConfig) (s : RadioState) (place : ℕ) (event : Event) → Accounts c s → place < length c.networks → Accounts c (with_place s place (record (place_at s place) { events = (place_at s place).events ++ event ∷ [] }))
-accounts_event c s place event h within = record {
+accounts_event : FrameLaws → (c : RadioConfig) (s : RadioState) (place : ℕ) (event : Event) → Accounts c s → place < length c.networks → Accounts c (with_place s place (record (place_at s place) { events = (place_at s place).events ++ event ∷ [] }))
+accounts_event laws c s place event h within = record {
   size = length-set s.places place _ ∙ h.size;
   each =
-      at_each_place s place _ (λ q p. Tallies c q (out_of s q) p) (omega (arith, h.size)) (tallies_event c place _ (place_at s place) event (h.each place)) (λ q ne. h.each q);
+      at_each_place s place _ (λ q p. Tallies c q (out_of s q) p) (omega (arith, h.size)) (tallies_event laws c place _ (place_at s place) event (h.each place)) (λ q ne. h.each q);
 }
 
-accounts_frame : (c : RadioConfig) (s : RadioState) (place : ℕ) (o : Option (List ℕ)) → Accounts c s → place < length c.networks → slice_get (air_at c s place) (place_at s place).handed ≡ o → Accounts c (hand_frame c s place o)
-accounts_frame c s place None h within is = h
-accounts_frame c s place (Some octets) h within is = cond_both (ltb (length s.queue) c.queue) _ s (Accounts c) (λ _. moved) (λ _. h)
+accounts_frame : FrameLaws → (c : RadioConfig) (s : RadioState) (place : ℕ) (o : Option (List ℕ)) → Accounts c s → place < length c.networks → slice_get (air_at c s place) (place_at s place).handed ≡ o → Accounts c (hand_frame c s place o)
+accounts_frame laws c s place None h within is = h
+accounts_frame laws c s place (Some octets) h within is = cond_both (ltb (length s.queue) c.queue) _ s (Accounts c) (λ _. moved) (λ _. h)
   where
     next : RadioState
     next = record (with_place s place (record (place_at s place) { handed = (place_at s place).handed + 1 })) { queue = s.queue ++ (record { place = place; octets = octets }) ∷ [] }
@@ -105,11 +104,11 @@ accounts_frame c s place (Some octets) h within is = cond_both (ltb (length s.qu
     here : out_of s place ++ octets ∷ [] ≡ out_of next place
     here =
         append_assoc (items_of place s.left) (items_of place s.queue) (octets ∷ [])
-        ∙ ap (λ (fs : List (List ℕ)). items_of place s.left ++ fs) (sym (items_of-same place s.queue octets))
+        ∙ ap (λ (fs : List (List ℕ)). items_of place s.left ++ fs) (sym (laws.same place s.queue octets))
 
     others : (q : ℕ) → (q ≡ place → ⊥) → out_of s q ≡ out_of next q
     others q ne =
-        ap (λ (fs : List (List ℕ)). items_of q s.left ++ fs) (sym (items_of-other q place s.queue octets ne))
+        ap (λ (fs : List (List ℕ)). items_of q s.left ++ fs) (sym (laws.other q place s.queue octets ne))
 
     moved : Accounts c next
     moved = record {
@@ -118,9 +117,9 @@ accounts_frame c s place (Some octets) h within is = cond_both (ltb (length s.qu
           at_each_place s place _ (λ q p. Tallies c q (out_of next q) p) (omega (arith, h.size)) (subst (λ fs. Tallies c place fs (record (place_at s place) { handed = (place_at s place).handed + 1 })) here (tallies_frame c place _ (place_at s place) octets (h.each place) is)) (λ q ne. subst (λ fs. Tallies c q fs (place_at s q)) (others q ne) (h.each q));
     }
 
-accounts_left : (c : RadioConfig) (s : RadioState) (items : List AirItem) → Accounts c s → s.queue ≡ items → Accounts c (leave_first s items)
-accounts_left c s [] h is = h
-accounts_left c s (item ∷ items) h is = record {
+accounts_left : FrameLaws → (c : RadioConfig) (s : RadioState) (items : List AirItem) → Accounts c s → s.queue ≡ items → Accounts c (leave_first s items)
+accounts_left laws c s [] h is = h
+accounts_left laws c s (item ∷ items) h is = record {
   size = h.size;
   each = λ place. subst (λ fs. Tallies c place fs (place_at s place)) (same place) (h.each place);
 }
@@ -131,40 +130,40 @@ accounts_left c s (item ∷ items) h is = record {
         let one : List (List ℕ) = items_of place (item ∷ []) in
         let rest : List (List ℕ) = items_of place items in
         ap (λ (xs : List AirItem). left ++ items_of place xs) is
-        ∙ ap (λ (fs : List (List ℕ)). left ++ fs) (items_of-append place (item ∷ []) items)
+        ∙ ap (λ (fs : List (List ℕ)). left ++ fs) (laws.append place (item ∷ []) items)
         ∙ sym (append_assoc left one rest)
-        ∙ ap (λ (fs : List (List ℕ)). fs ++ rest) (sym (items_of-append place s.left (item ∷ [])))
+        ∙ ap (λ (fs : List (List ℕ)). fs ++ rest) (sym (laws.append place s.left (item ∷ [])))
 
-accounts_step : (c : RadioConfig) (s : RadioState) (step : Step) → Accounts c s → Accounts c (radio_step c s step)
+accounts_step : FrameLaws → (c : RadioConfig) (s : RadioState) (step : Step) → Accounts c s → Accounts c (radio_step c s step)
 unfolding radio_step
-accounts_step c s (Take place event) h =
+accounts_step laws c s (Take place event) h =
     cond_both (names_network c place) _ s (Accounts c)
-    (λ named. cond_both (ltb (length (place_at s place).events) (network_at c place).max_events) _ s (Accounts c) (λ _. accounts_event c s place event h (ltb-true place (length c.networks) named)) (λ _. h))
+    (λ named. cond_both (ltb (length (place_at s place).events) (network_at c place).max_events) _ s (Accounts c) (λ _. accounts_event laws c s place event h (ltb-true place (length c.networks) named)) (λ _. h))
     (λ _. h)
-accounts_step c s (Hand place) h =
+accounts_step laws c s (Hand place) h =
     cond_both (names_network c place) _ s (Accounts c)
-    (λ named. accounts_frame c s place (slice_get (air_at c s place) (place_at s place).handed) h (ltb-true place (length c.networks) named) refl)
+    (λ named. accounts_frame laws c s place (slice_get (air_at c s place) (place_at s place).handed) h (ltb-true place (length c.networks) named) refl)
     (λ _. h)
-accounts_step c s Leave h = accounts_left c s s.queue h refl
+accounts_step laws c s Leave h = accounts_left laws c s s.queue h refl
 
-accounts : (c : RadioConfig) (steps : List Step) → Accounts c (after_steps c steps)
-accounts c steps = after_steps-follow c (λ _. Accounts c) (accounts_first c) (λ _. accounts_step c) steps
+accounts : FrameLaws → (c : RadioConfig) (steps : List Step) → Accounts c (after_steps c steps)
+accounts laws c steps = after_steps-follow c (λ _. Accounts c) (accounts_first c) (λ _. accounts_step laws c) steps
 
 -- ---- what comes of it
 
 -- a network handed no more frames than it sent
-pub handed-le : (c : RadioConfig) (steps : List Step) (place : ℕ) → (place_at (after_steps c steps) place).handed ≤ length (air_at c (after_steps c steps) place)
-handed-le c steps place = ((accounts c steps).each place).sent
+pub handed-le : FrameLaws → (c : RadioConfig) (steps : List Step) (place : ℕ) → (place_at (after_steps c steps) place).handed ≤ length (air_at c (after_steps c steps) place)
+handed-le laws c steps place = ((accounts laws c steps).each place).sent
 
 -- what left, what is queued and what waits, of one network
-pub left-queue-waiting : (c : RadioConfig) (steps : List Step) (place : ℕ) → items_of place (after_steps c steps).left ++ items_of place (after_steps c steps).queue ++ waiting_at c (after_steps c steps) place ≡ air_at c (after_steps c steps) place
-left-queue-waiting c steps place =
+pub left-queue-waiting : FrameLaws → (c : RadioConfig) (steps : List Step) (place : ℕ) → items_of place (after_steps c steps).left ++ items_of place (after_steps c steps).queue ++ waiting_at c (after_steps c steps) place ≡ air_at c (after_steps c steps) place
+left-queue-waiting laws c steps place =
     let s = after_steps c steps in
-    ap (λ (fs : List (List ℕ)). fs ++ waiting_at c s place) (((accounts c steps).each place).all)
+    ap (λ (fs : List (List ℕ)). fs ++ waiting_at c s place) (((accounts laws c steps).each place).all)
     ∙ take-append-drop (place_at s place).handed (air_at c s place)
 
 -- all frames of a network are those that it sends alone, for its part of the steps
-pub frames-alone : (c : RadioConfig) (steps : List Step) (place : ℕ) → place < length c.networks → items_of place (after_steps c steps).left ++ items_of place (after_steps c steps).queue ++ waiting_at c (after_steps c steps) place ≡ (alone (setting_at c place) (part_of c place steps)).air
-frames-alone c steps place within =
-    left-queue-waiting c steps place
+pub frames-alone : FrameLaws → (c : RadioConfig) (steps : List Step) (place : ℕ) → place < length c.networks → items_of place (after_steps c steps).left ++ items_of place (after_steps c steps).queue ++ waiting_at c (after_steps c steps) place ≡ (alone (setting_at c place) (part_of c place steps)).air
+frames-alone laws c steps place within =
+    left-queue-waiting laws c steps place
     ∙ ap (λ (es : List Event). (alone (setting_at c place) es).air) (events-part c steps place within)

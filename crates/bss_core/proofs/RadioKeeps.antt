@@ -17,7 +17,7 @@ use Rattle.ap_config.specs.declared.config.NetConfig.{NetConfig}
 use Rattle.ap_config.specs.declared.config.RadioConfig.{RadioConfig}
 use Rattle.events.specs.declared.event.Event.{Event}
 use Rattle.events.specs.declared.air_item.AirItem.{AirItem}
-use Rattle.events.proofs.Items.{items_of-append, items_of-same}
+use Rattle.bss_core.proofs.FrameLaws.{FrameLaws}
 
 -- ---- suffixes
 
@@ -113,24 +113,24 @@ took-last (Err refusal) old new event queued waiting air same h =
 
 -- ---- a frame is handed
 
-pub handed-last : (old new : BssView) (place : ℕ) (items : List AirItem) (octets : List ℕ) → old.waiting ≡ octets ∷ new.waiting → new.setting ≡ old.setting → new.history ≡ old.history → IsSuffix (items_of place items ++ old.waiting) (network_of old).air → IsSuffix (items_of place (items ++ (record { place = place; octets = octets }) ∷ []) ++ new.waiting) (network_of new).air
-handed-last old new place items octets front setting history h =
+pub handed-last : FrameLaws → (old new : BssView) (place : ℕ) (items : List AirItem) (octets : List ℕ) → old.waiting ≡ octets ∷ new.waiting → new.setting ≡ old.setting → new.history ≡ old.history → IsSuffix (items_of place items ++ old.waiting) (network_of old).air → IsSuffix (items_of place (items ++ (record { place = place; octets = octets }) ∷ []) ++ new.waiting) (network_of new).air
+handed-last laws old new place items octets front setting history h =
     let queued : List (List ℕ) = items_of place items in
-    let frames : queued ++ old.waiting ≡ items_of place (items ++ (record { place = place; octets = octets }) ∷ []) ++ new.waiting = ap (λ (fs : List (List ℕ)). queued ++ fs) front ∙ sym (append_assoc queued (octets ∷ []) new.waiting) ∙ ap (λ (fs : List (List ℕ)). fs ++ new.waiting) (sym (items_of-same place items octets)) in
+    let frames : queued ++ old.waiting ≡ items_of place (items ++ (record { place = place; octets = octets }) ∷ []) ++ new.waiting = ap (λ (fs : List (List ℕ)). queued ++ fs) front ∙ sym (append_assoc queued (octets ∷ []) new.waiting) ∙ ap (λ (fs : List (List ℕ)). fs ++ new.waiting) (sym (laws.same place items octets)) in
     let air : (network_of old).air ≡ (network_of new).air = ap (λ (s : Setting). (alone s old.history).air) (sym setting) ∙ ap (λ (es : List Event). (alone new.setting es).air) (sym history) in
     subst (λ fs. IsSuffix (items_of place (items ++ (record { place = place; octets = octets }) ∷ []) ++ new.waiting) fs) air
     (subst (λ fs. IsSuffix fs (network_of old).air) frames h)
 
 -- ---- a frame leaves
 
-pub sound-left : (r : RadioView) (o : Option AirItem) (rest : List AirItem) → r.queue ≡ option_to_list o ++ rest → IsSoundRadio r → IsSoundRadio (record r { queue = rest })
-sound-left r None rest is h = subst (λ (q : List AirItem). IsSoundRadio (record r { queue = q })) is h
-sound-left r (Some item) rest is h = record {
+pub sound-left : FrameLaws → (r : RadioView) (o : Option AirItem) (rest : List AirItem) → r.queue ≡ option_to_list o ++ rest → IsSoundRadio r → IsSoundRadio (record r { queue = rest })
+sound-left laws r None rest is h = subst (λ (q : List AirItem). IsSoundRadio (record r { queue = q })) is h
+sound-left laws r (Some item) rest is h = record {
   accepted = h.accepted;
   whole = h.whole;
   bounded = omega (arith, h.bounded, ap length is);
   placed = All-rest (λ (i : AirItem). i.place < length r.config.networks) item rest r.queue is h.placed;
   last = λ place within.
-      let frames : items_of place r.queue ++ (view_at r place).waiting ≡ items_of place (item ∷ []) ++ (items_of place rest ++ (view_at r place).waiting) = ap (λ (q : List AirItem). items_of place q ++ (view_at r place).waiting) is ∙ ap (λ (fs : List (List ℕ)). fs ++ (view_at r place).waiting) (items_of-append place (item ∷ []) rest) ∙ append_assoc (items_of place (item ∷ [])) (items_of place rest) (view_at r place).waiting in
+      let frames : items_of place r.queue ++ (view_at r place).waiting ≡ items_of place (item ∷ []) ++ (items_of place rest ++ (view_at r place).waiting) = ap (λ (q : List AirItem). items_of place q ++ (view_at r place).waiting) is ∙ ap (λ (fs : List (List ℕ)). fs ++ (view_at r place).waiting) (laws.append place (item ∷ []) rest) ∙ append_assoc (items_of place (item ∷ [])) (items_of place rest) (view_at r place).waiting in
       suffix_rest (items_of place (item ∷ [])) _ _ (subst (λ fs. IsSuffix fs (alone (setting_at r.config place) (view_at r place).history).air) frames (h.last place within));
 }

@@ -14,8 +14,8 @@ use Rattle.events.specs.declared.event.Event.TheVariants.{Air}
 use Rattle.events.specs.declared.air_item.AirItem.{AirItem}
 use Rattle.bss_core.specs.declared.radio.step.Step.{Step}
 use Rattle.bss_core.specs.declared.radio.step.Step.TheVariants.{Take, Hand, Leave}
-use Rattle.ap_config.proofs.Samples.{station, network, radio, setting}
-use Rattle.network.proofs.Samples.{probe, probe_for_lab, response_with}
+use Rattle.ap_config.specs.Samples.{station, network, radio, setting}
+use Rattle.network.specs.Samples.{probe, probe_for_lab, response_with}
 
 -- ---- samples
 

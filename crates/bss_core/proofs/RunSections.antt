@@ -16,6 +16,7 @@ use Rattle.events.specs.declared.event.Event.{Event}
 use Rattle.events.specs.declared.section.Section.{Section}
 use Rattle.events.specs.declared.air_item.AirItem.{AirItem}
 use Rattle.bss_core.specs.declared.radio.step.Step.{Step}
+use Rattle.bss_core.proofs.FrameLaws.{FrameLaws}
 use Rattle.bss_core.proofs.RadioFrames.{frames-alone}
 use Rattle.bss_core.proofs.RadioSteps.{events-part}
 
@@ -35,17 +36,17 @@ section-by s t es air setting history frames =
     ∙ ap (by t es) frames
 
 -- the network at a place ends with its section
-section-at : (r : RadioView) (steps : List Step) (gone : List AirItem) (place : ℕ) (s : BssView) → place < length r.config.networks → IsAt (after_steps r.config steps) r gone → s.setting ≡ setting_at r.config place → shown s ≡ view_at r place → section_with (frames_of gone r.queue place s) s ≡ section_of (setting_at r.config place) (part_of r.config place steps)
-section-at r steps gone place s within h setting shows =
+section-at : FrameLaws → (r : RadioView) (steps : List Step) (gone : List AirItem) (place : ℕ) (s : BssView) → place < length r.config.networks → IsAt (after_steps r.config steps) r gone → s.setting ≡ setting_at r.config place → shown s ≡ view_at r place → section_with (frames_of gone r.queue place s) s ≡ section_of (setting_at r.config place) (part_of r.config place steps)
+section-at laws r steps gone place s within h setting shows =
     let t = after_steps r.config steps in
     let history : s.history ≡ part_of r.config place steps = ap (λ (v : NetworkView). v.history) shows ∙ h.history place within ∙ events-part r.config steps place within in
     let waiting : s.waiting ≡ waiting_at r.config t place = ap (λ (v : NetworkView). v.waiting) shows ∙ h.waiting place within in
-    let frames : frames_of gone r.queue place s ≡ (alone (setting_at r.config place) (part_of r.config place steps)).air = ap (λ (items : List AirItem). items_of place items ++ items_of place r.queue ++ s.waiting) h.left ∙ ap (λ (items : List AirItem). items_of place t.left ++ items_of place items ++ s.waiting) h.queue ∙ ap (λ (fs : List (List ℕ)). items_of place t.left ++ items_of place t.queue ++ fs) waiting ∙ frames-alone r.config steps place within in
+    let frames : frames_of gone r.queue place s ≡ (alone (setting_at r.config place) (part_of r.config place steps)).air = ap (λ (items : List AirItem). items_of place items ++ items_of place r.queue ++ s.waiting) h.left ∙ ap (λ (items : List AirItem). items_of place t.left ++ items_of place items ++ s.waiting) h.queue ∙ ap (λ (fs : List (List ℕ)). items_of place t.left ++ items_of place t.queue ++ fs) waiting ∙ frames-alone laws r.config steps place within in
     section-by s (setting_at r.config place) (part_of r.config place steps) (frames_of gone r.queue place s) setting history frames
 
 -- every network ends with its section, in order of place
-pub ended-sections : (r : RadioView) (steps : List Step) (gone : List AirItem) (states : List BssView) → IsAt (after_steps r.config steps) r gone → map (λ (s : BssView). s.setting) states ≡ settings_of r.config → map shown states ≡ r.networks → sections_with gone r.queue states ≡ sections_after r.config steps
-ended-sections r steps gone states h settings views = fill_by_all (λ place. section_of (setting_at r.config place) (part_of r.config place steps)) _ count (section_of (setting_at r.config 0) []) (all_sections ∙ all_states) each
+pub ended-sections : FrameLaws → (r : RadioView) (steps : List Step) (gone : List AirItem) (states : List BssView) → IsAt (after_steps r.config steps) r gone → map (λ (s : BssView). s.setting) states ≡ settings_of r.config → map shown states ≡ r.networks → sections_with gone r.queue states ≡ sections_after r.config steps
+ended-sections laws r steps gone states h settings views = fill_by_all (λ place. section_of (setting_at r.config place) (part_of r.config place steps)) _ count (section_of (setting_at r.config 0) []) (all_sections ∙ all_states) each
   where
     count : ℕ
     count = length r.config.networks
@@ -69,4 +70,4 @@ ended-sections r steps gone states h settings views = fill_by_all (λ place. sec
         get_or-map (λ (n : ℕ × BssView). section_with (frames_of gone r.queue n.0 n.1) n.1) (enumerate_from 0 states) place (0, d) _ (omega (arith, length-enumerate_from 0 states))
         ∙ ap (λ (n : ℕ × BssView). section_with (frames_of gone r.queue n.0 n.1) n.1) (get_or-enumerate_from 0 states place (0, d) inside)
         ∙ ap (λ p. section_with (frames_of gone r.queue p s) s) (zero-add place)
-        ∙ section-at r steps gone place s within h setting shows
+        ∙ section-at laws r steps gone place s within h setting shows

@@ -18,7 +18,7 @@ use Rattle.bss_core.specs.declared.radio.step.Step.{Step}
 use Rattle.bss_core.specs.declared.radio.step.Step.TheVariants.{Take, Hand, Leave}
 use Rattle.bss_core.proofs.RadioFrames.{handed-le}
 use Rattle.bss_core.proofs.RadioSteps.{after_steps-none, after_steps-push, at_each_place, length-places, events-part}
-use Rattle.network.proofs.SentFrames.{air-push}
+use Rattle.bss_core.proofs.FrameLaws.{FrameLaws}
 use Rattle.bss_core.proofs.StepKinds.{take-room, take-full, take-nowhere, hand-frame, hand-full, hand-nothing, hand-nowhere, leave-first, leave-nothing}
 
 -- ---- the next frame
@@ -98,8 +98,8 @@ history-le r before gone place h within =
     let part = ap length (h.history place within ∙ events-part r.config before place within) in
     omega (arith, length-take (network_at r.config place).max_events (filter_map (event_for place) before))
 
-pub is_at-took : (r : RadioView) (before : List Step) (gone : List AirItem) (place : ℕ) (event : Event) → IsSoundRadio r → place < length r.config.networks → length (view_at r place).history ≢ (network_at r.config place).max_events → IsAt (after_steps r.config before) r gone → IsAt (after_steps r.config (before ++ Take place event ∷ [])) (took place event r) gone
-is_at-took r before gone place event sound within not_full h =
+pub is_at-took : FrameLaws → (r : RadioView) (before : List Step) (gone : List AirItem) (place : ℕ) (event : Event) → IsSoundRadio r → place < length r.config.networks → length (view_at r place).history ≢ (network_at r.config place).max_events → IsAt (after_steps r.config before) r gone → IsAt (after_steps r.config (before ++ Take place event ∷ [])) (took place event r) gone
+is_at-took laws r before gone place event sound within not_full h =
     let c : RadioConfig = r.config in
     let s : RadioState = after_steps c before in
     let p : Place = place_at s place in
@@ -108,7 +108,7 @@ is_at-took r before gone place event sound within not_full h =
     let room : length p.events < (network_at c place).max_events = omega (arith, history-le r before gone place h within) in
     let frames : List (List ℕ) = air_at c s place in
     let sent : List (List ℕ) = sent_by (setting_at c place) p.events event in
-    let waits : (view_at r place).waiting ++ sent_by (setting_at c place) (view_at r place).history event ≡ drop p.handed (alone (setting_at c place) (p.events ++ event ∷ [])).air = ap (λ (es : List Event). (view_at r place).waiting ++ sent_by (setting_at c place) es event) shown.history ∙ ap (λ (fs : List (List ℕ)). fs ++ sent) shown.waiting ∙ sym (drop-append-le p.handed frames sent (handed-le c before place)) ∙ ap (drop p.handed) (sym (air-push (setting_at c place) p.events event)) in
+    let waits : (view_at r place).waiting ++ sent_by (setting_at c place) (view_at r place).history event ≡ drop p.handed (alone (setting_at c place) (p.events ++ event ∷ [])).air = ap (λ (es : List Event). (view_at r place).waiting ++ sent_by (setting_at c place) es event) shown.history ∙ ap (λ (fs : List (List ℕ)). fs ++ sent) shown.waiting ∙ sym (drop-append-le p.handed frames sent (handed-le laws c before place)) ∙ ap (drop p.handed) (sym (laws.sent (setting_at c place) p.events event)) in
     subst (λ (q : List AirItem). IsAt (after_steps c (before ++ Take place event ∷ [])) (record (took place event r) { queue = q }) gone) (sym h.queue)
     (is_at-changed r before gone (Take place event) place _ _ s.queue sound within h (take-room c s place event within room) (record { history = ap (λ (es : List Event). es ++ event ∷ []) shown.history; waiting = waits }))
 

@@ -17,6 +17,7 @@ use Rattle.ap_config.specs.declared.config.RadioConfig.{RadioConfig}
 use Rattle.events.specs.declared.event.Event.{Event}
 use Rattle.events.specs.declared.section.Section.{Section}
 use Rattle.bss_core.specs.declared.radio.step.Step.{Step}
+use Rattle.bss_core.proofs.FrameLaws.{FrameLaws}
 use Rattle.bss_core.proofs.RadioFrames.{frames-alone}
 
 -- ---- beginnings of one list
@@ -55,13 +56,13 @@ sections-alike c d steps others p q h =
     ∙ ap (λ (es : List Event). Some (section_of (setting_at d q) es)) h.events
     ∙ sym (section-at d others q h.there)
 
-pub left-alike : (c d : RadioConfig) (steps others : List Step) (p q : ℕ) → AreAlike c d steps others p q → AreCutFromOne (items_of p (after_steps c steps).left) (items_of q (after_steps d others).left)
-left-alike c d steps others p q h =
+pub left-alike : FrameLaws → (c d : RadioConfig) (steps others : List Step) (p q : ℕ) → AreAlike c d steps others p q → AreCutFromOne (items_of p (after_steps c steps).left) (items_of q (after_steps d others).left)
+left-alike laws c d steps others p q h =
     let s = after_steps c steps in
     let t = after_steps d others in
     let left : List (List ℕ) = items_of p s.left in
     let queued : List (List ℕ) = items_of p s.queue in
     let other_left : List (List ℕ) = items_of q t.left in
     let other_queued : List (List ℕ) = items_of q t.queue in
-    let same : left ++ (queued ++ waiting_at c s p) ≡ other_left ++ (other_queued ++ waiting_at d t q) = sym (append_assoc left queued (waiting_at c s p)) ∙ frames-alone c steps p h.here ∙ ap (λ (u : Setting). (alone u (part_of c p steps)).air) (setting-alike c d steps others p q h) ∙ ap (λ (es : List Event). (alone (setting_at d q) es).air) h.events ∙ sym (frames-alone d others q h.there) ∙ append_assoc other_left other_queued (waiting_at d t q) in
+    let same : left ++ (queued ++ waiting_at c s p) ≡ other_left ++ (other_queued ++ waiting_at d t q) = sym (append_assoc left queued (waiting_at c s p)) ∙ frames-alone laws c steps p h.here ∙ ap (λ (u : Setting). (alone u (part_of c p steps)).air) (setting-alike c d steps others p q h) ∙ ap (λ (es : List Event). (alone (setting_at d q) es).air) h.events ∙ sym (frames-alone laws d others q h.there) ∙ append_assoc other_left other_queued (waiting_at d t q) in
     cut-by left other_left _ _ same

@@ -7,6 +7,9 @@ ghost use Rattle.bss_core.specs.declared.radio.step.Step.{Step};
 ghost use Rattle.bss_core.specs.Radio.{after_steps, sections_after};
 ghost use Rattle.bss_core.specs.Worlds.{AreAlike, AreCutFromOne};
 
+use events::own_frames;
+use network::sent_frames;
+
 /// No network of a radio can touch another. Whatever two radios are and whatever happens to them: where a network of
 /// the one and a network of the other have the same configuration, channel and interval and take the same events, their
 /// sections are the same, and of the frames that left one list begins with the other.
@@ -15,4 +18,8 @@ pub fn two_worlds()
         slice_get (sections_after c steps) p ≡ slice_get (sections_after d others) q }
     ensures left { (c d : RadioConfig) (steps others : List Step) (p q : ℕ) → AreAlike c d steps others p q →
         AreCutFromOne (items_of p (after_steps c steps).left) (items_of q (after_steps d others).left) }
-{}
+{
+    // the frames of one network among those of several, and those that it sends
+    own_frames();
+    sent_frames();
+}

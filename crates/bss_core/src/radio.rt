@@ -2,20 +2,18 @@
 
 ghost use Rattle.std.specs.Prelude.{◌≡◌, ◌≢◌, ◌↔◌, ◌++◌, ◌<◌, [], None, Some, Err, IfOk, OnOk, OnErr, IsNone, length};
 ghost use Rattle.std.specs.Prelude.{map, option_to_list};
-ghost use Rattle.std.specs.List.{AllByRecursion};
-ghost use Rattle.ap_config.specs.Configuration.{setting_fault, network_fault, fault_of};
+ghost use Rattle.ap_config.specs.Configuration.{fault_of};
 ghost use Rattle.ap_config.specs.Places.{network_at, setting_at};
 ghost use Rattle.bss_core.specs.RadioView.{IsSoundRadio, view_at, shown, settings_of, fresh_radio, took, after_hand};
-ghost use Rattle.network.specs.BssView.{opened};
 ghost use Rattle.ap_config.specs.declared.config.ConfigFault.{ConfigFault};
 
 mod running;
 mod step;
 
-use ap_config::{ConfigFault, NetConfig, OpenFault, RadioConfig, checked_networks};
-use events::{AirItem, Event, Handed};
+use ap_config::{ConfigFault, OpenFault, RadioConfig, checked_networks};
+use events::{AirItem, Event, Handed, own_frames};
 use mac_frame::{List, NoMemory};
-use network::{Bss, Refusal};
+use network::{Bss, Refusal, open_networks, sent_frames};
 pub use running::{RunResult, run};
 use std::alloc::Global;
 use std::collections::VecDeque;
@@ -81,7 +79,7 @@ impl Radio {
             queue: capacity,
             networks,
         } = config;
-        let networks = open_networks(alloc, channel, interval, networks)?;
+        let networks = open_networks::<Bss>(alloc, channel, interval, networks)?;
         let queue = VecDeque::with_capacity(alloc, usize::from(capacity))?;
         Ok(Radio {
             channel,
@@ -140,6 +138,9 @@ impl Radio {
         ensures after { self.new ≡ after_hand place result self.old }
         ensures config { self.new.config ≡ self.old.config }
     {
+        // the frames of one network among those of several, and those that it sends
+        own_frames();
+        sent_frames();
         let network = &mut self.networks[place];
         if network.waiting_len() == 0 {
             return Handed::Nothing;
@@ -163,6 +164,9 @@ impl Radio {
         ensures none { IsNone result ↔ (self.old.queue ≡ []) }
         ensures others { self.new ≡ record self.old { queue = self.new.queue } }
     {
+        // the frames of one network among those of several, and those that it sends
+        own_frames();
+        sent_frames();
         self.queue.pop_front()
     }
 
@@ -175,22 +179,4 @@ impl Radio {
         let queue = Vec::from(self.queue);
         (List::from_vec(self.networks), List::from_vec(queue))
     }
-}
-
-/// A network for each configuration, in their order.
-fn open_networks(
-    alloc: Global,
-    channel: u8,
-    interval: u16,
-    networks: List<NetConfig>,
-) -> Result<Vec<Bss>, NoMemory>
-    requires setting { setting_fault channel interval ≡ None }
-    requires networks { AllByRecursion (λ n. network_fault n ≡ None) networks }
-    ensures { IfOk result (λ made. made.items ≡ map (opened channel interval) networks) }
-{
-    let mut made = Vec::new(alloc);
-    for network in networks.into_vec() {
-        made.push(Bss::new(alloc, channel, interval, network)?)?;
-    }
-    Ok(made)
 }

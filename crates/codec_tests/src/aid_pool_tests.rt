@@ -27,7 +27,7 @@ fn the_least_number_is_taken_again(rt: HostRuntime) {
     takes(&rt, &mut pool, Some(1));
 }
 
-/// So many numbers must be out where all were taken, which must come in their order.
+/// Takes all numbers, which must come in their order, and then be out.
 fn takes_all(rt: &impl Abort, pool: &mut AidPool) {
     for aid in 1..=MAX_AID {
         takes(rt, pool, Some(aid));

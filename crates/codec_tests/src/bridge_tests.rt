@@ -23,7 +23,7 @@ const READ: [([u8; 2], usize, Kind, usize, usize); 2] = [
     ([0x05, 0xdc], 1502, Kind::Sized, 1500, 1514),
 ];
 
-/// A frame from the host to the station with this Length/Type field and so many octets of 7 after it.
+/// A frame from the host to the station with this Length/Type field and `len` octets of 7 after it.
 fn frame(alloc: Global, field: [u8; 2], len: usize) -> Result<Octets, NoMemory> {
     let mut octets = Octets::from_slice(alloc, &ADDRESSES)?;
     octets.append(&field)?;

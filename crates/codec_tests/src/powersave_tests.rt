@@ -185,8 +185,8 @@ fn they_are_told_in_the_order_of_their_addresses(rt: HostRuntime) -> Result<(), 
     Ok(())
 }
 
-/// So many units must be kept for the stations 1 and 2 and for the group, of which the first for station 1 came at a
-/// clock.
+/// These counts of units must be kept for the stations 1 and 2 and for the group, and the first for station 1 must have
+/// come at this clock.
 fn holds(rt: &impl Abort, keep: &Keep, counts: [usize; 3], first: Option<u32>) {
     let [one, other, group] = counts;
     assert_eq!(rt; keep.count_for(station(1)), one);

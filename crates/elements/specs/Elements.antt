@@ -56,7 +56,7 @@ first_of id (e ∷ es) = if e.0 == id then Some e.1 else first_of id es
 abbrev pub before : Pair → Option (List Pair) → Option (List Pair)
 before e es = option_map (λ others. e ∷ others) es
 
--- at most so many elements, which are the whole body
+-- at most n elements, which are the whole body
 unfoldable pub elements_within : ℕ → List ℕ → Option (List Pair)
 elements_within n [] = Some []
 elements_within n (id ∷ []) = None

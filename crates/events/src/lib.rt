@@ -9,10 +9,12 @@
 
 mod air_item;
 mod event;
+mod laws;
 mod line;
 mod section;
 
 pub use air_item::{AirItem, Handed};
 pub use event::{Event, hears};
+pub use laws::own_frames;
 pub use line::Line;
 pub use section::{Counts, Section, StationRow};

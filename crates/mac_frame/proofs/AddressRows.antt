@@ -2,7 +2,7 @@
 use Rattle.std.proofs.Common.{◌≡◌, true, false, [], ◌∷◌, Some, None, refl}
 use Rattle.std.specs.Prelude.{codes}
 use Rattle.mac_frame.specs.Address.{broadcast, is_group, address_of, address_text}
-use Rattle.mac_frame.proofs.Samples.{station}
+use Rattle.mac_frame.specs.Samples.{station}
 
 pub an_address_is_shown_in_lower_case : address_text station ≡ codes "02:aa:00:00:00:01"
 an_address_is_shown_in_lower_case = refl

@@ -4,7 +4,7 @@ use Rattle.std.specs.Prelude.{replicate}
 use Rattle.mac_frame.specs.Address.{broadcast}
 use Rattle.mac_frame.specs.Data.{data_header}
 use Rattle.mac_frame.specs.Frame.{Msdu, Null, IsFrame, frame_of}
-use Rattle.mac_frame.proofs.Samples.{network, other_network, station, group, host, frame}
+use Rattle.mac_frame.specs.Samples.{network, other_network, station, group, host, frame}
 use Rattle.mac_frame.specs.declared.frame.Unread.TheVariants.{Short, Version, Kind, Flags, Direction, Address, TooLong}
 
 -- ---- what is read

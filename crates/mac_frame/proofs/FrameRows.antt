@@ -6,7 +6,7 @@ use Rattle.std.specs.Prelude.{replicate}
 use Rattle.mac_frame.specs.Address.{broadcast}
 use Rattle.mac_frame.specs.Header.{addressed_to}
 use Rattle.mac_frame.specs.Frame.{Mgmt, Poll, IsFrame, frame_of}
-use Rattle.mac_frame.proofs.Samples.{network, other_network, station, group, elements, frame}
+use Rattle.mac_frame.specs.Samples.{network, other_network, station, group, elements, frame}
 use Rattle.mac_frame.specs.declared.frame.Unread.TheVariants.{Short, Version, Kind, Flags, Direction, Address, TooLong}
 
 -- ---- what is read

@@ -11,7 +11,7 @@ use Rattle.mac_frame.specs.declared.management.TheConstants.{ASSOCIATION_REQUEST
 use Rattle.mac_frame.specs.declared.management.TheConstants.{BEACON, CAPABILITY, DEAUTHENTICATION, DISASSOCIATION}
 use Rattle.mac_frame.specs.declared.management.TheConstants.{PROBE_REQUEST, PROBE_RESPONSE, REASSOCIATION_REQUEST}
 use Rattle.mac_frame.specs.declared.management.TheConstants.{REASSOCIATION_RESPONSE}
-use Rattle.mac_frame.proofs.Samples.{network, station}
+use Rattle.mac_frame.specs.Samples.{network, station}
 
 abbrev probe_response : List ℕ
 probe_response =

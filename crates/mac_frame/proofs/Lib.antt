@@ -9,7 +9,6 @@ pub mod ManagementFrames
 pub mod DataFrames
 pub mod PsPollFrames
 pub mod Frames
-pub mod Samples
 pub mod AddressRows
 pub mod FrameControlRows
 pub mod HeaderRows

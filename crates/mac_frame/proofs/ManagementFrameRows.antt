@@ -3,7 +3,7 @@ use Rattle.std.proofs.Common.{◌≡◌, ℕ, false, List, [], ◌∷◌, ◌++�
 use Rattle.std.specs.Prelude.{replicate}
 use Rattle.mac_frame.specs.Address.{broadcast}
 use Rattle.mac_frame.specs.Frame.{Mgmt, IsFrame, frame_of}
-use Rattle.mac_frame.proofs.Samples.{network, other_network, station, group, elements, frame}
+use Rattle.mac_frame.specs.Samples.{network, other_network, station, group, elements, frame}
 use Rattle.mac_frame.specs.declared.frame.Unread.TheVariants.{Version, Kind, Flags, Direction, Address, TooLong}
 
 -- ---- what is read

@@ -3,7 +3,7 @@ use Rattle.std.proofs.Common.{◌≡◌, ℕ, List, [], ◌∷◌, ◌++◌, tak
 use Rattle.std.specs.Prelude.{replicate}
 use Rattle.mac_frame.specs.Address.{broadcast}
 use Rattle.mac_frame.specs.Frame.{Poll, IsFrame, frame_of}
-use Rattle.mac_frame.proofs.Samples.{network, other_network, station, group}
+use Rattle.mac_frame.specs.Samples.{network, other_network, station, group}
 use Rattle.mac_frame.specs.declared.frame.Unread.TheVariants.{Short, Version, Kind, Flags, Direction, Address}
 
 -- a frame of these parts

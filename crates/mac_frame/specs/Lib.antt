@@ -7,3 +7,4 @@ pub mod Management
 pub mod Data
 pub mod PsPoll
 pub mod Frame
+pub mod Samples

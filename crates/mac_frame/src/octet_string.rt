@@ -44,7 +44,7 @@ impl Octets {
         })
     }
 
-    /// Makes room for so many octets more, so that a writer grows the string once. `NoMemory` where memory ran out;
+    /// Makes room for `count` octets more, so that a writer grows the string once. `NoMemory` where memory ran out;
     /// the string is as it was either way.
     #[inline(always)]
     pub fn reserve(&mut self, count: usize) -> Result<(), NoMemory>

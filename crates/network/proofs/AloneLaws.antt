@@ -20,27 +20,27 @@ use Rattle.powersave.specs.declared.unit.Whom.{Whom}
 use Rattle.powersave.specs.declared.unit.Whom.TheVariants.{One, Group}
 use Rattle.powersave.specs.declared.unit.Unit.{Unit as DataUnit}
 use Rattle.mac_frame.specs.Address.{is_group}
-use Rattle.stations.specs.Stations.{Table, link_of, aid_of, standing_of, dozes_with, is_dozing, set_mode, some_station_dozes, may_associate, next_aid, authenticate, associate, disassociate, forget}
+use Rattle.stations.specs.Stations.{Table, state_of, aid_of, standing_of, dozes_with, is_dozing, set_mode, some_station_dozes, may_associate, next_aid, authenticate, associate, disassociate, forget}
 use Rattle.network.specs.Units.{unit, unit_of, unit_frame, others_follow, delivery_of, delivery_with, goes_on_wire, may_poll}
 use Rattle.stations.specs.KeptUnits.{group_is_kept}
 use Rattle.bridge.specs.Encapsulation.{on_wire}
 use Rattle.beacon.specs.Beacon.{dtim_count}
-use Rattle.stations.specs.declared.table.Link.{Link}
+use Rattle.stations.specs.declared.table.StationState.{StationState}
 use Rattle.network.specs.declared.reply.unit.Delivery.{Delivery}
 use Rattle.network.specs.declared.reply.unit.Delivery.TheVariants.{Now, Kept, Nowhere}
-use Rattle.stations.proofs.UnitsKept.{kept-elsewhere, kept-where, kept-filtered, kept-without_first, kept-push, length-filtered, length-without_first, link_of-set, link_of-forgotten, link_of-moded, mode-stays}
-use Rattle.stations.specs.declared.table.Link.TheVariants.{Authenticated, Associated}
+use Rattle.stations.proofs.UnitsKept.{kept-elsewhere, kept-where, kept-filtered, kept-without_first, kept-push, length-filtered, length-without_first, state_of-set, state_of-forgotten, state_of-moded, mode-stays}
+use Rattle.stations.specs.declared.table.StationState.TheVariants.{Authenticated, Associated}
 use Rattle.stations.specs.Sound.{AreSound, IsKeptFor, AreKeptFor, CameBy}
 use Rattle.network.proofs.Clocks.{modes}
 use Rattle.stations.proofs.Aging.{came-filtered, came-without_first, came-push, came-later}
 use Rattle.std.proofs.lemmas.List.Filters.{length-filter_both}
-use Rattle.ap_config.proofs.Checked.{stations_fit}
 use Rattle.network.proofs.Statuses.{room-authenticated, room-associated, known-where_taken, known-where_associated}
 use Rattle.ap_config.specs.declared.setting.Setting.{Setting}
 use Rattle.network.specs.Network.{Network, empty_network, send, count_unread, change_state, change_where_served, lose, keep_or_lose, deliver, answer_wired, drop_units, send_unit, send_each, put_on_wire, relay, forward, has_aged, age_units, set_power_mode, serve_poll, answer_poll, beacon_frame, release, tick, may_be_known, authentication_status, answer_authentication, association_status, answer_association, serve, notify_or_serve, announced_at, asks_for, answer, answer_probe, step, after, alone}
 use Rattle.ap_config.specs.Configuration.{network_fault}
+use Rattle.ap_config.specs.declared.config.NetConfig.{NetConfig}
 use Rattle.network.specs.Sound.{IsSoundNetwork}
-use Rattle.stations.proofs.StationsSound.{length-set_link, length-forgotten, length-moded, mode-sound, authenticate-sound, associate-sound, disassociate-sound, forget-sound}
+use Rattle.stations.proofs.StationsSound.{length-set_state, length-forgotten, length-moded, mode-sound, authenticate-sound, associate-sound, disassociate-sound, forget-sound}
 use Rattle.beacon.specs.ProbeResponse.{probe_response}
 use Rattle.events.specs.declared.event.Event.{Event}
 use Rattle.events.specs.declared.event.Event.TheVariants.{Air, Wire, Tick}
@@ -136,7 +136,7 @@ stations-sound s events units n table sound few for h = record {
 }
 
 -- one of them changes, and the units for it leave
-state-sound : (s : Setting) (addr : List ℕ) (change : Table → Table) (events units : ℕ) (n : Network) → AreSound s.network.max_stations (change n.stations) → length (change n.stations) ≤ s.network.max_known → ((b : List ℕ) → bytes_eq b addr ≡ false → link_of b (change n.stations) ≡ link_of b n.stations) → IsSoundNetwork s events units n → IsSoundNetwork s events units (change_state addr change n)
+state-sound : (s : Setting) (addr : List ℕ) (change : Table → Table) (events units : ℕ) (n : Network) → AreSound s.network.max_stations (change n.stations) → length (change n.stations) ≤ s.network.max_known → ((b : List ℕ) → bytes_eq b addr ≡ false → state_of b (change n.stations) ≡ state_of b n.stations) → IsSoundNetwork s events units n → IsSoundNetwork s events units (change_state addr change n)
 state-sound s addr change events units n sound few elsewhere h = record {
   stations = sound;
   known = few;
@@ -179,7 +179,7 @@ delivery-for to t kept whom h = by (is_group to) refl
     to_group true e = let is : Group ≡ whom = cc in subst (IsKeptFor t) is tt
     to_group false e = absurd (cc)
 
-    to_one : (l : Option Link) → link_of to t ≡ l → delivery_with l to ≡ Kept whom → IsKeptFor t whom
+    to_one : (l : Option StationState) → state_of to t ≡ l → delivery_with l to ≡ Kept whom → IsKeptFor t whom
     to_one None is e = absurd (cc)
     to_one (Some Authenticated) is e = absurd (cc)
     to_one (Some (Associated aid listen true)) is e = let one : One to ≡ whom = cc in subst (IsKeptFor t) one (ap dozes_with is)
@@ -187,7 +187,7 @@ delivery-for to t kept whom h = by (is_group to) refl
 
     by : (b : Bool) → is_group to ≡ b → IsKeptFor t whom
     by true is = to_group (some_station_dozes t || group_is_kept kept) (sym (rw is refl) ∙ h)
-    by false is = to_one (link_of to t) refl (sym (rw is refl) ∙ h)
+    by false is = to_one (state_of to t) refl (sym (rw is refl) ∙ h)
 
 deliver-sound : (s : Setting) (u : DataUnit) (events units : ℕ) (n : Network) → u.at ≡ n.clock → IsSoundNetwork s events units n → IsSoundNetwork s events (units + 1) (deliver s u n)
 deliver-sound s u events units n at h = by (delivery_of u.to n.stations n.kept) refl
@@ -231,7 +231,7 @@ mode_set-sound s from doze events units n h = by (is_dozing from n.stations && n
     by : (b : Bool) → (is_dozing from n.stations && not doze) ≡ b → IsSoundNetwork s events units (set_power_mode s from doze n)
     by true is =
         rw is (send_each-sound s false (units_for (One from) n.kept) events units (change_state from (set_mode from doze) n)
-        (state-sound s from (set_mode from doze) events units n (mode-sound s.network.max_stations from doze n.stations h.stations) few (λ b other. link_of-moded from b doze n.stations other) h))
+        (state-sound s from (set_mode from doze) events units n (mode-sound s.network.max_stations from doze n.stations h.stations) few (λ b other. state_of-moded from b doze n.stations other) h))
     by false is =
         rw is (stations-sound s events units n (set_mode from doze n.stations) (mode-sound s.network.max_stations from doze n.stations h.stations) few
         (kept-where n.stations (set_mode from doze n.stations) (λ b dozes. mode-stays from b doze n.stations is dozes) n.kept h.kept) h)
@@ -243,9 +243,9 @@ poll-sound s from (u ∷ us) events units n h =
     (kept-sound s events units n (without_oldest (One from) n.kept) (kept-without_first n.stations (is_for (One from)) n.kept h.kept) (came-without_first (is_for (One from)) n.clock n.kept h.came) (length-without_first (is_for (One from)) n.kept) h)
 
 polled-sound : (s : Setting) (from : List ℕ) (aid events units : ℕ) (n : Network) → IsSoundNetwork s events units n → IsSoundNetwork s events units (answer_poll s from aid n)
-polled-sound s from aid events units n h = by (may_poll aid (link_of from n.stations)) refl
+polled-sound s from aid events units n h = by (may_poll aid (state_of from n.stations)) refl
   where
-    by : (b : Bool) → may_poll aid (link_of from n.stations) ≡ b → IsSoundNetwork s events units (answer_poll s from aid n)
+    by : (b : Bool) → may_poll aid (state_of from n.stations) ≡ b → IsSoundNetwork s events units (answer_poll s from aid n)
     by true is = rw is (poll-sound s from (units_for (One from) n.kept) events units n h)
     by false is = rw is h
 
@@ -296,10 +296,10 @@ either false b h = inr h
 
 authenticated-few : (s : Setting) (from : List ℕ) (n : Network) → may_be_known s from n ≡ true → length n.stations ≤ s.network.max_known → length (authenticate from n.stations) ≤ s.network.max_known
 authenticated-few s from n room few =
-    let len = length-set_link from Authenticated n.stations in
-    elim (either (is_some (link_of from n.stations)) (nat_lt (length n.stations) s.network.max_known) room) [
+    let len = length-set_state from Authenticated n.stations in
+    elim (either (is_some (state_of from n.stations)) (nat_lt (length n.stations) s.network.max_known) room) [
       | inl known ↦ let same = rw known at len in omega (arith, few, same)
-      | inr fewer ↦ omega (arith, len, ltb-true (length n.stations) s.network.max_known fewer, at_most_one (is_some (link_of from n.stations)))
+      | inr fewer ↦ omega (arith, len, ltb-true (length n.stations) s.network.max_known fewer, at_most_one (is_some (state_of from n.stations)))
     ]
   where
     at_most_one : (b : Bool) → (if b then 0 else 1) ≤ 1
@@ -319,16 +319,16 @@ authentication-sound s from algorithm step events units n h =
     (served-sound s (authentication_status s from algorithm step n) from (authenticate from) events units n
     (λ served. state-sound s from (authenticate from) events units n (authenticate-sound s.network.max_stations from n.stations h.stations)
     (authenticated-few s from n (room-authenticated algorithm step (may_be_known s from n) served) h.known)
-    (λ b other. link_of-set from b Authenticated n.stations other) h) h)
+    (λ b other. state_of-set from b Authenticated n.stations other) h) h)
 
-association-sound : (s : Setting) (from : List ℕ) (again : Bool) (listen : ℕ) (es : List Pair) (events units : ℕ) (n : Network) → s.network.max_stations ≤ 2007 → is_some (link_of from n.stations) ≡ true → IsSoundNetwork s events units n → IsSoundNetwork s events units (answer_association s from again listen es n)
+association-sound : (s : Setting) (from : List ℕ) (again : Bool) (listen : ℕ) (es : List Pair) (events units : ℕ) (n : Network) → s.network.max_stations ≤ 2007 → is_some (state_of from n.stations) ≡ true → IsSoundNetwork s events units n → IsSoundNetwork s events units (answer_association s from again listen es n)
 association-sound s from again listen es events units n limit known h =
     send-sound s events units _ (λ sequence. association_response from s.network.bssid sequence again (association_status s from es n) (next_aid from n.stations) s.network.rates)
     (served-sound s (association_status s from es n) from (associate from listen) events units n
     (λ served. state-sound s from (associate from listen) events units n
     (associate-sound s.network.max_stations from listen n.stations limit known (room-associated s.network.ssid s.network.rates (may_associate s.network.max_stations from n.stations) es served) h.stations)
-    (let len = length-set_link from (Associated (next_aid from n.stations) listen false) n.stations in let same = rw known at len in omega (arith, same, h.known))
-    (λ b other. link_of-set from b (Associated (next_aid from n.stations) listen false) n.stations other) h) h)
+    (let len = length-set_state from (Associated (next_aid from n.stations) listen false) n.stations in let same = rw known at len in omega (arith, same, h.known))
+    (λ b other. state_of-set from b (Associated (next_aid from n.stations) listen false) n.stations other) h) h)
 
 disassociation-sound : (s : Setting) (from : List ℕ) (events units : ℕ) (n : Network) → IsSoundNetwork s events units n → IsSoundNetwork s events units (change_state from (disassociate from) n)
 disassociation-sound s from events units n h =
@@ -337,25 +337,25 @@ disassociation-sound s from events units n h =
   where
     few : (b : Bool) → is_some (aid_of from n.stations) ≡ b → length (disassociate from n.stations) ≤ s.network.max_known
     few true is =
-        let known = known-where_associated (link_of from n.stations) is in
-        let len = length-set_link from Authenticated n.stations in
+        let known = known-where_associated (state_of from n.stations) is in
+        let len = length-set_state from Authenticated n.stations in
         let same = rw known at len in
         rw is (omega (arith, same, h.known))
     few false is = rw is h.known
 
-    elsewhere : (b : List ℕ) → bytes_eq b from ≡ false → (r : Bool) → is_some (aid_of from n.stations) ≡ r → link_of b (disassociate from n.stations) ≡ link_of b n.stations
-    elsewhere b other true is = rw is (link_of-set from b Authenticated n.stations other)
+    elsewhere : (b : List ℕ) → bytes_eq b from ≡ false → (r : Bool) → is_some (aid_of from n.stations) ≡ r → state_of b (disassociate from n.stations) ≡ state_of b n.stations
+    elsewhere b other true is = rw is (state_of-set from b Authenticated n.stations other)
     elsewhere b other false is = rw is refl
 
 serve-sound : (s : Setting) (r : Request) (events units : ℕ) (n : Network) → s.network.max_stations ≤ 2007 → class_fault (standing_of (sender r) n.stations) (class_of r) ≡ None → IsSoundNetwork s events units n → IsSoundNetwork s events (units + 2) (serve s r n)
 serve-sound s (Probe from ssid) events units n limit taken h = more-sound s events units events (units + 2) _ (omega arith) (omega arith) (probe-sound s from ssid events units n h)
 serve-sound s (Auth from algorithm step) events units n limit taken h = more-sound s events units events (units + 2) _ (omega arith) (omega arith) (authentication-sound s from algorithm step events units n h)
-serve-sound s (Assoc from again listen es) events units n limit taken h = more-sound s events units events (units + 2) _ (omega arith) (omega arith) (association-sound s from again listen es events units n limit (known-where_taken (link_of from n.stations) taken) h)
+serve-sound s (Assoc from again listen es) events units n limit taken h = more-sound s events units events (units + 2) _ (omega arith) (omega arith) (association-sound s from again listen es events units n limit (known-where_taken (state_of from n.stations) taken) h)
 serve-sound s (Disassoc from) events units n limit taken h = more-sound s events units events (units + 2) _ (omega arith) (omega arith) (disassociation-sound s from events units n h)
 serve-sound s (Deauth from) events units n limit taken h =
     more-sound s events units events (units + 2) _ (omega arith) (omega arith)
     (state-sound s from (forget from) events units n (forget-sound s.network.max_stations from n.stations h.stations) (omega (arith, length-forgotten from n.stations, h.known))
-    (λ b other. link_of-forgotten from b n.stations other) h)
+    (λ b other. state_of-forgotten from b n.stations other) h)
 serve-sound s (Msdu from doze to body) events units n limit taken h =
     forward-sound s (unit n.clock to from body) events units (set_power_mode s from doze n) (sym (modes s from doze n)) (mode_set-sound s from doze events units n h)
 serve-sound s (Null from doze) events units n limit taken h = more-sound s events units events (units + 2) _ (omega arith) (omega arith) (mode_set-sound s from doze events units n h)
@@ -384,7 +384,11 @@ after-sound s events units n (e ∷ es) limit h =
     more-sound s _ _ _ _ (after s (step s n e) es) (omega arith) (omega arith)
     (after-sound s (events + 1) (units + 2) (step s n e) es limit (step-sound s events units n e limit h))
 
-pub alone-sound : (s : Setting) (es : List Event) → network_fault s.network ≡ None → IsSoundNetwork s (length es) (2 * length es) (alone s es)
+-- in a network without a fault there are identifiers for all stations that may associate
+abbrev pub StationsFit : Type 0
+StationsFit = (n : NetConfig) → network_fault n ≡ None → n.max_stations ≤ 2007
+
+pub alone-sound : StationsFit → (s : Setting) (es : List Event) → network_fault s.network ≡ None → IsSoundNetwork s (length es) (2 * length es) (alone s es)
 unfolding alone
-alone-sound s es h =
-    more-sound s _ _ _ _ (after s empty_network es) (omega arith) (omega arith) (after-sound s 0 0 empty_network es (stations_fit s.network h).1 (empty-sound s))
+alone-sound fit s es h =
+    more-sound s _ _ _ _ (after s empty_network es) (omega arith) (omega arith) (after-sound s 0 0 empty_network es (fit s.network h) (empty-sound s))

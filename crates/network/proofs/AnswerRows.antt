@@ -3,12 +3,12 @@ use Rattle.std.proofs.Common.{◌≡◌, ℕ, true, false, List, [], ◌∷◌, 
 use Rattle.station_state.specs.declared.Standing.TheVariants as standings
 use Rattle.elements.specs.Elements.{Pair}
 use Rattle.association.specs.Request.{Request, Auth, Assoc, Disassoc, Deauth}
-use Rattle.association.proofs.Samples.{frame, other_station, four_rates, ssid}
+use Rattle.association.specs.Samples.{frame, other_station, four_rates, ssid}
 use Rattle.aid_pool.specs.LeastFree.{least_free}
 use Rattle.ap_config.specs.declared.setting.Setting.{Setting}
 use Rattle.network.specs.Network.{Network, empty_network, answer, table_of}
-use Rattle.stations.specs.declared.table.Link.TheVariants.{Authenticated, Associated}
-use Rattle.ap_config.proofs.Samples.{station, network, setting}
+use Rattle.stations.specs.declared.table.StationState.TheVariants.{Authenticated, Associated}
+use Rattle.ap_config.specs.Samples.{station, network, setting}
 
 -- ---- requests
 

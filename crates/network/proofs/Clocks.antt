@@ -15,7 +15,7 @@ use Rattle.station_state.specs.ClassFault.{class_fault}
 use Rattle.station_state.specs.declared.class.Notice.{Notice}
 use Rattle.ap_config.specs.declared.setting.Setting.{Setting}
 use Rattle.network.specs.Network.{Network, asks_for, answer, answer_wired, serve, notify_or_serve, change_state, change_where_served, change_stations, lose, deliver, deliver_by, drop_units, send_unit, send_each, put_on_wire, relay, forward_by, set_power_mode, serve_poll, tick, send, beacon_frame, authentication_status, association_status, step}
-use Rattle.stations.specs.Stations.{Table, link_of, is_dozing, set_mode, standing_of, authenticate, associate}
+use Rattle.stations.specs.Stations.{Table, state_of, is_dozing, set_mode, standing_of, authenticate, associate}
 use Rattle.network.specs.Units.{unit, unit_of, delivery_of, goes_on_wire, may_poll, others_follow}
 use Rattle.network.specs.declared.reply.unit.Delivery.{Delivery}
 use Rattle.network.specs.declared.reply.unit.Delivery.TheVariants.{Now, Kept, Nowhere}
@@ -69,7 +69,7 @@ serves s (Msdu from doze to body) n =
     let moded = set_power_mode s from doze n in
     forwarded_by s (unit n.clock to from body) (goes_on_wire s.network.relay to moded.stations) moded ∙ modes s from doze n
 serves s (Null from doze) n = modes s from doze n
-serves s (Poll from aid) n = chosen (may_poll aid (link_of from n.stations)) (serve_poll s from (units_for (One from) n.kept) n) n n (polled s from (units_for (One from) n.kept) n) refl
+serves s (Poll from aid) n = chosen (may_poll aid (state_of from n.stations)) (serve_poll s from (units_for (One from) n.kept) n) n n (polled s from (units_for (One from) n.kept) n) refl
 
 notified : (s : Setting) (fault : Option Notice) (r : Request) → KeepsClock (notify_or_serve fault s r)
 notified s (Some notice) r n = refl

@@ -1,6 +1,5 @@
 pub mod Beacons
 pub mod Aging
-pub mod Samples
 pub mod Statuses
 pub mod AloneLaws
 pub mod AnswerRows
@@ -14,3 +13,4 @@ pub mod SentFrames
 pub mod UnitDelivery
 pub mod UnitRows
 pub mod UnitSamples
+pub mod Samples

@@ -7,8 +7,9 @@ use Rattle.network.specs.Network.{empty_network, asks_for, step, alone}
 use Rattle.network.specs.Section.{section_of}
 use Rattle.events.specs.declared.event.Event.{Event}
 use Rattle.events.specs.declared.event.Event.TheVariants.{Air}
-use Rattle.ap_config.proofs.Samples.{bssid, station, network, setting, lab}
-use Rattle.network.proofs.Samples.{probe, probe_with, probe_for_another, probe_for_lab, station_rates, response_with}
+use Rattle.ap_config.specs.Samples.{bssid, station, setting, lab}
+use Rattle.network.specs.Samples.{probe, probe_with, probe_for_another, probe_for_lab, station_rates, response_with, network_of_one_event}
+use Rattle.network.specs.Samples.{section_of_no_event, section_of_one_probe, section_of_a_probe_for_another, section_of_a_short_history}
 
 -- ---- which probes ask for a network
 
@@ -89,25 +90,11 @@ an_overrunning_element_is_counted_unread = refl
 
 -- ---- sections
 
-pub the_section_of_one_probe : section_of setting (Air probe ∷ []) ≡ record {
-  config = network;
-  events = Air probe ∷ [];
-  table = [];
-  counts = record { events = 1; clock = 0; unread = 0; lost = 0; kept = 0 };
-  air = response_with 0x00 0x00 ∷ [];
-  wire = [];
-}
+pub the_section_of_one_probe : section_of setting (Air probe ∷ []) ≡ section_of_one_probe
 unfolding alone timestamp fixed_fields network_elements elements_of elements_within
 the_section_of_one_probe = refl
 
-pub the_section_of_no_event : section_of setting [] ≡ record {
-  config = network;
-  events = [];
-  table = [];
-  counts = record { events = 0; clock = 0; unread = 0; lost = 0; kept = 0 };
-  air = [];
-  wire = [];
-}
+pub the_section_of_no_event : section_of setting [] ≡ section_of_no_event
 unfolding alone
 the_section_of_no_event = refl
 
@@ -135,25 +122,11 @@ unfolding timestamp fixed_fields network_elements elements_of elements_within
 an_answer_carries_the_clock = refl
 
 -- a history that one event fills changes nothing of the answer
-pub the_section_of_a_short_history : section_of (record setting { network = record network { max_events = 1 } }) (Air probe ∷ []) ≡ record {
-  config = record network { max_events = 1 };
-  events = Air probe ∷ [];
-  table = [];
-  counts = record { events = 1; clock = 0; unread = 0; lost = 0; kept = 0 };
-  air = response_with 0x00 0x00 ∷ [];
-  wire = [];
-}
+pub the_section_of_a_short_history : section_of (record setting { network = network_of_one_event }) (Air probe ∷ []) ≡ section_of_a_short_history
 unfolding alone timestamp fixed_fields network_elements elements_of elements_within
 the_section_of_a_short_history = refl
 
-pub the_section_of_a_probe_for_another : section_of setting (Air probe_for_another ∷ []) ≡ record {
-  config = network;
-  events = Air probe_for_another ∷ [];
-  table = [];
-  counts = record { events = 1; clock = 0; unread = 0; lost = 0; kept = 0 };
-  air = [];
-  wire = [];
-}
+pub the_section_of_a_probe_for_another : section_of setting (Air probe_for_another ∷ []) ≡ section_of_a_probe_for_another
 unfolding alone elements_of elements_within
 the_section_of_a_probe_for_another = refl
 

@@ -2,7 +2,7 @@
 use Rattle.std.proofs.Common.{◌≡◌, ℕ, true, false, List, [], ◌∷◌, ◌++◌, refl}
 use Rattle.std.specs.Prelude.{map, flat_map}
 use Rattle.aid_pool.specs.LeastFree.{least_free}
-use Rattle.association.proofs.Samples.{frame, other_station, four_rates}
+use Rattle.association.specs.Samples.{frame, other_station, four_rates}
 use Rattle.beacon.specs.Advert.{timestamp, fixed_fields, network_elements}
 use Rattle.beacon.specs.Beacon.{dtim_count}
 use Rattle.elements.specs.Elements.{elements_of, elements_within}
@@ -20,8 +20,8 @@ use Rattle.events.specs.declared.line.Line.{Line}
 use Rattle.events.specs.declared.line.Line.TheVariants as line
 use Rattle.events.specs.declared.section.Counts.{Counts}
 use Rattle.events.specs.declared.section.Section.{Section}
-use Rattle.stations.specs.declared.table.Link.TheVariants.{Associated}
-use Rattle.ap_config.proofs.Samples.{bssid, station, network, radio, setting}
+use Rattle.stations.specs.declared.table.StationState.TheVariants.{Associated}
+use Rattle.ap_config.specs.Samples.{bssid, station, network, radio, setting}
 use Rattle.network.proofs.UnitSamples.{host, ipv4, wired, numbered_beacon, at_1, at_2, at_3}
 
 -- ---- what a station sends to the network with a BSSID

@@ -7,8 +7,8 @@ use Rattle.mac_frame.specs.Address.{broadcast}
 use Rattle.elements.specs.Elements.{elements_of, elements_within}
 use Rattle.mac_frame.specs.Hearing.{is_heard}
 use Rattle.association.specs.Request.{Request, Probe, request_of}
-use Rattle.ap_config.proofs.Samples.{bssid, station, lab}
-use Rattle.network.proofs.Samples.{probe, probe_with, probe_for_lab, station_rates}
+use Rattle.ap_config.specs.Samples.{bssid, station, lab}
+use Rattle.network.specs.Samples.{probe, probe_with, probe_for_lab, station_rates}
 
 -- ---- what is heard
 

@@ -12,7 +12,7 @@ use Rattle.association.specs.Joining.{association_response}
 use Rattle.association.specs.Leaving.{notice_frame}
 use Rattle.station_state.specs.ClassFault.{class_fault}
 use Rattle.station_state.specs.declared.class.Notice.{Notice}
-use Rattle.stations.specs.Stations.{Table, link_of, is_dozing, set_mode, standing_of, next_aid, authenticate, associate}
+use Rattle.stations.specs.Stations.{Table, state_of, is_dozing, set_mode, standing_of, next_aid, authenticate, associate}
 use Rattle.ap_config.specs.declared.setting.Setting.{Setting}
 use Rattle.network.specs.Network.{Network, announced_at, asks_for, answer, answer_probe, serve, notify_or_serve, send, change_state, change_where_served, lose, deliver, deliver_by, answer_wired, change_stations, drop_units, send_unit, send_each, put_on_wire, relay, forward, forward_by, age_units, set_power_mode, serve_poll, answer_poll, beacon_frame, release, tick, authentication_status, association_status, step, alone}
 use Rattle.network.specs.Units.{unit, unit_of, unit_frame, others_follow, delivery_of, goes_on_wire, may_poll}
@@ -89,7 +89,7 @@ polled s from [] air wire n = refl
 polled s from (u ∷ us) air wire n = sends (unit_frame s.network.bssid (others_follow us) u) air wire (record n { kept = without_oldest (One from) n.kept })
 
 polls : (s : Setting) (from : List ℕ) (aid : ℕ) → StaysBehind (answer_poll s from aid)
-polls s from aid air wire n = chosen (sent_before air wire) (may_poll aid (link_of from n.stations)) (serve_poll s from (units_for (One from) n.kept) n) n _ _ (polled s from (units_for (One from) n.kept) air wire n) refl
+polls s from aid air wire n = chosen (sent_before air wire) (may_poll aid (state_of from n.stations)) (serve_poll s from (units_for (One from) n.kept) n) n _ _ (polled s from (units_for (One from) n.kept) air wire n) refl
 
 releases : (s : Setting) → StaysBehind (release s)
 releases s air wire n =

@@ -8,8 +8,8 @@ use Rattle.association.specs.Joining.{assoc_status, names_network, has_basic_rat
 use Rattle.station_state.specs.ClassFault.{class_fault}
 use Rattle.station_state.specs.declared.class.Class.TheVariants.{Two}
 use Rattle.stations.specs.Stations.{aid_with, standing_with}
-use Rattle.stations.specs.declared.table.Link.{Link}
-use Rattle.stations.specs.declared.table.Link.TheVariants.{Authenticated, Associated}
+use Rattle.stations.specs.declared.table.StationState.{StationState}
+use Rattle.stations.specs.declared.table.StationState.TheVariants.{Authenticated, Associated}
 
 room-after : (a b room : Bool) → (if a then unsupported_auth_algorithm else (if b then transaction_sequence_error else (if not room then refused else success))) ≡ success → room ≡ true
 room-after true b room h = absurd (omega (arith, h))
@@ -32,11 +32,11 @@ pub room-associated : (ssid rates : List ℕ) (room : Bool) (es : List Pair) →
 room-associated ssid rates room es h = room-after_rates (not (names_network ssid es)) (not (has_basic_rates rates es)) room h
 
 -- a frame of Class 2 is taken from a known station alone
-pub known-where_taken : (link : Option Link) → class_fault (standing_with link) Two ≡ None → is_some link ≡ true
+pub known-where_taken : (state : Option StationState) → class_fault (standing_with state) Two ≡ None → is_some state ≡ true
 known-where_taken None h = absurd (cc)
 known-where_taken (Some Authenticated) h = refl
 known-where_taken (Some (Associated aid listen doze)) h = refl
 
-pub known-where_associated : (link : Option Link) → is_some (aid_with link) ≡ true → is_some link ≡ true
+pub known-where_associated : (state : Option StationState) → is_some (aid_with state) ≡ true → is_some state ≡ true
 known-where_associated None h = h
-known-where_associated (Some link) h = refl
+known-where_associated (Some state) h = refl

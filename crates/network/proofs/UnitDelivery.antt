@@ -18,11 +18,11 @@ use Rattle.network.specs.Network.{Network, send, send_unit, send_each, change_st
 use Rattle.network.specs.Replies.{after_reply, no_reply, sending, serving, served, done, IsAwake, IsFitting}
 use Rattle.stations.specs.Keeping.{without, entry_of, aid_at, aid_for, is_leaving}
 use Rattle.stations.specs.Sound.{IsKeptFor}
-use Rattle.stations.specs.Stations.{Table, link_of, is_dozing, set_mode, some_station_dozes, changed, IsModeAlone}
+use Rattle.stations.specs.Stations.{Table, state_of, is_dozing, set_mode, some_station_dozes, changed, IsModeAlone}
 use Rattle.stations.specs.declared.table.Change.{Change}
 use Rattle.stations.specs.declared.table.Change.TheVariants as changes
-use Rattle.stations.specs.declared.table.Link.{Link}
-use Rattle.stations.specs.declared.table.Link.TheVariants.{Authenticated, Associated}
+use Rattle.stations.specs.declared.table.StationState.{StationState}
+use Rattle.stations.specs.declared.table.StationState.TheVariants.{Authenticated, Associated}
 use Rattle.network.specs.Units.{may_poll, others_follow, delivery_of, delivery_with, unit_frame}
 use Rattle.stations.specs.KeptUnits.{group_is_kept}
 use Rattle.stations.specs.declared.keeping.Arriving.{Arriving}
@@ -81,7 +81,7 @@ delivery-left : (leaving : Leaving) (t : Table) (kept : List Entry) (to : List �
 delivery-left leavings.Nothing t kept to awake = ap (delivery_of to t) (append-nil kept)
 delivery-left (leavings.All (One a)) t kept to awake =
     let same : group_is_kept (without_all (One a) kept ++ []) ≡ group_is_kept kept = ap group_is_kept (append-nil (without_all (One a) kept)) ∙ group-stays a kept in
-    ap (λ b. if is_group to then (if some_station_dozes t || b then Kept Group else Now) else delivery_with (link_of to t) to) same
+    ap (λ b. if is_group to then (if some_station_dozes t || b then Kept Group else Now) else delivery_with (state_of to t) to) same
 delivery-left (leavings.All Group) t kept to awake = absurd awake
 
 pub delivery-after : (r : Reply) (n : Network) (to : List ℕ) → IsAwake r.keeping.leaving (changed r.change n.stations) → r.keeping.arriving ≡ None → delivery_of to (after_reply r n).stations (after_reply r n).kept ≡ delivery_of to (changed r.change n.stations) n.kept
@@ -94,27 +94,27 @@ pub delivered : (s : Setting) (u : DataUnit) (r : Reply) (n : Network) (d : Deli
 delivered s u r n d awake none is =
     ap (λ (e : Delivery). deliver_by e s u (after_reply r n)) (delivery-after r n u.to awake none ∙ sym is)
 
--- the identifier of the link that a kept unit goes by is that of its station
-identifier-of_kept : (to : List ℕ) (t : Table) (kept : List Entry) (whom : Whom) → delivery_of to t kept ≡ Kept whom → aid_at whom (link_of to t) ≡ aid_for whom t
+-- the identifier of the state that a kept unit goes by is that of its station
+identifier-of_kept : (to : List ℕ) (t : Table) (kept : List Entry) (whom : Whom) → delivery_of to t kept ≡ Kept whom → aid_at whom (state_of to t) ≡ aid_for whom t
 identifier-of_kept to t kept whom h = by (is_group to) refl
   where
-    to_group : (b : Bool) → (if b then Kept Group else Now) ≡ Kept whom → aid_at whom (link_of to t) ≡ aid_for whom t
-    to_group true e = let is : Group ≡ whom = cc in subst (λ w. aid_at w (link_of to t) ≡ aid_for w t) is refl
+    to_group : (b : Bool) → (if b then Kept Group else Now) ≡ Kept whom → aid_at whom (state_of to t) ≡ aid_for whom t
+    to_group true e = let is : Group ≡ whom = cc in subst (λ w. aid_at w (state_of to t) ≡ aid_for w t) is refl
     to_group false e = absurd (cc)
 
-    to_one : (l : Option Link) → delivery_with l to ≡ Kept whom → aid_at whom (link_of to t) ≡ aid_for whom t
+    to_one : (l : Option StationState) → delivery_with l to ≡ Kept whom → aid_at whom (state_of to t) ≡ aid_for whom t
     to_one None e = absurd (cc)
     to_one (Some Authenticated) e = absurd (cc)
-    to_one (Some (Associated aid listen true)) e = let one : One to ≡ whom = cc in subst (λ w. aid_at w (link_of to t) ≡ aid_for w t) one refl
+    to_one (Some (Associated aid listen true)) e = let one : One to ≡ whom = cc in subst (λ w. aid_at w (state_of to t) ≡ aid_for w t) one refl
     to_one (Some (Associated aid listen false)) e = absurd (cc)
 
-    by : (b : Bool) → is_group to ≡ b → aid_at whom (link_of to t) ≡ aid_for whom t
+    by : (b : Bool) → is_group to ≡ b → aid_at whom (state_of to t) ≡ aid_for whom t
     by true is = to_group (some_station_dozes t || group_is_kept kept) (sym (rw is refl) ∙ h)
-    by false is = to_one (link_of to t) (sym (rw is refl) ∙ h)
+    by false is = to_one (state_of to t) (sym (rw is refl) ∙ h)
 
 -- and so it was before a mode was set
-pub identifier-told : (change : Change) (to : List ℕ) (t : Table) (kept : List Entry) (whom : Whom) (link : Option Link) → IsModeAlone change → link ≡ link_of to (changed change t) → delivery_of to (changed change t) kept ≡ Kept whom → aid_at whom link ≡ aid_for whom t
-identifier-told change to t kept whom link alone is goes =
+pub identifier-told : (change : Change) (to : List ℕ) (t : Table) (kept : List Entry) (whom : Whom) (state : Option StationState) → IsModeAlone change → state ≡ state_of to (changed change t) → delivery_of to (changed change t) kept ≡ Kept whom → aid_at whom state ≡ aid_for whom t
+identifier-told change to t kept whom state alone is goes =
     ap (aid_at whom) is ∙ identifier-of_kept to (changed change t) kept whom goes ∙ aid_for-mode change whom t alone
 
 -- ---- units in order
@@ -164,10 +164,10 @@ poll-carried s from (u ∷ us) n is =
     ap (send (unit_frame s.network.bssid (others_follow us) u)) (sym (nothing-replied left))
     ∙ after-sent (no_reply n.sequence) left (unit_frame s.network.bssid (others_follow us) u)
 
-pub poll-served : (s : Setting) (from : List ℕ) (aid : ℕ) (n : Network) → may_poll aid (link_of from n.stations) ≡ true → answer_poll s from aid n ≡ after_reply (done s n (Some from) (no_reply n.sequence)) (served (Some from) n)
+pub poll-served : (s : Setting) (from : List ℕ) (aid : ℕ) (n : Network) → may_poll aid (state_of from n.stations) ≡ true → answer_poll s from aid n ≡ after_reply (done s n (Some from) (no_reply n.sequence)) (served (Some from) n)
 poll-served s from aid n may = rw may (poll-carried s from (units_for (One from) n.kept) n refl)
 
-pub poll-refused : (s : Setting) (from : List ℕ) (aid : ℕ) (n : Network) → may_poll aid (link_of from n.stations) ≡ false → answer_poll s from aid n ≡ after_reply (done s n None (no_reply n.sequence)) (served None n)
+pub poll-refused : (s : Setting) (from : List ℕ) (aid : ℕ) (n : Network) → may_poll aid (state_of from n.stations) ≡ false → answer_poll s from aid n ≡ after_reply (done s n None (no_reply n.sequence)) (served None n)
 poll-refused s from aid n not = rw not (sym (nothing-replied n))
 
 -- such a reply can be carried out

@@ -2,7 +2,7 @@
 use Rattle.std.proofs.Common.{◌≡◌, ℕ, true, false, [], ◌∷◌, ◌++◌, Ok, refl}
 use Rattle.mac_frame.specs.Address.{broadcast}
 use Rattle.association.specs.Request.{Request, Msdu, Null, Poll}
-use Rattle.association.proofs.Samples.{other_station}
+use Rattle.association.specs.Samples.{other_station}
 use Rattle.powersave.specs.Keep.{Entry}
 use Rattle.powersave.specs.declared.unit.Whom.TheVariants.{One, Group}
 use Rattle.tim.specs.Tim.{tim_octets, partial_of, from_first_pair, up_to_last, virtual_bitmap, octet_at, bits_from}
@@ -12,8 +12,8 @@ use Rattle.ap_config.specs.declared.setting.Setting.{Setting}
 use Rattle.network.specs.Network.{Network, empty_network, age_units, answer, step}
 use Rattle.network.specs.Units.{unit}
 use Rattle.events.specs.declared.event.Event.TheVariants.{Wire, Tick}
-use Rattle.stations.specs.declared.table.Link.TheVariants.{Authenticated, Associated}
-use Rattle.ap_config.proofs.Samples.{bssid, station, network, setting}
+use Rattle.stations.specs.declared.table.StationState.TheVariants.{Authenticated, Associated}
+use Rattle.ap_config.specs.Samples.{bssid, station, network, setting}
 use Rattle.network.proofs.UnitSamples.{host, ipv4, wired, sent, last, more, beacon_with, at_1, at_2, at_3}
 
 -- ---- a network with stations

@@ -1,7 +1,7 @@
 -- Units, and the frames and beacons that tell of them, octet by octet.
 use Rattle.std.proofs.Common.{ℕ, List, [], ◌∷◌, ◌++◌}
 use Rattle.mac_frame.specs.Address.{broadcast}
-use Rattle.ap_config.proofs.Samples.{bssid}
+use Rattle.ap_config.specs.Samples.{bssid}
 
 -- a host on the wire
 abbrev pub host : List ℕ

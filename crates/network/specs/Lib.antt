@@ -3,7 +3,9 @@ pub mod Arrivals
 pub mod Network
 pub mod Section
 pub mod FirstVersion
+pub mod Versions
 pub mod Sound
 pub mod Replies
 pub mod NetworkView
 pub mod BssView
+pub mod Samples

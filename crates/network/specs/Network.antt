@@ -22,11 +22,11 @@ use Rattle.association.specs.Leaving.{notice_frame}
 use Rattle.station_state.specs.ClassFault.{class_fault}
 use Rattle.station_state.specs.declared.class.Notice.{Notice}
 use Rattle.elements.specs.Elements.{Pair}
-use Rattle.stations.specs.Stations.{Table, link_of, standing_with, standing_of, may_associate, next_aid, authenticate}
+use Rattle.stations.specs.Stations.{Table, state_of, standing_with, standing_of, may_associate, next_aid, authenticate}
 use Rattle.stations.specs.Stations.{associate, disassociate, forget, set_mode, is_dozing, aid_with, listen_of, dozes}
 use Rattle.network.specs.Units.{unit, unit_of, unit_frame, others_follow, delivery_of, goes_on_wire, may_poll}
 use Rattle.stations.specs.KeptUnits.{group_is_kept, is_waited_for, is_too_old}
-use Rattle.stations.specs.declared.table.Link.{Link}
+use Rattle.stations.specs.declared.table.StationState.{StationState}
 use Rattle.network.specs.declared.reply.unit.Delivery.{Delivery}
 use Rattle.network.specs.declared.reply.unit.Delivery.TheVariants.{Now, Kept, Nowhere}
 pub use Rattle.ap_config.specs.declared.setting.Setting.{Setting}
@@ -143,7 +143,7 @@ answer_probe s from ssid n =
 
 -- there is room for a station: it is known, or fewer are known than may be (profile)
 abbrev pub may_be_known : Setting → List ℕ → Network → Bool
-may_be_known s addr n = is_some (link_of addr n.stations) || nat_lt (length n.stations) s.network.max_known
+may_be_known s addr n = is_some (state_of addr n.stations) || nat_lt (length n.stations) s.network.max_known
 
 -- a request to authenticate is answered with its status (11.3.4.3)
 abbrev pub authentication_status : Setting → List ℕ → ℕ → ℕ → Network → ℕ
@@ -205,7 +205,7 @@ serve_poll s from (u ∷ us) n = send_unit s (others_follow us) u (record n { ke
 -- a poll of a station that dozes and names its association identifier (11.2.3.6); any other brings nothing (profile)
 abbrev pub answer_poll : Setting → List ℕ → ℕ → Network → Network
 answer_poll s from aid n =
-    if may_poll aid (link_of from n.stations) then serve_poll s from (units_for (One from) n.kept) n else n
+    if may_poll aid (state_of from n.stations) then serve_poll s from (units_for (One from) n.kept) n else n
 
 -- a frame of the wire (4.5.2.2), which goes to the group, to an associated station or nowhere (profile)
 abbrev pub answer_wired : Setting → Result Ethernet Unread → Network → Network
@@ -268,8 +268,8 @@ alone s es = after s empty_network es
 
 -- ---- what is shown of a network
 
--- a station with its link; one that is not associated has no identifier and no listen interval, and is active
-abbrev pub row_of : List Entry → List ℕ × Link → StationRow
+-- a station with its state; one that is not associated has no identifier and no listen interval, and is active
+abbrev pub row_of : List Entry → List ℕ × StationState → StationRow
 row_of kept station = record {
   addr = station.0;
   standing = standing_with (Some station.1);

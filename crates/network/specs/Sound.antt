@@ -4,7 +4,7 @@ use Rattle.ap_config.specs.declared.setting.Setting.{Setting}
 use Rattle.network.specs.Network.{Network}
 use Rattle.stations.specs.Sound.{AreKeptFor, AreSound, CameBy}
 
--- a network that took so many events, and of which what it lost and keeps is at most so many units
+-- a network that took this number of events, and lost and keeps at most this number of units together
 pub record IsSoundNetwork (s : Setting) (events units : ℕ) (n : Network) : Type 0 where
   pub stations : AreSound s.network.max_stations n.stations
   pub known : length n.stations ≤ s.network.max_known

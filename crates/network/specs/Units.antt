@@ -9,9 +9,9 @@ use Rattle.bridge.specs.Encapsulation.{on_air}
 use Rattle.powersave.specs.Keep.{Entry}
 use Rattle.powersave.specs.declared.unit.Whom.TheVariants.{One, Group}
 use Rattle.powersave.specs.declared.unit.Unit.{Unit as DataUnit}
-use Rattle.stations.specs.Stations.{Table, link_of, is_associated, some_station_dozes}
-use Rattle.stations.specs.declared.table.Link.{Link}
-use Rattle.stations.specs.declared.table.Link.TheVariants.{Authenticated, Associated}
+use Rattle.stations.specs.Stations.{Table, state_of, is_associated, some_station_dozes}
+use Rattle.stations.specs.declared.table.StationState.{StationState}
+use Rattle.stations.specs.declared.table.StationState.TheVariants.{Authenticated, Associated}
 use Rattle.network.specs.declared.reply.unit.Delivery.{Delivery}
 use Rattle.network.specs.declared.reply.unit.Delivery.TheVariants.{Now, Kept, Nowhere}
 use Rattle.stations.specs.KeptUnits.{group_is_kept}
@@ -38,8 +38,8 @@ others_follow (u ∷ us) = true
 abbrev pub group_waits : Table → List Entry → Bool
 group_waits table kept = some_station_dozes table || group_is_kept kept
 
--- to a station with this link: at once where it is active, kept where it dozes, and nowhere where it is not associated
-abbrev pub delivery_with : Option Link → List ℕ → Delivery
+-- to a station in this state: at once where it is active, kept where it dozes, and nowhere where it is not associated
+abbrev pub delivery_with : Option StationState → List ℕ → Delivery
 delivery_with None to = Nowhere
 delivery_with (Some Authenticated) to = Nowhere
 delivery_with (Some (Associated aid listen true)) to = Kept (One to)
@@ -49,18 +49,18 @@ delivery_with (Some (Associated aid listen false)) to = Now
 abbrev pub delivery_of : List ℕ → Table → List Entry → Delivery
 delivery_of to table kept =
     if is_group to then (if group_waits table kept then Kept Group else Now)
-    else delivery_with (link_of to table) to
+    else delivery_with (state_of to table) to
 
 -- ---- where a station's unit goes besides (4.5.2)
 
 -- to the wire, but for a unit to one associated station; where the network doesn't relay (profile), always to the wire
 abbrev pub goes_on_wire : (relay : Bool) → List ℕ → Table → Bool
-goes_on_wire relay to table = not relay || (is_group to || not (is_associated (link_of to table)))
+goes_on_wire relay to table = not relay || (is_group to || not (is_associated (state_of to table)))
 
 -- ---- polls (11.2.3.6)
 
--- a station with this link dozes and has this association identifier
-abbrev pub may_poll : ℕ → Option Link → Bool
+-- a station in this state dozes and has this association identifier
+abbrev pub may_poll : ℕ → Option StationState → Bool
 may_poll aid None = false
 may_poll aid (Some Authenticated) = false
 may_poll aid (Some (Associated own listen doze)) = doze && aid == own

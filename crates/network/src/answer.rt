@@ -45,8 +45,8 @@ impl Network {
             return Ok(None);
         };
         let from = sender(&request);
-        let link = self.stations().link_of(from);
-        if let Some(notice) = fault(standing_with(link), class(&request)) {
+        let state = self.stations().state_of(from);
+        if let Some(notice) = fault(standing_with(state), class(&request)) {
             self.notify(reply, from, notice)?;
             return Ok(None);
         }
@@ -56,13 +56,13 @@ impl Network {
                 from,
                 algorithm,
                 step,
-            } => self.answer_authentication(reply, from, link, algorithm, step)?,
+            } => self.answer_authentication(reply, from, state, algorithm, step)?,
             Request::Assoc {
                 from,
                 again,
                 listen,
                 elements,
-            } => self.answer_association(reply, from, link, again, listen, &elements)?,
+            } => self.answer_association(reply, from, state, again, listen, &elements)?,
             Request::Disassoc { from } => self.answer_disassociation(reply, from),
             Request::Deauth { from } => self.answer_deauthentication(reply, from),
             Request::Msdu {
@@ -70,9 +70,9 @@ impl Network {
                 doze,
                 to,
                 body,
-            } => self.answer_unit(reply, from, link, doze, to, body)?,
-            Request::Null { from, doze } => self.set_power_mode(reply, from, link, doze)?,
-            Request::Poll { from, aid } => return Ok(self.polled(&*reply, from, link, aid)),
+            } => self.answer_unit(reply, from, state, doze, to, body)?,
+            Request::Null { from, doze } => self.set_power_mode(reply, from, state, doze)?,
+            Request::Poll { from, aid } => return Ok(self.polled(&*reply, from, state, aid)),
         }
         Ok(None)
     }

@@ -9,7 +9,7 @@ ghost use Rattle.network.specs.BssView.{BssView, network_of, sent_by, wired_by, 
 ghost use Rattle.network.specs.declared.bss.Refusal.TheVariants as refusals;
 
 use crate::network::Network;
-use ap_config::{NetConfig, Setting};
+use ap_config::{NetConfig, Setting, checked_numbers};
 use events::{Counts, Event, Section, StationRow};
 use mac_frame::{List, NoMemory, Octets};
 use std::alloc::{AllocError, Global};
@@ -119,6 +119,14 @@ impl Bss {
         self.history.as_slice()
     }
 
+    /// How many events it took; at most `max_events`.
+    pub fn history_len(&self) -> usize
+        ensures count { result ≡ length self.now.history }
+        ensures bounded { result ≤ self.now.setting.network.max_events }
+    {
+        self.history.len()
+    }
+
     /// How many stations it knows.
     pub fn table_len(&self) -> usize
         ensures { result ≡ length (table_of (network_of self.now)) }
@@ -139,6 +147,8 @@ impl Bss {
     pub fn counts(&self) -> Counts
         ensures { result ≡ counts_of (length self.now.history) (network_of self.now) }
     {
+        // a history is as long as 32 bits can count
+        checked_numbers();
         Counts {
             events: self.history.len() as u32,
             clock: self.network.clock(),
@@ -213,6 +223,8 @@ impl Bss {
             ↔ (length self.old.history ≡ self.old.setting.network.max_events) }
         ensures err { OnErr result (self.new ≡ self.old) }
     {
+        // a history is as long as 32 bits can count
+        checked_numbers();
         if self.history.len() >= self.config().max_events as usize {
             return Err(Refusal::HistoryFull);
         }
@@ -231,7 +243,7 @@ impl Bss {
         Ok(number)
     }
 
-    /// A row for each station, in their order. `NoMemory` where the room for them was refused.
+    /// A row for each station, in their order. `NoMemory` where memory ran out.
     fn rows(&self) -> Result<Vec<StationRow>, NoMemory>
         ensures { IfOk result (λ rows. rows.items ≡ table_of (network_of self.now)) }
     {
@@ -242,8 +254,8 @@ impl Bss {
         Ok(rows)
     }
 
-    /// The section of all that it took, with `air` as the frames that left it. `NoMemory` where the
-    /// room for its table was refused.
+    /// The section of all that it took, with `air` as the frames that left it. `NoMemory` where memory
+    /// ran out.
     pub fn into_section(self, air: List<Octets>) -> Result<Section, NoMemory>
         ensures { IfOk result (λ section. section ≡ section_with air self) }
     {

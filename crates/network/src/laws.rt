@@ -5,17 +5,23 @@ ghost use Rattle.ap_config.specs.Configuration.{network_fault};
 ghost use Rattle.ap_config.specs.declared.setting.Setting.{Setting};
 ghost use Rattle.events.specs.declared.event.Event.{Event};
 ghost use Rattle.network.specs.Network.{Network, alone, empty_network, step, table_of, counts_of};
-ghost use Rattle.network.specs.FirstVersion.{alone_in_first_version};
+ghost use Rattle.network.specs.FirstVersion as first;
+ghost use Rattle.network.specs.Versions.{first_setting};
 ghost use Rattle.network.specs.NetworkView.{sent_before};
 ghost use Rattle.network.specs.Sound.{IsSoundNetwork};
 ghost use Rattle.network.specs.BssView.{sent_by};
+
+use ap_config::checked_numbers;
 
 /// What holds of every network that events make of an empty one, where its configuration has no fault: what it keeps
 /// and what it lost are together two units at most for each event that it took.
 pub fn reachable()
     ensures { (s : Setting) (es : List Event) → network_fault s.network ≡ None
         → IsSoundNetwork s (length es) (2 * length es) (alone s es) }
-{}
+{
+    // no more stations may associate than there are identifiers
+    checked_numbers();
+}
 
 /// A network alone begins empty, and each further event is one further step.
 pub fn one_step()
@@ -40,11 +46,11 @@ pub fn steps_append()
 /// of a network of the first version, whose definition knows neither option (*profile*).
 pub fn first_version()
     ensures air { (s : Setting) (es : List Event) → s.network.relay ≡ true → s.network.aging ≡ false
-        → (alone s es).air ≡ (alone_in_first_version s es).air }
+        → (alone s es).air ≡ (first.alone (first_setting s) es).air }
     ensures wire { (s : Setting) (es : List Event) → s.network.relay ≡ true → s.network.aging ≡ false
-        → (alone s es).wire ≡ (alone_in_first_version s es).wire }
+        → (alone s es).wire ≡ (first.alone (first_setting s) es).wire }
     ensures table { (s : Setting) (es : List Event) → s.network.relay ≡ true → s.network.aging ≡ false
-        → table_of (alone s es) ≡ table_of (alone_in_first_version s es) }
+        → table_of (alone s es) ≡ first.table_of (first.alone (first_setting s) es) }
     ensures counts { (s : Setting) (es : List Event) → s.network.relay ≡ true → s.network.aging ≡ false
-        → counts_of (length es) (alone s es) ≡ counts_of (length es) (alone_in_first_version s es) }
+        → counts_of (length es) (alone s es) ≡ first.counts_of (length es) (first.alone (first_setting s) es) }
 {}

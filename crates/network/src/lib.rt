@@ -15,10 +15,12 @@ mod answer;
 mod bss;
 mod laws;
 mod network;
+mod opening;
 mod reply;
 mod shown;
 
 pub use bss::{Bss, Refusal};
 pub use laws::{first_version, one_step, reachable, sent_frames, steps_append};
 pub use network::{Network, NetworkRefusal, Sent};
+pub use opening::{Open, open_networks};
 pub use reply::Frames;

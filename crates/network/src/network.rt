@@ -15,7 +15,7 @@ ghost use Rattle.powersave.specs.declared.unit.Whom.TheVariants as whoms;
 
 use crate::reply::{Frames, Reply, SEQUENCE_NUMBERS};
 use crate::shown::row_of;
-use ap_config::Setting;
+use ap_config::{Setting, checked_numbers};
 use events::{Event, StationRow};
 use mac_frame::{MacAddr, NoMemory, Octets};
 use powersave::{Keep, Whom};
@@ -92,6 +92,8 @@ impl Network {
         requires network { network_fault setting.network ≡ None }
         ensures { result ≡ new_network setting }
     {
+        // its pool of identifiers is as large as is allowed
+        checked_numbers();
         Network {
             alloc,
             roster: Roster::new(alloc, setting.network.max_stations, setting.network.quota),
@@ -144,6 +146,8 @@ impl Network {
     pub fn kept_len(&self) -> u32
         ensures { result ≡ length self.now.network.kept }
     {
+        // the quota is counted by 32 bits
+        checked_numbers();
         self.roster.kept().len() as u32
     }
 
@@ -160,14 +164,16 @@ impl Network {
         requires { place < length (table_of self.now.network) }
         ensures { slice_get (table_of self.now.network) place ≡ Some result }
     {
-        let (addr, link) = self.roster.stations().row(place);
-        row_of(addr, link, self.kept_for(addr))
+        let (addr, state) = self.roster.stations().row(place);
+        row_of(addr, state, self.kept_for(addr))
     }
 
     /// How many units are kept for a station.
     fn kept_for(&self, addr: MacAddr) -> u32
         ensures { result ≡ length (units_for (whoms.One addr) self.now.network.kept) }
     {
+        // the quota is counted by 32 bits
+        checked_numbers();
         self.roster.kept().count_for(Whom::One(addr)) as u32
     }
 
@@ -210,6 +216,8 @@ impl Network {
             polled (done self.now.setting self.now.network polled reply.new) self.now.network)) }
         ensures alone { IfOk result (λ polled. IfSome polled (λ _. reply.new ≡ no_reply self.now.network.sequence)) }
     {
+        // no more stations may associate than there are identifiers
+        checked_numbers();
         // The prover opens what the network keeps, which bounds its counts, where a field is read.
         let _ = &self.roster;
         match event {
@@ -288,6 +296,8 @@ impl Network {
         ensures sent { IfOk result (λ sent. sent ≡ record { air = reply.frames; wire = reply.wired }) }
         ensures err { OnErr result (self.new ≡ self.old) }
     {
+        // the quota is counted by 32 bits
+        checked_numbers();
         let ages = units_age(reply.clock, self.setting.network.aging);
         let aged = self
             .roster
@@ -358,7 +368,7 @@ impl Network {
     }
 }
 
-/// Whether units age where so many beacon intervals begin: where one does, in a network that lets them.
+/// Whether units age in a network that lets them, or doesn't, where `begin` beacon intervals begin: where one does.
 fn units_age(begin: u32, aging: bool) -> bool
     ensures { result ≡ (nat_lt 0 begin && aging) }
 {

@@ -11,7 +11,7 @@ use beacon::Advert;
 use events::StationRow;
 use mac_frame::MacAddr;
 use station_state::Standing;
-use stations::Link;
+use stations::StationState;
 
 /// The network of this setting as it announces itself at this clock, in a frame with this sequence number.
 pub fn announcement(setting: &Setting, clock: u32, sequence: u16) -> Advert<'_>
@@ -29,13 +29,13 @@ pub fn announcement(setting: &Setting, clock: u32, sequence: u16) -> Advert<'_>
     }
 }
 
-/// The row of a station with this link, for which so many units are kept.
-pub fn row_of(addr: MacAddr, link: Link, kept: u32) -> StationRow
+/// The row of a station in this state, for which `kept` units are kept.
+pub fn row_of(addr: MacAddr, state: StationState, kept: u32) -> StationRow
     ensures { (entries : List Entry) → kept ≡ length (units_for (whoms.One addr) entries)
-        → result ≡ row_of entries (addr, link) }
+        → result ≡ row_of entries (addr, state) }
 {
-    match link {
-        Link::Authenticated => StationRow {
+    match state {
+        StationState::Authenticated => StationRow {
             addr,
             standing: Standing::Authenticated,
             aid: 0,
@@ -43,7 +43,7 @@ pub fn row_of(addr: MacAddr, link: Link, kept: u32) -> StationRow
             doze: false,
             kept,
         },
-        Link::Associated { aid, listen, doze } => StationRow {
+        StationState::Associated { aid, listen, doze } => StationRow {
             addr,
             standing: Standing::Associated,
             aid,

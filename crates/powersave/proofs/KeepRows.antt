@@ -4,7 +4,7 @@ use Rattle.std.specs.List.{slice_get}
 use Rattle.powersave.specs.declared.unit.Whom.TheVariants.{One, Group}
 use Rattle.powersave.specs.Keep.{units_for, without_oldest, without_all, without_older, is_older, is_after, room_beside}
 use Rattle.mac_frame.specs.Address.{broadcast}
-use Rattle.mac_frame.proofs.Samples.{station}
+use Rattle.mac_frame.specs.Samples.{station}
 use Rattle.powersave.specs.Queues.{merged}
 use Rattle.powersave.proofs.Samples.{other_station, unit_to, for_station, for_other, for_group, three, at_clocks, arrived}
 use Rattle.powersave.proofs.QueueSteps.{entry_of}

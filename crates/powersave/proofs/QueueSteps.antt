@@ -8,7 +8,7 @@ use Rattle.std.specs.declared.cmp.Ordering.TheVariants.{Less, Equal, Greater}
 use Rattle.std.specs.Ordering.{match_ordering}
 use Rattle.std.specs.Option.{option_map, unwrap_or, IsSomeAnd}
 use Rattle.std.proofs.lemmas.Bool.{false_from_ne_true, true≢false}
-use Rattle.std.proofs.lemmas.List.{length-map, map-append}
+use Rattle.std.proofs.lemmas.List.{length-map, length_push, map-append}
 use Rattle.std.proofs.lemmas.Map.{NonePasses, keys-set_value}
 use Rattle.std.proofs.lemmas.Map.Keys.{IsDistinct-head, IsDistinct-tail}
 use Rattle.std.proofs.lemmas.Option.{none-some, same_Some, slice_get-map}
@@ -316,28 +316,30 @@ no_queues : IsDistinct is_whom []
 unfolding IsDistinct
 no_queues = tt
 
-pub kept_new : (queues : Queues) → queues ≡ [] → AreKept 0 0 None queues
-kept_new queues none = subst (AreKept 0 0 None) (sym none) (record { sound = record { one_each = no_queues; numbered = tt }; counted = refl; room = tt })
+pub kept_new : (quota : ℕ) (queues : Queues) → queues ≡ [] → AreKept quota 0 0 None queues
+kept_new quota queues none = subst (AreKept quota 0 0 None) (sym none) (record { sound = record { one_each = no_queues; numbered = tt }; counted = refl; within = omega arith; room = tt })
 
-module _ (len next : ℕ) (reserved : Option Whom) (old new : Queues) (kept : AreKept len next reserved old) where
-  pub kept_same : MakesRoom old new → AreKept len next reserved new
-  kept_same made = record { sound = made.sound next kept.sound; counted = kept.counted ∙ ap length (sym made.units); room = made.room reserved kept.room }
+module _ (quota len next : ℕ) (reserved : Option Whom) (old new : Queues) (kept : AreKept quota len next reserved old) where
+  pub kept_same : MakesRoom old new → AreKept quota len next reserved new
+  kept_same made = record { sound = made.sound next kept.sound; counted = kept.counted ∙ ap length (sym made.units); within = kept.within; room = made.room reserved kept.room }
 
-  pub kept_reserved : (whom : Whom) → MakesRoom old new → HasRoom (Some whom) new → AreKept len next (Some whom) new
-  kept_reserved whom made room = record { sound = made.sound next kept.sound; counted = kept.counted ∙ ap length (sym made.units); room = room }
+  pub kept_reserved : (whom : Whom) → MakesRoom old new → HasRoom (Some whom) new → AreKept quota len next (Some whom) new
+  kept_reserved whom made room = record { sound = made.sound next kept.sound; counted = kept.counted ∙ ap length (sym made.units); within = kept.within; room = room }
 
   -- room for one is given up
-  pub kept_beside : (whom : Whom) (room : Option Whom) → new ≡ old → room ≡ room_beside whom reserved → AreKept len next room new
-  kept_beside whom room same is = subst (AreKept len next room) (sym same) (record {
+  pub kept_beside : (whom : Whom) (room : Option Whom) → new ≡ old → room ≡ room_beside whom reserved → AreKept quota len next room new
+  kept_beside whom room same is = subst (AreKept quota len next room) (sym same) (record {
     sound = kept.sound;
     counted = kept.counted;
+    within = kept.within;
     room = subst (λ r. HasRoom r old) (sym is) (HasRoom-beside whom old old (λ other apart space. space) reserved kept.room);
   })
 
-  pub kept_empty : (whom : Whom) (room : Option Whom) → Pops whom old None new → room ≡ room_beside whom reserved → AreKept len next room new
+  pub kept_empty : (whom : Whom) (room : Option Whom) → Pops whom old None new → room ≡ room_beside whom reserved → AreKept quota len next room new
   kept_empty whom room popped is = record {
     sound = popped.sound next kept.sound;
     counted = kept.counted ∙ ap length (sym (popped.rest next kept.sound ∙ without_oldest_none whom (entries_in old) (popped.unit next kept.sound)));
+    within = kept.within;
     room = subst (λ r. HasRoom r new) (sym is) (popped.room reserved kept.room);
   }
 
@@ -350,10 +352,11 @@ module _ (len next : ℕ) (reserved : Option Whom) (old new : Queues) (kept : Ar
   pub some_left : (whom : Whom) (unit : Msdu) → Pops whom old (Some unit) new → 1 ≤ len
   some_left whom unit popped = let count = one_less whom unit popped in omega arith
 
-  pub kept_popped : (whom : Whom) (unit : Msdu) (room : Option Whom) → Pops whom old (Some unit) new → room ≡ room_beside whom reserved → AreKept (len - 1) next room new
+  pub kept_popped : (whom : Whom) (unit : Msdu) (room : Option Whom) → Pops whom old (Some unit) new → room ≡ room_beside whom reserved → AreKept quota (len - 1) next room new
   kept_popped whom unit room popped is = record {
     sound = popped.sound next kept.sound;
     counted = let count = one_less whom unit popped in omega arith;
+    within = omega (arith, kept.within);
     room = subst (λ r. HasRoom r new) (sym is) (popped.room reserved kept.room);
   }
 
@@ -364,12 +367,22 @@ module _ (len next : ℕ) (reserved : Option Whom) (old new : Queues) (kept : Ar
       ∙ ap (λ es. length es + length (units_for whom (entries_in old))) (sym (gone.rest next kept.sound))
       ∙ ap (λ n. length (entries_in new) + n) (sym (gone.count next kept.sound))
 
-  pub so_many_left : (whom : Whom) (removed : ℕ) → Removes whom old removed new → removed ≤ len
-  so_many_left whom removed gone = let count = fewer whom removed gone in omega arith
+  pub removed_within : (whom : Whom) (removed : ℕ) → Removes whom old removed new → removed ≤ len
+  removed_within whom removed gone = let count = fewer whom removed gone in omega arith
 
-  pub kept_removed : (whom : Whom) (removed : ℕ) (room : Option Whom) → Removes whom old removed new → room ≡ room_beside whom reserved → AreKept (len - removed) next room new
+  pub kept_removed : (whom : Whom) (removed : ℕ) (room : Option Whom) → Removes whom old removed new → room ≡ room_beside whom reserved → AreKept quota (len - removed) next room new
   kept_removed whom removed room gone is = record {
     sound = gone.sound next kept.sound;
     counted = let count = fewer whom removed gone in omega arith;
+    within = omega (arith, kept.within);
     room = subst (λ r. HasRoom r new) (sym is) (gone.room reserved kept.room);
+  }
+
+  -- a unit came where there was room for it
+  pub kept_pushed : (whom : Whom) (arrived : Arrived) → Pushes whom arrived old new → arrived.number ≡ next → length (entries_in old) < quota → AreKept quota (len + 1) (next + 1) None new
+  kept_pushed whom arrived pushed number room = record {
+    sound = subst (λ n. AreSound (n + 1) new) number pushed.sound;
+    counted = ap (λ n. n + 1) kept.counted ∙ sym (ap length pushed.units ∙ length_push (entries_in old) (whom, arrived.unit));
+    within = omega (arith, kept.counted, room);
+    room = tt;
   }

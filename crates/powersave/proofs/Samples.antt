@@ -1,7 +1,7 @@
 -- Stations and units of which the rows speak.
 use Rattle.std.proofs.Common.{ℕ, List, [], ◌∷◌}
 use Rattle.mac_frame.specs.Address.{broadcast}
-use Rattle.mac_frame.proofs.Samples.{station, host}
+use Rattle.mac_frame.specs.Samples.{station, host}
 use Rattle.powersave.specs.declared.unit.Whom.TheVariants.{One, Group}
 use Rattle.powersave.specs.declared.queues.Arrived.{Arrived}
 use Rattle.powersave.specs.declared.unit.Unit.{Unit as Msdu}

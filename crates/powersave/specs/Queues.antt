@@ -1,5 +1,5 @@
 -- The queues of the units that are kept, one for each for whom units are kept, and the one list that they make.
-use Rattle.std.specs.Prelude.{ℕ, ◌≡◌, ◌+◌, ◌<◌, ◌++◌, Bool, List, [], ◌∷◌, length, map, filter, nat_lt}
+use Rattle.std.specs.Prelude.{ℕ, ◌≡◌, ◌+◌, ◌<◌, ◌≤◌, ◌++◌, Bool, List, [], ◌∷◌, length, map, filter, nat_lt}
 use Rattle.std.specs.Prelude.{Option, Some, None}
 use Rattle.std.specs.Prelude.{unwrap_or, if◌then◌else◌}
 use Rattle.std.specs.List.{AllByRecursion, IsDistinct, slice_get}
@@ -90,10 +90,11 @@ abbrev pub HasRoom : Option Whom → Queues → Type 0
 HasRoom None queues = Unit {0}
 HasRoom (Some whom) queues = IsSomeAnd (lookup (is_whom whom) queues) (λ q. q.len < q.cap)
 
--- what the list keeps: the next unit's number, how many units there are, and for whom there is room
-pub record AreKept (len next : ℕ) (reserved : Option Whom) (queues : Queues) : Type 0 where
+-- what the list keeps: how many units there may be and are, the next unit's number, and for whom there is room
+pub record AreKept (quota len next : ℕ) (reserved : Option Whom) (queues : Queues) : Type 0 where
   pub sound : AreSound next queues
   pub counted : len ≡ length (entries_in queues)
+  pub within : len ≤ quota
   pub room : HasRoom reserved queues
 
 -- ---- what becomes of them

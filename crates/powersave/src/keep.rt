@@ -42,7 +42,7 @@ impl Model for Keep {
       puts = k.puts;
     } };
 
-    ghost invariant = { λ k. AreKept k.len k.puts k.reserved k.queues.map.entries };
+    ghost invariant = { λ k. AreKept k.quota k.len k.puts k.reserved k.queues.map.entries };
 }
 
 impl Keep {
@@ -155,12 +155,11 @@ impl Keep {
         self.len -= self.queues.remove(&whom);
     }
 
-    /// Takes out the units for `whom` that came before the clock `limit`, and answers how many these were. Their clocks
-    /// don't fall in the order in which they came, so only those that leave are walked over. The others stay in their
-    /// order. A reservation for `whom` ends.
+    /// Takes out the units for `whom` that came before the clock `limit`, and answers how many these were. The caller
+    /// put the units for `whom` in order, so that their clocks don't fall: those that leave are the first of them, and
+    /// no other is looked at. The others stay in their order. A reservation for `whom` ends.
     pub fn drop_older(&mut self, whom: Whom, limit: u32) -> u32
         requires in_order { CameInOrder (units_for whom self.old.entries) }
-        requires countable { length self.old.entries < 2 ^ 32 }
         ensures count { result ≡ length (filter (is_older whom limit) self.old.entries) }
         ensures after { self.new ≡ record self.old {
           entries = without_older whom limit self.old.entries;
@@ -174,11 +173,12 @@ impl Keep {
     /// Takes out the first units that came for `whom`, as long as they came before the clock `limit`.
     fn drop_first_while_older(&mut self, whom: &Whom, limit: u32) -> u32
         requires in_order { CameInOrder (units_for whom.now self.old.entries) }
-        requires countable { length self.old.entries < 2 ^ 32 }
         requires room { room_beside whom.now self.old.reserved ≡ self.old.reserved }
         ensures count { result ≡ length (filter (is_older whom.now limit) self.old.entries) }
         ensures after { self.new ≡ record self.old { entries = without_older whom.now limit self.old.entries } }
     {
+        // The prover opens what the list keeps, which is no more than its quota, where a field is read.
+        let _len = self.len;
         let mut dropped = 0;
         while self.has_older(whom, limit) {
             self.drop_first(whom);

@@ -26,7 +26,7 @@ struct Work<'a> {
 
 /// A line that one gives, counted from 1, and the networks that may hear it.
 #[derive(Clone, Copy)]
-struct Given<'a> {
+struct NumberedLine<'a> {
     number: usize,
     line: &'a Line,
     addresses: &'a Addresses,
@@ -109,12 +109,12 @@ fn give_each<N: ApName, R: Wait>(
     for few in work.lines.chunks(callers.len().max(1)) {
         for (caller, line) in callers.iter_mut().zip(few) {
             number = number.saturating_add(1);
-            let given = Given {
+            let numbered = NumberedLine {
                 number,
                 line,
                 addresses,
             };
-            was_refused |= give(rt, alloc, ap, caller, given, report)?;
+            was_refused |= give(rt, alloc, ap, caller, numbered, report)?;
         }
     }
     for place in 0..ap.networks() {
@@ -130,19 +130,19 @@ fn give<N: ApName, R: Wait>(
     alloc: Global,
     ap: &Ap<N>,
     caller: &mut Caller,
-    given: Given<'_>,
+    numbered: NumberedLine<'_>,
     report: &mut Vec<u8>,
 ) -> Result<bool, Flaw> {
     let entries = caller.entries().len();
-    let answer = match given.line {
+    let answer = match numbered.line {
         Line::Air(octets) => ap.air(rt, caller, octets.as_slice()),
         Line::Wire { place, octets } => ap.wire(rt, caller, *place, octets.as_slice()),
         Line::Tick => ap.tick(rt, caller),
     };
     match answer {
-        Ok(outcomes) => tell(alloc, outcomes, given, report),
+        Ok(outcomes) => write_refusals(alloc, outcomes, numbered, report),
         Err(NoMemory) if caller.entries().len() == entries => {
-            let number = given.number;
+            let number = numbered.number;
             let refusal = format!(in alloc; "fault memory line {number}\n")?;
             report.extend_from_slice(refusal.as_bytes())?;
             Ok(true)
@@ -153,16 +153,16 @@ fn give<N: ApName, R: Wait>(
 
 /// Writes which networks refused the line of a number for memory. Answers whether any did. Each place that hears the
 /// line must have taken or refused it, and each other not have heard it.
-fn tell(
+fn write_refusals(
     alloc: Global,
     outcomes: [Outcome; MAX_NETWORKS],
-    given: Given<'_>,
+    numbered: NumberedLine<'_>,
     report: &mut Vec<u8>,
 ) -> Result<bool, Flaw> {
     let mut was_refused = false;
-    let number = given.number;
-    for (place, (outcome, address)) in outcomes.iter().zip(given.addresses).enumerate() {
-        match (outcome, is_heard(place, *address, given.line)) {
+    let number = numbered.number;
+    for (place, (outcome, address)) in outcomes.iter().zip(numbered.addresses).enumerate() {
+        match (outcome, is_heard(place, *address, numbered.line)) {
             (Outcome::NotHeard, false) | (Outcome::Took(_), true) => {}
             (Outcome::NoMemory, true) => {
                 let refusal = format!(in alloc; "fault memory line {number} place {place}\n")?;

@@ -34,7 +34,7 @@ pub(crate) fn feed_pieces(
         return Err(Flaw::Beside);
     };
     let mut whole = String::with_capacity(alloc, ROOM)?;
-    tell(lines.as_slice(), &mut whole)?;
+    write_lines(lines.as_slice(), &mut whole)?;
     if said != whole {
         return Err(Flaw::Wrong("wrong: the pieces gave other lines\n"));
     }
@@ -53,7 +53,7 @@ fn feed(reader: &mut LineReader, piece: &[u8], said: &mut String) -> Result<bool
     let Ok(lines) = lines else {
         return Err(AGAIN);
     };
-    tell(lines.as_slice(), said)?;
+    write_lines(lines.as_slice(), said)?;
     Ok(was_refused)
 }
 
@@ -64,7 +64,7 @@ fn end(reader: &mut LineReader, said: &mut String) -> Result<bool, Flaw> {
         line => (line, false),
     };
     match line {
-        Ok(Some(line)) => tell(&[line], said)?,
+        Ok(Some(line)) => write_lines(&[line], said)?,
         Ok(None) => {}
         Err(_) => return Err(AGAIN),
     }
@@ -72,7 +72,7 @@ fn end(reader: &mut LineReader, said: &mut String) -> Result<bool, Flaw> {
 }
 
 /// Adds lines to a text, which has room for them.
-fn tell(lines: &[Line], text: &mut String) -> Result<(), NoMemory> {
+fn write_lines(lines: &[Line], text: &mut String) -> Result<(), NoMemory> {
     for line in lines {
         if write!(text, "{line:?} ").is_err() {
             return Err(NoMemory);

@@ -11,7 +11,7 @@ use Rattle.powersave.specs.declared.unit.Unit.{Unit as DataUnit}
 use Rattle.powersave.proofs.Parts.{same_whom, not_for_other}
 use Rattle.powersave.proofs.Turns.{after-itself}
 use Rattle.stations.specs.Roster.{limit_for, stays, StayBeside}
-use Rattle.stations.specs.Stations.{Table, link_of, listen_with}
+use Rattle.stations.specs.Stations.{Table, state_of, listen_with}
 use Rattle.stations.specs.KeptUnits.{is_too_old_for, is_too_old, has_aid, is_waited_for}
 
 -- ---- too old is older than a clock
@@ -24,7 +24,7 @@ late-older at listen clock = by (nat_lt (at + listen) clock) refl
     by false is = let le = ltb-false (at + listen) clock is in is ∙ sym (le-ltb at (clock - listen) (omega (arith, le)))
 
 old-for : (clock : ℕ) (t : Table) (whom : Whom) (at : ℕ) → is_too_old_for clock t whom at ≡ nat_lt at (limit_for clock t whom)
-old-for clock t (One addr) at = late-older at (listen_with (link_of addr t)) clock
+old-for clock t (One addr) at = late-older at (listen_with (state_of addr t)) clock
 old-for clock t Group at = sym (le-ltb at 0 (omega arith))
 
 module _ (clock : ℕ) (t : Table) where

@@ -14,11 +14,11 @@ use Rattle.std.specs.Int.{from_bool}
 use Rattle.std.specs.Map.{lookup, set_value}
 use Rattle.std.specs.Str.{bytes_eq}
 use Rattle.aid_pool.specs.LeastFree.{is_among, least_free, IsLeastFree}
-use Rattle.stations.specs.Stations.{Table, link_of, identifier_of, identifiers, aid_with, aid_of, AreIdentifiers, set_link, forget, set_mode, with_mode, dozes, is_dozing, some_station_dozes, changed, IsModeAlone, StationTable, with_table}
+use Rattle.stations.specs.Stations.{Table, state_of, identifier_of, identifiers, aid_with, aid_of, AreIdentifiers, set_state, forget, set_mode, with_mode, dozes, is_dozing, some_station_dozes, changed, IsModeAlone, StationTable, with_table}
 use Rattle.stations.specs.declared.table.Change.{Change}
 use Rattle.stations.specs.declared.table.Change.TheVariants.{Nothing, Authenticate, Associate, Disassociate, Forget, SetMode}
-use Rattle.stations.specs.declared.table.Link.{Link}
-use Rattle.stations.specs.declared.table.Link.TheVariants.{Authenticated, Associated}
+use Rattle.stations.specs.declared.table.StationState.{StationState}
+use Rattle.stations.specs.declared.table.StationState.TheVariants.{Authenticated, Associated}
 
 abbrev pub Numbers : Type 0
 Numbers = FinSet nat_cmp
@@ -61,7 +61,7 @@ within (m ∷ p) q i first last h new =
 
 -- ---- a known station among the others
 
-append_assoc_of : (l : Link) (p q : List ℕ) → identifier_of l ++ (p ++ q) ≡ (identifier_of l ++ p) ++ q
+append_assoc_of : (l : StationState) (p q : List ℕ) → identifier_of l ++ (p ++ q) ≡ (identifier_of l ++ p) ++ q
 append_assoc_of Authenticated p q = refl
 append_assoc_of (Associated aid listen doze) p q = refl
 
@@ -70,64 +70,64 @@ identifiers-append [] t = refl
 identifiers-append (e ∷ s) t = ap (λ ns. identifier_of e.1 ++ ns) (identifiers-append s t) ∙ append_assoc_of e.1 (identifiers s) (identifiers t)
 
 -- the numbers before and after that of a station
-pub record IsParted (addr : List ℕ) (link : Link) (t : Table) (p q : List ℕ) : Type 0 where
-  pub whole : identifiers t ≡ p ++ (identifier_of link ++ q)
-  pub changed : (l : Link) → identifiers (set_link addr l t) ≡ p ++ (identifier_of l ++ q)
+pub record IsParted (addr : List ℕ) (state : StationState) (t : Table) (p q : List ℕ) : Type 0 where
+  pub whole : identifiers t ≡ p ++ (identifier_of state ++ q)
+  pub changed : (l : StationState) → identifiers (set_state addr l t) ≡ p ++ (identifier_of l ++ q)
   pub removed : identifiers (forget addr t) ≡ p ++ q
 
-parted-here : (addr : List ℕ) (link : Link) (e : List ℕ × Link) (t : Table) → bytes_eq addr e.0 ≡ true → e.1 ≡ link → IsParted addr link (e ∷ t) [] (identifiers t)
-parted-here addr link e t same is =
+parted-here : (addr : List ℕ) (state : StationState) (e : List ℕ × StationState) (t : Table) → bytes_eq addr e.0 ≡ true → e.1 ≡ state → IsParted addr state (e ∷ t) [] (identifiers t)
+parted-here addr state e t same is =
     record { whole = ap (λ l. identifier_of l ++ identifiers t) is; changed = λ l. rw same refl; removed = rw same refl }
 
-parted-later : (addr : List ℕ) (link : Link) (e : List ℕ × Link) (t : Table) (p q : List ℕ) → bytes_eq addr e.0 ≡ false → IsParted addr link t p q → IsParted addr link (e ∷ t) (identifier_of e.1 ++ p) q
-parted-later addr link e t p q other r = record {
-  whole = ap (λ ns. identifier_of e.1 ++ ns) r.whole ∙ append_assoc_of e.1 p (identifier_of link ++ q);
+parted-later : (addr : List ℕ) (state : StationState) (e : List ℕ × StationState) (t : Table) (p q : List ℕ) → bytes_eq addr e.0 ≡ false → IsParted addr state t p q → IsParted addr state (e ∷ t) (identifier_of e.1 ++ p) q
+parted-later addr state e t p q other r = record {
+  whole = ap (λ ns. identifier_of e.1 ++ ns) r.whole ∙ append_assoc_of e.1 p (identifier_of state ++ q);
   changed = λ l. rw other (ap (λ ns. identifier_of e.1 ++ ns) (r.changed l) ∙ append_assoc_of e.1 p (identifier_of l ++ q));
   removed = rw other (ap (λ ns. identifier_of e.1 ++ ns) r.removed ∙ append_assoc_of e.1 p q);
 }
 
-found-here : (b : Bool) (link other : Link) (rest : Option Link) → b ≡ true → cond b (Some other) rest ≡ Some link → other ≡ link
-found-here true link other rest e h = cc
-found-here false link other rest e h = absurd (both_ways false refl e)
+found-here : (b : Bool) (state other : StationState) (rest : Option StationState) → b ≡ true → cond b (Some other) rest ≡ Some state → other ≡ state
+found-here true state other rest e h = cc
+found-here false state other rest e h = absurd (both_ways false refl e)
 
-found-later : (b : Bool) (link other : Link) (rest : Option Link) → b ≡ false → cond b (Some other) rest ≡ Some link → rest ≡ Some link
-found-later true link other rest e h = absurd (both_ways true e refl)
-found-later false link other rest e h = h
+found-later : (b : Bool) (state other : StationState) (rest : Option StationState) → b ≡ false → cond b (Some other) rest ≡ Some state → rest ≡ Some state
+found-later true state other rest e h = absurd (both_ways true e refl)
+found-later false state other rest e h = h
 
-pub parted : (addr : List ℕ) (link : Link) (t : Table) → link_of addr t ≡ Some link → (p : List ℕ) × (q : List ℕ) × IsParted addr link t p q
-parted addr link [] h = absurd (cc)
-parted addr link (e ∷ t) h = by (bytes_eq addr e.0) refl (parted addr link t)
+pub parted : (addr : List ℕ) (state : StationState) (t : Table) → state_of addr t ≡ Some state → (p : List ℕ) × (q : List ℕ) × IsParted addr state t p q
+parted addr state [] h = absurd (cc)
+parted addr state (e ∷ t) h = by (bytes_eq addr e.0) refl (parted addr state t)
   where
-    by : (b : Bool) → bytes_eq addr e.0 ≡ b → (link_of addr t ≡ Some link → (p : List ℕ) × (q : List ℕ) × IsParted addr link t p q) → (p : List ℕ) × (q : List ℕ) × IsParted addr link (e ∷ t) p q
-    by true same later = ([], identifiers t, parted-here addr link e t same (found-here _ link e.1 _ same h))
+    by : (b : Bool) → bytes_eq addr e.0 ≡ b → (state_of addr t ≡ Some state → (p : List ℕ) × (q : List ℕ) × IsParted addr state t p q) → (p : List ℕ) × (q : List ℕ) × IsParted addr state (e ∷ t) p q
+    by true same later = ([], identifiers t, parted-here addr state e t same (found-here _ state e.1 _ same h))
     by false other later =
-        let rest = later (found-later _ link e.1 _ other h) in
-        (identifier_of e.1 ++ rest.0, rest.1, parted-later addr link e t rest.0 rest.1 other rest.2)
+        let rest = later (found-later _ state e.1 _ other h) in
+        (identifier_of e.1 ++ rest.0, rest.1, parted-later addr state e t rest.0 rest.1 other rest.2)
 
 -- ---- an unknown station
 
-pub set_link-unknown : (addr : List ℕ) (link : Link) (t : Table) → link_of addr t ≡ None → set_link addr link t ≡ t ++ (addr, link) ∷ []
-set_link-unknown addr link [] h = refl
-set_link-unknown addr link (e ∷ t) h = by (bytes_eq addr e.0) refl (set_link-unknown addr link t)
+pub set_state-unknown : (addr : List ℕ) (state : StationState) (t : Table) → state_of addr t ≡ None → set_state addr state t ≡ t ++ (addr, state) ∷ []
+set_state-unknown addr state [] h = refl
+set_state-unknown addr state (e ∷ t) h = by (bytes_eq addr e.0) refl (set_state-unknown addr state t)
   where
-    by : (b : Bool) → bytes_eq addr e.0 ≡ b → (link_of addr t ≡ None → set_link addr link t ≡ t ++ (addr, link) ∷ []) → set_link addr link (e ∷ t) ≡ e ∷ (t ++ (addr, link) ∷ [])
+    by : (b : Bool) → bytes_eq addr e.0 ≡ b → (state_of addr t ≡ None → set_state addr state t ≡ t ++ (addr, state) ∷ []) → set_state addr state (e ∷ t) ≡ e ∷ (t ++ (addr, state) ∷ [])
     by true same later = let found : Some e.1 ≡ None = sym (rw same refl) ∙ h in absurd (cc)
     by false other later = let none : lookup (bytes_eq addr) t ≡ None = sym (rw other refl) ∙ h in rw other (ap (λ (s : Table). e ∷ s) (later none))
 
-pub forget-unknown : (addr : List ℕ) (t : Table) → link_of addr t ≡ None → forget addr t ≡ t
+pub forget-unknown : (addr : List ℕ) (t : Table) → state_of addr t ≡ None → forget addr t ≡ t
 forget-unknown addr [] h = refl
 forget-unknown addr (e ∷ t) h = by (bytes_eq addr e.0) refl (forget-unknown addr t)
   where
-    by : (b : Bool) → bytes_eq addr e.0 ≡ b → (link_of addr t ≡ None → forget addr t ≡ t) → forget addr (e ∷ t) ≡ e ∷ t
+    by : (b : Bool) → bytes_eq addr e.0 ≡ b → (state_of addr t ≡ None → forget addr t ≡ t) → forget addr (e ∷ t) ≡ e ∷ t
     by true same later = let found : Some e.1 ≡ None = sym (rw same refl) ∙ h in absurd (cc)
     by false other later = let none : lookup (bytes_eq addr) t ≡ None = sym (rw other refl) ∙ h in rw other (ap (λ (s : Table). e ∷ s) (later none))
 
 -- ---- what the station's identifier says
 
-pub link_of-associated : (addr : List ℕ) (t : Table) (aid : ℕ) → aid_of addr t ≡ Some aid → (link : Link) × (link_of addr t ≡ Some link) × (identifier_of link ≡ aid ∷ [])
-link_of-associated addr t aid h = by (link_of addr t) refl
+pub state_of-associated : (addr : List ℕ) (t : Table) (aid : ℕ) → aid_of addr t ≡ Some aid → (state : StationState) × (state_of addr t ≡ Some state) × (identifier_of state ≡ aid ∷ [])
+state_of-associated addr t aid h = by (state_of addr t) refl
   where
-    by : (l : Option Link) → link_of addr t ≡ l → (link : Link) × (link_of addr t ≡ Some link) × (identifier_of link ≡ aid ∷ [])
+    by : (l : Option StationState) → state_of addr t ≡ l → (state : StationState) × (state_of addr t ≡ Some state) × (identifier_of state ≡ aid ∷ [])
     by None is = let e : None ≡ Some aid = sym (ap aid_with is) ∙ h in absurd (cc)
     by (Some Authenticated) is = let e : None ≡ Some aid = sym (ap aid_with is) ∙ h in absurd (cc)
     by (Some (Associated n listen doze)) is =
@@ -135,11 +135,11 @@ link_of-associated addr t aid h = by (link_of addr t) refl
         let same : n ≡ aid = cc in
         (Associated n listen doze, is, ap (λ (m : ℕ). m ∷ []) same)
 
--- the numbers of a table in which an associated station gets another link
+-- the numbers of a table in which an associated station gets another state
 pub numbers-of_associated : (addr : List ℕ) (t : Table) (aid : ℕ) → aid_of addr t ≡ Some aid
-    → (p : List ℕ) × (q : List ℕ) × (identifiers t ≡ p ++ aid ∷ q) × ((l : Link) → identifiers (set_link addr l t) ≡ p ++ (identifier_of l ++ q)) × (identifiers (forget addr t) ≡ p ++ q)
+    → (p : List ℕ) × (q : List ℕ) × (identifiers t ≡ p ++ aid ∷ q) × ((l : StationState) → identifiers (set_state addr l t) ≡ p ++ (identifier_of l ++ q)) × (identifiers (forget addr t) ≡ p ++ q)
 numbers-of_associated addr t aid h =
-    let found = link_of-associated addr t aid h in
+    let found = state_of-associated addr t aid h in
     let parts = parted addr found.0 t found.1 in
     let p = parts.0 in
     let q = parts.1 in
@@ -147,12 +147,12 @@ numbers-of_associated addr t aid h =
 
 -- ---- a station that is not associated has no number
 
-pub numbers-kept : (addr : List ℕ) (t : Table) → aid_of addr t ≡ None → (identifiers (set_link addr Authenticated t) ≡ identifiers t) × (identifiers (forget addr t) ≡ identifiers t)
-numbers-kept addr t h = by (link_of addr t) refl
+pub numbers-kept : (addr : List ℕ) (t : Table) → aid_of addr t ≡ None → (identifiers (set_state addr Authenticated t) ≡ identifiers t) × (identifiers (forget addr t) ≡ identifiers t)
+numbers-kept addr t h = by (state_of addr t) refl
   where
-    by : (l : Option Link) → link_of addr t ≡ l → (identifiers (set_link addr Authenticated t) ≡ identifiers t) × (identifiers (forget addr t) ≡ identifiers t)
+    by : (l : Option StationState) → state_of addr t ≡ l → (identifiers (set_state addr Authenticated t) ≡ identifiers t) × (identifiers (forget addr t) ≡ identifiers t)
     by None is =
-        (ap identifiers (set_link-unknown addr Authenticated t is) ∙ identifiers-append t ((addr, Authenticated) ∷ []) ∙ append-nil (identifiers t), ap identifiers (forget-unknown addr t is))
+        (ap identifiers (set_state-unknown addr Authenticated t is) ∙ identifiers-append t ((addr, Authenticated) ∷ []) ∙ append-nil (identifiers t), ap identifiers (forget-unknown addr t is))
     by (Some Authenticated) is =
         let parts = parted addr Authenticated t is in
         (parts.2.changed Authenticated ∙ sym parts.2.whole, parts.2.removed ∙ sym parts.2.whole)
@@ -206,23 +206,23 @@ out-of_associated most out addr t aid h o =
     let n = numbers-of_associated addr t aid h in
     o.numbers aid ∙ ap (λ ns. is_among ns aid) n.2 ∙ is_among-at n.0 n.1 aid aid ∙ rw (eq-eqb aid aid refl) refl
 
-pub out-freed : (most : ℕ) (out : Numbers) (addr : List ℕ) (t : Table) (aid : ℕ) → aid_of addr t ≡ Some aid → AreOut most out (identifiers t) → AreOut most (set.remove out aid) (identifiers (set_link addr Authenticated t)) × AreOut most (set.remove out aid) (identifiers (forget addr t))
+pub out-freed : (most : ℕ) (out : Numbers) (addr : List ℕ) (t : Table) (aid : ℕ) → aid_of addr t ≡ Some aid → AreOut most out (identifiers t) → AreOut most (set.remove out aid) (identifiers (set_state addr Authenticated t)) × AreOut most (set.remove out aid) (identifiers (forget addr t))
 out-freed most out addr t aid h o =
     let n = numbers-of_associated addr t aid h in
     let less = out-removed most out n.0 n.1 aid (subst (AreOut most out) n.2 o) in
     (subst (AreOut most (set.remove out aid)) (sym (n.3 Authenticated)) less, subst (AreOut most (set.remove out aid)) (sym n.4) less)
 
-pub out-kept : (most : ℕ) (out : Numbers) (addr : List ℕ) (t : Table) → aid_of addr t ≡ None → AreOut most out (identifiers t) → AreOut most out (identifiers (set_link addr Authenticated t)) × AreOut most out (identifiers (forget addr t))
+pub out-kept : (most : ℕ) (out : Numbers) (addr : List ℕ) (t : Table) → aid_of addr t ≡ None → AreOut most out (identifiers t) → AreOut most out (identifiers (set_state addr Authenticated t)) × AreOut most out (identifiers (forget addr t))
 out-kept most out addr t h o =
     let n = numbers-kept addr t h in
     (subst (AreOut most out) (sym n.0) o, subst (AreOut most out) (sym n.1) o)
 
-pub out-associated_again : (most : ℕ) (out : Numbers) (addr : List ℕ) (t : Table) (aid listen : ℕ) (doze : Bool) → aid_of addr t ≡ Some aid → AreOut most out (identifiers t) → AreOut most out (identifiers (set_link addr (Associated aid listen doze) t))
+pub out-associated_again : (most : ℕ) (out : Numbers) (addr : List ℕ) (t : Table) (aid listen : ℕ) (doze : Bool) → aid_of addr t ≡ Some aid → AreOut most out (identifiers t) → AreOut most out (identifiers (set_state addr (Associated aid listen doze) t))
 out-associated_again most out addr t aid listen doze h o =
     let n = numbers-of_associated addr t aid h in
     subst (AreOut most out) (n.2 ∙ sym (n.3 (Associated aid listen doze))) o
 
-pub out-associated : (most : ℕ) (out : Numbers) (addr : List ℕ) (t : Table) (aid listen : ℕ) (doze : Bool) → link_of addr t ≡ Some Authenticated → IsLeastFree (set.contains out) aid → set.len out < most → AreOut most out (identifiers t) → AreOut most (set.insert out aid) (identifiers (set_link addr (Associated aid listen doze) t))
+pub out-associated : (most : ℕ) (out : Numbers) (addr : List ℕ) (t : Table) (aid listen : ℕ) (doze : Bool) → state_of addr t ≡ Some Authenticated → IsLeastFree (set.contains out) aid → set.len out < most → AreOut most out (identifiers t) → AreOut most (set.insert out aid) (identifiers (set_state addr (Associated aid listen doze) t))
 out-associated most out addr t aid listen doze h least room o =
     let n = parted addr Authenticated t h in
     let more = out-inserted most out n.0 n.1 aid least.first least.last least.free room (subst (AreOut most out) n.2.whole o) in
@@ -242,19 +242,19 @@ range-of_associated addr t aid h o = let n = numbers-of_associated addr t aid h 
 
 -- ---- the map's words
 
-pub insert_entry-is_set_link : (addr : List ℕ) (link : Link) (t : Table) → insert_entry bytes_eq t addr link ≡ set_link addr link t
-insert_entry-is_set_link addr link [] = refl
-insert_entry-is_set_link addr link (e ∷ t) = ap (λ (s : Table). if bytes_eq addr e.0 then (e.0, link) ∷ t else e ∷ s) (insert_entry-is_set_link addr link t)
+pub insert_entry-is_set_state : (addr : List ℕ) (state : StationState) (t : Table) → insert_entry bytes_eq t addr state ≡ set_state addr state t
+insert_entry-is_set_state addr state [] = refl
+insert_entry-is_set_state addr state (e ∷ t) = ap (λ (s : Table). if bytes_eq addr e.0 then (e.0, state) ∷ t else e ∷ s) (insert_entry-is_set_state addr state t)
 
--- a known station's link is set in its place
-pub set_value-is_set_link : (addr : List ℕ) (link : Link) (t : Table) → is_some (link_of addr t) ≡ true → set_value (bytes_eq addr) t link ≡ set_link addr link t
-set_value-is_set_link addr link [] h = absurd (both_ways false refl h)
-set_value-is_set_link addr link (e ∷ t) h = by (bytes_eq addr e.0) refl (set_value-is_set_link addr link t)
+-- a known station's state is set in its place
+pub set_value-is_set_state : (addr : List ℕ) (state : StationState) (t : Table) → is_some (state_of addr t) ≡ true → set_value (bytes_eq addr) t state ≡ set_state addr state t
+set_value-is_set_state addr state [] h = absurd (both_ways false refl h)
+set_value-is_set_state addr state (e ∷ t) h = by (bytes_eq addr e.0) refl (set_value-is_set_state addr state t)
   where
-    by : (b : Bool) → bytes_eq addr e.0 ≡ b → (is_some (link_of addr t) ≡ true → set_value (bytes_eq addr) t link ≡ set_link addr link t) → set_value (bytes_eq addr) (e ∷ t) link ≡ set_link addr link (e ∷ t)
+    by : (b : Bool) → bytes_eq addr e.0 ≡ b → (is_some (state_of addr t) ≡ true → set_value (bytes_eq addr) t state ≡ set_state addr state t) → set_value (bytes_eq addr) (e ∷ t) state ≡ set_state addr state (e ∷ t)
     by true same later = rw same refl
     by false other later =
-        let there : is_some (link_of addr t) ≡ true = sym (rw other refl) ∙ h in
+        let there : is_some (state_of addr t) ≡ true = sym (rw other refl) ∙ h in
         rw other (ap (λ (s : Table). e ∷ s) (later there))
 
 pub no-numbers : (most : ℕ) → AreOut most set.empty []
@@ -268,10 +268,10 @@ pub changed_table : (f : Table → Table) (most : ℕ) (old new : Table) (s : St
 changed_table f most old new s is change = ap (stations most) change ∙ ap (λ (k : StationTable). stations k.most (f k.table)) is
 
 -- a station that is known and has no number is authenticated
-pub authenticated-where : (addr : List ℕ) (t : Table) → is_some (link_of addr t) ≡ true → aid_of addr t ≡ None → link_of addr t ≡ Some Authenticated
-authenticated-where addr t known none = by (link_of addr t) refl
+pub authenticated-where : (addr : List ℕ) (t : Table) → is_some (state_of addr t) ≡ true → aid_of addr t ≡ None → state_of addr t ≡ Some Authenticated
+authenticated-where addr t known none = by (state_of addr t) refl
   where
-    by : (l : Option Link) → link_of addr t ≡ l → link_of addr t ≡ Some Authenticated
+    by : (l : Option StationState) → state_of addr t ≡ l → state_of addr t ≡ Some Authenticated
     by None is = let e : false ≡ true = sym (ap is_some is) ∙ known in absurd (both_ways false refl e)
     by (Some Authenticated) is = is
     by (Some (Associated n listen doze)) is = let e : Some n ≡ None = sym (ap aid_with is) ∙ none in absurd (cc)
@@ -287,15 +287,15 @@ room-where most out ns (Some aid) h o =
 
 -- ---- how many doze
 
--- of a station's link
+-- of a station's state
 abbrev pub dozing_at : List ℕ → Table → ℕ
 dozing_at addr t = from_bool (is_dozing addr t)
 
-pub dozing-set : (addr : List ℕ) (link : Link) (t : Table) → dozing_count (set_link addr link t) + dozing_at addr t ≡ dozing_count t + from_bool (dozes link)
-dozing-set addr link [] = omega arith
-dozing-set addr link (e ∷ t) = by (bytes_eq addr e.0) refl (dozing-set addr link t)
+pub dozing-set : (addr : List ℕ) (state : StationState) (t : Table) → dozing_count (set_state addr state t) + dozing_at addr t ≡ dozing_count t + from_bool (dozes state)
+dozing-set addr state [] = omega arith
+dozing-set addr state (e ∷ t) = by (bytes_eq addr e.0) refl (dozing-set addr state t)
   where
-    by : (b : Bool) → bytes_eq addr e.0 ≡ b → dozing_count (set_link addr link t) + dozing_at addr t ≡ dozing_count t + from_bool (dozes link) → dozing_count (set_link addr link (e ∷ t)) + dozing_at addr (e ∷ t) ≡ dozing_count (e ∷ t) + from_bool (dozes link)
+    by : (b : Bool) → bytes_eq addr e.0 ≡ b → dozing_count (set_state addr state t) + dozing_at addr t ≡ dozing_count t + from_bool (dozes state) → dozing_count (set_state addr state (e ∷ t)) + dozing_at addr (e ∷ t) ≡ dozing_count (e ∷ t) + from_bool (dozes state)
     by true same later = rw same (omega arith)
     by false other later = rw other (omega (arith, later))
 
@@ -311,20 +311,20 @@ dozing-forgotten addr (e ∷ t) = by (bytes_eq addr e.0) refl (dozing-forgotten 
     by true same later = rw same (omega arith)
     by false other later = rw other (omega (arith, later))
 
--- the mode of a known station is set by its link
-pub set_mode-is_set_link : (addr : List ℕ) (doze : Bool) (link : Link) (t : Table) → link_of addr t ≡ Some link → set_mode addr doze t ≡ set_link addr (with_mode doze link) t
-set_mode-is_set_link addr doze link [] h = absurd (cc)
-set_mode-is_set_link addr doze link (e ∷ t) h = by (bytes_eq addr e.0) refl (set_mode-is_set_link addr doze link t)
+-- the mode of a known station is set by its state
+pub set_mode-is_set_state : (addr : List ℕ) (doze : Bool) (state : StationState) (t : Table) → state_of addr t ≡ Some state → set_mode addr doze t ≡ set_state addr (with_mode doze state) t
+set_mode-is_set_state addr doze state [] h = absurd (cc)
+set_mode-is_set_state addr doze state (e ∷ t) h = by (bytes_eq addr e.0) refl (set_mode-is_set_state addr doze state t)
   where
-    by : (b : Bool) → bytes_eq addr e.0 ≡ b → (link_of addr t ≡ Some link → set_mode addr doze t ≡ set_link addr (with_mode doze link) t) → set_mode addr doze (e ∷ t) ≡ set_link addr (with_mode doze link) (e ∷ t)
-    by true same later = let is = found-here _ link e.1 _ same h in rw (same, is) refl
-    by false other later = let rest = later (found-later _ link e.1 _ other h) in rw (other, rest) refl
+    by : (b : Bool) → bytes_eq addr e.0 ≡ b → (state_of addr t ≡ Some state → set_mode addr doze t ≡ set_state addr (with_mode doze state) t) → set_mode addr doze (e ∷ t) ≡ set_state addr (with_mode doze state) (e ∷ t)
+    by true same later = let is = found-here _ state e.1 _ same h in rw (same, is) refl
+    by false other later = let rest = later (found-later _ state e.1 _ other h) in rw (other, rest) refl
 
-pub set_mode-unknown : (addr : List ℕ) (doze : Bool) (t : Table) → link_of addr t ≡ None → set_mode addr doze t ≡ t
+pub set_mode-unknown : (addr : List ℕ) (doze : Bool) (t : Table) → state_of addr t ≡ None → set_mode addr doze t ≡ t
 set_mode-unknown addr doze [] h = refl
 set_mode-unknown addr doze (e ∷ t) h = by (bytes_eq addr e.0) refl (set_mode-unknown addr doze t)
   where
-    by : (b : Bool) → bytes_eq addr e.0 ≡ b → (link_of addr t ≡ None → set_mode addr doze t ≡ t) → set_mode addr doze (e ∷ t) ≡ e ∷ t
+    by : (b : Bool) → bytes_eq addr e.0 ≡ b → (state_of addr t ≡ None → set_mode addr doze t ≡ t) → set_mode addr doze (e ∷ t) ≡ e ∷ t
     by true same later = let found : Some e.1 ≡ None = sym (rw same refl) ∙ h in absurd (cc)
     by false other later = let none : lookup (bytes_eq addr) t ≡ None = sym (rw other refl) ∙ h in rw other (ap (λ (s : Table). e ∷ s) (later none))
 
@@ -342,7 +342,7 @@ pub dozing-few : (t : Table) → dozing_count t ≤ length (identifiers t)
 dozing-few [] = omega arith
 dozing-few (e ∷ t) = by e.1 (dozing-few t)
   where
-    by : (l : Link) → dozing_count t ≤ length (identifiers t) → from_bool (dozes l) + dozing_count t ≤ length (identifier_of l ++ identifiers t)
+    by : (l : StationState) → dozing_count t ≤ length (identifiers t) → from_bool (dozes l) + dozing_count t ≤ length (identifier_of l ++ identifiers t)
     by Authenticated later = omega (arith, later)
     by (Associated aid listen true) later = omega (arith, later)
     by (Associated aid listen false) later = omega (arith, later)
@@ -390,17 +390,17 @@ other-dozes addr doze t h =
 
 -- ---- the identifier of the station at a place
 
-rest-sound : (l : Link) (ns : List ℕ) → AreIdentifiers (identifier_of l ++ ns) → AreIdentifiers ns
+rest-sound : (l : StationState) (ns : List ℕ) → AreIdentifiers (identifier_of l ++ ns) → AreIdentifiers ns
 rest-sound Authenticated ns h = h
 rest-sound (Associated aid listen doze) ns h = h.3
 
-pub aid-range : (t : Table) (place : ℕ) (station : List ℕ × Link) (aid : ℕ) → slice_get t place ≡ Some station → aid_with (Some station.1) ≡ Some aid → AreIdentifiers (identifiers t) → (1 ≤ aid) × (aid ≤ 2007)
+pub aid-range : (t : Table) (place : ℕ) (station : List ℕ × StationState) (aid : ℕ) → slice_get t place ≡ Some station → aid_with (Some station.1) ≡ Some aid → AreIdentifiers (identifiers t) → (1 ≤ aid) × (aid ≤ 2007)
 aid-range [] place station aid here is h = absurd (cc)
 aid-range (e ∷ t) zero station aid here is h =
     let same : e ≡ station = cc in
-    of e.1 (ap (λ (k : List ℕ × Link). aid_with (Some k.1)) same ∙ is) h
+    of e.1 (ap (λ (k : List ℕ × StationState). aid_with (Some k.1)) same ∙ is) h
   where
-    of : (l : Link) → aid_with (Some l) ≡ Some aid → AreIdentifiers (identifier_of l ++ identifiers t) → (1 ≤ aid) × (aid ≤ 2007)
+    of : (l : StationState) → aid_with (Some l) ≡ Some aid → AreIdentifiers (identifier_of l ++ identifiers t) → (1 ≤ aid) × (aid ≤ 2007)
     of Authenticated k sound = absurd (cc)
     of (Associated n listen doze) k sound = let number : n ≡ aid = cc in subst (λ m. (1 ≤ m) × (m ≤ 2007)) number (sound.0, sound.1)
 aid-range (e ∷ t) (suc place) station aid here is h = aid-range t place station aid here is (rest-sound e.1 (identifiers t) h)

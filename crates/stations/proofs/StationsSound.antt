@@ -8,10 +8,10 @@ use Rattle.std.proofs.lemmas.Slice.Eq.{bytes_eq-Decides}
 use borrow.Author.Tests.{ltb-true}
 use Rattle.aid_pool.specs.LeastFree.{least_free, is_among}
 use Rattle.aid_pool.proofs.Least.{least_of_list}
-use Rattle.stations.specs.Stations.{Table, link_of, aid_of, identifiers, AreIdentifiers, may_associate, next_aid, set_link, authenticate, associate, disassociate, forget, set_mode, with_mode, identifier_of, changed, IsAllowed}
+use Rattle.stations.specs.Stations.{Table, state_of, aid_of, identifiers, AreIdentifiers, may_associate, next_aid, set_state, authenticate, associate, disassociate, forget, set_mode, with_mode, identifier_of, changed, IsAllowed}
 use Rattle.stations.specs.Sound.{AreApart, AreSound}
-use Rattle.stations.specs.declared.table.Link.{Link}
-use Rattle.stations.specs.declared.table.Link.TheVariants.{Authenticated, Associated}
+use Rattle.stations.specs.declared.table.StationState.{StationState}
+use Rattle.stations.specs.declared.table.StationState.TheVariants.{Authenticated, Associated}
 use Rattle.stations.specs.declared.table.Change.{Change}
 use Rattle.stations.specs.declared.table.Change.TheVariants as changes
 use Rattle.stations.proofs.StationTables.{parted, without, within, numbers-of_associated, numbers-kept, authenticated-where}
@@ -27,32 +27,32 @@ other_way a b h = by (bytes_eq b a) refl
         let same : a ≡ b = sym ((bytes_eq-Decides b a).0 e) in
         absurd (both_ways (bytes_eq a b) h ((bytes_eq-Decides a b).1 same))
 
-pub not-here : (b : Bool) (link : Link) (rest : Option Link) → cond b (Some link) rest ≡ None → (b ≡ false) × (rest ≡ None)
-not-here true link rest h = absurd (cc)
-not-here false link rest h = (refl, h)
+pub not-here : (b : Bool) (state : StationState) (rest : Option StationState) → cond b (Some state) rest ≡ None → (b ≡ false) × (rest ≡ None)
+not-here true state rest h = absurd (cc)
+not-here false state rest h = (refl, h)
 
 -- another station that is not there does not come
-unknown-stays : (k a : List ℕ) (l : Link) (t : Table) → bytes_eq k a ≡ false → link_of k t ≡ None → link_of k (set_link a l t) ≡ None
+unknown-stays : (k a : List ℕ) (l : StationState) (t : Table) → bytes_eq k a ≡ false → state_of k t ≡ None → state_of k (set_state a l t) ≡ None
 unknown-stays k a l [] other h = rw other refl
-unknown-stays k a l (e ∷ t) other h = by (bytes_eq a e.0) refl (not-here (bytes_eq k e.0) e.1 (link_of k t) h) (unknown-stays k a l t other)
+unknown-stays k a l (e ∷ t) other h = by (bytes_eq a e.0) refl (not-here (bytes_eq k e.0) e.1 (state_of k t) h) (unknown-stays k a l t other)
   where
-    by : (b : Bool) → bytes_eq a e.0 ≡ b → (bytes_eq k e.0 ≡ false) × (link_of k t ≡ None) → (link_of k t ≡ None → link_of k (set_link a l t) ≡ None) → link_of k (set_link a l (e ∷ t)) ≡ None
+    by : (b : Bool) → bytes_eq a e.0 ≡ b → (bytes_eq k e.0 ≡ false) × (state_of k t ≡ None) → (state_of k t ≡ None → state_of k (set_state a l t) ≡ None) → state_of k (set_state a l (e ∷ t)) ≡ None
     by true same parts later = let away = parts.0 in rw (same, away) parts.1
     by false apart parts later = let away = parts.0 in rw (apart, away) (later parts.1)
 
-unknown-stays_forgotten : (k a : List ℕ) (t : Table) → link_of k t ≡ None → link_of k (forget a t) ≡ None
+unknown-stays_forgotten : (k a : List ℕ) (t : Table) → state_of k t ≡ None → state_of k (forget a t) ≡ None
 unknown-stays_forgotten k a [] h = refl
-unknown-stays_forgotten k a (e ∷ t) h = by (bytes_eq a e.0) refl (not-here (bytes_eq k e.0) e.1 (link_of k t) h) (unknown-stays_forgotten k a t)
+unknown-stays_forgotten k a (e ∷ t) h = by (bytes_eq a e.0) refl (not-here (bytes_eq k e.0) e.1 (state_of k t) h) (unknown-stays_forgotten k a t)
   where
-    by : (b : Bool) → bytes_eq a e.0 ≡ b → (bytes_eq k e.0 ≡ false) × (link_of k t ≡ None) → (link_of k t ≡ None → link_of k (forget a t) ≡ None) → link_of k (forget a (e ∷ t)) ≡ None
+    by : (b : Bool) → bytes_eq a e.0 ≡ b → (bytes_eq k e.0 ≡ false) × (state_of k t ≡ None) → (state_of k t ≡ None → state_of k (forget a t) ≡ None) → state_of k (forget a (e ∷ t)) ≡ None
     by true same parts later = rw same parts.1
     by false apart parts later = let away = parts.0 in rw (apart, away) (later parts.1)
 
-apart-set : (a : List ℕ) (l : Link) (t : Table) → AreApart t → AreApart (set_link a l t)
+apart-set : (a : List ℕ) (l : StationState) (t : Table) → AreApart t → AreApart (set_state a l t)
 apart-set a l [] h = (refl, tt)
 apart-set a l (e ∷ t) h = by (bytes_eq a e.0) refl (apart-set a l t)
   where
-    by : (b : Bool) → bytes_eq a e.0 ≡ b → (AreApart t → AreApart (set_link a l t)) → AreApart (set_link a l (e ∷ t))
+    by : (b : Bool) → bytes_eq a e.0 ≡ b → (AreApart t → AreApart (set_state a l t)) → AreApart (set_state a l (e ∷ t))
     by true same later = rw same h
     by false apart later = rw apart (unknown-stays e.0 a l t (other_way a e.0 apart) h.0, later h.1)
 
@@ -64,11 +64,11 @@ apart-forgotten a (e ∷ t) h = by (bytes_eq a e.0) refl (apart-forgotten a t)
     by true same later = rw same h.1
     by false apart later = rw apart (unknown-stays_forgotten e.0 a t h.0, later h.1)
 
-unknown-stays_moded : (k a : List ℕ) (doze : Bool) (t : Table) → link_of k t ≡ None → link_of k (set_mode a doze t) ≡ None
+unknown-stays_moded : (k a : List ℕ) (doze : Bool) (t : Table) → state_of k t ≡ None → state_of k (set_mode a doze t) ≡ None
 unknown-stays_moded k a doze [] h = refl
-unknown-stays_moded k a doze (e ∷ t) h = by (bytes_eq a e.0) refl (not-here (bytes_eq k e.0) e.1 (link_of k t) h) (unknown-stays_moded k a doze t)
+unknown-stays_moded k a doze (e ∷ t) h = by (bytes_eq a e.0) refl (not-here (bytes_eq k e.0) e.1 (state_of k t) h) (unknown-stays_moded k a doze t)
   where
-    by : (b : Bool) → bytes_eq a e.0 ≡ b → (bytes_eq k e.0 ≡ false) × (link_of k t ≡ None) → (link_of k t ≡ None → link_of k (set_mode a doze t) ≡ None) → link_of k (set_mode a doze (e ∷ t)) ≡ None
+    by : (b : Bool) → bytes_eq a e.0 ≡ b → (bytes_eq k e.0 ≡ false) × (state_of k t ≡ None) → (state_of k t ≡ None → state_of k (set_mode a doze t) ≡ None) → state_of k (set_mode a doze (e ∷ t)) ≡ None
     by true same parts later = let away = parts.0 in rw (same, away) parts.1
     by false apart parts later = let away = parts.0 in rw (apart, away) (later parts.1)
 
@@ -90,11 +90,11 @@ length-moded a doze (e ∷ t) = by (bytes_eq a e.0) refl (length-moded a doze t)
     by true same later = rw same refl
     by false apart later = rw (apart, later) refl
 
-pub length-set_link : (a : List ℕ) (l : Link) (t : Table) → length (set_link a l t) ≡ length t + (if is_some (link_of a t) then 0 else 1)
-length-set_link a l [] = refl
-length-set_link a l (e ∷ t) = by (bytes_eq a e.0) refl (length-set_link a l t)
+pub length-set_state : (a : List ℕ) (l : StationState) (t : Table) → length (set_state a l t) ≡ length t + (if is_some (state_of a t) then 0 else 1)
+length-set_state a l [] = refl
+length-set_state a l (e ∷ t) = by (bytes_eq a e.0) refl (length-set_state a l t)
   where
-    by : (b : Bool) → bytes_eq a e.0 ≡ b → length (set_link a l t) ≡ length t + (if is_some (link_of a t) then 0 else 1) → length (set_link a l (e ∷ t)) ≡ length (e ∷ t) + (if is_some (link_of a (e ∷ t)) then 0 else 1)
+    by : (b : Bool) → bytes_eq a e.0 ≡ b → length (set_state a l t) ≡ length t + (if is_some (state_of a t) then 0 else 1) → length (set_state a l (e ∷ t)) ≡ length (e ∷ t) + (if is_some (state_of a (e ∷ t)) then 0 else 1)
     by true same later = rw same (omega arith)
     by false apart later = rw apart (omega (arith, later))
 
@@ -108,17 +108,17 @@ length-forgotten a (e ∷ t) = by (bytes_eq a e.0) refl (length-forgotten a t)
 
 -- ---- the identifiers
 
--- a network of so many associated stations, by their identifiers
+-- a network with at most this number of associated stations, by their identifiers
 abbrev AreFew : ℕ → List ℕ → Type 0
 AreFew most ns = (length ns ≤ most) × AreIdentifiers ns
 
 few-less : (most : ℕ) (p q : List ℕ) (i : ℕ) → AreFew most (p ++ i ∷ q) → AreFew most (p ++ q)
 few-less most p q i h = let some = h.0 in (omega (arith, some, length-append p (i ∷ q), length-append p q), (without p q i h.1).0)
 
-few-authenticated : (most : ℕ) (a : List ℕ) (t : Table) → AreFew most (identifiers t) → AreFew most (identifiers (set_link a Authenticated t)) × AreFew most (identifiers (forget a t))
+few-authenticated : (most : ℕ) (a : List ℕ) (t : Table) → AreFew most (identifiers t) → AreFew most (identifiers (set_state a Authenticated t)) × AreFew most (identifiers (forget a t))
 few-authenticated most a t h = by (aid_of a t) refl
   where
-    by : (o : Option ℕ) → aid_of a t ≡ o → AreFew most (identifiers (set_link a Authenticated t)) × AreFew most (identifiers (forget a t))
+    by : (o : Option ℕ) → aid_of a t ≡ o → AreFew most (identifiers (set_state a Authenticated t)) × AreFew most (identifiers (forget a t))
     by None none =
         let n = numbers-kept a t none in
         (subst (AreFew most) (sym n.0) h, subst (AreFew most) (sym n.1) h)
@@ -127,14 +127,14 @@ few-authenticated most a t h = by (aid_of a t) refl
         let less = few-less most n.0 n.1 aid (subst (AreFew most) n.2 h) in
         (subst (AreFew most) (sym (n.3 Authenticated)) less, subst (AreFew most) (sym n.4) less)
 
-few-associated : (most : ℕ) (a : List ℕ) (listen : ℕ) (t : Table) → most ≤ 2007 → is_some (link_of a t) ≡ true → may_associate most a t ≡ true → AreFew most (identifiers t) → AreFew most (identifiers (associate a listen t))
+few-associated : (most : ℕ) (a : List ℕ) (listen : ℕ) (t : Table) → most ≤ 2007 → is_some (state_of a t) ≡ true → may_associate most a t ≡ true → AreFew most (identifiers t) → AreFew most (identifiers (associate a listen t))
 few-associated most a listen t limit known room h = by (aid_of a t) refl
   where
     by : (o : Option ℕ) → aid_of a t ≡ o → AreFew most (identifiers (associate a listen t))
     by (Some aid) had =
         let n = numbers-of_associated a t aid had in
         let same : next_aid a t ≡ aid = ap (λ (o : Option ℕ). unwrap_or o (least_free (is_among (identifiers t)))) had in
-        subst (λ (m : ℕ). AreFew most (identifiers (set_link a (Associated m listen false) t))) (sym same)
+        subst (λ (m : ℕ). AreFew most (identifiers (set_state a (Associated m listen false) t))) (sym same)
         (subst (AreFew most) (n.2 ∙ sym (n.3 (Associated aid listen false))) h)
     by None none =
         let few : nat_lt (length (identifiers t)) most ≡ true = sym (ap (λ (o : Option ℕ). is_some o || nat_lt (length (identifiers t)) most) none) ∙ room in
@@ -150,11 +150,11 @@ few-associated most a listen t limit known room h = by (aid_of a t) refl
           within p q (least_free (is_among (identifiers t))) least.0.first least.0.last (subst AreIdentifiers whole h.1) free,
         ) in
         let same : next_aid a t ≡ least_free (is_among (identifiers t)) = ap (λ (o : Option ℕ). unwrap_or o (least_free (is_among (identifiers t)))) none in
-        subst (λ (m : ℕ). AreFew most (identifiers (set_link a (Associated m listen false) t))) (sym same)
+        subst (λ (m : ℕ). AreFew most (identifiers (set_state a (Associated m listen false) t))) (sym same)
         (subst (AreFew most) (sym (parts.2.changed (Associated (least_free (is_among (identifiers t))) listen false))) more)
 
 -- a mode is none of an identifier's business
-same-identifier : (doze : Bool) (l : Link) → identifier_of (with_mode doze l) ≡ identifier_of l
+same-identifier : (doze : Bool) (l : StationState) → identifier_of (with_mode doze l) ≡ identifier_of l
 same-identifier doze Authenticated = refl
 same-identifier doze (Associated aid listen before) = refl
 
@@ -190,7 +190,7 @@ disassociate-sound most a t h = by (is_some (aid_of a t)) refl
     by true is = rw is (authenticate-sound most a t h)
     by false is = rw is h
 
-pub associate-sound : (most : ℕ) (a : List ℕ) (listen : ℕ) (t : Table) → most ≤ 2007 → is_some (link_of a t) ≡ true → may_associate most a t ≡ true → AreSound most t → AreSound most (associate a listen t)
+pub associate-sound : (most : ℕ) (a : List ℕ) (listen : ℕ) (t : Table) → most ≤ 2007 → is_some (state_of a t) ≡ true → may_associate most a t ≡ true → AreSound most t → AreSound most (associate a listen t)
 associate-sound most a listen t limit known room h =
     let few = few-associated most a listen t limit known room (h.associated, h.aids) in
     record { addresses = apart-set a (Associated (next_aid a t) listen false) t h.addresses; aids = few.1; associated = few.0 }

@@ -14,12 +14,12 @@ use Rattle.powersave.specs.declared.unit.Whom.TheVariants.{One, Group}
 use Rattle.stations.specs.Keeping.{aid_for}
 use Rattle.stations.specs.Roster.{RosterState, IsRoster, AreWaitedFor, StayBeside, is_number, renumbered}
 use Rattle.stations.specs.Sound.{AreApart}
-use Rattle.stations.specs.Stations.{Table, StationTable, with_table, IsAllowed, link_of, aid_of, aid_with, identifiers, identifier_of, AreIdentifiers, set_link, forget, disassociate, set_mode, with_mode, changed}
+use Rattle.stations.specs.Stations.{Table, StationTable, with_table, IsAllowed, state_of, aid_of, aid_with, identifiers, identifier_of, AreIdentifiers, set_state, forget, disassociate, set_mode, with_mode, changed}
 use Rattle.stations.specs.KeptUnits.{has_aid, has_unit, is_waited_for}
 use Rattle.stations.specs.declared.table.Change.{Change}
 use Rattle.stations.specs.declared.table.Change.TheVariants as changes
-use Rattle.stations.specs.declared.table.Link.{Link}
-use Rattle.stations.specs.declared.table.Link.TheVariants.{Authenticated, Associated}
+use Rattle.stations.specs.declared.table.StationState.{StationState}
+use Rattle.stations.specs.declared.table.StationState.TheVariants.{Authenticated, Associated}
 use Rattle.stations.proofs.StationTables.{Numbers, eqb-flip, neither, numbers-of_associated, range-of_associated, without, forget-unknown}
 use Rattle.stations.proofs.StationsSound.{not-here, changed-sound}
 use Rattle.stations.proofs.UnitsKept.{some-for}
@@ -47,7 +47,7 @@ without-bit false b = refl
 
 -- ---- one station and the others
 
-number-of : (l : Link) (n : ℕ) → has_aid n l ≡ is_number (aid_with (Some l)) n
+number-of : (l : StationState) (n : ℕ) → has_aid n l ≡ is_number (aid_with (Some l)) n
 number-of Authenticated n = refl
 number-of (Associated aid listen doze) n = refl
 
@@ -55,7 +55,7 @@ number-is : (o : Option ℕ) (n : ℕ) → is_number o n ≡ true → o ≡ Some
 number-is None n h = absurd (both_ways false refl h)
 number-is (Some aid) n h = ap (λ (m : ℕ). Some m) (sym (eqb-true n aid h))
 
-parted-here : (addr : List ℕ) (e : List ℕ × Link) (kept : List Entry) (n : ℕ) (rest : Bool) → addr ≡ e.0 → ((has_aid n e.1 && has_unit e.0 kept) || rest) ≡ ((has_unit addr kept && is_number (aid_with (Some e.1)) n) || rest)
+parted-here : (addr : List ℕ) (e : List ℕ × StationState) (kept : List Entry) (n : ℕ) (rest : Bool) → addr ≡ e.0 → ((has_aid n e.1 && has_unit e.0 kept) || rest) ≡ ((has_unit addr kept && is_number (aid_with (Some e.1)) n) || rest)
 parted-here addr e kept n rest is =
     ap (λ (k : List ℕ). (has_aid n e.1 && has_unit k kept) || rest) (sym is)
     ∙ ap (λ b. (b && has_unit addr kept) || rest) (number-of e.1 n)
@@ -78,7 +78,7 @@ not-waited : (t : Table) (kept : List Entry) (n : ℕ) → is_among (identifiers
 not-waited [] kept n h = refl
 not-waited (e ∷ t) kept n h = by e.1 h (not-waited t kept n)
   where
-    by : (l : Link) → is_among (identifier_of l ++ identifiers t) n ≡ false → (is_among (identifiers t) n ≡ false → is_waited_for t kept n ≡ false) → ((has_aid n l && has_unit e.0 kept) || is_waited_for t kept n) ≡ false
+    by : (l : StationState) → is_among (identifier_of l ++ identifiers t) n ≡ false → (is_among (identifiers t) n ≡ false → is_waited_for t kept n ≡ false) → ((has_aid n l && has_unit e.0 kept) || is_waited_for t kept n) ≡ false
     by Authenticated k later = later k
     by (Associated aid listen doze) k later =
         let both = neither (nat_eq aid n) (is_among (identifiers t) n) k in
@@ -126,10 +126,10 @@ unit-stays : (whom : Whom) (before after : List Entry) (b : List ℕ) → StayBe
 unit-stays whom before after b stay other =
     some-for (One b) after ∙ ap (λ us. nat_lt 0 (length us)) (stay (One b) other) ∙ sym (some-for (One b) before)
 
-pub others-stay : (addr : List ℕ) (t : Table) (before after : List Entry) (n : ℕ) → link_of addr t ≡ None → StayBeside (One addr) before after → is_waited_for t after n ≡ is_waited_for t before n
+pub others-stay : (addr : List ℕ) (t : Table) (before after : List Entry) (n : ℕ) → state_of addr t ≡ None → StayBeside (One addr) before after → is_waited_for t after n ≡ is_waited_for t before n
 others-stay addr [] before after n none stay = refl
 others-stay addr (e ∷ t) before after n none stay =
-    let parts = not-here (bytes_eq addr e.0) e.1 (link_of addr t) none in
+    let parts = not-here (bytes_eq addr e.0) e.1 (state_of addr t) none in
     ap (λ b. (has_aid n e.1 && b) || is_waited_for t after n) (unit-stays (One addr) before after e.0 stay (one-apart addr e.0 parts.0))
     ∙ ap (λ b. (has_aid n e.1 && has_unit e.0 before) || b) (others-stay addr t before after n parts.1 stay)
 
@@ -140,14 +140,14 @@ group-waits_not (e ∷ t) before after n stay =
     ap (λ b. (has_aid n e.1 && b) || is_waited_for t after n) (unit-stays Group before after e.0 stay (λ h. absurd cc))
     ∙ ap (λ b. (has_aid n e.1 && has_unit e.0 before) || b) (group-waits_not t before after n stay)
 
-pub forgotten : (addr : List ℕ) (t : Table) → AreApart t → link_of addr (forget addr t) ≡ None
+pub forgotten : (addr : List ℕ) (t : Table) → AreApart t → state_of addr (forget addr t) ≡ None
 forgotten addr [] h = refl
 forgotten addr (e ∷ t) h = by (bytes_eq addr e.0) refl (forgotten addr t h.1)
   where
-    by : (r : Bool) → bytes_eq addr e.0 ≡ r → link_of addr (forget addr t) ≡ None → link_of addr (forget addr (e ∷ t)) ≡ None
+    by : (r : Bool) → bytes_eq addr e.0 ≡ r → state_of addr (forget addr t) ≡ None → state_of addr (forget addr (e ∷ t)) ≡ None
     by true same later =
         let is : addr ≡ e.0 = (bytes_eq-Decides addr e.0).0 same in
-        rw same (subst (λ (k : List ℕ). link_of k t ≡ None) (sym is) h.0)
+        rw same (subst (λ (k : List ℕ). state_of k t ≡ None) (sym is) h.0)
     by false other later = rw other (rw other later)
 
 -- the units for one changed, and its bit follows
@@ -179,11 +179,11 @@ identifier-range Group t (Some aid) is sound = absurd (cc)
 
 -- ---- one station changes
 
-forgotten-set : (addr : List ℕ) (l : Link) (t : Table) → forget addr (set_link addr l t) ≡ forget addr t
+forgotten-set : (addr : List ℕ) (l : StationState) (t : Table) → forget addr (set_state addr l t) ≡ forget addr t
 forgotten-set addr l [] = let same : bytes_eq addr addr ≡ true = (bytes_eq-Decides addr addr).1 refl in rw same refl
 forgotten-set addr l (e ∷ t) = by (bytes_eq addr e.0) refl (forgotten-set addr l t)
   where
-    by : (r : Bool) → bytes_eq addr e.0 ≡ r → forget addr (set_link addr l t) ≡ forget addr t → forget addr (set_link addr l (e ∷ t)) ≡ forget addr (e ∷ t)
+    by : (r : Bool) → bytes_eq addr e.0 ≡ r → forget addr (set_state addr l t) ≡ forget addr t → forget addr (set_state addr l (e ∷ t)) ≡ forget addr (e ∷ t)
     by true same later = rw same (rw same refl)
     by false other later = rw other (rw other (ap (λ (s : Table). e ∷ s) later))
 
@@ -200,7 +200,7 @@ forgotten-changed (changes.Disassociate a) addr t is apart = let same : a ≡ ad
 forgotten-changed (changes.Forget a) addr t is apart = let same : a ≡ addr = cc in rw same (forget-unknown addr (forget addr t) (forgotten addr t apart))
 forgotten-changed (changes.SetMode a doze) addr t is apart = absurd (cc)
 
-same-aid : (doze : Bool) (l : Link) (n : ℕ) → has_aid n (with_mode doze l) ≡ has_aid n l
+same-aid : (doze : Bool) (l : StationState) (n : ℕ) → has_aid n (with_mode doze l) ≡ has_aid n l
 same-aid doze Authenticated n = refl
 same-aid doze (Associated aid listen before) n = refl
 

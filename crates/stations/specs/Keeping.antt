@@ -10,7 +10,7 @@ use Rattle.stations.specs.declared.keeping.Leaving.{Leaving}
 use Rattle.stations.specs.declared.keeping.Leaving.TheVariants as leavings
 use Rattle.stations.specs.declared.keeping.Keeping.{Keeping}
 use Rattle.stations.specs.declared.table.Change.{Change}
-use Rattle.stations.specs.declared.table.Link.{Link}
+use Rattle.stations.specs.declared.table.StationState.{StationState}
 
 -- ---- the units that are kept
 
@@ -32,10 +32,10 @@ abbrev pub is_leaving : Leaving → Whom → Bool
 is_leaving leavings.Nothing whom = false
 is_leaving (leavings.All other) whom = is_same whom other
 
--- the association identifier of whom a unit is kept for, a station with this link; the group has none
-abbrev pub aid_at : Whom → Option Link → Option ℕ
-aid_at (One addr) link = aid_with link
-aid_at Group link = None
+-- the association identifier of whom a unit is kept for, a station in this state; the group has none
+abbrev pub aid_at : Whom → Option StationState → Option ℕ
+aid_at (One addr) state = aid_with state
+aid_at Group state = None
 
 -- and the one that a station has, if it is associated
 abbrev pub aid_for : Whom → Table → Option ℕ

@@ -5,9 +5,9 @@ use Rattle.std.specs.List.{list_any}
 use Rattle.powersave.specs.Keep.{Entry, is_for}
 use Rattle.powersave.specs.declared.unit.Whom.{Whom}
 use Rattle.powersave.specs.declared.unit.Whom.TheVariants.{One, Group}
-use Rattle.stations.specs.Stations.{Table, link_of, listen_with}
-use Rattle.stations.specs.declared.table.Link.{Link}
-use Rattle.stations.specs.declared.table.Link.TheVariants.{Authenticated, Associated}
+use Rattle.stations.specs.Stations.{Table, state_of, listen_with}
+use Rattle.stations.specs.declared.table.StationState.{StationState}
+use Rattle.stations.specs.declared.table.StationState.TheVariants.{Authenticated, Associated}
 
 -- ---- where a unit goes on the air (11.2.3.2)
 
@@ -17,13 +17,13 @@ group_is_kept kept = list_any (is_for Group) kept
 
 -- ---- units that are too old (profile)
 
--- for a station with this link more beacon intervals began since a clock than its listen interval (9.4.1.6)
-abbrev pub is_late : Option Link → (at clock : ℕ) → Bool
-is_late link at clock = nat_lt (at + listen_with link) clock
+-- for a station in this state more beacon intervals began since a clock than its listen interval (9.4.1.6)
+abbrev pub is_late : Option StationState → (at clock : ℕ) → Bool
+is_late state at clock = nat_lt (at + listen_with state) clock
 
 -- one that is kept for a station; those for the group don't age
 abbrev pub is_too_old_for : ℕ → Table → Whom → (at : ℕ) → Bool
-is_too_old_for clock table (One addr) at = is_late (link_of addr table) at clock
+is_too_old_for clock table (One addr) at = is_late (state_of addr table) at clock
 is_too_old_for clock table Group at = false
 
 abbrev pub is_too_old : ℕ → Table → Entry → Bool
@@ -35,7 +35,7 @@ abbrev pub has_unit : List ℕ → List Entry → Bool
 has_unit addr kept = list_any (is_for (One addr)) kept
 
 -- it has this association identifier
-abbrev pub has_aid : ℕ → Link → Bool
+abbrev pub has_aid : ℕ → StationState → Bool
 has_aid aid Authenticated = false
 has_aid aid (Associated own listen doze) = aid == own
 

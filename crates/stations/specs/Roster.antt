@@ -10,7 +10,7 @@ use Rattle.powersave.specs.declared.unit.Whom.TheVariants.{One, Group}
 use Rattle.powersave.specs.declared.unit.Unit.{Unit as DataUnit}
 use Rattle.tim.specs.Tim.{SameNumbers}
 use Rattle.stations.specs.Sound.{AreSound}
-use Rattle.stations.specs.Stations.{Table, StationTable, link_of, listen_with}
+use Rattle.stations.specs.Stations.{Table, StationTable, state_of, listen_with}
 use Rattle.stations.specs.KeptUnits.{is_waited_for, is_too_old}
 use Rattle.stations.specs.declared.table.Change.{Change}
 use Rattle.stations.specs.declared.table.Change.TheVariants as changes
@@ -71,7 +71,7 @@ is_aged ages clock table entry = ages && is_too_old clock table entry
 
 -- those for one that came before this clock
 abbrev pub limit_for : ℕ → Table → Whom → ℕ
-limit_for clock table (One addr) = clock - listen_with (link_of addr table)
+limit_for clock table (One addr) = clock - listen_with (state_of addr table)
 limit_for clock table Group = 0
 
 -- one of its units isn't too old

@@ -4,14 +4,14 @@ use Rattle.std.specs.List.{AllByRecursion}
 use Rattle.powersave.specs.Keep.{Entry}
 use Rattle.powersave.specs.declared.unit.Whom.{Whom}
 use Rattle.powersave.specs.declared.unit.Whom.TheVariants.{One, Group}
-use Rattle.stations.specs.Stations.{Table, link_of, is_dozing, identifiers, AreIdentifiers}
+use Rattle.stations.specs.Stations.{Table, state_of, is_dozing, identifiers, AreIdentifiers}
 
 -- no station stands twice
 abbrev pub AreApart : Table → Type 0
 AreApart [] = Unit {0}
-AreApart (station ∷ stations) = (link_of station.0 stations ≡ None) × AreApart stations
+AreApart (station ∷ stations) = (state_of station.0 stations ≡ None) × AreApart stations
 
--- stations of which at most so many are associated
+-- stations of which at most `most` are associated
 pub record AreSound (most : ℕ) (stations : Table) : Type 0 where
   pub addresses : AreApart stations
   -- no two have the same identifier (IEEE Std 802.11-2016, 9.4.1.8)

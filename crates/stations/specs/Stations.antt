@@ -1,4 +1,4 @@
--- The stations of a network and how far each has come (IEEE Std 802.11-2016, 11.3.1).
+-- The stations of a network and the state of each (IEEE Std 802.11-2016, 11.3.1).
 use Rattle.std.specs.Prelude.{ℕ, ◌≡◌, ◌≤◌, Bool, true, false, ◌||◌, nat_lt, List, [], ◌∷◌, ◌++◌, length, Option, Some}
 use Rattle.std.specs.Prelude.{None, is_some, unwrap_or, if◌then◌else◌}
 use Rattle.std.specs.List.{list_any}
@@ -7,32 +7,32 @@ use Rattle.std.specs.Str.{bytes_eq}
 use Rattle.aid_pool.specs.LeastFree.{least_free, is_among}
 use Rattle.station_state.specs.declared.Standing.{Standing}
 use Rattle.station_state.specs.declared.Standing.TheVariants as standings
-use Rattle.stations.specs.declared.table.Link.{Link}
-use Rattle.stations.specs.declared.table.Link.TheVariants.{Authenticated, Associated}
+use Rattle.stations.specs.declared.table.StationState.{StationState}
+use Rattle.stations.specs.declared.table.StationState.TheVariants.{Authenticated, Associated}
 use Rattle.stations.specs.declared.table.Change.{Change}
 use Rattle.stations.specs.declared.table.Change.TheVariants.{Nothing, Authenticate, Associate, Disassociate, Forget}
 use Rattle.stations.specs.declared.table.Change.TheVariants.{SetMode}
 
--- each known station with its link, in order of first authentication
+-- each known station with its state, in order of first authentication
 abbrev pub Table : Type 0
-Table = List (List ℕ × Link)
+Table = List (List ℕ × StationState)
 
--- how far a station has come; one that is not known has no link
-abbrev pub link_of : List ℕ → Table → Option Link
-link_of addr table = lookup (bytes_eq addr) table
+-- the state of a station; one that is not known has none
+abbrev pub state_of : List ℕ → Table → Option StationState
+state_of addr table = lookup (bytes_eq addr) table
 
--- the state of a station (11.3.1)
-abbrev pub standing_with : Option Link → Standing
+-- which of the states of 11.3.1 that is
+abbrev pub standing_with : Option StationState → Standing
 standing_with None = standings.Unknown
 standing_with (Some Authenticated) = standings.Authenticated
 standing_with (Some (Associated aid listen doze)) = standings.Associated
 
 abbrev pub standing_of : List ℕ → Table → Standing
-standing_of addr table = standing_with (link_of addr table)
+standing_of addr table = standing_with (state_of addr table)
 
 -- ---- association identifiers (9.4.1.8)
 
-abbrev pub identifier_of : Link → List ℕ
+abbrev pub identifier_of : StationState → List ℕ
 identifier_of Authenticated = []
 identifier_of (Associated aid listen doze) = aid ∷ []
 
@@ -46,56 +46,56 @@ abbrev pub AreIdentifiers : List ℕ → Type 0
 AreIdentifiers [] = Unit {0}
 AreIdentifiers (aid ∷ aids) = (1 ≤ aid) × (aid ≤ 2007) × (is_among aids aid ≡ false) × AreIdentifiers aids
 
--- the one of a station with this link
-abbrev pub aid_with : Option Link → Option ℕ
+-- the one of a station in this state
+abbrev pub aid_with : Option StationState → Option ℕ
 aid_with None = None
 aid_with (Some Authenticated) = None
 aid_with (Some (Associated aid listen doze)) = Some aid
 
 -- the identifier of a station, if it is associated
 abbrev pub aid_of : List ℕ → Table → Option ℕ
-aid_of addr table = aid_with (link_of addr table)
+aid_of addr table = aid_with (state_of addr table)
 
-abbrev pub is_associated : Option Link → Bool
+abbrev pub is_associated : Option StationState → Bool
 is_associated None = false
 is_associated (Some Authenticated) = false
 is_associated (Some (Associated aid listen doze)) = true
 
 -- the listen interval, or 0 where it is not associated (9.4.1.6)
-abbrev pub listen_of : Link → ℕ
+abbrev pub listen_of : StationState → ℕ
 listen_of Authenticated = 0
 listen_of (Associated aid listen doze) = listen
 
 -- and of one that is not known 0 too
-abbrev pub listen_with : Option Link → ℕ
+abbrev pub listen_with : Option StationState → ℕ
 listen_with None = 0
-listen_with (Some link) = listen_of link
+listen_with (Some state) = listen_of state
 
-abbrev pub dozes : Link → Bool
+abbrev pub dozes : StationState → Bool
 dozes Authenticated = false
 dozes (Associated aid listen doze) = doze
 
 -- ---- power management (11.2.3.2)
 
 -- a station that is known dozes
-abbrev pub dozes_with : Option Link → Bool
+abbrev pub dozes_with : Option StationState → Bool
 dozes_with None = false
-dozes_with (Some link) = dozes link
+dozes_with (Some state) = dozes state
 
 abbrev pub is_dozing : List ℕ → Table → Bool
-is_dozing addr table = dozes_with (link_of addr table)
+is_dozing addr table = dozes_with (state_of addr table)
 
 abbrev pub some_station_dozes : Table → Bool
 some_station_dozes table = list_any (λ station. dozes station.1) table
 
--- the link of a station in another mode; one that is not associated has none
-abbrev pub with_mode : Bool → Link → Link
+-- a state in another mode; a station that is not associated has no mode
+abbrev pub with_mode : Bool → StationState → StationState
 with_mode doze Authenticated = Authenticated
 with_mode doze (Associated aid listen before) = Associated aid listen doze
 
 -- ---- room
 
--- where at most so many may associate, there is room for this station: it has its place, or fewer are associated
+-- where at most `most` may associate, there is room for this station: it has its place, or fewer are associated
 abbrev pub may_associate : ℕ → List ℕ → Table → Bool
 may_associate most addr table = is_some (aid_of addr table) || nat_lt (length (identifiers table)) most
 
@@ -106,22 +106,22 @@ next_aid addr table = unwrap_or (aid_of addr table) (least_free (is_among (ident
 -- ---- changes of one station
 
 -- a known station keeps its place, and an unknown one goes last (profile)
-abbrev pub set_link : List ℕ → Link → Table → Table
-set_link addr link [] = (addr, link) ∷ []
-set_link addr link (station ∷ stations) =
-    if bytes_eq addr station.0 then (station.0, link) ∷ stations else station ∷ set_link addr link stations
+abbrev pub set_state : List ℕ → StationState → Table → Table
+set_state addr state [] = (addr, state) ∷ []
+set_state addr state (station ∷ stations) =
+    if bytes_eq addr station.0 then (station.0, state) ∷ stations else station ∷ set_state addr state stations
 
 -- authentication (11.3.4.3): no longer associated (profile)
 abbrev pub authenticate : List ℕ → Table → Table
-authenticate addr table = set_link addr Authenticated table
+authenticate addr table = set_state addr Authenticated table
 
 -- association (11.3.5.3): active
 abbrev pub associate : List ℕ → ℕ → Table → Table
-associate addr listen table = set_link addr (Associated (next_aid addr table) listen false) table
+associate addr listen table = set_state addr (Associated (next_aid addr table) listen false) table
 
 -- disassociation (11.3.5.9): a station that is associated is authenticated only
 abbrev pub disassociate : List ℕ → Table → Table
-disassociate addr table = if is_some (aid_of addr table) then set_link addr Authenticated table else table
+disassociate addr table = if is_some (aid_of addr table) then set_state addr Authenticated table else table
 
 -- deauthentication (11.3.4.5): the others keep their order
 abbrev pub forget : List ℕ → Table → Table
@@ -143,12 +143,12 @@ changed (Disassociate addr) table = disassociate addr table
 changed (Forget addr) table = forget addr table
 changed (SetMode addr doze) table = set_mode addr doze table
 
--- where at most so many may associate: a station that associates is known, and there is room for it
+-- where at most `most` may associate: a station that associates is known, and there is room for it
 abbrev pub IsAllowed : ℕ → Change → Table → Type 0
 IsAllowed most Nothing table = Unit {0}
 IsAllowed most (Authenticate addr) table = Unit {0}
 IsAllowed most (Associate addr listen) table =
-    (is_some (link_of addr table) ≡ true) × (may_associate most addr table ≡ true)
+    (is_some (state_of addr table) ≡ true) × (may_associate most addr table ≡ true)
 IsAllowed most (Disassociate addr) table = Unit {0}
 IsAllowed most (Forget addr) table = Unit {0}
 IsAllowed most (SetMode addr doze) table = Unit {0}

@@ -7,7 +7,7 @@ use Rattle.std.specs.Ordering.{nat_cmp}
 use Rattle.aid_pool.specs.LeastFree.{is_among}
 use Rattle.stations.specs.Stations.{Table, AreIdentifiers, dozes, identifiers}
 
--- of which at most so many are out
+-- of which at most `most` are out
 pub record AreOut (most : ℕ) (out : set.FinSet nat_cmp) (aids : List ℕ) : Type 0 where
   pub numbers : (n : ℕ) → set.contains out n ≡ is_among aids n
   pub count : set.len out ≡ length aids

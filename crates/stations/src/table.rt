@@ -3,9 +3,9 @@
 ghost use Rattle.std.specs.Prelude.{◌≡◌, ◌<◌, ◌≤◌, [], IsTrue, IsOk, OnOk, OnErr, IfSome, Some, None, option_map};
 ghost use Rattle.std.specs.Prelude.{length, slice_get, is_some, if◌then◌else◌};
 ghost use Rattle.tim.specs.Tim.{IsAid};
-ghost use Rattle.stations.specs.Stations.{with_table, link_of, standing_with, aid_of, aid_with, dozes_with};
+ghost use Rattle.stations.specs.Stations.{with_table, state_of, standing_with, aid_of, aid_with, dozes_with};
 ghost use Rattle.stations.specs.Stations.{some_station_dozes, listen_with, may_associate, next_aid, is_associated};
-ghost use Rattle.stations.specs.Stations.{set_link, authenticate, associate, disassociate, forget, set_mode, with_mode};
+ghost use Rattle.stations.specs.Stations.{set_state, authenticate, associate, disassociate, forget, set_mode, with_mode};
 ghost use Rattle.stations.specs.Stations.{changed, IsAllowed, IsModeAlone};
 
 use aid_pool::AidPool;
@@ -15,9 +15,9 @@ use station_state::Standing;
 use std::alloc::Global;
 use std::marker::Model;
 
-/// How far a known station has come (11.3.1). A station in State 1 has no link.
+/// The state of a known station (11.3.1) with what goes with it. A station in State 1 is not known, and has none.
 #[derive(Clone, Copy, Debug, PartialEq, Eq)]
-pub enum Link {
+pub enum StationState {
     /// State 2: authenticated, not associated.
     Authenticated,
     /// State 4, as there is no RSNA: authenticated and associated.
@@ -59,10 +59,10 @@ pub enum Change {
 }
 
 /// The stations of a network, in order of first authentication. Contracts see how many may be associated at most, and
-/// the list of the stations with their links. Each is found by its address without a walk over the list.
+/// the list of the stations with their states. Each is found by its address without a walk over the list.
 #[derive(Drop)]
 pub struct Stations {
-    links: IndexMap<MacAddr, Link>,
+    states: IndexMap<MacAddr, StationState>,
     pool: AidPool,
     // how many doze
     dozing: usize,
@@ -74,9 +74,9 @@ impl Model for Stations {
 
     ghost Value = { StationTable };
 
-    ghost view = { λ s. record { most = s.pool.most; table = s.links.entries } };
+    ghost view = { λ s. record { most = s.pool.most; table = s.states.entries } };
 
-    ghost invariant = { λ s. AreCounted s.pool.most s.pool.out s.dozing s.links.entries };
+    ghost invariant = { λ s. AreCounted s.pool.most s.pool.out s.dozing s.states.entries };
 }
 
 impl Stations {
@@ -87,7 +87,7 @@ impl Stations {
         ensures { result ≡ record { most = most; table = [] } }
     {
         Stations {
-            links: IndexMap::new(alloc),
+            states: IndexMap::new(alloc),
             pool: AidPool::new(most),
             dozing: 0,
         }
@@ -97,23 +97,23 @@ impl Stations {
     pub fn len(&self) -> usize
         ensures { result ≡ length self.now.table }
     {
-        self.links.len()
+        self.states.len()
     }
 
-    /// The station at a place, from 0, with its link.
-    pub fn row(&self, place: usize) -> (MacAddr, Link)
+    /// The station at a place, from 0, with its state.
+    pub fn row(&self, place: usize) -> (MacAddr, StationState)
         requires { place < length self.now.table }
         ensures { slice_get self.now.table place ≡ Some result }
     {
-        let (addr, link) = self.links.get_index(place).unwrap();
-        (*addr, *link)
+        let (addr, state) = self.states.get_index(place).unwrap();
+        (*addr, *state)
     }
 
-    /// How far a station has come, or `None` where it is not known.
-    pub fn link_of(&self, addr: MacAddr) -> Option<Link>
-        ensures { result ≡ link_of addr self.now.table }
+    /// The state of a station, or `None` where it is not known.
+    pub fn state_of(&self, addr: MacAddr) -> Option<StationState>
+        ensures { result ≡ state_of addr self.now.table }
     {
-        self.links.get(&addr).copied()
+        self.states.get(&addr).copied()
     }
 
     /// The association identifier of a station, if it is associated.
@@ -123,22 +123,22 @@ impl Stations {
     {
         // The prover opens what the table keeps, which bounds each identifier, where a field is read.
         let _ = &self.pool;
-        aid_with(self.link_of(addr))
+        aid_with(self.state_of(addr))
     }
 
-    /// How far a station has come once the mode of one is set.
-    pub fn link_after(&self, change: Change, addr: MacAddr) -> Option<Link>
+    /// The state of a station once the mode of one is set.
+    pub fn state_after(&self, change: Change, addr: MacAddr) -> Option<StationState>
         requires { IsModeAlone change }
-        ensures { result ≡ link_of addr (changed change self.now.table) }
+        ensures { result ≡ state_of addr (changed change self.now.table) }
     {
-        let link = self.link_of(addr);
+        let state = self.state_of(addr);
         let Change::SetMode { addr: set, doze } = change else {
-            return link;
+            return state;
         };
         if set == addr {
-            link_with_mode(link, doze)
+            state_with_mode(state, doze)
         } else {
-            link
+            state
         }
     }
 
@@ -150,20 +150,20 @@ impl Stations {
         let Change::SetMode { addr, .. } = change else {
             return self.dozing > 0;
         };
-        let before = dozes_with(self.link_of(addr));
-        let after = dozes_with(self.link_after(change, addr));
+        let before = dozes_with(self.state_of(addr));
+        let after = dozes_with(self.state_after(change, addr));
         after || self.dozing > usize::from(before)
     }
 
-    /// The identifier that an association of the station with this link gives: the one that it has, or the least that
+    /// The identifier that an association of the station in this state gives: the one that it has, or the least that
     /// is free. `None` exactly where as many others are associated as may be.
-    pub fn next_aid(&self, addr: MacAddr, link: Option<Link>) -> Option<u16>
-        requires { link ≡ link_of addr self.now.table }
+    pub fn next_aid(&self, addr: MacAddr, state: Option<StationState>) -> Option<u16>
+        requires { state ≡ state_of addr self.now.table }
         ensures room { is_some result ≡ may_associate self.now.most addr self.now.table }
         ensures aid { IfSome result (λ aid. aid ≡ next_aid addr self.now.table) }
         ensures last { IfSome result (λ aid. aid ≤ MAX_AID) }
     {
-        match aid_with(link) {
+        match aid_with(state) {
             Some(aid) => Some(aid),
             None => self.pool.least(),
         }
@@ -192,9 +192,9 @@ impl Stations {
     pub fn authenticate(&mut self, addr: MacAddr) -> Result<(), NoMemory>
         ensures ok { OnOk result (self.new ≡ with_table self.old (authenticate addr self.old.table)) }
         ensures err { OnErr result (self.new ≡ self.old) }
-        ensures unknown { OnErr result (link_of addr self.old.table ≡ None) }
+        ensures unknown { OnErr result (state_of addr self.old.table ≡ None) }
     {
-        let before = self.links.insert(addr, Link::Authenticated)?;
+        let before = self.states.insert(addr, StationState::Authenticated)?;
         self.dozing -= usize::from(dozes_with(before));
         if let Some(aid) = aid_with(before) {
             self.pool.give(aid);
@@ -204,22 +204,22 @@ impl Stations {
 
     /// Associates a known station with this listen interval, under the identifier that [`Stations::next_aid`] tells.
     pub fn associate(&mut self, addr: MacAddr, listen: u16)
-        requires known { IsTrue (is_some (link_of addr self.old.table)) }
+        requires known { IsTrue (is_some (state_of addr self.old.table)) }
         requires room { IsTrue (may_associate self.old.most addr self.old.table) }
         ensures { self.new ≡ with_table self.old (associate addr listen self.old.table) }
     {
-        let before = self.link_of(addr);
+        let before = self.state_of(addr);
         self.dozing -= usize::from(dozes_with(before));
         let aid = match aid_with(before) {
             Some(aid) => aid,
             None => self.pool.take().unwrap(),
         };
-        let link = Link::Associated {
+        let state = StationState::Associated {
             aid,
             listen,
             doze: false,
         };
-        set_known(&mut self.links, addr, link);
+        set_known(&mut self.states, addr, state);
     }
 
     /// Ends the association of a station, which is authenticated only from then on and whose identifier is free.
@@ -227,13 +227,13 @@ impl Stations {
     pub fn disassociate(&mut self, addr: MacAddr)
         ensures { self.new ≡ with_table self.old (disassociate addr self.old.table) }
     {
-        let before = self.link_of(addr);
+        let before = self.state_of(addr);
         let Some(aid) = aid_with(before) else {
             return;
         };
         self.pool.give(aid);
         self.dozing -= usize::from(dozes_with(before));
-        set_known(&mut self.links, addr, Link::Authenticated);
+        set_known(&mut self.states, addr, StationState::Authenticated);
     }
 
     /// Forgets a station, whose identifier is free then. The others keep their order: this walks over those after it.
@@ -241,7 +241,7 @@ impl Stations {
     pub fn forget(&mut self, addr: MacAddr)
         ensures { self.new ≡ with_table self.old (forget addr self.old.table) }
     {
-        let before = self.links.shift_remove(&addr);
+        let before = self.states.shift_remove(&addr);
         self.dozing -= usize::from(dozes_with(before));
         if let Some(aid) = aid_with(before) {
             self.pool.give(aid);
@@ -252,88 +252,92 @@ impl Stations {
     pub fn set_mode(&mut self, addr: MacAddr, doze: bool)
         ensures { self.new ≡ with_table self.old (set_mode addr doze self.old.table) }
     {
-        let Some(known) = self.links.get_mut(&addr) else {
+        let Some(known) = self.states.get_mut(&addr) else {
             return;
         };
         let before = *known;
-        let link = with_mode(before, doze);
-        *known = link;
+        let state = with_mode(before, doze);
+        *known = state;
         self.dozing -= usize::from(dozes_with(Some(before)));
-        self.dozing += usize::from(dozes_with(Some(link)));
+        self.dozing += usize::from(dozes_with(Some(state)));
     }
 }
 
-/// The state of a station with this link (11.3.1).
-pub fn standing_with(link: Option<Link>) -> Standing
-    ensures { result ≡ standing_with link }
+/// Which of the states of 11.3.1 that is.
+pub fn standing_with(state: Option<StationState>) -> Standing
+    ensures { result ≡ standing_with state }
 {
-    match link {
+    match state {
         None => Standing::Unknown,
-        Some(Link::Authenticated) => Standing::Authenticated,
-        Some(Link::Associated { .. }) => Standing::Associated,
+        Some(StationState::Authenticated) => Standing::Authenticated,
+        Some(StationState::Associated { .. }) => Standing::Associated,
     }
 }
 
-/// Whether a station with this link dozes.
-pub fn dozes_with(link: Option<Link>) -> bool
-    ensures { result ≡ dozes_with link }
+/// Whether a station in this state dozes.
+pub fn dozes_with(state: Option<StationState>) -> bool
+    ensures { result ≡ dozes_with state }
 {
-    matches!(link, Some(Link::Associated { doze: true, .. }))
+    matches!(state, Some(StationState::Associated { doze: true, .. }))
 }
 
-/// The listen interval of a station with this link in beacon intervals (9.4.1.6), or 0 where it is not associated.
-pub fn listen_with(link: Option<Link>) -> u16
-    ensures { result ≡ listen_with link }
+/// The listen interval of a station in this state, in beacon intervals (9.4.1.6), or 0 where it is not associated.
+pub fn listen_with(state: Option<StationState>) -> u16
+    ensures { result ≡ listen_with state }
 {
-    match link {
-        Some(Link::Associated { listen, .. }) => listen,
+    match state {
+        Some(StationState::Associated { listen, .. }) => listen,
         _ => 0,
     }
 }
 
-/// Whether a station with this link is associated.
-pub fn is_associated(link: Option<Link>) -> bool
-    ensures { result ≡ is_associated link }
+/// Whether a station in this state is associated.
+pub fn is_associated(state: Option<StationState>) -> bool
+    ensures { result ≡ is_associated state }
 {
-    matches!(link, Some(Link::Associated { .. }))
+    matches!(state, Some(StationState::Associated { .. }))
 }
 
-/// The link of a station, if it is known, in another mode.
-fn link_with_mode(link: Option<Link>, doze: bool) -> Option<Link>
-    ensures { result ≡ option_map (with_mode doze) link }
+/// The state of a station, if it is known, in another mode.
+fn state_with_mode(state: Option<StationState>, doze: bool) -> Option<StationState>
+    ensures { result ≡ option_map (with_mode doze) state }
 {
-    match link {
-        Some(link) => Some(with_mode(link, doze)),
+    match state {
+        Some(state) => Some(with_mode(state, doze)),
         None => None,
     }
 }
 
-/// The link of a station in another mode; one that is not associated has none.
-fn with_mode(link: Link, doze: bool) -> Link
-    ensures { result ≡ with_mode doze link }
+/// A state in another mode; a station that is not associated has no mode.
+fn with_mode(state: StationState, doze: bool) -> StationState
+    ensures { result ≡ with_mode doze state }
 {
-    match link {
-        Link::Authenticated => Link::Authenticated,
-        Link::Associated { aid, listen, .. } => Link::Associated { aid, listen, doze },
+    match state {
+        StationState::Authenticated => StationState::Authenticated,
+        StationState::Associated { aid, listen, .. } => StationState::Associated {
+            aid,
+            listen,
+            doze,
+        },
     }
 }
 
-/// The association identifier of a station with this link, if it is associated.
-pub fn aid_with(link: Option<Link>) -> Option<u16>
-    ensures { result ≡ aid_with link }
+/// The association identifier of a station in this state, if it is associated.
+pub fn aid_with(state: Option<StationState>) -> Option<u16>
+    ensures { result ≡ aid_with state }
 {
-    match link {
-        Some(Link::Associated { aid, .. }) => Some(aid),
+    match state {
+        Some(StationState::Associated { aid, .. }) => Some(aid),
         _ => None,
     }
 }
 
-/// Gives a station that is known another link.
-fn set_known(links: &mut IndexMap<MacAddr, Link>, addr: MacAddr, link: Link)
-    requires { IsTrue (is_some (link_of addr links.old.entries)) }
-    ensures { links.new.entries ≡ set_link addr link links.old.entries }
+/// Sets the state of a station that is known.
+fn set_known(states: &mut IndexMap<MacAddr, StationState>, addr: MacAddr, state: StationState)
+    requires { IsTrue (is_some (state_of addr states.old.entries)) }
+    ensures { states.new.entries ≡ set_state addr state states.old.entries }
 {
-    if let Some(known) = links.get_mut(&addr) {
-        *known = link;
+    if let Some(known) = states.get_mut(&addr) {
+        *known = state;
     }
 }

@@ -53,7 +53,7 @@ Ends-up_to_last (o ∷ os) = Ends-put o (up_to_last os) (Ends-up_to_last os)
 
 -- ---- from the first pair of octets on that aren't both 0
 
--- so many pairs of octets, all of them 0, are passed, and what is behind them begins otherwise
+-- a number of pairs of octets, all of them 0, is passed, and what is behind them begins otherwise
 pub record IsFromPair (octets : List ℕ) (pairs : ℕ) (behind : List ℕ) : Type 0 where
   pub zeros : (place : ℕ) → place < 2 * pairs → get_or octets place 0 ≡ 0
   pub others : (place : ℕ) → get_or behind place 0 ≡ get_or octets (2 * pairs + place) 0

@@ -68,7 +68,7 @@ pub record ShowsTim (t : List ℕ) (count period : ℕ) (group : Bool) (members 
 abbrev pub is_shown : (ℕ → Bool) → ℕ → Bool
 is_shown members n = nat_le 1 n && nat_le n max_aid && members n
 
--- so many bits from a number on, the first of them the lowest
+-- a count of bits from a number on, the first of them the lowest
 unfoldable pub bits_from : (ℕ → Bool) → ℕ → ℕ → ℕ
 bits_from bit zero n = 0
 bits_from bit (suc count) n = from_bool (bit n) + 2 * bits_from bit count (suc n)

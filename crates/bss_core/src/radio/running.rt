@@ -14,9 +14,9 @@ ghost use Rattle.bss_core.specs.declared.radio.step.Step.TheVariants as steps;
 
 use crate::radio::{Radio, Step};
 use ap_config::{OpenFault, RadioConfig};
-use events::{AirItem, Event, Section};
+use events::{AirItem, Event, Section, own_frames};
 use mac_frame::{List, NoMemory, Octets};
-use network::{Bss, Refusal};
+use network::{Bss, Refusal, sent_frames};
 use std::alloc::Global;
 
 /// What a run ends with.
@@ -50,6 +50,9 @@ pub fn run(alloc: Global, config: RadioConfig, steps: &[Step]) -> Result<RunResu
         items_of place run.left ++ items_of place run.queued ++ waiting_at config (after_steps config steps.now) place
         ≡ (alone (setting_at config place) (part_of config place steps.now)).air) }
 {
+    // the frames of one network among those of several, and those that it sends
+    own_frames();
+    sent_frames();
     let mut radio = Radio::new(alloc, config)?;
     let mut left = Vec::new(alloc);
     for step in steps {
@@ -100,6 +103,9 @@ fn take(alloc: Global, radio: &mut Radio, place: usize, event: &Event) -> Result
         IsAt (after_steps radio.old.config before) radio.old left →
         IsAt (after_steps radio.old.config (before ++ steps.Take place event.now ∷ [])) radio.new left) }
 {
+    // the frames of one network among those of several, and those that it sends
+    own_frames();
+    sent_frames();
     if place >= radio.networks() {
         return Ok(());
     }

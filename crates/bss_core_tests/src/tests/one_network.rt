@@ -27,7 +27,7 @@ fn take(
 fn lengths(bss: &Bss) -> [usize; 4] {
     [
         bss.waiting_len(),
-        bss.history().len(),
+        bss.history_len(),
         bss.table_len(),
         bss.wired().len(),
     ]

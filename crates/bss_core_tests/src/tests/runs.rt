@@ -17,7 +17,7 @@ enum Move {
     Leave,
 }
 
-/// Appends the steps of these moves, so many times.
+/// Appends the steps of these moves, `times` times.
 fn push_steps(alloc: Global, steps: &mut Vec<Step>, times: u8, moves: &[Move]) -> Result<(), Fail> {
     for _ in 0..times {
         for made in moves {
@@ -38,7 +38,7 @@ fn push_steps(alloc: Global, steps: &mut Vec<Step>, times: u8, moves: &[Move]) -
     Ok(())
 }
 
-/// Whether the sections of a run are those of two networks, which took so many events and sent these frames on the air.
+/// Whether the sections of a run are those of two networks, which took these numbers of events and sent these frames.
 fn are_sections(alloc: Global, run: &RunResult, sections: &[(u32, &[&str])]) -> Result<bool, Fail> {
     for (section, (events, air)) in run.sections.as_slice().iter().zip(sections) {
         if section.counts.events != *events || !are_frames(alloc, section.air.as_slice(), *air)? {
@@ -139,7 +139,7 @@ const BEFORE: [Move; 2] = [ASK_SECOND, Move::Hand(1)];
 const AFTER: [Move; 2] = [Move::Leave, ASK_SECOND];
 
 /// How many events the last network took and frames it sent, and all of the section of the first, as text, after these
-/// moves, and so many times those before and after them.
+/// moves, with those before and after them `times` times.
 fn seen(
     alloc: Global,
     config: RadioConfig,

@@ -8,7 +8,7 @@ ghost use Rattle.network.specs.Arrivals.{unit_shown};
 ghost use Rattle.network.specs.Network.{forward, relay, set_power_mode, put_on_wire, send_each, change_state};
 ghost use Rattle.network.specs.Replies.{no_reply, after_reply, IsFitting, IsModeReply};
 ghost use Rattle.stations.specs.Keeping.{IsWithin};
-ghost use Rattle.stations.specs.Stations.{Table, link_of, changed, set_mode};
+ghost use Rattle.stations.specs.Stations.{Table, state_of, changed, set_mode};
 ghost use Rattle.network.specs.Units.{unit, goes_on_wire};
 
 use crate::network::Network;
@@ -16,7 +16,7 @@ use crate::reply::{Arrival, Body, Reply};
 use bridge::to_wire;
 use mac_frame::{MacAddr, NoMemory, Octets};
 use powersave::Whom;
-use stations::{Change, Link, dozes_with, is_associated};
+use stations::{Change, StationState, dozes_with, is_associated};
 
 impl Network {
     /// The reply to a unit of an associated station: its mode is set, and then the unit is delivered on the air, put on
@@ -25,22 +25,22 @@ impl Network {
         &self,
         reply: &mut Reply,
         from: MacAddr,
-        link: Option<Link>,
+        state: Option<StationState>,
         doze: bool,
         to: MacAddr,
         body: &[u8],
     ) -> Result<(), NoMemory>
         requires nothing { reply.old ≡ no_reply self.now.network.sequence }
         requires sequence { reply.old.sequence < 4096 }
-        requires link { link ≡ link_of from self.now.network.stations }
+        requires state { state ≡ state_of from self.now.network.stations }
         ensures fitting { OnOk result (IsFitting self.now.setting reply.new self.now.network) }
         ensures answer { OnOk result (
             forward self.now.setting (unit self.now.network.clock to from body.now)
             (set_power_mode self.now.setting from doze self.now.network)
             ≡ after_reply reply.new self.now.network) }
     {
-        self.set_power_mode(reply, from, link, doze)?;
-        let there = self.stations().link_after(reply.change, to);
+        self.set_power_mode(reply, from, state, doze)?;
+        let there = self.stations().state_after(reply.change, to);
         let relay = self.setting().network.relay;
         let goes_on_wire = goes_on_wire(relay, to, there);
         let unit = Arrival {
@@ -62,18 +62,18 @@ impl Network {
         &self,
         reply: &mut Reply,
         from: MacAddr,
-        link: Option<Link>,
+        state: Option<StationState>,
         doze: bool,
     ) -> Result<(), NoMemory>
         requires nothing { reply.old ≡ no_reply self.now.network.sequence }
         requires sequence { reply.old.sequence < 4096 }
-        requires link { link ≡ link_of from self.now.network.stations }
+        requires state { state ≡ state_of from self.now.network.stations }
         ensures fitting { OnOk result (IsFitting self.now.setting reply.new self.now.network) }
         ensures answer { OnOk result (
             set_power_mode self.now.setting from doze self.now.network ≡ after_reply reply.new self.now.network) }
         ensures mode { OnOk result (IsModeReply reply.new self.now.network) }
     {
-        let dozed = dozes_with(link);
+        let dozed = dozes_with(state);
         if dozed == doze {
             return Ok(());
         }
@@ -105,16 +105,16 @@ impl Network {
     }
 
     /// Goes on with a reply, which sets the mode of one station at most: delivers a station's unit on the air, to a
-    /// station that has this link then, where the network relays. After `NoMemory` the reply is of no use.
+    /// station in this state then, where the network relays. After `NoMemory` the reply is of no use.
     fn relay(
         &self,
         reply: &mut Reply,
         unit: &Arrival<'_>,
-        link: Option<Link>,
+        state: Option<StationState>,
     ) -> Result<(), NoMemory>
         requires mode { IsModeReply reply.old self.now.network }
         requires fitting { IsFitting self.now.setting reply.old self.now.network }
-        requires link { link ≡ link_of unit.now.to (changed reply.old.change self.now.network.stations) }
+        requires state { state ≡ state_of unit.now.to (changed reply.old.change self.now.network.stations) }
         ensures ok { OnOk result (
             relay self.now.setting (unit_shown unit.now) (after_reply reply.old self.now.network)
             ≡ after_reply reply.new self.now.network) }
@@ -125,7 +125,7 @@ impl Network {
         ensures lost { reply.new.lost ≤ 1 }
     {
         if self.setting().network.relay {
-            self.deliver(reply, unit, link)
+            self.deliver(reply, unit, state)
         } else {
             Ok(())
         }
@@ -157,10 +157,10 @@ impl Network {
     }
 }
 
-/// Whether a unit of a station goes on the wire: but where it is relayed to one associated station, by the link that it
-/// has.
-fn goes_on_wire(relay: bool, to: MacAddr, link: Option<Link>) -> bool
-    ensures { (stations : Table) → link ≡ link_of to stations → result ≡ goes_on_wire relay to stations }
+/// Whether a unit of a station goes on the wire: but where it is relayed to one associated station, by the state that
+/// it is in.
+fn goes_on_wire(relay: bool, to: MacAddr, state: Option<StationState>) -> bool
+    ensures { (stations : Table) → state ≡ state_of to stations → result ≡ goes_on_wire relay to stations }
 {
-    !relay || to.is_group() || !is_associated(link)
+    !relay || to.is_group() || !is_associated(state)
 }

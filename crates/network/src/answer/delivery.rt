@@ -8,7 +8,7 @@ ghost use Rattle.network.specs.Arrivals.{unit_shown};
 ghost use Rattle.network.specs.Network.{Network as NetworkAlone, deliver, keep_or_lose, send_each};
 ghost use Rattle.network.specs.Replies.{after_reply, sending, IsModeReply};
 ghost use Rattle.stations.specs.Keeping.{aid_at, aid_for, is_leaving, IsWithin};
-ghost use Rattle.stations.specs.Stations.{IsModeAlone, changed, link_of};
+ghost use Rattle.stations.specs.Stations.{IsModeAlone, changed, state_of};
 ghost use Rattle.network.specs.Units.{delivery_of, delivery_with, group_waits, unit_frame};
 ghost use Rattle.stations.specs.KeptUnits.{group_is_kept};
 
@@ -16,19 +16,19 @@ use crate::network::Network;
 use crate::reply::{Arrival, Delivery, Reply};
 use mac_frame::{MacAddr, NoMemory};
 use powersave::Whom;
-use stations::{Arriving, Change, Link, aid_with};
+use stations::{Arriving, Change, StationState, aid_with};
 
 impl Network {
     /// Goes on with a reply, which sets the mode of one station at most: delivers a unit on the air as the network does
-    /// once the reply is carried out, to a station that has this link then. After `NoMemory` the reply is of no use.
+    /// once the reply is carried out, to a station in this state then. After `NoMemory` the reply is of no use.
     pub(crate) fn deliver(
         &self,
         reply: &mut Reply,
         unit: &Arrival<'_>,
-        link: Option<Link>,
+        state: Option<StationState>,
     ) -> Result<(), NoMemory>
         requires mode { IsModeReply reply.old self.now.network }
-        requires link { link ≡ link_of unit.now.to (changed reply.old.change self.now.network.stations) }
+        requires state { state ≡ state_of unit.now.to (changed reply.old.change self.now.network.stations) }
         ensures ok { OnOk result (
             deliver self.now.setting (unit_shown unit.now) (after_reply reply.old self.now.network)
             ≡ after_reply reply.new self.now.network) }
@@ -38,28 +38,28 @@ impl Network {
         ensures wired { reply.new.wired ≡ reply.old.wired }
         ensures lost { reply.new.lost ≤ 1 }
     {
-        match self.delivery_of(reply.change, unit.to, link) {
+        match self.delivery_of(reply.change, unit.to, state) {
             Delivery::Now => {
                 let bssid = self.setting().network.bssid;
                 reply.send_unit(self.alloc(), bssid, false, unit)
             }
             Delivery::Kept(whom) => {
-                let aid = aid_at(&whom, link);
+                let aid = aid_at(&whom, state);
                 self.keep_or_lose(reply, whom, aid, unit)
             }
             Delivery::Nowhere => Ok(()),
         }
     }
 
-    /// How a unit to this address is delivered on the air once the mode of a station is set, and the station there has
-    /// this link.
-    fn delivery_of(&self, change: Change, to: MacAddr, link: Option<Link>) -> Delivery
+    /// How a unit to this address is delivered on the air once the mode of a station is set, and the station there is
+    /// in this state.
+    fn delivery_of(&self, change: Change, to: MacAddr, state: Option<StationState>) -> Delivery
         requires alone { IsModeAlone change }
-        requires link { link ≡ link_of to (changed change self.now.network.stations) }
+        requires state { state ≡ state_of to (changed change self.now.network.stations) }
         ensures { result ≡ delivery_of to (changed change self.now.network.stations) self.now.network.kept }
     {
         if !to.is_group() {
-            delivery_with(link, to)
+            delivery_with(state, to)
         } else if self.group_waits(change) {
             Delivery::Kept(Whom::Group)
         } else {
@@ -158,7 +158,7 @@ impl Network {
     }
 }
 
-/// Whether it is told of the unit at a place, from 0, that others of so many follow, where that is asked.
+/// Whether More Data is set for the unit at a place, from 0, of `count` units, where that is asked: others follow it.
 fn more_data(shows_more: bool, place: usize, count: usize) -> bool
     requires { place < count }
     ensures { result ≡ (shows_more && nat_lt (place + 1) count) }
@@ -166,23 +166,23 @@ fn more_data(shows_more: bool, place: usize, count: usize) -> bool
     shows_more && place + 1 < count
 }
 
-/// The association identifier of whom a unit is kept for, a station with this link; the group has none.
-fn aid_at(whom: &Whom, link: Option<Link>) -> Option<u16>
-    ensures { result ≡ aid_at whom.now link }
+/// The association identifier of whom a unit is kept for, a station in this state; the group has none.
+fn aid_at(whom: &Whom, state: Option<StationState>) -> Option<u16>
+    ensures { result ≡ aid_at whom.now state }
 {
     match whom {
-        Whom::One(_) => aid_with(link),
+        Whom::One(_) => aid_with(state),
         Whom::Group => None,
     }
 }
 
-/// How a unit is delivered to the station with this link.
-fn delivery_with(link: Option<Link>, to: MacAddr) -> Delivery
-    ensures { result ≡ delivery_with link to }
+/// How a unit is delivered to the station in this state.
+fn delivery_with(state: Option<StationState>, to: MacAddr) -> Delivery
+    ensures { result ≡ delivery_with state to }
 {
-    match link {
-        Some(Link::Associated { doze: true, .. }) => Delivery::Kept(Whom::One(to)),
-        Some(Link::Associated { doze: false, .. }) => Delivery::Now,
+    match state {
+        Some(StationState::Associated { doze: true, .. }) => Delivery::Kept(Whom::One(to)),
+        Some(StationState::Associated { doze: false, .. }) => Delivery::Now,
         _ => Delivery::Nowhere,
     }
 }

@@ -4,14 +4,14 @@
 ghost use Rattle.std.specs.Prelude.{◌≡◌, ◌<◌, OnOk, is_some, true};
 ghost use Rattle.network.specs.Network.{answer_association};
 ghost use Rattle.network.specs.Replies.{no_reply, after_reply, IsFitting};
-ghost use Rattle.stations.specs.Stations.{link_of};
+ghost use Rattle.stations.specs.Stations.{state_of};
 
 use crate::network::Network;
 use crate::reply::Reply;
 use association::{SUCCESS, assoc_status, write_assoc};
 use elements::Elements;
 use mac_frame::{MacAddr, NoMemory, Octets};
-use stations::{Change, Link};
+use stations::{Change, StationState};
 
 impl Network {
     /// The reply to the request of a known station to associate, or `again` to reassociate: its answer, and where it
@@ -20,15 +20,15 @@ impl Network {
         &self,
         reply: &mut Reply,
         from: MacAddr,
-        link: Option<Link>,
+        state: Option<StationState>,
         again: bool,
         listen: u16,
         elements: &Elements<'_>,
     ) -> Result<(), NoMemory>
-        requires known { is_some link ≡ true }
+        requires known { is_some state ≡ true }
         requires nothing { reply.old ≡ no_reply self.now.network.sequence }
         requires sequence { reply.old.sequence < 4096 }
-        requires link { link ≡ link_of from self.now.network.stations }
+        requires state { state ≡ state_of from self.now.network.stations }
         ensures fitting { OnOk result (IsFitting self.now.setting reply.new self.now.network) }
         ensures answer { OnOk result (
             answer_association self.now.setting from again listen elements.now self.now.network
@@ -36,7 +36,7 @@ impl Network {
     {
         let network = &self.setting().network;
         let rates = network.rates.as_slice();
-        let aid = self.stations().next_aid(from, link);
+        let aid = self.stations().next_aid(from, state);
         let status = assoc_status(network.ssid.as_slice(), rates, aid.is_some(), elements);
         let aid = aid.unwrap_or(0);
         let mut frame = Octets::new(self.alloc());

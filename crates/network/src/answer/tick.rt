@@ -9,6 +9,7 @@ ghost use Rattle.stations.specs.Roster.{AreWaitedFor};
 use crate::network::Network;
 use crate::reply::Reply;
 use crate::shown::announcement;
+use ap_config::checked_numbers;
 use beacon::{dtim_count, write_beacon};
 use mac_frame::{NoMemory, Octets};
 use powersave::Whom;
@@ -29,6 +30,8 @@ impl Network {
         ensures begins { OnOk result (reply.new.clock ≡ 1) }
         ensures still { OnOk result (IsStill reply.new) }
     {
+        // there is a DTIM period
+        checked_numbers();
         let clock = self.clock() + 1;
         reply.clock = 1;
         self.announce(reply, clock)?;

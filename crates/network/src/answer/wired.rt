@@ -24,13 +24,13 @@ impl Network {
             reply.unread = 1;
             return Ok(());
         };
-        let link = self.stations().link_after(reply.change, ether.to);
+        let state = self.stations().state_after(reply.change, ether.to);
         let unit = Arrival {
             to: ether.to,
             source: ether.source,
             body: Body::Wired(ether),
             at: self.clock(),
         };
-        self.deliver(reply, &unit, link)
+        self.deliver(reply, &unit, state)
     }
 }

@@ -13,9 +13,9 @@ use powersave::{Whom, parts_stay};
 use tim::Bitmap;
 
 impl Roster {
-    /// Takes out each unit that more beacon intervals began since than the listen interval of the station that it is
-    /// kept for (IEEE Std 802.11-2016, 9.4.1.6), where so many have begun as `clock` tells, and answers how many units
-    /// these were. It takes no memory, and looks at no station for which none is kept.
+    /// Takes out each unit that is too old at this clock, which counts the beacon intervals that began: more began since
+    /// it came than the listen interval of the station that it is kept for (IEEE Std 802.11-2016, 9.4.1.6). Answers how
+    /// many units these were. It takes no memory, and looks at no station for which none is kept.
     pub fn age(&mut self, clock: u32) -> u32
         requires came { CameBy clock self.old.kept.entries }
         requires countable { length self.old.kept.entries < 2 ^ 32 }
@@ -79,7 +79,6 @@ impl Roster {
     /// Takes out the units for one that are too old at this clock, and answers how many these were.
     fn age_for(&mut self, whom: &Whom, clock: u32) -> u32
         requires in_order { CameInOrder (units_for whom.now self.old.kept.entries) }
-        requires countable { length self.old.kept.entries < 2 ^ 32 }
         ensures count { result ≡ length (filter
             (is_older whom.now (limit_for clock self.old.stations.table whom.now)) self.old.kept.entries) }
         ensures after { self.new ≡ record self.old {
@@ -129,7 +128,7 @@ impl Roster {
     {
         match whom {
             Whom::One(addr) => {
-                clock.saturating_sub(u32::from(listen_with(self.stations.link_of(*addr))))
+                clock.saturating_sub(u32::from(listen_with(self.stations.state_of(*addr))))
             }
             Whom::Group => 0,
         }

@@ -5,4 +5,5 @@ pub returns-clause-sections : goal.returns-clause-sections
 returns-clause-sections c = sections-alike
 
 pub returns-clause-left : goal.returns-clause-left
-returns-clause-left c = left-alike
+returns-clause-left c =
+    left-alike (record { append = c.own_frames.ensures.append; same = c.own_frames.ensures.same; other = c.own_frames.ensures.other; sent = c.sent_frames.ensures })

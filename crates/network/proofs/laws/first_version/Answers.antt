@@ -1,16 +1,19 @@
-use Rattle.std.proofs.Common.{length, ap}
-use Rattle.network.specs.Network.{Network, table_of, counts_of}
-use Rattle.network.proofs.FirstVersions.{first-version}
+use Rattle.std.proofs.Common.{length, ap, ◌∙◌}
+use Rattle.network.specs.Network.{alone}
+use Rattle.network.specs.FirstVersion as first
+use Rattle.network.specs.FirstVersion.{FirstNetwork}
+use Rattle.network.proofs.FirstVersions.{first-version, table-at-first}
 use Rattle.network.proofs.laws.first_version.Goals as goal
 
 pub returns-clause-air : goal.returns-clause-air
-returns-clause-air c s es relays keeps = ap (λ (n : Network). n.air) (first-version s relays keeps es)
+returns-clause-air c s es relays keeps = ap (λ (n : FirstNetwork). n.air) (first-version s relays keeps es)
 
 pub returns-clause-wire : goal.returns-clause-wire
-returns-clause-wire c s es relays keeps = ap (λ (n : Network). n.wire) (first-version s relays keeps es)
+returns-clause-wire c s es relays keeps = ap (λ (n : FirstNetwork). n.wire) (first-version s relays keeps es)
 
 pub returns-clause-table : goal.returns-clause-table
-returns-clause-table c s es relays keeps = ap table_of (first-version s relays keeps es)
+returns-clause-table c s es relays keeps =
+    table-at-first (alone s es) ∙ ap first.table_of (first-version s relays keeps es)
 
 pub returns-clause-counts : goal.returns-clause-counts
-returns-clause-counts c s es relays keeps = ap (counts_of (length es)) (first-version s relays keeps es)
+returns-clause-counts c s es relays keeps = ap (first.counts_of (length es)) (first-version s relays keeps es)

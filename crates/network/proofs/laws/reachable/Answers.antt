@@ -2,4 +2,4 @@ use Rattle.network.proofs.AloneLaws.{alone-sound}
 use Rattle.network.proofs.laws.reachable.Goals as goal
 
 pub returns : goal.returns
-returns c = alone-sound
+returns c = alone-sound c.checked_numbers.ensures.stations

@@ -61,7 +61,7 @@ returns-clause-sections c =
     c.in_ok-sections.ensures
     ∙ ap (λ (items : List AirItem). sections_with items c.as_slice-2.result.now networks) c.as_slice.ensures.value
     ∙ ap (λ (items : List AirItem). sections_with left items networks) (c.as_slice-2.ensures ∙ parts.queue)
-    ∙ ended-sections radio steps left networks at parts.settings parts.networks
+    ∙ ended-sections (record { append = c.own_frames.ensures.append; same = c.own_frames.ensures.same; other = c.own_frames.ensures.other; sent = c.sent_frames.ensures }) radio steps left networks at parts.settings parts.networks
     ∙ ap (λ (d : RadioConfig). sections_after d steps) c.loop-step.invariant.config
 
 pub returns-clause-frames : goal.returns-clause-frames
@@ -78,4 +78,4 @@ returns-clause-frames c place within =
     let queued : c.into_parts-networks.result.1 ≡ end.queue = c.into_parts-networks.ensures.queue ∙ at.queue in
     ap (λ (items : List AirItem). items_of place items ++ items_of place c.into_parts-networks.result.1 ++ waiting) gone
     ∙ ap (λ (items : List AirItem). items_of place end.left ++ items_of place items ++ waiting) queued
-    ∙ frames-alone config steps place within
+    ∙ frames-alone (record { append = c.own_frames.ensures.append; same = c.own_frames.ensures.same; other = c.own_frames.ensures.other; sent = c.sent_frames.ensures }) config steps place within

@@ -20,7 +20,7 @@ returns-in-Ok-clause-made c before left h =
     let next : RadioState = after_steps r.config (before ++ Take place c.args.event.now ∷ []) in
     let taken : c.take.new.self ≡ took place c.args.event.now r = c.in-Ok.ensures.after ∙ ap (λ (e : Event). took place e r) c.in_ok-copy_of.ensures in
     subst (λ (v : RadioView). IsAt next v left) (sym taken)
-    (is_at-took r before left place c.args.event.now c.networks.ensures.sound (omega (arith, c.networks.ensures.count)) not_full h)
+    (is_at-took (record { append = c.own_frames.ensures.append; same = c.own_frames.ensures.same; other = c.own_frames.ensures.other; sent = c.sent_frames.ensures }) r before left place c.args.event.now c.networks.ensures.sound (omega (arith, c.networks.ensures.count)) not_full h)
 
 pub returns-in-Err-HistoryFull-clause-made : goal.returns-in-Err-HistoryFull-clause-made
 returns-in-Err-HistoryFull-clause-made c before left h =

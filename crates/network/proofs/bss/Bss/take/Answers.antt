@@ -8,7 +8,6 @@ use Rattle.events.specs.declared.event.Event.{Event}
 use Rattle.std.specs.VecDeque.{deque_len, deque_capacity}
 use Rattle.network.specs.Replies.{done}
 use Rattle.network.specs.declared.reply.Reply.{Reply}
-use Rattle.ap_config.proofs.Checked.{numbers_bounded}
 use Rattle.network.proofs.Histories.{history-sound, history-push, sent_by-reply, wire-push}
 use Rattle.network.proofs.SentFrames.{air-push}
 use Rattle.network.proofs.bss.Bss.take.Goals as goal
@@ -17,12 +16,12 @@ pub reply-requires : goal.reply-requires
 reply-requires c = record {
   nothing = c.no_reply-reply.ensures.nothing;
   sequence = c.no_reply-reply.ensures.sequence;
-  ticks = λ is. omega (arith, (history-sound _ _ _ c.self.invariant.0).clock, c.self.invariant.0.bounded, (numbers_bounded c.self.inside.network.setting.network c.self.invariant.0.sound).events);
+  ticks = λ is. omega (arith, (history-sound c.checked_numbers.ensures.stations _ _ _ c.self.invariant.0).clock, c.self.invariant.0.bounded, c.checked_numbers.ensures.events c.self.inside.network.setting.network c.self.invariant.0.sound);
 }
 
 pub finish-requires-clause-countable : goal.finish-requires-clause-countable
 finish-requires-clause-countable c =
-    omega (arith, c.self.invariant.0.events, c.self.invariant.0.bounded, (numbers_bounded c.self.inside.network.setting.network c.self.invariant.0.sound).events)
+    omega (arith, c.self.invariant.0.events, c.self.invariant.0.bounded, c.checked_numbers.ensures.events c.self.inside.network.setting.network c.self.invariant.0.sound)
 
 pub invariant_of-self-2 : goal.invariant_of-self-2
 invariant_of-self-2 c =

@@ -13,7 +13,6 @@ use Rattle.stations.specs.Stations.{StationTable, changed}
 use Rattle.network.specs.declared.reply.Reply.{Reply}
 use Rattle.stations.specs.declared.keeping.Arriving.{Arriving}
 use Rattle.network.proofs.Aging.{before-none}
-use Rattle.ap_config.proofs.Checked.{numbers_bounded}
 use Rattle.network.proofs.network.Network.carry_out.Goals as goal
 
 -- where a unit comes, no beacon interval begins
@@ -66,7 +65,7 @@ carry_out-requires-clause-within c =
 
 pub carry_out-requires-clause-few : goal.carry_out-requires-clause-few
 carry_out-requires-clause-few c =
-    let most = (numbers_bounded c.self.inside.setting.network c.self.invariant.accepted).quota in
+    let most = c.checked_numbers.ensures.quota c.self.inside.setting.network c.self.invariant.accepted in
     omega (arith, c.self.invariant.sound.quota, most)
 
 pub invariant_of-self-2 : goal.invariant_of-self-2

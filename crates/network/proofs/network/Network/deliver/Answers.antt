@@ -50,4 +50,4 @@ keep_or_lose-requires-clause-aid c =
     let n = c.args.self.now.network in
     let r : Reply = c.args.reply.now in
     c.aid_at-aid.ensures
-    ∙ identifier-told r.change c.args.unit.now.to n.stations n.kept c.in-Kept.whom c.args.link c.requires.mode.change c.requires.link (sym c.delivery_of.ensures ∙ c.in-Kept.is)
+    ∙ identifier-told r.change c.args.unit.now.to n.stations n.kept c.in-Kept.whom c.args.state c.requires.mode.change c.requires.state (sym c.delivery_of.ensures ∙ c.in-Kept.is)

@@ -1,13 +1,12 @@
 use Rattle.std.proofs.Common.{refl, arith}
 use Rattle.network.proofs.AloneLaws.{empty-sound}
-use Rattle.ap_config.proofs.Checked.{stations_fit}
 use Rattle.network.proofs.network.Network.new.Goals as goal
 
 pub new-requires-clause-some : goal.new-requires-clause-some
-new-requires-clause-some c = (stations_fit c.args.setting.network c.requires.network).0
+new-requires-clause-some c = c.checked_numbers.ensures.some_stations c.args.setting.network c.requires.network
 
 pub new-requires-clause-few : goal.new-requires-clause-few
-new-requires-clause-few c = (stations_fit c.args.setting.network c.requires.network).1
+new-requires-clause-few c = c.checked_numbers.ensures.stations c.args.setting.network c.requires.network
 
 pub invariant_of-result : goal.invariant_of-result
 invariant_of-result c = rw c.new.ensures (record {

@@ -15,12 +15,12 @@ pub returns-then-may_poll-clause-answer : goal.returns-then-may_poll-clause-answ
 returns-then-may_poll-clause-answer c =
     let s = c.args.self.now.setting in
     let n = c.args.self.now.network in
-    poll-served s c.args.from c.args.aid n (ap (may_poll c.args.aid) (sym c.requires.link) ∙ sym c.may_poll.ensures ∙ c.if-may_poll.true)
+    poll-served s c.args.from c.args.aid n (ap (may_poll c.args.aid) (sym c.requires.state) ∙ sym c.may_poll.ensures ∙ c.if-may_poll.true)
     ∙ ap (λ (r : Reply). after_reply (done s n (Some c.args.from) r) (served (Some c.args.from) n)) (sym c.requires.nothing)
 
 pub returns-else-may_poll-clause-answer : goal.returns-else-may_poll-clause-answer
 returns-else-may_poll-clause-answer c =
     let s = c.args.self.now.setting in
     let n = c.args.self.now.network in
-    poll-refused s c.args.from c.args.aid n (ap (may_poll c.args.aid) (sym c.requires.link) ∙ sym c.may_poll.ensures ∙ c.if-may_poll.false)
+    poll-refused s c.args.from c.args.aid n (ap (may_poll c.args.aid) (sym c.requires.state) ∙ sym c.may_poll.ensures ∙ c.if-may_poll.false)
     ∙ ap (λ (r : Reply). after_reply r n) (sym c.requires.nothing)

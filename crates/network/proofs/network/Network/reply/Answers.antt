@@ -22,7 +22,7 @@ returns-in-Air-clause-follows c =
     let asked = request_of n.setting.network.bssid c.as_slice.result.now in
     of_all c.answer.result
     (λ polled fits is.
-    (still-follows n (Air c.as_slice.result.now) polled (done n.setting n.network polled c.answer.new.reply) kept.accepted kept.sound fits is (answered n.setting asked n.network) kept.clock).0)
+    (still-follows c.checked_numbers.ensures.stations n (Air c.as_slice.result.now) polled (done n.setting n.network polled c.answer.new.reply) kept.accepted kept.sound fits is (answered n.setting asked n.network) kept.clock).0)
     c.answer.ensures.fitting c.answer.ensures.answer
 
 pub returns-in-Air-clause-step : goal.returns-in-Air-clause-step
@@ -34,7 +34,7 @@ returns-in-Air-clause-step c =
     of_all c.answer.result
     (λ polled fits is.
     ap (step n.setting n.network) event
-    ∙ (still-follows n (Air c.as_slice.result.now) polled (done n.setting n.network polled c.answer.new.reply) kept.accepted kept.sound fits is (answered n.setting asked n.network) kept.clock).1)
+    ∙ (still-follows c.checked_numbers.ensures.stations n (Air c.as_slice.result.now) polled (done n.setting n.network polled c.answer.new.reply) kept.accepted kept.sound fits is (answered n.setting asked n.network) kept.clock).1)
     c.answer.ensures.fitting c.answer.ensures.answer
 
 pub returns-in_ok-answer_wired-in-Wire-clause-follows : goal.returns-in_ok-answer_wired-in-Wire-clause-follows
@@ -43,7 +43,7 @@ returns-in_ok-answer_wired-in-Wire-clause-follows c =
     let kept : IsNetwork c.self.inside.roster n = subst (IsNetwork c.self.inside.roster) c.self.view_is c.self.invariant in
     let read = ethernet_of c.as_slice-in-Wire.result.now in
     let said = c.in_ok-answer_wired-in-Wire.ensures in
-    (still-follows n (Wire c.as_slice-in-Wire.result.now) None c.answer_wired.new.reply kept.accepted kept.sound said.fitting said.answer (wired n.setting read n.network) kept.clock).0
+    (still-follows c.checked_numbers.ensures.stations n (Wire c.as_slice-in-Wire.result.now) None c.answer_wired.new.reply kept.accepted kept.sound said.fitting said.answer (wired n.setting read n.network) kept.clock).0
 
 pub returns-in_ok-answer_wired-in-Wire-clause-step : goal.returns-in_ok-answer_wired-in-Wire-clause-step
 returns-in_ok-answer_wired-in-Wire-clause-step c =
@@ -52,14 +52,14 @@ returns-in_ok-answer_wired-in-Wire-clause-step c =
     let read = ethernet_of c.as_slice-in-Wire.result.now in
     let said = c.in_ok-answer_wired-in-Wire.ensures in
     ap (step n.setting n.network) (c.in-Wire.is ∙ ap Wire (sym c.as_slice-in-Wire.ensures))
-    ∙ (still-follows n (Wire c.as_slice-in-Wire.result.now) None c.answer_wired.new.reply kept.accepted kept.sound said.fitting said.answer (wired n.setting read n.network) kept.clock).1
+    ∙ (still-follows c.checked_numbers.ensures.stations n (Wire c.as_slice-in-Wire.result.now) None c.answer_wired.new.reply kept.accepted kept.sound said.fitting said.answer (wired n.setting read n.network) kept.clock).1
 
 pub returns-in_ok-tick-in-Tick-clause-follows : goal.returns-in_ok-tick-in-Tick-clause-follows
 returns-in_ok-tick-in-Tick-clause-follows c =
     let n : NetworkState = c.args.self.now in
     let kept : IsNetwork c.self.inside.roster n = subst (IsNetwork c.self.inside.roster) c.self.view_is c.self.invariant in
     let said = c.in_ok-tick-in-Tick.ensures in
-    (tick-follows n c.tick.new.reply kept.accepted kept.sound said.still said.fitting said.answer said.begins (c.requires.ticks c.in-Tick.is)).0
+    (tick-follows c.checked_numbers.ensures.stations n c.tick.new.reply kept.accepted kept.sound said.still said.fitting said.answer said.begins (c.requires.ticks c.in-Tick.is)).0
 
 pub returns-in_ok-tick-in-Tick-clause-step : goal.returns-in_ok-tick-in-Tick-clause-step
 returns-in_ok-tick-in-Tick-clause-step c =
@@ -67,4 +67,4 @@ returns-in_ok-tick-in-Tick-clause-step c =
     let kept : IsNetwork c.self.inside.roster n = subst (IsNetwork c.self.inside.roster) c.self.view_is c.self.invariant in
     let said = c.in_ok-tick-in-Tick.ensures in
     ap (step n.setting n.network) c.in-Tick.is
-    ∙ (tick-follows n c.tick.new.reply kept.accepted kept.sound said.still said.fitting said.answer said.begins (c.requires.ticks c.in-Tick.is)).1
+    ∙ (tick-follows c.checked_numbers.ensures.stations n c.tick.new.reply kept.accepted kept.sound said.still said.fitting said.answer said.begins (c.requires.ticks c.in-Tick.is)).1

@@ -11,11 +11,10 @@ use Rattle.stations.specs.declared.keeping.Leaving.TheVariants as leavings
 use Rattle.network.specs.declared.reply.Reply.{Reply}
 use Rattle.network.proofs.Aging.{group-stays_young, group-units}
 use Rattle.network.proofs.UnitDelivery.{dtim-replied}
-use Rattle.ap_config.proofs.Checked.{numbers_bounded}
 use Rattle.network.proofs.network.Network.tick.Goals as goal
 
 pub dtim_count-requires-clause-period : goal.dtim_count-requires-clause-period
-dtim_count-requires-clause-period c = (numbers_bounded c.setting.result.now.network c.setting.ensures.sound).dtim
+dtim_count-requires-clause-period c = c.checked_numbers.ensures.dtim c.setting.result.now.network c.setting.ensures.sound
 
 pub returns-in_ok-send_kept-clause-answer : goal.returns-in_ok-send_kept-clause-answer
 returns-in_ok-send_kept-clause-answer c =

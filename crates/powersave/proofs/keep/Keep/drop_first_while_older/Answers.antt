@@ -1,4 +1,4 @@
-use Rattle.std.proofs.Common.{◌≡◌, ◌+◌, ℕ, List, sym, ap, ◌∙◌, subst, arith}
+use Rattle.std.proofs.Common.{◌≡◌, ◌+◌, ℕ, List, length, sym, ap, ◌∙◌, subst, arith}
 use Rattle.powersave.specs.Keep.{Entry, Kept, units_for, without_oldest, without_older, room_beside, first_is_older, CameInOrder}
 use Rattle.powersave.proofs.Older.{older_count, older-few, one-less, in-order_later, none-left}
 use Rattle.powersave.proofs.keep.Keep.drop_first_while_older.Goals as goal
@@ -8,7 +8,7 @@ overflow_add-dropped c =
     let whom = c.args.whom.now in
     let es : List Entry = c.loop-self.self.entries in
     let less = one-less whom c.args.limit es (sym c.has_older.ensures ∙ c.loop-self-test.true) in
-    omega (arith, less.1, c.loop-self.invariant.count, older-few whom c.args.limit c.args.self.now.entries, c.requires.countable)
+    omega (arith, less.1, c.loop-self.invariant.count, older-few whom c.args.limit c.args.self.now.entries, ap (λ (k : Kept). length k.entries) c.self.view_is, c.self.invariant.counted, c.self.invariant.within)
 
 pub loop-self-smaller : goal.loop-self-smaller
 loop-self-smaller c =

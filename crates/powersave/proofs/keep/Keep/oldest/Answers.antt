@@ -6,7 +6,7 @@ use Rattle.powersave.proofs.keep.Keep.oldest.Goals as goal
 
 pub invariant_of-self : goal.invariant_of-self
 invariant_of-self c =
-    kept_empty _ _ _ _ _ c.self.invariant c.args.whom c.room_beside-self-inside.result c.in_err-unit.ensures c.room_beside-self-inside.ensures
+    kept_empty _ _ _ _ _ _ c.self.invariant c.args.whom c.room_beside-self-inside.result c.in_err-unit.ensures c.room_beside-self-inside.ensures
 
 pub returns-in_err-unit-clause-unit : goal.returns-in_err-unit-clause-unit
 returns-in_err-unit-clause-unit c =
@@ -23,11 +23,11 @@ returns-in_err-unit-clause-after c =
     λ i. record { quota = (seen i).quota; entries = rest i; reserved = room i; puts = (seen i).puts }
 
 pub overflow_sub-self : goal.overflow_sub-self
-overflow_sub-self c = some_left _ _ _ _ _ c.self.invariant c.args.whom c.in_ok-unit.unit c.in_ok-unit.ensures
+overflow_sub-self c = some_left _ _ _ _ _ _ c.self.invariant c.args.whom c.in_ok-unit.unit c.in_ok-unit.ensures
 
 pub invariant_of-self-2 : goal.invariant_of-self-2
 invariant_of-self-2 c =
-    kept_popped _ _ _ _ _ c.self.invariant c.args.whom c.in_ok-unit.unit c.room_beside-self-inside.result c.in_ok-unit.ensures c.room_beside-self-inside.ensures
+    kept_popped _ _ _ _ _ _ c.self.invariant c.args.whom c.in_ok-unit.unit c.room_beside-self-inside.result c.in_ok-unit.ensures c.room_beside-self-inside.ensures
 
 pub returns-clause-unit : goal.returns-clause-unit
 returns-clause-unit c =

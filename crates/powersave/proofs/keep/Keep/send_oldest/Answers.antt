@@ -30,12 +30,12 @@ first_of bss sequence (u ∷ us) unit sent is frame follows =
     λ i. Some (octets i, more i)
 
 pub invariant_of-self : goal.invariant_of-self
-invariant_of-self c = kept_same _ _ _ _ _ c.self.invariant c.in_err-sent.ensures.err
+invariant_of-self c = kept_same _ _ _ _ _ _ c.self.invariant c.in_err-sent.ensures.err
 
 pub invariant_of-self-in_default : goal.invariant_of-self-in_default
 invariant_of-self-in_default c =
     let popped = subst (λ o. Sends c.args.whom c.args.bss c.args.seq c.self.inside.queues.map.entries o c.send.new.self.map.entries) c.in_default.is c.in_ok-sent.ensures.ok in
-    kept_empty _ _ _ _ _ c.self.invariant c.args.whom c.room_beside-self-inside.result popped c.room_beside-self-inside.ensures
+    kept_empty _ _ _ _ _ _ c.self.invariant c.args.whom c.room_beside-self-inside.result popped c.room_beside-self-inside.ensures
 
 pub returns-in_default-clause-sent : goal.returns-in_default-clause-sent
 returns-in_default-clause-sent c =
@@ -64,12 +64,12 @@ returns-in_default-clause-none c h =
 pub overflow_sub-self : goal.overflow_sub-self
 overflow_sub-self c =
     let sends = subst (λ o. Sends c.args.whom c.args.bss c.args.seq c.self.inside.queues.map.entries o c.send.new.self.map.entries) c.in-Some.is c.in_ok-sent.ensures.ok in
-    some_left _ _ _ _ _ c.self.invariant c.args.whom sends.0 sends.1.0
+    some_left _ _ _ _ _ _ c.self.invariant c.args.whom sends.0 sends.1.0
 
 pub invariant_of-self-2 : goal.invariant_of-self-2
 invariant_of-self-2 c =
     let sends = subst (λ o. Sends c.args.whom c.args.bss c.args.seq c.self.inside.queues.map.entries o c.send.new.self.map.entries) c.in-Some.is c.in_ok-sent.ensures.ok in
-    kept_popped _ _ _ _ _ c.self.invariant c.args.whom sends.0 c.room_beside-self-inside.result sends.1.0 c.room_beside-self-inside.ensures
+    kept_popped _ _ _ _ _ _ c.self.invariant c.args.whom sends.0 c.room_beside-self-inside.result sends.1.0 c.room_beside-self-inside.ensures
 
 pub returns-clause-sent : goal.returns-clause-sent
 returns-clause-sent c =

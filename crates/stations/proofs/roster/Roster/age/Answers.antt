@@ -10,11 +10,8 @@ use Rattle.stations.proofs.RosterAging.{ArePassed, later_count, left-young, left
 use Rattle.stations.proofs.UnitsKept.{length-filtered}
 use Rattle.stations.proofs.roster.Roster.age.Goals as goal
 
-pub age_for-dropped-requires-clause-in_order : goal.age_for-dropped-requires-clause-in_order
-age_for-dropped-requires-clause-in_order c = in-order c.in-Some.whom c.args.clock c.loop-whom.self.kept.entries c.loop-whom.invariant.came
-
-pub age_for-dropped-requires-clause-countable : goal.age_for-dropped-requires-clause-countable
-age_for-dropped-requires-clause-countable c = omega (arith, c.loop-whom.invariant.few, c.requires.countable)
+pub age_for-dropped-requires : goal.age_for-dropped-requires
+age_for-dropped-requires c = record { in_order = in-order c.in-Some.whom c.args.clock c.loop-whom.self.kept.entries c.loop-whom.invariant.came }
 
 pub overflow_add-dropped : goal.overflow_add-dropped
 overflow_add-dropped c =

@@ -6,19 +6,19 @@ use Rattle.stations.proofs.table.Stations.forget.Goals as goal
 
 pub overflow_sub-self : goal.overflow_sub-self
 overflow_sub-self c =
-    let t : Table = c.self.inside.links.entries in
+    let t : Table = c.self.inside.states.entries in
     let dozed : c.from.result ≡ dozing_at c.args.addr t = c.from.ensures ∙ ap from_bool (c.dozes_with.ensures ∙ ap dozes_with c.shift_remove-before.ensures.value) in
     omega (arith, dozed, dozing-forgotten c.args.addr t, c.self.invariant.dozing)
 
 pub give-requires : goal.give-requires
 give-requires c =
-    let t : Table = c.self.inside.links.entries in
+    let t : Table = c.self.inside.states.entries in
     let had : aid_of c.args.addr t ≡ Some c.in-Some.aid = ap aid_with (sym c.shift_remove-before.ensures.value) ∙ sym c.in-Some.ensures in
     out-of_associated c.self.inside.pool.most c.self.inside.pool.out c.args.addr t c.in-Some.aid had c.self.invariant.pool
 
 pub invariant_of-self : goal.invariant_of-self
 invariant_of-self c =
-    let t : Table = c.self.inside.links.entries in
+    let t : Table = c.self.inside.states.entries in
     let had : aid_of c.args.addr t ≡ Some c.in-Some.aid = ap aid_with (sym c.shift_remove-before.ensures.value) ∙ sym c.in-Some.ensures in
     let now : c.shift_remove-before.new.self.entries ≡ forget c.args.addr t = c.shift_remove-before.ensures.entries in
     let dozed : c.from.result ≡ dozing_at c.args.addr t = c.from.ensures ∙ ap from_bool (c.dozes_with.ensures ∙ ap dozes_with c.shift_remove-before.ensures.value) in
@@ -30,7 +30,7 @@ invariant_of-self c =
 
 pub invariant_of-self-in_default : goal.invariant_of-self-in_default
 invariant_of-self-in_default c =
-    let t : Table = c.self.inside.links.entries in
+    let t : Table = c.self.inside.states.entries in
     let had : aid_of c.args.addr t ≡ None = ap aid_with (sym c.shift_remove-before.ensures.value) ∙ sym c.in_default.ensures in
     let now : c.shift_remove-before.new.self.entries ≡ forget c.args.addr t = c.shift_remove-before.ensures.entries in
     let dozed : c.from.result ≡ dozing_at c.args.addr t = c.from.ensures ∙ ap from_bool (c.dozes_with.ensures ∙ ap dozes_with c.shift_remove-before.ensures.value) in

@@ -1,5 +1,5 @@
 -- What the sample frames are made of.
-use Rattle.std.proofs.Common.{ℕ, List, [], ◌∷◌, ◌++◌}
+use Rattle.std.specs.Prelude.{ℕ, List, [], ◌∷◌, ◌++◌}
 
 -- 02:00:00:00:00:01
 abbrev pub network : List ℕ

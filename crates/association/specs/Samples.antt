@@ -1,6 +1,6 @@
 -- What the sample frames share.
-use Rattle.std.proofs.Common.{ℕ, List, [], ◌∷◌, ◌++◌}
-use Rattle.mac_frame.proofs.Samples.{network}
+use Rattle.std.specs.Prelude.{ℕ, List, [], ◌∷◌, ◌++◌}
+use Rattle.mac_frame.specs.Samples.{network}
 
 -- 02:aa:00:00:00:02
 abbrev pub other_station : List ℕ
