@@ -842,14 +842,15 @@ mod tests {
     use super::*;
     use crate::faces::Face;
     use crate::program::Record;
+    use crate::own_frames::{deauthentication, departure, INACTIVITY};
     use crate::radiotap::sending_header;
-    use crate::samples::{data, radiotap, OURS};
+    use crate::samples::{data, radiotap, Unit, OURS, STATION};
     use libc::sock_filter;
     use std::fs::{self, Permissions};
-    use std::io::Write;
-    use std::os::unix::fs::PermissionsExt;
+    use std::io::{BufRead, BufReader, Write};
+    use std::os::unix::fs::{MetadataExt, PermissionsExt};
     use std::os::unix::io::{AsRawFd, RawFd};
-    use std::os::unix::net::{UnixDatagram, UnixStream};
+    use std::os::unix::net::{UnixDatagram, UnixListener, UnixStream};
     use std::path::PathBuf;
     use std::sync::{Arc, Mutex};
     use std::thread;
@@ -894,6 +895,20 @@ while header := source.read(9):
         sys.exit(3)
 write(b"N", octets=b"network 02:00:00:00:01:01 ssid 6c6162\n")
 "#;
+
+    /// A program that authenticates a station, and has it in its table.
+    const KNOWING: &str = r#"#!/bin/bash
+echo 'ok 1'
+while read -r word rest; do
+    case $word in
+    T) echo 'air 02:00:00:00:01:01 BEACON' ;;
+    A) [ "${rest:0:2}" != b0 ] || echo 'air 02:00:00:00:01:01 ANSWER' ;;
+    I) printf '%s\n' 'network 02:00:00:00:01:01 ssid 6c' 'events 7 clock 1 unread 0 lost 0 kept 0' \
+        'station 02:aa:00:00:00:01 authenticated' end ;;
+    esac
+done
+"#;
+    const ANSWER: &str = "b000000002aa000000010200000001010200000001010010000002000000";
 
     /// A port in place of a packet socket. A radio's shows what is sent by it, where `shows` says so.
     struct FakePort {
@@ -987,7 +1002,8 @@ write(b"N", octets=b"network 02:00:00:00:01:01 ssid 6c6162\n")
                 thread::sleep(Duration::from_millis(400));
                 later(&mut stage);
             });
-            serve(face, path.to_str().unwrap(), record, asked, monitor, wire)
+            let clients = Clients::new(UnixListener::bind(stage.folder.join("socket")).unwrap()).unwrap();
+            serve(face, path.to_str().unwrap(), record, (asked, clients), monitor, wire)
         });
         (outcome, stage)
     }
@@ -996,7 +1012,7 @@ write(b"N", octets=b"network 02:00:00:00:01:01 ssid 6c6162\n")
         face: Face,
         path: &str,
         record: Record,
-        asked: UnixStream,
+        (asked, clients): (UnixStream, Clients),
         monitor: FakePort,
         wire: FakePort,
     ) -> Result<(), Fault> {
@@ -1009,7 +1025,7 @@ write(b"N", octets=b"network 02:00:00:00:01:01 ssid 6c6162\n")
             most_silence: Some(300 * SECOND),
             tells_alive: false,
         };
-        let mut bridge = Bridge::new(program, feeder, Requests::new(asked)?, None, manner)?;
+        let mut bridge = Bridge::new(program, feeder, Requests::new(asked)?, Some(clients), manner)?;
         let mut ports = Some((monitor, wire));
         bridge.serve(|| {
             let (monitor, wire) = ports.take().unwrap();
@@ -1041,6 +1057,41 @@ write(b"N", octets=b"network 02:00:00:00:01:01 ssid 6c6162\n")
             others.sort();
             assert_eq!(others, ["# I".to_owned(), format!("A {}", hex::encode(data()))], "{face:?}");
         }
+    }
+
+    /// Asks the bridge by its socket.
+    fn ask(stage: &Stage, question: &str) -> String {
+        let mut stream = UnixStream::connect(stage.folder.join("socket")).unwrap();
+        stream.write_all(format!("{question}\n").as_bytes()).unwrap();
+        let mut answer = String::new();
+        BufReader::new(stream).read_line(&mut answer).unwrap();
+        answer
+    }
+
+    #[test]
+    fn it_is_asked_by_its_socket() {
+        let mut answers = Vec::new();
+        let (outcome, stage) = run(Face::Text, &KNOWING.replace("ANSWER", ANSWER), true, |stage| {
+            stage.hear(&Unit { control: [0xb0, 0], body: vec![0, 0, 1, 0, 0, 0], ..Unit::default() }.octets());
+            thread::sleep(Duration::from_millis(300));
+            for question in ["status", "kick 02:00:00:00:01:01 02:aa:00:00:00:01", "hello"] {
+                answers.push(ask(stage, question));
+            }
+            thread::sleep(Duration::from_millis(300));
+            end(stage);
+        });
+        assert_eq!(outcome, Ok(()));
+        let station = r#"{"address":"02:aa:00:00:00:01","state":"authenticated","aid":null,"#;
+        assert!(answers[0].contains(station) && answers[0].contains(r#""events":7"#), "{}", answers[0]);
+        assert!(answers[2].contains(r#"{"error":"no such question"#), "{}", answers[2]);
+        if fs::metadata("/proc/self").unwrap().uid() != 0 {
+            assert!(answers[1].contains("only root"), "{}", answers[1]);
+            return;
+        }
+        assert_eq!(answers[1], "{\"kicked\":true}\n");
+        assert!(stage.record().contains(&format!("A {}", hex::encode(departure(OURS, STATION)))));
+        let told = [&sending_header(2, 3)[..], &deauthentication(OURS, STATION, INACTIVITY, 2049)].concat();
+        assert!(stage.sent.lock().unwrap().contains(&told));
     }
 
     #[test]
