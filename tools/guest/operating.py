@@ -1,8 +1,10 @@
 """The cases of what an operator needs: stations that go out of reach or fall silent, a flood of addresses, a station that
-is kicked, and a configuration that is read again."""
+is kicked, a configuration that is read again, and the commands that the documents give."""
 import json
 import os
 import random
+import re
+import signal
 import socket
 import subprocess
 import time
@@ -10,9 +12,10 @@ import time
 from frames import BROADCAST, DATA, DEAUTHENTICATION, DISASSOCIATION, NULL, Frame, address_of
 from live.radiotap import captured
 from stage import Net, Start
-from stations import Failed, Host, Station, run, wait_for
+from stations import Failed, Host, Station, load_radios, run, unload_radios, wait_for
 
 HERE = os.path.dirname(os.path.realpath(__file__))
+TOP = os.path.dirname(os.path.dirname(HERE))
 LIVE = os.path.join(os.path.dirname(HERE), "live")
 GUESTS, OFFICE, DEVICES, LAB = (f"02:00:00:00:01:0{number}" for number in (1, 2, 3, 5))
 IDLE = 8  # seconds of silence after which stations are asked
@@ -285,6 +288,61 @@ class Reload:
         if len(dismissed) != 3:
             raise Failed(f"{len(dismissed)} deauthentications of all were heard")
         return f"the program anew after {anew:.1f}, the others' pings after {seconds:.1f} seconds"
+
+
+class ByHand:
+    """The commands of docs/LIVE.md, 'By hand', as they stand there but for the radios' names."""
+
+    SECTION, NEXT = "\n## By hand\n", "\n### "
+    BLOCK = re.compile(r"^```(?:toml|bash)\n(.*?)^```$", re.MULTILINE | re.DOTALL)
+
+    def __init__(self, folder: str) -> None:
+        self.folder = os.path.join(folder, "by-hand")
+
+    def run(self) -> str:
+        """A station joins and pings the host; what was recorded is what `run` takes."""
+        with open(os.path.join(TOP, "docs", "LIVE.md"), encoding="utf-8") as file:
+            section = file.read().partition(self.SECTION)[2].partition(self.NEXT)[0]
+        config, wires, serving, joining = self.BLOCK.findall(section)
+        os.makedirs(self.folder)
+        os.symlink(os.path.join(TOP, "tools"), os.path.join(self.folder, "tools"))
+        with open(os.path.join(self.folder, "my.toml"), "w", encoding="utf-8") as file:
+            file.write(config)
+        loading, _, wires = wires.partition("\n")
+        if loading != "sudo modprobe mac80211_hwsim radios=2":
+            raise Failed(f"the first command is {loading}")
+        radios = load_radios(2)
+        names = {"phy0": radios[0].phy, "phy1": radios[1].phy}
+        log = os.path.join(self.folder, "log")
+        try:
+            self.shell(wires, names)
+            with open(log, "wb") as file:
+                process = subprocess.Popen(self.words(serving, names), cwd=self.folder, stdin=subprocess.DEVNULL,
+                                           stdout=file, stderr=file, start_new_session=True)
+            wait_for("the access point", 30, lambda: b"networks are on channel" in read(log))
+            told = self.shell(joining, names)
+            os.killpg(process.pid, signal.SIGINT)
+            process.wait(60)
+        finally:
+            for name in ("host", "station"):
+                subprocess.run(["ip", "netns", "del", name], capture_output=True, check=False)
+            unload_radios()
+        if "Connected to 02:00:00:00:01:01" not in told or "4 packets transmitted, 4 received" not in told:
+            raise Failed(f"{told} {read(log).decode()}")
+        return "4 of 4 pings came back"
+
+    def words(self, commands: str, names: dict[str, str]) -> list[str]:
+        """Commands for bash, where root needs no sudo."""
+        for written, found in names.items():
+            commands = commands.replace(written, found)
+        return ["bash", "-ec", f'sudo() {{ "$@"; }}\n{commands}']
+
+    def shell(self, commands: str, names: dict[str, str]) -> str:
+        """Runs them, and gives what they say."""
+        done = subprocess.run(self.words(commands, names), cwd=self.folder, capture_output=True, text=True, check=False)
+        if done.returncode != 0:
+            raise Failed(f"status {done.returncode}: {done.stdout}{done.stderr}")
+        return done.stdout
 
 
 def read(path: str) -> bytes:
