@@ -994,6 +994,7 @@ done
             Stage { folder, requests, air, wire, sent: Arc::clone(&sent), sent_on_wire: Arc::clone(&sent_on_wire) };
         let monitor = FakePort { interface: "mon0", near, far, sent, shows };
         let wire = FakePort { interface: "wire1", near: wire_near, far: wire_far, sent: sent_on_wire, shows: false };
+        let clients = Clients::new(UnixListener::bind(stage.folder.join("socket")).unwrap()).unwrap();
         let outcome = thread::scope(|scope| {
             let record = Record::create(stage.folder.join("record").to_str().unwrap()).unwrap();
             scope.spawn(|| {
@@ -1002,7 +1003,6 @@ done
                 thread::sleep(Duration::from_millis(400));
                 later(&mut stage);
             });
-            let clients = Clients::new(UnixListener::bind(stage.folder.join("socket")).unwrap()).unwrap();
             serve(face, path.to_str().unwrap(), record, (asked, clients), monitor, wire)
         });
         (outcome, stage)
