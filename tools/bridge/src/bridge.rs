@@ -82,6 +82,8 @@ struct Running<P> {
     operating: Operating,
     tables: Tables,
     ticks: Ticks,
+    /// Whether a beacon came since the last beginning of an interval was said.
+    is_answered: bool,
     beacons: Lateness,
     /// Until when the first beacon has to be seen as sent, while none was.
     beacon_due: Option<Nanos>,
@@ -187,6 +189,7 @@ impl<P: Port, C: io::Read + std::os::unix::io::AsRawFd> Bridge<P, C> {
             _ => {}
         }
         self.take_time()?;
+        self.tell_alive(now());
         self.answer_clients()?;
         self.feed()?;
         self.send()
@@ -198,7 +201,8 @@ impl<P: Port, C: io::Read + std::os::unix::io::AsRawFd> Bridge<P, C> {
             (Phase::Opening(until), _) => until,
             (Phase::Running, Some(running)) => {
                 let tick = if running.ticks.due() <= now() { now() + MILLISECOND } else { running.ticks.due() };
-                [running.beacon_due, running.sender.due()].into_iter().flatten().fold(tick, Nanos::min)
+                let alive = (self.manner.tells_alive && running.is_answered).then_some(self.alive_told + ALIVE_EVERY);
+                [running.beacon_due, running.sender.due(), alive].into_iter().flatten().fold(tick, Nanos::min)
             }
             _ => Nanos::MAX,
         }
@@ -297,7 +301,8 @@ impl<P: Port, C: io::Read + std::os::unix::io::AsRawFd> Bridge<P, C> {
                 let is_beacon = octets.first() == Some(&BEACON);
                 running.send_on_air(bssid, octets, time)?;
                 if is_beacon {
-                    self.tell_after_beacon(time);
+                    running.is_answered = true;
+                    self.tell_of_dismissal();
                 }
             }
             (Answer::Wire(bssid, octets), Some(running)) => running.sender.send_on_wire(bssid, octets, time)?,
@@ -318,12 +323,17 @@ impl<P: Port, C: io::Read + std::os::unix::io::AsRawFd> Bridge<P, C> {
         }
     }
 
-    /// Tells `tools/live` what beacons show.
-    fn tell_after_beacon(&mut self, time: Nanos) {
-        if self.manner.tells_alive && time >= self.alive_told + ALIVE_EVERY {
+    /// Tells `tools/live` that the program answers: it has answered the last beginning of a beacon interval.
+    fn tell_alive(&mut self, time: Nanos) {
+        let is_answered = self.running.as_ref().map_or(false, |running| running.is_answered);
+        if self.manner.tells_alive && is_answered && time >= self.alive_told + ALIVE_EVERY {
             self.alive_told = time;
             say(&Notice::Alive);
         }
+    }
+
+    /// Tells `tools/live` that all stations were told to join again, once the last network's beacon came.
+    fn tell_of_dismissal(&mut self) {
         let dismisses = self.running.as_ref().map_or(false, |running| running.operating.dismisses());
         if self.dismissing && !dismisses {
             self.dismissing = false;
@@ -413,6 +423,7 @@ impl<P: Port, C: io::Read + std::os::unix::io::AsRawFd> Bridge<P, C> {
                 if time >= running.ticks.due() && self.feeder.has_read_tick() && running.ticks.begins(time) {
                     self.feeder.say(Event::Tick)?;
                     self.feeder.flush_record()?;
+                    running.is_answered = false;
                     running.given.ticks += 1;
                 }
                 running.sender.expire(time);
@@ -536,6 +547,7 @@ impl<P: Port> Running<P> {
             tables: Tables::new(networks.len()),
             networks,
             ticks: Ticks::new(start, manner.interval),
+            is_answered: false,
             beacons: Lateness::default(),
             beacon_due: Some(start + TO_BEACON),
             given: Given::default(),
