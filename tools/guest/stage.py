@@ -1,6 +1,8 @@
 """One start of the bridge among simulated stations: what is recorded beside it, and what has to agree in the end."""
+import copy
 import os
 import re
+import shutil
 import signal
 import struct
 import subprocess
@@ -8,7 +10,8 @@ import time
 from collections import defaultdict
 from dataclasses import dataclass, field
 
-from frames import MANAGEMENT, PROBE_RESPONSE, Frame, address_of, address_text, is_group
+from frames import (DATA, DEAUTHENTICATION, DISASSOCIATION, MANAGEMENT, NULL, PROBE_RESPONSE, Frame, address_of,
+                    address_text, is_group, number)
 from live.radiotap import captured
 from stations import Failed, Radio, run, wait_for
 
@@ -25,17 +28,24 @@ max_known = 128
 quota = 200
 max_events = 1000000
 {more}"""
-# Between the bridge and the program: what the program writes while it is live is kept, as it comes.
+# Between the bridge and the program: what the program writes while it is live is kept, as it comes, of each start in a
+# file of its own. Without lines it is only asked whether it knows a word.
 KEEPING = """#!/bin/bash
 set -o pipefail
-[ "$1" = live ] || exec {program} "$@"
-{program} "$@" | tee {answers}
+[ "$1" = live ] && [ "$(readlink /proc/self/fd/0)" != /dev/null ] || exec {program} "$@"
+answers={answers} number=0
+while [ -e "$answers" ]; do
+    number=$((number + 1))
+    answers={answers}.$number
+done
+{program} "$@" | tee "$answers"
 """
 READY, TIMEOUT = "networks are on channel", 30
 TOP = os.path.dirname(os.path.dirname(os.path.dirname(os.path.realpath(__file__))))
 COMPILED = os.path.join(TOP, "build", "bridge", "release", "bridge")
 RECORD_HEADER = struct.Struct("<c6sH")  # of a record of octets: its kind, a BSSID, how many octets follow
 KINDS = {b"A": "air", b"W": "wire"}
+BRIDGES_REASONS = (3, 4)  # leaving, and inactivity
 DURATION, RECEIVER, RETRY, TIMESTAMP = slice(2, 4), slice(4, 10), 0x08, slice(24, 32)
 
 
@@ -167,6 +177,10 @@ class Tcpdump:
             self.process.wait()
             self.log.close()
 
+    def packets_so_far(self) -> list[bytes]:
+        """What it captured so far."""
+        return read_pcap(self.path)
+
     def packets(self) -> list[bytes]:
         """Ends it, and gives what it captured."""
         self.end()
@@ -191,9 +205,10 @@ class Start:
     """One start of the bridge."""
 
     def __init__(self, name: str, folder: str, bridge: str, program: str, phy: str, networks: tuple[Net, ...],
-                 version: int = 1) -> None:
+                 version: int = 1, more: tuple[str, ...] = ()) -> None:
         self.name = name
         self.networks = networks
+        self.more = more
         self.program = program
         self.bridge = bridge
         self.phy = phy
@@ -201,10 +216,8 @@ class Start:
         os.makedirs(self.folder)
         self.config, self.record, self.answers, self.log, keeping = (
             os.path.join(self.folder, file) for file in ("config", "record", "answers", "log", "keeping"))
-        with open(self.config, "w", encoding="utf-8") as file:
-            file.write(RADIO_TEXT.format(version=version))
-            file.writelines(NETWORK_TEXT.format(bssid=net.bssid, ssid=net.ssid, rates=net.rates,
-                                                dtim=net.dtim, more=net.more) for net in networks)
+        self.version = version
+        self.write_config()
         with open(keeping, "w", encoding="utf-8") as file:
             file.write(KEEPING.format(program=program, answers=self.answers))
         os.chmod(keeping, 0o755)
@@ -213,17 +226,31 @@ class Start:
         self.process: subprocess.Popen | None = None
         self.was_killed = False
 
+    def write_config(self) -> None:
+        """Writes the configuration of the networks."""
+        with open(self.config, "w", encoding="utf-8") as file:
+            file.write(RADIO_TEXT.format(version=self.version))
+            file.writelines(NETWORK_TEXT.format(bssid=net.bssid, ssid=net.ssid, rates=net.rates,
+                                                dtim=net.dtim, more=net.more) for net in self.networks)
+
     def begin(self) -> None:
         """Starts the bridge, with the radio that hears beside it."""
         self.observed = Tcpdump("obs0", os.path.join(self.folder, "observed.pcap"))
-        words = [self.bridge, self.config, "--phy", self.phy, "--program", self.keeping, "--record", self.record]
-        for net in self.networks:
+        words = [self.bridge, self.config, "--phy", self.phy, "--program", self.keeping, "--record", self.record,
+                 *self.more]
+        for net in self.networks if "--wires" not in self.more else ():
             words += ["--wire", f"{net.bssid}={net.port}"]
         with open(self.log, "wb") as log:
             self.process = subprocess.Popen(words, stdin=subprocess.DEVNULL, stdout=log, stderr=log)
         wait_for(f"the bridge of {self.name} begins", TIMEOUT, lambda: READY in self.told() or self.process.poll())
         if self.process.poll() is not None:
             raise Failed(f"the bridge of {self.name} didn't begin: {self.told()}")
+
+    def reload(self, says: str) -> None:
+        """Has the configuration read again, and waits until this is told."""
+        before = len(self.told())
+        self.process.send_signal(signal.SIGHUP)
+        wait_for(f"'{says}' is told", TIMEOUT, lambda: says in self.told()[before:], 0.05)
 
     def told(self) -> str:
         """What the bridge has told so far."""
@@ -292,6 +319,16 @@ class Start:
             file.writelines(f"{line}\n" for line in lines)
         return read_report(run(self.program, "run", self.config, trace))
 
+    def change_to(self, networks: tuple[Net, ...]) -> "Start":
+        """Writes a configuration of other networks in place of this one. Answers the start as it was: its files are what
+        was recorded before the configuration is read again."""
+        before = copy.copy(self)
+        before.config = shutil.copy(self.config, f"{self.config}.before")
+        self.networks = networks
+        self.write_config()
+        self.record, self.answers = f"{self.record}.1", f"{self.answers}.1"
+        return before
+
     def agrees_with_run(self) -> str:
         """What the program wrote has to be what `run` reports of the record; where it was killed, to begin it."""
         wrote, report = read_answers(self.answered()), self.rerun(self.recorded())
@@ -328,7 +365,7 @@ class Start:
         for packet in self.observed.packets():
             found = captured(packet)
             frame = Frame(found.frame) if found else None
-            if frame and frame.transmitter in bssids:
+            if frame and frame.transmitter in bssids and not is_bridges_own(frame):
                 way = frame.transmitter, frame.receiver
                 if not frame.retry or last.get(way) != frame.sequence_control:
                     heard[bssids[frame.transmitter].bssid].append(comparable(frame.octets))
@@ -360,6 +397,14 @@ def executable_of(pid: str) -> str | None:
         return os.readlink(f"/proc/{pid}/exe")
     except OSError:
         return None
+
+
+def is_bridges_own(frame: Frame) -> bool:
+    """Whether a frame of a network is one that the bridge sends by itself: a Null frame, or a disassociation or
+    deauthentication for one of its reasons."""
+    if frame.is_management(DISASSOCIATION) or frame.is_management(DEAUTHENTICATION):
+        return number(frame.body[:2]) in BRIDGES_REASONS
+    return (frame.type, frame.subtype) == (DATA, NULL)
 
 
 def heard_only_by(line: str, bssid: bytes) -> bool:

@@ -5,6 +5,7 @@ import contextlib
 import io
 import json
 import os
+import shutil
 import signal
 import socket
 import struct
@@ -21,7 +22,7 @@ from live import asking, changes, checks, machine, radiotap, serving, setting_up
 from live.bridge import Bridge, Signals
 from live.changes import Change, Changes
 from live.checks import (Plan, Wanted, check_abilities, check_bridge, check_config, check_left, check_names, check_port,
-                         check_program, check_record, check_wires, face_of, read_wires)
+                         check_program, check_record, check_wires, face_of, read_wires, set_country)
 from live.faults import Fault
 from live.machine import Interface
 from live.phys import read_phy
@@ -285,6 +286,26 @@ class Machine(OnMachine):
         self.assertIn("the network 02:00:00:00:01:02 has no --wire", told)
         self.assertIn("`ethtool -K NAME tx off gso off tso off`", told)
 
+    def test_country(self):
+        """It is set, and set back in the end; where it holds already nothing is done, and where it doesn't come to hold
+        that is told."""
+        found = iter(("00", "00", "DE", "DE", "DE"))
+        with mock.patch.object(machine, "country", lambda: next(found)):
+            with ExitStack() as stack:
+                set_country("DE", self.made, stack)
+                self.assertEqual(self.commands, ["iw reg set DE"])
+            self.assertEqual(self.commands, ["iw reg set DE", "iw reg set 00"])
+            with ExitStack() as stack:
+                set_country("DE", self.made, stack)
+                set_country(None, self.made, stack)
+        with (mock.patch.object(machine, "country", lambda: "00"), mock.patch.object(checks, "COUNTRY_SECONDS", 0.2),
+              ExitStack() as stack, self.assertRaisesRegex(Fault, "^--country US: the kernel keeps to 00")):
+            set_country("US", self.made, stack)
+        self.assertEqual(self.commands[2:], ["iw reg set US", "iw reg set 00"])
+        said = "global\ncountry DE: DFS-ETSI\n\t(2400 - 2483 @ 40)\n\nphy#0\ncountry US: DFS-FCC\n"
+        with mock.patch.object(machine, "run", lambda *words: said):
+            self.assertEqual(machine.country(), "DE")
+
     def test_network_manager(self):
         """Where it runs it is told to leave these interfaces alone before one is made, and in the end no more."""
         path = os.path.join(self.folder, "conf.d", "mon0.conf")
@@ -469,6 +490,25 @@ class FilesAndPrograms(WithFiles):
         done = subprocess.run([tool, "status", "--phy", "no-such-radio"], capture_output=True, text=True, check=False)
         self.assertEqual((done.returncode, done.stdout), (1, ""))
         self.assertIn("no-such-radio.sock: no bridge answers", done.stderr)
+
+
+class Unit(WithFiles):
+    """The unit file for systemd."""
+
+    @unittest.skipUnless(shutil.which("systemd-analyze"), "systemd isn't there")
+    def test_no_fault(self):
+        """systemd finds nothing to say of it, where the command is there."""
+        with open(os.path.join(TOOLS, "systemd", "waltigon@.service"), encoding="utf-8") as file:
+            text = file.read()
+        self.assertEqual(text.count("/usr/local/sbin/waltigon-live"), 1)
+        path = self.write("waltigon@phy0.service", text.replace("/usr/local/sbin/waltigon-live",
+                                                                os.path.join(TOOLS, "live")))
+        done = subprocess.run(["systemd-analyze", "verify", "--man=no", path], capture_output=True, text=True, check=False)
+        self.assertEqual((done.returncode, done.stdout + done.stderr), (0, ""))
+
+    def test_page_is_found(self):
+        """What a page is asked for by is where the bridge listens."""
+        self.assertEqual(asking.socket_path("phy0"), "/run/waltigon/phy0.sock")
 
 
 class Asked(WithFiles):

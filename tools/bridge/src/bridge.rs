@@ -82,6 +82,8 @@ struct Running<P> {
     operating: Operating,
     tables: Tables,
     ticks: Ticks,
+    /// Whether a beacon came since the last beginning of an interval was said.
+    is_answered: bool,
     beacons: Lateness,
     /// Until when the first beacon has to be seen as sent, while none was.
     beacon_due: Option<Nanos>,
@@ -187,6 +189,7 @@ impl<P: Port, C: io::Read + std::os::unix::io::AsRawFd> Bridge<P, C> {
             _ => {}
         }
         self.take_time()?;
+        self.tell_alive(now());
         self.answer_clients()?;
         self.feed()?;
         self.send()
@@ -198,7 +201,8 @@ impl<P: Port, C: io::Read + std::os::unix::io::AsRawFd> Bridge<P, C> {
             (Phase::Opening(until), _) => until,
             (Phase::Running, Some(running)) => {
                 let tick = if running.ticks.due() <= now() { now() + MILLISECOND } else { running.ticks.due() };
-                [running.beacon_due, running.sender.due()].into_iter().flatten().fold(tick, Nanos::min)
+                let alive = (self.manner.tells_alive && running.is_answered).then_some(self.alive_told + ALIVE_EVERY);
+                [running.beacon_due, running.sender.due(), alive].into_iter().flatten().fold(tick, Nanos::min)
             }
             _ => Nanos::MAX,
         }
@@ -297,7 +301,8 @@ impl<P: Port, C: io::Read + std::os::unix::io::AsRawFd> Bridge<P, C> {
                 let is_beacon = octets.first() == Some(&BEACON);
                 running.send_on_air(bssid, octets, time)?;
                 if is_beacon {
-                    self.tell_after_beacon(time);
+                    running.is_answered = true;
+                    self.tell_of_dismissal();
                 }
             }
             (Answer::Wire(bssid, octets), Some(running)) => running.sender.send_on_wire(bssid, octets, time)?,
@@ -318,12 +323,17 @@ impl<P: Port, C: io::Read + std::os::unix::io::AsRawFd> Bridge<P, C> {
         }
     }
 
-    /// Tells `tools/live` what beacons show.
-    fn tell_after_beacon(&mut self, time: Nanos) {
-        if self.manner.tells_alive && time >= self.alive_told + ALIVE_EVERY {
+    /// Tells `tools/live` that the program answers: it has answered the last beginning of a beacon interval.
+    fn tell_alive(&mut self, time: Nanos) {
+        let is_answered = self.running.as_ref().map_or(false, |running| running.is_answered);
+        if self.manner.tells_alive && is_answered && time >= self.alive_told + ALIVE_EVERY {
             self.alive_told = time;
             say(&Notice::Alive);
         }
+    }
+
+    /// Tells `tools/live` that all stations were told to join again, once the last network's beacon came.
+    fn tell_of_dismissal(&mut self) {
         let dismisses = self.running.as_ref().map_or(false, |running| running.operating.dismisses());
         if self.dismissing && !dismisses {
             self.dismissing = false;
@@ -413,6 +423,7 @@ impl<P: Port, C: io::Read + std::os::unix::io::AsRawFd> Bridge<P, C> {
                 if time >= running.ticks.due() && self.feeder.has_read_tick() && running.ticks.begins(time) {
                     self.feeder.say(Event::Tick)?;
                     self.feeder.flush_record()?;
+                    running.is_answered = false;
                     running.given.ticks += 1;
                 }
                 running.sender.expire(time);
@@ -536,6 +547,7 @@ impl<P: Port> Running<P> {
             tables: Tables::new(networks.len()),
             networks,
             ticks: Ticks::new(start, manner.interval),
+            is_answered: false,
             beacons: Lateness::default(),
             beacon_due: Some(start + TO_BEACON),
             given: Given::default(),
@@ -842,14 +854,15 @@ mod tests {
     use super::*;
     use crate::faces::Face;
     use crate::program::Record;
+    use crate::own_frames::{deauthentication, departure, INACTIVITY};
     use crate::radiotap::sending_header;
-    use crate::samples::{data, radiotap, OURS};
+    use crate::samples::{data, radiotap, Unit, OURS, STATION};
     use libc::sock_filter;
     use std::fs::{self, Permissions};
-    use std::io::Write;
-    use std::os::unix::fs::PermissionsExt;
+    use std::io::{BufRead, BufReader, Write};
+    use std::os::unix::fs::{MetadataExt, PermissionsExt};
     use std::os::unix::io::{AsRawFd, RawFd};
-    use std::os::unix::net::{UnixDatagram, UnixStream};
+    use std::os::unix::net::{UnixDatagram, UnixListener, UnixStream};
     use std::path::PathBuf;
     use std::sync::{Arc, Mutex};
     use std::thread;
@@ -894,6 +907,20 @@ while header := source.read(9):
         sys.exit(3)
 write(b"N", octets=b"network 02:00:00:00:01:01 ssid 6c6162\n")
 "#;
+
+    /// A program that authenticates a station, and has it in its table.
+    const KNOWING: &str = r#"#!/bin/bash
+echo 'ok 1'
+while read -r word rest; do
+    case $word in
+    T) echo 'air 02:00:00:00:01:01 BEACON' ;;
+    A) [ "${rest:0:2}" != b0 ] || echo 'air 02:00:00:00:01:01 ANSWER' ;;
+    I) printf '%s\n' 'network 02:00:00:00:01:01 ssid 6c' 'events 7 clock 1 unread 0 lost 0 kept 0' \
+        'station 02:aa:00:00:00:01 authenticated' end ;;
+    esac
+done
+"#;
+    const ANSWER: &str = "b000000002aa000000010200000001010200000001010010000002000000";
 
     /// A port in place of a packet socket. A radio's shows what is sent by it, where `shows` says so.
     struct FakePort {
@@ -979,6 +1006,7 @@ write(b"N", octets=b"network 02:00:00:00:01:01 ssid 6c6162\n")
             Stage { folder, requests, air, wire, sent: Arc::clone(&sent), sent_on_wire: Arc::clone(&sent_on_wire) };
         let monitor = FakePort { interface: "mon0", near, far, sent, shows };
         let wire = FakePort { interface: "wire1", near: wire_near, far: wire_far, sent: sent_on_wire, shows: false };
+        let clients = Clients::new(UnixListener::bind(stage.folder.join("socket")).unwrap()).unwrap();
         let outcome = thread::scope(|scope| {
             let record = Record::create(stage.folder.join("record").to_str().unwrap()).unwrap();
             scope.spawn(|| {
@@ -987,7 +1015,7 @@ write(b"N", octets=b"network 02:00:00:00:01:01 ssid 6c6162\n")
                 thread::sleep(Duration::from_millis(400));
                 later(&mut stage);
             });
-            serve(face, path.to_str().unwrap(), record, asked, monitor, wire)
+            serve(face, path.to_str().unwrap(), record, (asked, clients), monitor, wire)
         });
         (outcome, stage)
     }
@@ -996,7 +1024,7 @@ write(b"N", octets=b"network 02:00:00:00:01:01 ssid 6c6162\n")
         face: Face,
         path: &str,
         record: Record,
-        asked: UnixStream,
+        (asked, clients): (UnixStream, Clients),
         monitor: FakePort,
         wire: FakePort,
     ) -> Result<(), Fault> {
@@ -1009,7 +1037,7 @@ write(b"N", octets=b"network 02:00:00:00:01:01 ssid 6c6162\n")
             most_silence: Some(300 * SECOND),
             tells_alive: false,
         };
-        let mut bridge = Bridge::new(program, feeder, Requests::new(asked)?, None, manner)?;
+        let mut bridge = Bridge::new(program, feeder, Requests::new(asked)?, Some(clients), manner)?;
         let mut ports = Some((monitor, wire));
         bridge.serve(|| {
             let (monitor, wire) = ports.take().unwrap();
@@ -1041,6 +1069,41 @@ write(b"N", octets=b"network 02:00:00:00:01:01 ssid 6c6162\n")
             others.sort();
             assert_eq!(others, ["# I".to_owned(), format!("A {}", hex::encode(data()))], "{face:?}");
         }
+    }
+
+    /// Asks the bridge by its socket.
+    fn ask(stage: &Stage, question: &str) -> String {
+        let mut stream = UnixStream::connect(stage.folder.join("socket")).unwrap();
+        stream.write_all(format!("{question}\n").as_bytes()).unwrap();
+        let mut answer = String::new();
+        BufReader::new(stream).read_line(&mut answer).unwrap();
+        answer
+    }
+
+    #[test]
+    fn it_is_asked_by_its_socket() {
+        let mut answers = Vec::new();
+        let (outcome, stage) = run(Face::Text, &KNOWING.replace("ANSWER", ANSWER), true, |stage| {
+            stage.hear(&Unit { control: [0xb0, 0], body: vec![0, 0, 1, 0, 0, 0], ..Unit::default() }.octets());
+            thread::sleep(Duration::from_millis(300));
+            for question in ["status", "kick 02:00:00:00:01:01 02:aa:00:00:00:01", "hello"] {
+                answers.push(ask(stage, question));
+            }
+            thread::sleep(Duration::from_millis(300));
+            end(stage);
+        });
+        assert_eq!(outcome, Ok(()));
+        let station = r#"{"address":"02:aa:00:00:00:01","state":"authenticated","aid":null,"#;
+        assert!(answers[0].contains(station) && answers[0].contains(r#""events":7"#), "{}", answers[0]);
+        assert!(answers[2].contains(r#"{"error":"no such question"#), "{}", answers[2]);
+        if fs::metadata("/proc/self").unwrap().uid() != 0 {
+            assert!(answers[1].contains("only root"), "{}", answers[1]);
+            return;
+        }
+        assert_eq!(answers[1], "{\"kicked\":true}\n");
+        assert!(stage.record().contains(&format!("A {}", hex::encode(departure(OURS, STATION)))));
+        let told = [&sending_header(2, 3)[..], &deauthentication(OURS, STATION, INACTIVITY, 2049)].concat();
+        assert!(stage.sent.lock().unwrap().contains(&told));
     }
 
     #[test]

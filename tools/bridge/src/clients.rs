@@ -93,7 +93,7 @@ impl Clients {
     }
 
     fn place_for_one(&self) -> usize {
-        let wrote = |place: &usize| self.clients[*place].as_ref().map_or(0, |client| client.wrote);
+        let wrote = |place: &usize| self.clients[*place].as_ref().map(|client| client.wrote);
         (0..self.clients.len()).min_by_key(wrote).unwrap_or(0)
     }
 

@@ -26,7 +26,7 @@ pub enum Notice {
     Ready,
     /// The first beacon was seen as sent.
     Sending,
-    /// The program answers, and beacons are sent; told once a second at most.
+    /// The program has answered the last beginning of a beacon interval; told once a second at most.
     Alive,
     /// All stations were told that they have to join again.
     Dismissed,

@@ -90,6 +90,12 @@ pub struct Bounded {
 }
 
 impl Bounded {
+    /// Nothing is written before the end of time.
+    #[cfg(test)]
+    pub fn quiet() -> Bounded {
+        Bounded { second: Nanos::MAX - SECOND, lines: MOST_A_SECOND }
+    }
+
     /// Writes a line, or counts it.
     pub fn write(&mut self, level: Level, text: impl fmt::Display, now: Nanos) {
         self.tell_left_out(now);

@@ -2,8 +2,9 @@
 //! tries a million inputs, each a good one that was changed in some places, cut, or joined to another.
 use crate::faces::{Answer, Answers, Face};
 use crate::filter::{monitor_filter, Shown};
-use crate::frames::{is_tagged, Frame, MOST};
-use crate::radiotap::{captured, Outcome};
+use crate::frames::{is_tagged, Address, Frame, MOST};
+use crate::operating::{Errand, Operating};
+use crate::radiotap::{captured, reception, Outcome};
 use crate::receiving::{judge_wired, Air, Judged};
 use crate::samples::{data, radiotap, Seeded, Unit, OTHER, OURS, STATION};
 use crate::sending::Network;
@@ -191,6 +192,56 @@ fn the_way_to_stations() {
     ready += std::iter::from_fn(|| stations.pop()).count() as u64;
     assert_eq!(ready, sent + stations.unacknowledged().again);
     assert!(again > 1000, "{again}");
+}
+
+/// Whatever is heard, answered and told, the bridge sends frames of its networks to stations, and says departures.
+#[test]
+fn what_the_bridge_does_by_itself() {
+    let to = |control: u8, receiver: Address, body: &[u8]| {
+        Unit { control: [control, 0], receiver, transmitter: OURS, body: body.to_vec(), ..Unit::default() }.octets()
+    };
+    let tim = [&[0; 12][..], &[0, 1, 97, 5, 4, 0, 1, 0, 6]].concat();
+    let good = vec![
+        to(0xb0, STATION, &[0, 0, 2, 0, 0, 0]),
+        to(0x10, STATION, &[1, 0, 0, 0, 1, 0xc0]),
+        to(0x80, Address::BROADCAST, &tim),
+        to(0xc0, STATION, &[7, 0]),
+        to(0x08, STATION, &[1; 9]),
+        data(),
+        Unit { control: [0xc0, 0], body: vec![3, 0], ..Unit::default() }.octets(),
+        Unit { control: [0, 0], body: vec![1, 0, 5, 0], ..Unit::default() }.octets(),
+    ];
+    let (mut seeded, mut time) = (Seeded(6), 0);
+    let mut operating = Operating::quiet(vec![OTHER, OURS], Some(1 << 30));
+    let (mut sent, mut said) = (0u32, 0u32);
+    for _ in 0..INPUTS / 2 {
+        let octets = mutated(&mut seeded, &good);
+        time += seeded.below(1 << 27) as u64;
+        match (seeded.below(4), Frame::of(&octets)) {
+            (0, Some(frame)) => operating.heard(frame, reception(&octets), time),
+            (1, _) => operating.said(&octets, time),
+            (2, _) => {
+                let is_acknowledged = seeded.below(2) == 0;
+                operating.shown(&octets, Outcome { is_acknowledged, retries: 0, rate: None }, time);
+            }
+            _ => {
+                for errand in operating.answered(OURS, &octets, time) {
+                    match errand {
+                        Errand::Send { place, frame, .. } => {
+                            sent += 1;
+                            assert_eq!((place, Address::at(&frame, 10)), (1, Some(OURS)));
+                        }
+                        Errand::Say(frame) => {
+                            said += 1;
+                            assert_eq!((frame[0], frame.len(), Address::at(&frame, 4)), (0xc0, 26, Some(OURS)));
+                            operating.said(&frame, time);
+                        }
+                    }
+                }
+            }
+        }
+    }
+    assert!(sent > 1000 && said > 100, "{sent} {said}");
 }
 
 /// The filter is made of steps that the kernel takes, for any networks.

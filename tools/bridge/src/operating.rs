@@ -50,6 +50,12 @@ impl Operating {
         }
     }
 
+    /// The same, and nothing is told of stations.
+    #[cfg(test)]
+    pub fn quiet(bssids: Vec<Address>, most_silence: Option<Nanos>) -> Operating {
+        Operating { log: Bounded::quiet(), ..Operating::new(bssids, most_silence) }
+    }
+
     /// The stations.
     pub fn roster(&mut self) -> &mut Roster {
         &mut self.roster

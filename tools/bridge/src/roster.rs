@@ -107,7 +107,8 @@ pub struct Station {
 pub struct Roster {
     bssids: Vec<Address>,
     places: HashMap<Address, usize>,
-    stations: HashMap<Member, Station>,
+    /// Of each network.
+    stations: Vec<HashMap<Address, Station>>,
     associated: HashMap<(usize, u16), Address>,
     /// Of each network, for how many beacons in a row units were told of, by the station's identifier.
     told_of: Vec<BTreeMap<u16, u32>>,
@@ -123,7 +124,7 @@ impl Roster {
         let places = bssids.iter().enumerate().map(|(place, bssid)| (*bssid, place)).collect();
         Roster {
             places,
-            stations: HashMap::new(),
+            stations: vec![HashMap::new(); bssids.len()],
             associated: HashMap::new(),
             told_of: vec![BTreeMap::new(); bssids.len()],
             refusals: vec![BTreeMap::new(); bssids.len()],
@@ -136,7 +137,7 @@ impl Roster {
 
     /// A frame was heard that is for a network.
     pub fn heard(&mut self, frame: Frame<'_>, reception: Reception, now: Nanos) {
-        if let Some(station) = self.sender(frame).and_then(|member| self.stations.get_mut(&member)) {
+        if let Some(station) = self.sender(frame).and_then(|member| self.station_mut(&member)) {
             station.heard = now;
             station.signal = reception.signal.or(station.signal);
             station.from.rate = reception.rate.or(station.from.rate);
@@ -146,7 +147,7 @@ impl Roster {
     /// The radio tells what became of a frame that it was given.
     pub fn shown(&mut self, frame: &[u8], outcome: Outcome, is_unit: bool, now: Nanos) {
         let member = Frame::of(frame).and_then(|frame| self.receiver(frame));
-        if let Some(station) = member.and_then(|member| self.stations.get_mut(&member)) {
+        if let Some(station) = member.and_then(|member| self.station_mut(&member)) {
             if outcome.is_acknowledged {
                 station.heard = now;
             }
@@ -168,7 +169,7 @@ impl Roster {
     }
 
     fn take_said(&mut self, member: Member, what: Said, length: usize, now: Nanos) {
-        let station = match self.stations.get_mut(&member) {
+        let station = match self.stations[member.0].get_mut(&member.1) {
             Some(station) => station,
             None => return,
         };
@@ -208,7 +209,7 @@ impl Roster {
             Answered::Association { status, .. } => self.refuse(member, status, true),
             Answered::SentAway { reason } => self.news.push((member, News::SentAway { reason })),
             Answered::Unit => {
-                if let Some(station) = self.stations.get_mut(&member) {
+                if let Some(station) = self.stations[member.0].get_mut(&member.1) {
                     station.to.count(octets.len());
                 }
             }
@@ -222,7 +223,7 @@ impl Roster {
 
     /// A station is to be forgotten: the program is about to be told that it left.
     pub fn forget(&mut self, member: Member, why: Forgotten) {
-        if let Some(station) = self.stations.get_mut(&member) {
+        if let Some(station) = self.stations[member.0].get_mut(&member.1) {
             if !station.is_leaving {
                 station.is_leaving = true;
                 self.news.push((member, News::Forgotten(why)));
@@ -232,15 +233,11 @@ impl Roster {
 
     /// What the program's tables say: a network knows these stations, and no others.
     pub fn agree(&mut self, place: usize, known: &HashMap<Address, State>, now: Nanos) {
-        let gone: Vec<Member> = self
-            .stations
-            .keys()
-            .filter(|(found, address)| *found == place && !known.contains_key(address))
-            .copied()
-            .collect();
-        gone.into_iter().for_each(|member| self.take_out(member));
+        let here = self.stations[place].keys();
+        let gone: Vec<Address> = here.filter(|address| !known.contains_key(address)).copied().collect();
+        gone.into_iter().for_each(|address| self.take_out((place, address)));
         for (address, state) in known {
-            if !self.stations.contains_key(&(place, *address)) {
+            if !self.stations[place].contains_key(address) {
                 self.authenticate((place, *address), now);
                 self.set_state((place, *address), *state, now);
             }
@@ -254,23 +251,22 @@ impl Roster {
 
     /// A station.
     pub fn station(&self, member: &Member) -> Option<&Station> {
-        self.stations.get(member)
+        self.stations[member.0].get(&member.1)
+    }
+
+    fn station_mut(&mut self, member: &Member) -> Option<&mut Station> {
+        self.stations[member.0].get_mut(&member.1)
     }
 
     /// A station, of which it is to be noted whether it was asked.
     pub fn asked(&mut self, member: &Member) -> Option<&mut Asked> {
-        self.stations.get_mut(member).map(|station| &mut station.asked)
+        self.station_mut(member).map(|station| &mut station.asked)
     }
 
-    /// The stations of a network, in the order in which they were entered.
+    /// The stations of a network: those that are associated first, each in the order in which they were entered.
     pub fn stations_of(&self, place: usize) -> Vec<(Address, &Station)> {
-        let mut found: Vec<_> = self
-            .stations
-            .iter()
-            .filter(|((network, _), _)| *network == place)
-            .map(|((_, address), station)| (*address, station))
-            .collect();
-        found.sort_by_key(|(_, station)| station.turn);
+        let mut found: Vec<_> = self.stations[place].iter().map(|(address, station)| (*address, station)).collect();
+        found.sort_by_key(|(_, station)| (station.state == State::Authenticated, station.turn));
         found
     }
 
@@ -299,7 +295,7 @@ impl Roster {
 
     /// An unknown station is entered; one that is known is authenticated only.
     fn authenticate(&mut self, member: Member, now: Nanos) {
-        if self.stations.contains_key(&member) {
+        if self.station(&member).is_some() {
             self.set_state(member, State::Authenticated, now);
             return;
         }
@@ -318,16 +314,16 @@ impl Roster {
             listen: 0,
             wanted_listen: 0,
         };
-        self.stations.insert(member, station);
+        self.stations[member.0].insert(member.1, station);
         self.entered.push(member);
     }
 
     fn associate(&mut self, member: Member, aid: u16, now: Nanos) {
-        if !self.stations.contains_key(&member) {
+        if self.station(&member).is_none() {
             self.authenticate(member, now);
         }
         self.set_state(member, State::Associated(aid), now);
-        if let Some(station) = self.stations.get_mut(&member) {
+        if let Some(station) = self.stations[member.0].get_mut(&member.1) {
             station.listen = station.wanted_listen;
             (station.to, station.from) = (Traffic::default(), Traffic::default());
             self.news.push((member, News::Joins { aid, listen: station.listen }));
@@ -342,7 +338,7 @@ impl Roster {
     /// Sets a known station's state: it is active, and its identifier is free or its own.
     fn set_state(&mut self, member: Member, state: State, now: Nanos) {
         self.free_identifier(member);
-        if let Some(station) = self.stations.get_mut(&member) {
+        if let Some(station) = self.stations[member.0].get_mut(&member.1) {
             station.state = state;
             station.since = now;
             station.dozes = false;
@@ -353,7 +349,7 @@ impl Roster {
     }
 
     fn free_identifier(&mut self, member: Member) {
-        if let Some(State::Associated(aid)) = self.stations.get(&member).map(|station| station.state) {
+        if let Some(State::Associated(aid)) = self.station(&member).map(|station| station.state) {
             self.told_of[member.0].remove(&aid);
             if self.associated.get(&(member.0, aid)) == Some(&member.1) {
                 self.associated.remove(&(member.0, aid));
@@ -363,7 +359,7 @@ impl Roster {
 
     fn take_out(&mut self, member: Member) {
         self.free_identifier(member);
-        self.stations.remove(&member);
+        self.stations[member.0].remove(&member.1);
     }
 
     /// Counts for how many beacons in a row units are told of; a station for which they are told of for more beacons
@@ -377,9 +373,9 @@ impl Roster {
             let beacons = before.get(aid).map_or(1, |number| number.saturating_add(1));
             self.told_of[place].insert(*aid, beacons);
             let member = self.associated.get(&(place, *aid)).map(|address| (place, *address));
-            let station = member.and_then(|member| Some((member, self.stations.get(&member)?)));
-            if let Some((member, station)) = station.filter(|(_, found)| beacons == u32::from(found.listen) + 1) {
-                self.news.push((member, News::DozesTooLong { beacons, listen: station.listen }));
+            let listen = member.and_then(|member| self.station(&member)).map(|station| station.listen);
+            if let Some((member, listen)) = member.zip(listen).filter(|(_, listen)| beacons == u32::from(*listen) + 1) {
+                self.news.push((member, News::DozesTooLong { beacons, listen }));
             }
         }
     }

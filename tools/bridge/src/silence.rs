@@ -56,7 +56,8 @@ impl Silence {
             None => return Vec::new(),
         };
         for member in roster.take_entered() {
-            self.put(roster, member, now + AUTHENTICATED.min(most));
+            let heard = roster.station(&member).map_or(now, |station| station.heard);
+            self.put(roster, member, heard + AUTHENTICATED.min(most));
         }
         let mut steps = Vec::new();
         for _ in 0..MOST_LOOKED_AT {

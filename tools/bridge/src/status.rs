@@ -12,6 +12,8 @@ pub const VERSION: &str = match option_env!("BRIDGE_VERSION") {
     Some(version) => version,
     None => env!("CARGO_PKG_VERSION"),
 };
+/// How many stations of a network are listed at most.
+const MOST_STATIONS: usize = 1000;
 /// How many faults of the program are kept.
 const MOST_FAULTS: usize = 32;
 
@@ -96,8 +98,9 @@ impl Status<'_> {
         to.push_str(",\"refusals\":");
         let refusals = self.roster.refusals(place).iter();
         named(to, &refusals.map(|(status, number)| (status.to_string(), *number)).collect())?;
-        to.push_str(",\"stations\":");
-        list(to, self.roster.stations_of(place).into_iter(), |to, (address, station)| {
+        let stations = self.roster.stations_of(place);
+        write!(to, ",\"known\":{},\"stations\":", stations.len())?;
+        list(to, stations.into_iter().take(MOST_STATIONS), |to, (address, station)| {
             write!(to, "{{\"address\":{},", Text(&address.to_string()))?;
             self.write_station(to, station)?;
             let kept = table.and_then(|table| table.stations.get(&address)).map(|(_, kept)| kept);
@@ -279,10 +282,10 @@ mod tests {
             r#""drops":{"the air: late":3},"left_out":{},"networks":["#,
             r#"{"bssid":"02:00:00:00:01:01","ssid":"6c","wire":"wire1","#,
             r#""counts":{"clock":1,"events":4,"kept":2,"lost":0,"unread":0},"refusals":{},"#,
-            r#""stations":[{"address":"02:aa:00:00:00:01","state":"associated","aid":3,"dozes":false,"#,
+            r#""known":1,"stations":[{"address":"02:aa:00:00:00:01","state":"associated","aid":3,"dozes":false,"#,
             r#""since":2.000,"heard":2.000,"signal":null,"rate_to":null,"rate_from":null,"#,
             r#""octets_to":0,"octets_from":0,"frames_to":0,"frames_from":0,"kept":2}]},"#,
-            r#"{"bssid":"02:00:00:00:01:02","ssid":"6d","wire":null,"counts":{},"refusals":{"1":1},"stations":[]}]}"#,
+            r#"{"bssid":"02:00:00:00:01:02","ssid":"6d","wire":null,"counts":{},"refusals":{"1":1},"known":0,"stations":[]}]}"#,
         ];
         let (line, wanted) = (status.line(), wanted.concat());
         assert!(line.starts_with(&format!("{{\"version\":{}", Text(VERSION))), "{line}");

@@ -1,4 +1,4 @@
-"""The socket by which a bridge that runs is asked, from both sides: made here for the bridge, and asked for a person."""
+"""The socket by which a bridge that runs is asked, from both sides: made for the bridge, and asked for a person."""
 import glob
 import grp
 import json

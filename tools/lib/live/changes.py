@@ -1,5 +1,5 @@
-"""What is changed on this machine, each with how it is taken back; and the file under /run by which a start knows what an
-earlier one left that was killed."""
+"""What is changed on this machine, each with how it is taken back; and the file under /run by which a start knows what
+an earlier one left that was killed."""
 import fcntl
 import json
 import os
@@ -65,8 +65,8 @@ def reload_network_manager() -> None:
 
 
 class Changes:
-    """The changes for one radio, as the file PHY.made lists them: each before it is made, and until it is taken back. So
-    the next start finds all that one left that was killed. PHY.lock is locked as long as one runs."""
+    """The changes for one radio, as the file PHY.made lists them: each before it is made, and until it is taken back.
+    So the next start finds all that one left that was killed. PHY.lock is locked as long as one runs."""
 
     def __init__(self, phy: str, folder: str = "") -> None:
         folder = folder or RUN

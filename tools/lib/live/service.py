@@ -37,6 +37,6 @@ class Service:
         self.tell("STOPPING=1")
 
     def alive(self) -> None:
-        """The program answers, and beacons are sent."""
+        """The program has answered the last beginning of a beacon interval."""
         if self.watches:
             self.tell("WATCHDOG=1")

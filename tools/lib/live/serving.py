@@ -85,8 +85,8 @@ class AccessPoint:
     def tell_of_networks(self) -> None:
         """The first beacon was seen as sent."""
         number, channel = len(self.plan.settings.networks), self.plan.settings.channel
-        tell(f"{number} networks are on channel {channel}; Ctrl-C ends it, `kill -USR1 {os.getpid()}` shows the tables, "
-             f"`kill -HUP {os.getpid()}` reads {self.wanted.config} again")
+        tell(f"{number} networks are on channel {channel}; Ctrl-C ends it, `kill -USR1 {os.getpid()}` shows the "
+             f"tables, `kill -HUP {os.getpid()}` reads {self.wanted.config} again")
         self.service.ready(f"{number} networks are on channel {channel}")
 
     def reload(self) -> None:

@@ -1,0 +1,351 @@
+"""The cases of what an operator needs: stations that go out of reach or fall silent, a flood of addresses, a station that
+is kicked, a configuration that is read again, and the commands that the documents give."""
+import json
+import os
+import random
+import re
+import signal
+import socket
+import subprocess
+import time
+
+from frames import BROADCAST, DATA, DEAUTHENTICATION, DISASSOCIATION, NULL, Frame, address_of
+from live.radiotap import captured
+from stage import Net, Start
+from stations import Failed, Host, Station, load_radios, run, unload_radios, wait_for
+
+HERE = os.path.dirname(os.path.realpath(__file__))
+TOP = os.path.dirname(os.path.dirname(HERE))
+LIVE = os.path.join(os.path.dirname(HERE), "live")
+GUESTS, OFFICE, DEVICES, LAB = (f"02:00:00:00:01:0{number}" for number in (1, 2, 3, 5))
+IDLE = 8  # seconds of silence after which stations are asked
+FIRST_SILENT, FIRST_FLOOD, FIRST_RELOADED = 81, 85, 91
+IN_REACH, OUT_OF_REACH = "1", "2"
+FLOOD, FLOOD_SECONDS = 5000, 120
+RELOAD_SECONDS = 5
+OBSERVER = "obs0"
+# A header of radiotap without fields, before a frame that is to be sent.
+NO_FIELDS = bytes([0, 0, 8, 0, 0, 0, 0, 0])
+EVERY = 0.2
+
+
+def counts(table: list[str]) -> dict[str, int]:
+    """The counts of a table, by name."""
+    words = table[1].split()
+    return dict(zip(words[::2], map(int, words[1::2])))
+
+
+def set_reach(station: Station, group: str) -> None:
+    """Puts a simulated radio where the others hear it, or where they don't."""
+    with open(f"/sys/kernel/debug/ieee80211/{station.phy}/hwsim/group", "w", encoding="ascii") as file:
+        file.write(group)
+
+
+def ask(*words: str) -> subprocess.CompletedProcess:
+    """Asks the bridge that runs, as a person does."""
+    return subprocess.run([LIVE, *words], capture_output=True, text=True, check=False, timeout=30)
+
+
+def join(station: Station, host: Host, number: int, ssid: str, bssid: str) -> None:
+    """A station joins a network, with an address beside that host's."""
+    station.address = f"{host.address.rpartition('.')[0]}.{number}"
+    station.begin(ssid, bssid)
+
+
+class Silence:
+    """Stations of which nothing is heard any more."""
+
+    def __init__(self, cases) -> None:
+        self.cases = cases
+        net = Net(GUESTS, "guests", "wire1")
+        self.start = cases.start("silence", (net,), more=("--idle", str(IDLE)))
+        self.flooded = cases.start("flood", (net,))
+        self.host = cases.hosts[0]
+        self.gone, self.silent, self.dozing, self.newcomer = cases.stations[:4]
+
+    def run(self) -> None:
+        """Its cases in order."""
+        case = self.cases.case
+        case("silence: the bridge begins, and three stations join", self.join)
+        case("a station that goes out of reach is forgotten, and joins again when it is back", self.out_of_reach)
+        case("stations that only fall silent are asked, and stay", self.fall_silent)
+        case("a station that is kicked leaves, and may join again", self.kick)
+        case("what is going on is told as JSON", self.status)
+        self.cases.leave_all()
+        self.cases.end(self.start)
+        case("flood: the bridge begins", self.flooded.begin)
+        case(f"after {FLOOD} authentications of random addresses a newcomer joins within two minutes", self.flood)
+        self.cases.leave_all()
+        self.cases.end(self.flooded)
+
+    def join(self) -> None:
+        """One of them will doze."""
+        self.start.begin()
+        for number, station in enumerate((self.gone, self.silent, self.dozing), FIRST_SILENT):
+            join(station, self.host, number, "guests", GUESTS)
+        for station in (self.gone, self.silent, self.dozing):
+            station.joined()
+            station.ping(self.host.address, 4).whole()
+            self.start.has_told(f"{station.hardware_address()} joins {GUESTS}: identifier ")
+
+    def out_of_reach(self) -> str:
+        """It is taken out of the table; the record has its deauthentication, which the bridge gave."""
+        address = self.gone.hardware_address()
+        set_reach(self.gone, OUT_OF_REACH)
+        begun = time.monotonic()
+        told = f"{address} is forgotten by {GUESTS}: it is silent since "
+        wait_for("the station is forgotten", 60, lambda: told in self.start.told())
+        seconds = time.monotonic() - begun
+        wait_for("it isn't in the table", 10, lambda: not self.start.station(GUESTS, address))
+        departures = [frame for frame in self.heard() if frame.is_management(DEAUTHENTICATION)
+                      and frame.transmitter == address_of(address) and frame.body == bytes([4, 0])]
+        if len(departures) != 1:
+            raise Failed(f"the record has {len(departures)} deauthentications of the bridge")
+        set_reach(self.gone, IN_REACH)
+        self.gone.joined(60, GUESTS)
+        wait_for("it is back", 60, lambda: " associated " in self.start.station(GUESTS, address))
+        wait_for("its pings come back", 60, lambda: self.gone.ping(self.host.address, 1).result()[1])
+        return f"after {seconds:.0f} seconds, with --idle {IDLE}"
+
+    def heard(self) -> list[Frame]:
+        """The frames of the air that the program was told of."""
+        return [Frame(bytes.fromhex(line[2:])) for line in self.start.recorded() if line.startswith("A ")]
+
+    def fall_silent(self) -> str:
+        """One is awake and one dozes; nobody speaks to them for three times that long, and then they ping at once."""
+        address = self.dozing.hardware_address()
+        self.dozing.run("iw", "dev", self.dozing.interface, "set", "power_save", "on")
+        wait_for("a station dozes", 30, lambda: " doze " in self.start.station(GUESTS, address))
+        joined = self.start.told().count(" joins ")
+        time.sleep(3 * IDLE)
+        asked = {station.name: self.questions(station) for station in (self.silent, self.dozing)}
+        for station in (self.silent, self.dozing):
+            if " associated " not in self.start.station(GUESTS, station.hardware_address()):
+                raise Failed(f"{station.name} was forgotten: {asked}")
+            station.ping(self.host.address, 4).whole()
+        self.dozing.run("iw", "dev", self.dozing.interface, "set", "power_save", "off")
+        if min(asked.values()) < 2 or self.start.told().count(" joins ") != joined:
+            raise Failed(f"Null frames that another radio heard: {asked}")
+        return f"Null frames that another radio heard: {asked}"
+
+    def questions(self, station: Station) -> int:
+        """How often a station was asked whether it is there."""
+        found = [captured(packet) for packet in self.start.observed.packets_so_far()]
+        frames = [Frame(packet.frame) for packet in found if packet]
+        return sum((frame.type, frame.subtype) == (DATA, NULL) and frame.transmitter == address_of(GUESTS)
+                   and frame.receiver == address_of(station.hardware_address()) for frame in frames)
+
+    def kick(self) -> str:
+        """It hears a disassociation, and wpa_supplicant joins again; a station that isn't there is a fault."""
+        address = self.silent.hardware_address()
+        done = ask("kick", GUESTS, address)
+        if done.returncode != 0 or address not in done.stdout:
+            raise Failed(f"kick: status {done.returncode}: {done.stdout}{done.stderr}")
+        self.start.has_told(f"{address} is forgotten by {GUESTS}: it was kicked")
+        wait_for("it was heard", 10, lambda: any(
+            frame.is_management(DISASSOCIATION) and frame.receiver == address_of(address)
+            for frame in (Frame(packet.frame) for packet in map(captured, self.start.observed.packets_so_far()) if packet)))
+        self.silent.joined(60, GUESTS)
+        wait_for("it is back", 60, lambda: " associated " in self.start.station(GUESTS, address))
+        wait_for("its pings come back", 30, lambda: self.silent.ping(self.host.address, 1).result()[1])
+        for words, says in (((GUESTS, "02:aa:aa:aa:aa:aa"), "has no station"), ((LAB, address), "is no network")):
+            failed = ask("kick", *words)
+            if failed.returncode != 1 or says not in failed.stderr:
+                raise Failed(f"kick {words}: status {failed.returncode}: {failed.stderr}")
+        return done.stdout.strip()
+
+    def status(self) -> str:
+        """The stations with what was sent to them and heard of them; another user may not kick."""
+        found = json.loads(ask("status").stdout)
+        network = found["networks"][0]
+        stations = {station["address"]: station for station in network["stations"]}
+        mine = stations[self.silent.hardware_address()]
+        wanted = {"state": "associated", "kept": 0, "dozes": False}
+        if any(mine[name] != value for name, value in wanted.items()):
+            raise Failed(f"a station: {mine}")
+        if not (mine["frames_to"] and mine["frames_from"] and mine["octets_to"] > 24 and mine["rate_to"]
+                and mine["heard"] <= 3 * IDLE and mine["since"] >= 0):
+            raise Failed(f"a station: {mine}")
+        if network["counts"]["clock"] < 100 or found["beacons"]["sent"] < 100 or network["wire"] != "wire1":
+            raise Failed(f"{found}")
+        kick = ["setpriv", "--reuid", "65534", "--regid", "65534", "--clear-groups", LIVE, "kick", GUESTS,
+                self.silent.hardware_address()]
+        refused = subprocess.run(kick, capture_output=True, text=True, check=False)
+        if refused.returncode != 1 or "only root may kick" not in refused.stderr:
+            raise Failed(f"kick as another user: {refused.stderr}")
+        return f"{len(stations)} stations, {found['beacons']}"
+
+    def flood(self) -> str:
+        """Another radio sends them as fast as it can; then a newcomer begins, which is refused until one is forgotten."""
+        begun = time.monotonic()
+        draw = random.Random(5)
+        with socket.socket(socket.AF_PACKET, socket.SOCK_RAW) as sending:
+            sending.bind((OBSERVER, 0))
+            for _ in range(FLOOD):
+                station = bytes([2, *draw.randbytes(5)])
+                body = bytes([0, 0, 1, 0, 0, 0])
+                header = b"\xb0\0\0\0" + address_of(GUESTS) + station + address_of(GUESTS) + bytes([0x10, 0])
+                sending.send(NO_FIELDS + header + body)
+                time.sleep(0.001)
+        sent = time.monotonic() - begun
+        wait_for("one of them is refused", 30, lambda: "authentication, status 1" in self.flooded.told())
+        known = sum(line.startswith("station ") for line in self.flooded.tables()[GUESTS])
+        join(self.newcomer, self.host, FIRST_FLOOD, "guests", GUESTS)
+        self.newcomer.joined(FLOOD_SECONDS - (time.monotonic() - begun), GUESTS)
+        joined = time.monotonic() - begun
+        self.newcomer.ping(self.host.address, 4).whole()
+        refused = json.loads(ask("status").stdout)["networks"][0]["refusals"]["1"]
+        return f"sent within {sent:.0f} seconds, {known} known, {refused} refused; joined after {joined:.0f} seconds"
+
+
+class Reload:
+    """The configuration is read again."""
+
+    def __init__(self, cases) -> None:
+        self.cases = cases
+        self.three = (Net(GUESTS, "guests", "wire1"), Net(OFFICE, "office", "wire2", 2), Net(DEVICES, "devices", "wire3"))
+        self.wires = "/tmp/cases/wires"
+        self.start: Start = cases.start("reload", self.three, more=("--wires", self.wires))
+        self.stations = cases.stations[:3]
+        self.hosts = cases.hosts
+
+    def run(self) -> None:
+        """Its cases in order."""
+        case = self.cases.case
+        case("reload: the bridge begins, and a station joins each of three networks", self.join)
+        case("a configuration with a fault changes nothing, and no ping is lost", self.fault)
+        case(f"one of three networks changes: the others' stations ping again within {RELOAD_SECONDS} s", self.change)
+        case("reload: `run` on the first record gives what the program wrote before", lambda: self.before.agrees_with_run())
+        self.cases.leave_all()
+        case("reload: the bridge ends, and takes down what it set up", self.start.end)
+        case("reload: `run` on the second record gives what the program wrote after", self.start.agrees_with_run)
+
+    def write_wires(self, networks: tuple[Net, ...]) -> None:
+        """The wires stand in a file, which is read again too."""
+        with open(self.wires, "w", encoding="ascii") as file:
+            file.writelines(f"{net.bssid}={net.port}  # {net.ssid}\n" for net in networks)
+
+    def join(self) -> None:
+        """Each has a host of its own."""
+        self.write_wires(self.three)
+        self.start.begin()
+        for number, (station, host, net) in enumerate(zip(self.stations, self.hosts, self.three), FIRST_RELOADED):
+            join(station, host, number, net.ssid, net.bssid)
+        for station, host, net in zip(self.stations, self.hosts, self.three):
+            station.joined(bssid=net.bssid)
+            station.ping(host.address, 4).whole()
+
+    def fault(self) -> str:
+        """It is told by its name, and all goes on."""
+        with open(self.start.config, encoding="utf-8") as file:
+            text = file.read()
+        pings = [station.ping(host.address, 12) for station, host in zip(self.stations, self.hosts)]
+        with open(self.start.config, "w", encoding="utf-8") as file:
+            file.write(text.replace("dtim = 2", "dtim = 0"))
+        self.start.reload("fault C11 network 1")
+        self.start.has_told("all stays as it is")
+        for ping in pings:
+            ping.whole()
+        with open(self.start.config, "w", encoding="utf-8") as file:
+            file.write(text)
+        return "36 of 36 pings came back"
+
+    def change(self) -> str:
+        """The third network gets another address; its wire and its interface follow."""
+        changed = (*self.three[:2], Net(LAB, "lab", "wire3"))
+        self.before = self.start.change_to(changed)
+        self.write_wires(changed)
+        logs = []
+        for station, host in zip(self.stations[:2], self.hosts):
+            logs.append(os.path.join(self.start.folder, f"ping-{station.name}"))
+            with open(logs[-1], "wb") as log:
+                station.start("timeout", "60", "ping", "-n", "-i", str(EVERY), host.address, output=log)
+        begun = time.monotonic()
+        self.start.reload("reading ")
+        wait_for("the new program's networks", 30, lambda: self.start.told().count("networks are on channel") == 2, 0.1)
+        sizes = [os.path.getsize(log) for log in logs]
+        anew = time.monotonic() - begun
+
+        def answered() -> bool:
+            return all(b" bytes from " in read(log)[size:] for log, size in zip(logs, sizes))
+        wait_for("the others' pings", RELOAD_SECONDS, answered, 0.1)
+        seconds = time.monotonic() - begun
+        for station, net in zip(self.stations, changed[:2]):
+            station.joined(bssid=net.bssid)
+        if self.stations[2].network() == DEVICES:
+            raise Failed("a station still is in the network that isn't there any more")
+        self.stations[2].stop()
+        join(self.stations[2], self.hosts[2], FIRST_RELOADED + 2, "lab", LAB)
+        self.stations[2].joined(bssid=LAB)
+        self.stations[2].ping(self.hosts[2].address, 4).whole()
+        address = run("cat", "/sys/class/net/mon0n3/address").strip()
+        if address != LAB:
+            raise Failed(f"the third interface has the address {address}")
+        if seconds > RELOAD_SECONDS:
+            raise Failed(f"the others' pings came after {seconds:.1f} seconds")
+        dismissed = [frame for frame in map(captured, self.start.observed.packets_so_far()) if frame
+                     and Frame(frame.frame).is_management(DEAUTHENTICATION) and frame.frame[4:10] == BROADCAST]
+        if len(dismissed) != 3:
+            raise Failed(f"{len(dismissed)} deauthentications of all were heard")
+        return f"the program anew after {anew:.1f}, the others' pings after {seconds:.1f} seconds"
+
+
+class ByHand:
+    """The commands of docs/LIVE.md, 'By hand', as they stand there but for the radios' names."""
+
+    SECTION, NEXT = "\n## By hand\n", "\n### "
+    BLOCK = re.compile(r"^```(?:toml|bash)\n(.*?)^```$", re.MULTILINE | re.DOTALL)
+
+    def __init__(self, folder: str) -> None:
+        self.folder = os.path.join(folder, "by-hand")
+
+    def run(self) -> str:
+        """A station joins and pings the host; what was recorded is what `run` takes."""
+        with open(os.path.join(TOP, "docs", "LIVE.md"), encoding="utf-8") as file:
+            section = file.read().partition(self.SECTION)[2].partition(self.NEXT)[0]
+        config, wires, serving, joining = self.BLOCK.findall(section)
+        os.makedirs(self.folder)
+        os.symlink(os.path.join(TOP, "tools"), os.path.join(self.folder, "tools"))
+        with open(os.path.join(self.folder, "my.toml"), "w", encoding="utf-8") as file:
+            file.write(config)
+        loading, _, wires = wires.partition("\n")
+        if loading != "sudo modprobe mac80211_hwsim radios=2":
+            raise Failed(f"the first command is {loading}")
+        radios = load_radios(2)
+        names = {"phy0": radios[0].phy, "phy1": radios[1].phy}
+        log = os.path.join(self.folder, "log")
+        try:
+            self.shell(wires, names)
+            with open(log, "wb") as file:
+                process = subprocess.Popen(self.words(serving, names), cwd=self.folder, stdin=subprocess.DEVNULL,
+                                           stdout=file, stderr=file, start_new_session=True)
+            wait_for("the access point", 30, lambda: b"networks are on channel" in read(log))
+            told = self.shell(joining, names)
+            os.killpg(process.pid, signal.SIGINT)
+            process.wait(60)
+        finally:
+            for name in ("host", "station"):
+                subprocess.run(["ip", "netns", "del", name], capture_output=True, check=False)
+            unload_radios()
+        if "Connected to 02:00:00:00:01:01" not in told or "4 packets transmitted, 4 received" not in told:
+            raise Failed(f"{told} {read(log).decode()}")
+        return "4 of 4 pings came back"
+
+    def words(self, commands: str, names: dict[str, str]) -> list[str]:
+        """Commands for bash, where root needs no sudo."""
+        for written, found in names.items():
+            commands = commands.replace(written, found)
+        return ["bash", "-ec", f'sudo() {{ "$@"; }}\n{commands}']
+
+    def shell(self, commands: str, names: dict[str, str]) -> str:
+        """Runs them, and gives what they say."""
+        done = subprocess.run(self.words(commands, names), cwd=self.folder, capture_output=True, text=True, check=False)
+        if done.returncode != 0:
+            raise Failed(f"status {done.returncode}: {done.stdout}{done.stderr}")
+        return done.stdout
+
+
+def read(path: str) -> bytes:
+    """The octets of a file."""
+    with open(path, "rb") as file:
+        return file.read()
