@@ -130,8 +130,9 @@ impl Roster {
     {
         let Keeping { leaving, arriving } = keeping;
         let Some(arriving) = arriving else {
+            let oldest = self.oldest_if(ages)?;
             self.change(change)?;
-            let dropped = self.age_if(ages, clock);
+            let dropped = self.age_if(ages, &oldest, clock);
             self.leave(&leaving);
             return Ok(dropped);
         };
