@@ -162,26 +162,40 @@ fn it_answers_what_a_plain_list_does(rt: HostRuntime) -> Result<(), Fail> {
     Ok(())
 }
 
+/// What is told of one: the clock at which the oldest unit for it came; it is told once at most.
+fn told(rt: &impl Abort, keep: &Keep, whom: Whom) -> Result<Option<u32>, Fail> {
+    let mut at = None;
+    for oldest in keep.oldest_of_each()? {
+        if oldest.whom == whom {
+            assert_eq!(rt; at, None);
+            at = Some(oldest.at);
+        }
+    }
+    Ok(at)
+}
+
 #[test]
-fn they_are_told_in_the_order_of_their_addresses(rt: HostRuntime) -> Result<(), Fail> {
+fn each_for_whom_units_are_kept_is_told_with_its_oldest(rt: HostRuntime) -> Result<(), Fail> {
     let mut keep = Keep::new(rt.alloc(), 9);
-    assert_eq!(rt; keep.next_whom(None), None);
-    for whom in [Whom::Group, station(2), station(1)] {
-        put(&rt, rt.alloc(), &mut keep, whom, 0)?;
-    }
-    // stations for whom nothing is kept, before the others and after them, come into it too
-    for (last, next) in [
-        (None, Some(station(1))),
-        (Some(station(0)), Some(station(1))),
-        (Some(station(1)), Some(station(2))),
-        (Some(station(2)), Some(Whom::Group)),
-        (Some(station(3)), Some(Whom::Group)),
-        (Some(Whom::Group), None),
+    assert_eq!(rt; keep.oldest_of_each()?.len(), 0);
+    for (whom, at) in [
+        (Whom::Group, 2),
+        (station(2), 3),
+        (station(1), 4),
+        (station(2), 5),
     ] {
-        assert_eq!(rt; keep.next_whom(last), next);
+        keep.put(whom, unit(rt.alloc(), at))?;
     }
-    keep.drop_for(station(1));
-    assert_eq!(rt; keep.next_whom(None), Some(station(2)));
+    assert_eq!(rt; keep.oldest_of_each()?.len(), 3);
+    assert_eq!(rt; told(&rt, &keep, Whom::Group)?, Some(2));
+    assert_eq!(rt; told(&rt, &keep, station(2))?, Some(3));
+    assert_eq!(rt; told(&rt, &keep, station(1))?, Some(4));
+    assert_eq!(rt; told(&rt, &keep, station(3))?, None);
+    keep.oldest(station(2));
+    keep.oldest(station(1));
+    assert_eq!(rt; told(&rt, &keep, station(2))?, Some(5));
+    assert_eq!(rt; told(&rt, &keep, station(1))?, None);
+    assert_eq!(rt; keep.oldest_of_each()?.len(), 2);
     Ok(())
 }
 

@@ -339,10 +339,10 @@ impl Network {
     }
 
     /// The same once the units that are kept have aged (*profile*), in a network that lets them.
-    pub(crate) fn traffic_after_aging(&self) -> Bitmap
+    pub(crate) fn traffic_after_aging(&self) -> Result<Bitmap, NoMemory>
         requires { self.now.setting.network.aging ≡ true }
-        ensures { AreWaitedFor result self.now.network.stations
-            (age_units self.now.setting self.now.network).kept }
+        ensures { IfOk result (λ bits. AreWaitedFor bits self.now.network.stations
+            (age_units self.now.setting self.now.network).kept) }
     {
         self.roster.traffic_after_aging(self.clock)
     }

@@ -2,7 +2,7 @@
 use Rattle.std.proofs.Common.{◌≡◌, [], ◌∷◌, length, map, filter, true, false, Some, None, refl}
 use Rattle.std.specs.List.{slice_get}
 use Rattle.powersave.specs.declared.unit.Whom.TheVariants.{One, Group}
-use Rattle.powersave.specs.Keep.{units_for, without_oldest, without_all, without_older, is_older, is_after, room_beside}
+use Rattle.powersave.specs.Keep.{units_for, without_oldest, without_all, without_older, is_older, oldest_at, first_clock, room_beside}
 use Rattle.mac_frame.specs.Address.{broadcast}
 use Rattle.mac_frame.specs.Samples.{station}
 use Rattle.powersave.specs.Queues.{merged}
@@ -54,19 +54,23 @@ one_that_came_at_it_stays = refl
 before_clock_0_nothing_came : without_older (One station) 0 at_clocks ≡ at_clocks
 before_clock_0_nothing_came = refl
 
--- ---- one by one
+-- ---- the oldest for each
 
-the_first_address_comes_first : is_after (Some (One station)) (One other_station) ≡ true
-the_first_address_comes_first = refl
+the_first_for_a_station_is_its_oldest : first_clock (units_for (One station) at_clocks) ≡ Some 3
+the_first_for_a_station_is_its_oldest = refl
 
-none_comes_after_itself : is_after (Some (One station)) (One station) ≡ false
-none_comes_after_itself = refl
+the_group_has_its_own : first_clock (units_for Group at_clocks) ≡ Some 5
+the_group_has_its_own = refl
 
-the_group_comes_last : is_after (Some (One other_station)) Group ≡ true
-the_group_comes_last = refl
+one_for_whom_none_is_kept_has_none : first_clock (units_for (One other_station) (for_station 1 ∷ [])) ≡ None
+one_for_whom_none_is_kept_has_none = refl
 
-nothing_comes_after_the_group : is_after (Some Group) (One station) ≡ false
-nothing_comes_after_the_group = refl
+a_list_tells_it_of_each :
+    oldest_at Group ((record { whom = One station; at = 3 }) ∷ (record { whom = Group; at = 5 }) ∷ []) ≡ Some 5
+a_list_tells_it_of_each = refl
+
+a_list_tells_none_of_others : oldest_at (One other_station) ((record { whom = One station; at = 3 }) ∷ []) ≡ None
+a_list_tells_none_of_others = refl
 
 -- ---- room
 

@@ -3,7 +3,7 @@ pub mod Merges
 pub mod Parts
 pub mod QueueSteps
 pub mod Whoms
-pub mod Turns
+pub mod OldestUnits
 pub mod Older
 pub mod Samples
 pub mod KeepRows

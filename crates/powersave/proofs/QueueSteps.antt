@@ -50,7 +50,7 @@ none_named : (whom k : Whom) (queues : Queues) → is_whom whom k ≡ true → A
 none_named whom k [] here apart = tt
 none_named whom k (e ∷ es) here apart = (subst (λ w. is_whom w e.0 ≡ false) (same_whom k whom here) apart.0, none_named whom k es here apart.1)
 
-once : (whom : Whom) (queues : Queues) → IsDistinct is_whom (keys_of queues) → IsOnce (is_whom whom) queues
+pub once : (whom : Whom) (queues : Queues) → IsDistinct is_whom (keys_of queues) → IsOnce (is_whom whom) queues
 once whom [] apart = tt
 once whom (e ∷ es) apart = ((λ here. none_named whom e.0 es here (IsDistinct-head is_whom e.0 (keys_of es) apart)), once whom es (IsDistinct-tail is_whom e.0 (keys_of es) apart))
 

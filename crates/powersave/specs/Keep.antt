@@ -2,14 +2,13 @@
 -- for each.
 use Rattle.std.specs.Prelude.{ℕ, ◌≡◌, ◌<◌, ◌≤◌, nat_lt, Bool, true, false, not, ◌&&◌, ◌||◌, List, [], ◌∷◌, ◌++◌, length}
 use Rattle.std.specs.Prelude.{map, filter, Option, Some, None, if◌then◌else◌}
-use Rattle.std.specs.Cmp.Lexicographic.{slice_cmp}
 use Rattle.std.specs.List.{AllByRecursion}
-use Rattle.std.specs.Ordering.{is_lt, nat_cmp}
 use Rattle.std.specs.Str.{bytes_eq}
 use Rattle.mac_frame.specs.Data.{data_header}
 use Rattle.powersave.specs.declared.unit.Whom.{Whom}
 use Rattle.powersave.specs.declared.unit.Whom.TheVariants.{One, Group}
 use Rattle.powersave.specs.declared.unit.Unit.{Unit as Msdu}
+use Rattle.powersave.specs.declared.unit.Oldest.{Oldest}
 
 -- a unit, and for whom it is kept
 abbrev pub Entry : Type 0
@@ -73,24 +72,21 @@ abbrev pub first_is_older : ℕ → List Msdu → Bool
 first_is_older limit [] = false
 first_is_older limit (u ∷ us) = nat_lt u.at limit
 
--- ---- those for whom units are kept, one by one: stations in the order of their addresses, and the group last
+-- ---- those for whom units are kept
 
--- later than this one, if there is one
-abbrev pub is_after : Option Whom → Whom → Bool
-is_after None whom = true
-is_after (Some (One a)) (One b) = is_lt (slice_cmp nat_cmp a b)
-is_after (Some (One a)) Group = true
-is_after (Some Group) whom = false
+-- the clock at which the oldest unit for one came, as such a list tells it
+abbrev pub oldest_at : Whom → List Oldest → Option ℕ
+oldest_at whom [] = None
+oldest_at whom (o ∷ os) = if is_same o.whom whom then Some o.at else oldest_at whom os
 
--- units are kept for this one, and any that are kept for later ones than the last are for it or for later ones than it
-pub record IsNext (last : Option Whom) (next : Whom) (entries : List Entry) : Type 0 where
-  pub some : 0 < length (units_for next entries)
-  pub later : is_after last next ≡ true
-  pub first : AllByRecursion (λ e. is_after last e.0 ≡ (is_same e.0 next || is_after (Some next) e.0)) entries
+-- the clock at which the first of these units came, if there is one
+abbrev pub first_clock : List Msdu → Option ℕ
+first_clock [] = None
+first_clock (u ∷ us) = Some u.at
 
--- none is kept for a later one
-abbrev pub NoneComesAfter : Option Whom → List Entry → Type 0
-NoneComesAfter last entries = AllByRecursion (λ e. is_after last e.0 ≡ false) entries
+-- all for whom units are kept, with the clock of the oldest of them
+abbrev pub AreOldest : List Oldest → List Entry → Type 0
+AreOldest oldest entries = (whom : Whom) → oldest_at whom oldest ≡ first_clock (units_for whom entries)
 
 -- ---- the first unit for one as a Data frame (9.3.2.1)
 

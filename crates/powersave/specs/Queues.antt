@@ -10,8 +10,9 @@ use Rattle.std.specs.declared.collections.VecDeque.{VecDeque}
 use Rattle.mac_frame.specs.Data.{data_header}
 use Rattle.powersave.specs.declared.unit.Whom.{Whom}
 use Rattle.powersave.specs.declared.unit.Unit.{Unit as Msdu}
+use Rattle.powersave.specs.declared.unit.Oldest.{Oldest}
 use Rattle.powersave.specs.declared.queues.Arrived.{Arrived}
-use Rattle.powersave.specs.Keep.{Entry, is_same, is_after, units_for, without_all, without_oldest, room_beside}
+use Rattle.powersave.specs.Keep.{Entry, is_same, units_for, without_all, without_oldest, room_beside}
 
 abbrev pub Queue : Type 0
 Queue = VecDeque Arrived Global
@@ -34,14 +35,14 @@ queue_for whom queues = unwrap_or (option_map (λ q. q.items) (lookup (is_whom w
 abbrev pub unit_at : List Arrived → ℕ → Option Msdu
 unit_at queue n = option_map (λ a. a.unit) (slice_get queue n)
 
--- the first of these queues that has a unit
-abbrev pub first_kept : Queues → Option Whom
-first_kept [] = None
-first_kept (q ∷ queues) = if nat_lt 0 (length q.1.items) then Some q.0 else first_kept queues
+-- for whom a queue is, with the clock of its first unit, if it has one
+abbrev pub oldest_of : Whom → List Arrived → List Oldest
+oldest_of whom [] = []
+oldest_of whom (a ∷ queue) = (record { whom = whom; at = a.unit.at }) ∷ []
 
--- those after one
-abbrev pub queues_after : Option Whom → Queues → Queues
-queues_after last queues = filter (λ q. is_after last q.0) queues
+abbrev pub oldest_in : Queues → List Oldest
+oldest_in [] = []
+oldest_in (q ∷ queues) = oldest_of q.0 q.1.items ++ oldest_in queues
 
 -- ---- one list of all units, by the numbers of their arrivals
 

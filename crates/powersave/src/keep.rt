@@ -6,10 +6,10 @@ ghost use Rattle.std.specs.Option.{option_copied};
 ghost use Rattle.powersave.specs.declared.unit.Whom.{Whom};
 ghost use Rattle.powersave.specs.declared.unit.Unit.{Unit as Msdu};
 ghost use Rattle.powersave.specs.Keep.{Entry, units_for, without_oldest, without_all, room_beside, first_frame};
-ghost use Rattle.powersave.specs.Keep.{is_older, without_older, first_is_older, CameInOrder, IsNext, NoneComesAfter};
+ghost use Rattle.powersave.specs.Keep.{is_older, without_older, first_is_older, CameInOrder, AreOldest};
 
 use crate::queues::{Arrived, Queues};
-use crate::unit::{Unit, Whom};
+use crate::unit::{Oldest, Unit, Whom};
 use mac_frame::{MacAddr, NoMemory, Octets};
 use std::alloc::Global;
 use std::marker::Model;
@@ -214,13 +214,12 @@ impl Keep {
         self.reserved = room_beside(self.reserved, whom);
     }
 
-    /// The first for whom units are kept, of those after `last` in the order of [`Whom`], and of all where there is no
-    /// `last`; `None` where there is none. Called with each answer in turn it gives all for whom units are kept.
-    pub fn next_whom(&self, last: Option<Whom>) -> Option<Whom>
-        ensures next { IfSome result (λ next. IsNext last next self.now.entries) }
-        ensures none { IfNone result (NoneComesAfter last self.now.entries) }
+    /// Each for whom units are kept, once, with the clock at which the oldest of them came. `NoMemory` where memory ran
+    /// out.
+    pub fn oldest_of_each(&self) -> Result<Vec<Oldest>, NoMemory>
+        ensures { IfOk result (λ oldest. AreOldest oldest.items self.now.entries) }
     {
-        self.queues.first_after(last)
+        self.queues.oldest_of_each()
     }
 
     /// Appends a unit for `whom` to a list that is not full and has seen fewer than 2^62 puts. Its queue is found once,

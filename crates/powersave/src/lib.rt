@@ -13,4 +13,4 @@ mod queues;
 mod unit;
 
 pub use keep::{Keep, parts_stay};
-pub use unit::{Unit, Whom};
+pub use unit::{Oldest, Unit, Whom};

@@ -4,16 +4,13 @@
 ghost use Rattle.std.specs.Prelude.{◌≡◌, ◌≤◌, ◌<◌, ◌++◌, [], length, IfOk, OnOk, OnErr, IsOk, Some, None};
 ghost use Rattle.std.specs.Option.{option_map, option_copied};
 ghost use Rattle.mac_frame.specs.Data.{data_header};
-ghost use Rattle.std.specs.BTreeMap.{IsOrdered};
-ghost use Rattle.powersave.specs.contracts.unit.WhomOrd.TheImpl as order;
-ghost use Rattle.powersave.specs.Queues.{queue_for, unit_at, first_kept, queues_after, HasRoom, AreSound};
+ghost use Rattle.powersave.specs.Queues.{queue_for, unit_at, oldest_in, HasRoom, AreSound};
 ghost use Rattle.powersave.specs.Queues.{Pops, Sends, Removes, MakesRoom, Pushes};
 
-use crate::unit::{Unit, Whom};
+use crate::unit::{Oldest, Unit, Whom};
 use mac_frame::{HEADER_LEN, MacAddr, NoMemory, Octets, write_msdu};
 use std::alloc::Global;
 use std::collections::{BTreeMap, VecDeque};
-use std::ops::Bound;
 
 /// A unit, and the number of its arrival: how many were put before it.
 #[derive(Debug, Drop)]
@@ -59,22 +56,20 @@ impl Queues {
         Some(&arrived.unit)
     }
 
-    /// The first whose queue has a unit, of those after `last` in the order of [`Whom`], and of all where there is no
-    /// `last`.
-    pub(crate) fn first_after(&self, last: Option<Whom>) -> Option<Whom>
-        ensures first { result ≡ first_kept (queues_after last self.now.map.entries) }
-        ensures ordered { IsOrdered order.ghosts.cmp self.now.map }
+    /// Each whose queue has a unit, with the clock at which the first of them came.
+    pub(crate) fn oldest_of_each(&self) -> Result<Vec<Oldest>, NoMemory>
+        ensures { IfOk result (λ oldest. oldest.items ≡ oldest_in self.now.map.entries) }
     {
-        let start = match last {
-            Some(whom) => Bound::Excluded(whom),
-            None => Bound::Unbounded,
-        };
-        for (whom, queue) in self.map.range((start, Bound::Unbounded)) {
-            if !queue.is_empty() {
-                return Some(*whom);
+        let mut oldest = Vec::with_capacity(self.alloc, self.map.len())?;
+        for (whom, queue) in self.map.iter() {
+            if let Some(first) = queue.get(0) {
+                oldest.push(Oldest {
+                    whom: *whom,
+                    at: first.unit.at,
+                })?;
             }
         }
-        None
+        Ok(oldest)
     }
 
     /// Takes out the first unit of the queue for `whom`. The queue stays, also where it has become empty.

@@ -11,6 +11,15 @@ pub enum Whom {
     Group,
 }
 
+/// One for whom units are kept, and when the oldest of them came.
+#[derive(Clone, Copy, Debug)]
+pub struct Oldest {
+    /// Whom it is kept for.
+    pub whom: Whom,
+    /// The clock at which it came (*profile*).
+    pub at: u32,
+}
+
 /// One MSDU (3.1) with its addresses.
 #[derive(Debug, Drop)]
 pub struct Unit {

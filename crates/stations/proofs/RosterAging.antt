@@ -1,18 +1,31 @@
--- Units that are too old, one station after the other.
+-- Units that are too old, those for one after those for another.
 use Rattle.std.proofs.Common.{◌≡◌, ℕ, zero, suc, ◌+◌, ◌-◌, ◌<◌, ◌≤◌, leb, Bool, true, false, not, ◌&&◌, ◌||◌, cond, List, [], ◌∷◌, length, Option, Some, None, refl, sym, ap, subst, ◌∙◌, arith}
 use Rattle.std.specs.Prelude.{filter, map, nat_lt}
+use Rattle.std.specs.Cmp.Lexicographic.{bytes_decides}
 use Rattle.std.specs.List.{AllByRecursion, slice_get}
+use Rattle.std.specs.Option.{IsSomeAnd}
 use Rattle.std.proofs.lemmas.Bool.{lt-ltb, le-ltb, ltb-true, ltb-false, le-leb, lt-leb, true≢false}
-use Rattle.std.proofs.lemmas.List.{length-map}
-use Rattle.powersave.specs.Keep.{Entry, is_for, is_same, is_older, is_after, units_for, without_older, CameInOrder, IsNext, NoneComesAfter}
+use Rattle.powersave.specs.Keep.{Entry, is_for, is_same, is_older, units_for, without_older, oldest_at, first_clock, CameInOrder, AreOldest}
+use Rattle.powersave.specs.declared.unit.Oldest.{Oldest}
 use Rattle.powersave.specs.declared.unit.Whom.{Whom}
 use Rattle.powersave.specs.declared.unit.Whom.TheVariants.{One, Group}
 use Rattle.powersave.specs.declared.unit.Unit.{Unit as DataUnit}
-use Rattle.powersave.proofs.Parts.{same_whom, not_for_other}
-use Rattle.powersave.proofs.Turns.{after-itself}
-use Rattle.stations.specs.Roster.{limit_for, stays, StayBeside}
+use Rattle.stations.specs.Roster.{limit_for, stays}
+use Rattle.stations.specs.Sound.{CameBy}
 use Rattle.stations.specs.Stations.{Table, state_of, listen_with}
-use Rattle.stations.specs.KeptUnits.{is_too_old_for, is_too_old, has_aid, is_waited_for}
+use Rattle.stations.specs.KeptUnits.{is_too_old_for, is_too_old}
+
+-- ---- the same one
+
+pub same_whom : (a b : Whom) → is_same a b ≡ true → a ≡ b
+same_whom (One a) (One b) e = ap One ((bytes_decides a b).0 e)
+same_whom (One a) Group e = cc
+same_whom Group (One b) e = cc
+same_whom Group Group e = refl
+
+itself : (a : Whom) → is_same a a ≡ true
+itself (One a) = (bytes_decides a a).1 refl
+itself Group = refl
 
 -- ---- too old is older than a clock
 
@@ -85,183 +98,90 @@ module _ (clock : ℕ) (t : Table) where
         by true is rest = ap (λ b. length (cond b (e ∷ filter old es) (filter old es))) is ∙ one-more ∙ some (leaves e) is rest
         by false is rest = rw (leaves-old e is) (rw is rest)
 
-  -- ---- those that were passed
+  -- ---- those that are too old are among some
 
-  -- those that are too old and still kept come later than the last
-  abbrev pub ArePassed : Option Whom → List Entry → Type 0
-  ArePassed last es = AllByRecursion (λ e. is_too_old clock t e ≡ true → is_after last e.0 ≡ true) es
+  -- whoever one that is too old is kept for is among these, with a clock that is no later
+  abbrev pub AreAmong : List Oldest → List Entry → Type 0
+  AreAmong os es = AllByRecursion (λ e. old e ≡ true → IsSomeAnd (oldest_at e.0 os) (λ at. at ≤ e.1.at)) es
 
-  pub none-passed : (es : List Entry) → ArePassed None es
-  none-passed [] = tt
-  none-passed (e ∷ es) = ((λ is. refl), none-passed es)
+  abbrev FirstOf : List Entry → Entry → Type 0
+  FirstOf es e = IsSomeAnd (first_clock (units_for e.0 es)) (λ at. at ≤ e.1.at)
 
-  abbrev pub IsTurn : Option Whom → Whom → Entry → Type 0
-  IsTurn last next e = is_after last e.0 ≡ (is_same e.0 next || is_after (Some next) e.0)
-
-  passed-one : (last : Option Whom) (next : Whom) (e : Entry) → IsTurn last next e → is_older next (limit_for clock t next) e ≡ false → (old e ≡ true → is_after last e.0 ≡ true) → old e ≡ true → is_after (Some next) e.0 ≡ true
-  passed-one last next e turn stays passed is = by (is_same e.0 next) refl
+  -- the first for the same one came no later
+  one-more : (e : Entry) (es fs : List Entry) → AllByRecursion (λ later. e.1.at ≤ later.1.at) fs → AllByRecursion (FirstOf es) fs → AllByRecursion (FirstOf (e ∷ es)) fs
+  one-more e es [] order first = tt
+  one-more e es (f ∷ fs) order first = (by (is_for f.0 e) order.0 first.0, one-more e es fs order.1 first.1)
     where
-      by : (b : Bool) → is_same e.0 next ≡ b → is_after (Some next) e.0 ≡ true
-      by true here =
-          let leaves : is_older next (limit_for clock t next) e ≡ true = older-is next e ∙ ap (λ b. b && old e) here ∙ is in
-          absurd (true≢false (sym leaves ∙ stays))
-      by false other = sym (sym (passed is) ∙ turn ∙ ap (λ b. b || is_after (Some next) e.0) other)
+      by : (b : Bool) → e.1.at ≤ f.1.at → FirstOf es f → IsSomeAnd (first_clock (map (λ x. x.1) (cond b (e ∷ filter (is_for f.0) es) (filter (is_for f.0) es)))) (λ at. at ≤ f.1.at)
+      by true le some = le
+      by false le some = some
 
-  pub one-passed : (last : Option Whom) (next : Whom) (es : List Entry) → AllByRecursion (IsTurn last next) es → ArePassed last es → ArePassed (Some next) (without_older next (limit_for clock t next) es)
-  one-passed last next [] turns passed = tt
-  one-passed last next (e ∷ es) turns passed = by (is_older next (limit_for clock t next) e) refl (one-passed last next es turns.1 passed.1)
+  firsts : (es : List Entry) → CameBy clock es → AllByRecursion (FirstOf es) es
+  firsts [] came = tt
+  firsts (e ∷ es) came = (rw (itself e.0) (omega arith), one-more e es es came.1 (firsts es came.2))
+
+  pub among-all : (os : List Oldest) (es : List Entry) → AreOldest os es → CameBy clock es → AreAmong os es
+  among-all os es told came = by es (firsts es came)
     where
-      by : (d : Bool) → is_older next (limit_for clock t next) e ≡ d → ArePassed (Some next) (without_older next (limit_for clock t next) es) → ArePassed (Some next) (cond (not d) (e ∷ without_older next (limit_for clock t next) es) (without_older next (limit_for clock t next) es))
-      by true leaves rest = rest
-      by false stays rest = (passed-one last next e turns.0 stays passed.0, rest)
+      by : (fs : List Entry) → AllByRecursion (FirstOf es) fs → AreAmong os fs
+      by [] first = tt
+      by (f ∷ fs) first = ((λ is. subst (λ (o : Option ℕ). IsSomeAnd o (λ at. at ≤ f.1.at)) (sym (told f.0)) first.0), by fs first.1)
 
-  -- where none comes later, none is left
-  pub all-passed : (last : Option Whom) (es : List Entry) → NoneComesAfter last es → ArePassed last es → (filter (λ e. not (old e)) es ≡ es) × (filter old es ≡ [])
-  all-passed last [] none passed = (refl, refl)
-  all-passed last (e ∷ es) none passed =
-      let rest = all-passed last es none.1 passed.1 in
+  -- once those for one have left, the others are among the rest
+  pub among-aged : (o : Oldest) (os : List Oldest) (es : List Entry) → AreAmong (o ∷ os) es → AreAmong os (gone o.whom es)
+  among-aged o os [] among = tt
+  among-aged o os (e ∷ es) among = by (leaves o.whom e) refl (among-aged o os es among.1)
+    where
+      other : leaves o.whom e ≡ false → old e ≡ true → (b : Bool) → is_same o.whom e.0 ≡ b → IsSomeAnd (cond b (Some o.at) (oldest_at e.0 os)) (λ at. at ≤ e.1.at) → IsSomeAnd (oldest_at e.0 os) (λ at. at ≤ e.1.at)
+      other stays is true here some =
+          let for_it : is_for o.whom e ≡ true = subst (λ (w : Whom). is_same e.0 w ≡ true) (sym (same_whom o.whom e.0 here)) (itself e.0) in
+          absurd (true≢false (sym (older-is o.whom e ∙ ap (λ b. b && old e) for_it ∙ is) ∙ stays))
+      other stays is false apart some = some
+
+      by : (d : Bool) → leaves o.whom e ≡ d → AreAmong os (gone o.whom es) → AreAmong os (cond (not d) (e ∷ gone o.whom es) (gone o.whom es))
+      by true leave rest = rest
+      by false stays rest = ((λ is. other stays is (is_same o.whom e.0) refl (among.0 is)), rest)
+
+  -- one whose first unit came no earlier than its limit has none that is too old
+  pub among-young : (o : Oldest) (os : List Oldest) (es : List Entry) → limit_for clock t o.whom ≤ o.at → AreAmong (o ∷ os) es → AreAmong os es
+  among-young o os [] young among = tt
+  among-young o os (e ∷ es) young among = ((λ is. by is (is_same o.whom e.0) refl (among.0 is)), among-young o os es young among.1)
+    where
+      by : old e ≡ true → (b : Bool) → is_same o.whom e.0 ≡ b → IsSomeAnd (cond b (Some o.at) (oldest_at e.0 os)) (λ at. at ≤ e.1.at) → IsSomeAnd (oldest_at e.0 os) (λ at. at ≤ e.1.at)
+      by is true here le =
+          let late : e.1.at < limit_for clock t e.0 = ltb-true e.1.at (limit_for clock t e.0) (sym (old-for clock t e.0 e.1.at) ∙ is) in
+          let limit = ap (limit_for clock t) (same_whom o.whom e.0 here) in
+          absurd (omega (arith, late, limit, young, le))
+      by is false apart some = some
+
+  -- where none is left, none is too old
+  pub none-among : (es : List Entry) → AreAmong [] es → (filter (λ e. not (old e)) es ≡ es) × (filter old es ≡ [])
+  none-among [] among = (refl, refl)
+  none-among (e ∷ es) among =
+      let rest = none-among es among.1 in
       let young = is-young (old e) refl in
       (rw young (ap (λ fs. e ∷ fs) rest.0), rw young rest.1)
     where
       is-young : (b : Bool) → old e ≡ b → old e ≡ false
       is-young false is = is
-      is-young true is = absurd (true≢false (sym (passed.0 is) ∙ none.0))
+      is-young true is = absurd (among.0 is)
 
-  -- ---- fewer and fewer come later
+  -- ---- the units that stay for one
 
-  abbrev pub later_count : Option Whom → List Entry → ℕ
-  later_count last es = length (filter (λ e. is_after last e.0) es)
-
-  turn-count : (last : Option Whom) (next : Whom) (es : List Entry) → AllByRecursion (IsTurn last next) es → later_count last es ≡ length (filter (is_for next) es) + later_count (Some next) es
-  turn-count last next [] turns = refl
-  turn-count last next (e ∷ es) turns = by (is_same e.0 next) refl (is_after (Some next) e.0) refl (turn-count last next es turns.1)
+  pub young-units : (whom : Whom) (es : List Entry) → filter (stays clock t whom) (units_for whom es) ≡ units_for whom (filter (λ e. not (old e)) es)
+  young-units whom [] = refl
+  young-units whom (e ∷ es) = by (is_for whom e) refl (old e) refl (young-units whom es)
     where
-      itself : is_same e.0 next ≡ true → is_after (Some next) e.0 ≡ false
-      itself here = ap (is_after (Some next)) (same_whom e.0 next here) ∙ after-itself next
-
-      by : (b : Bool) → is_same e.0 next ≡ b → (d : Bool) → is_after (Some next) e.0 ≡ d → later_count last es ≡ length (filter (is_for next) es) + later_count (Some next) es → later_count last (e ∷ es) ≡ length (filter (is_for next) (e ∷ es)) + later_count (Some next) (e ∷ es)
-      by true here true after rest = absurd (true≢false (sym after ∙ itself here))
-      by true here false after rest =
-          let is : is_after last e.0 ≡ true = turns.0 ∙ ap (λ b. b || is_after (Some next) e.0) here in
-          rw (is, here, after) (omega (arith, rest))
-      by false other d after rest = same d (turns.0 ∙ ap (λ b. b || is_after (Some next) e.0) other ∙ after) after
-        where
-          same : (c : Bool) → is_after last e.0 ≡ c → is_after (Some next) e.0 ≡ c → later_count last (e ∷ es) ≡ length (filter (is_for next) (e ∷ es)) + later_count (Some next) (e ∷ es)
-          same true was is = rw (was, other, is) (omega (arith, rest))
-          same false was is = rw (was, other, is) (omega (arith, rest))
-
-  filtered-count : (p q : Entry → Bool) (es : List Entry) → length (filter q (filter p es)) ≤ length (filter q es)
-  filtered-count p q [] = omega arith
-  filtered-count p q (e ∷ es) = by (p e) (q e) refl (filtered-count p q es)
-    where
-      by : (b d : Bool) → q e ≡ d → length (filter q (filter p es)) ≤ length (filter q es) → length (filter q (cond b (e ∷ filter p es) (filter p es))) ≤ length (cond d (e ∷ filter q es) (filter q es))
-      by true true is rest = rw is (omega (arith, rest))
-      by true false is rest = rw is rest
-      by false true is rest = omega (arith, rest)
-      by false false is rest = rest
-
-  pub fewer-later : (last : Option Whom) (next : Whom) (p : Entry → Bool) (es : List Entry) → IsNext last next es → later_count (Some next) (filter p es) < later_count last es
-  fewer-later last next p es next_is =
-      let units : ℕ = length (filter (is_for next) es) in
-      let some : 0 < units = subst (λ (k : ℕ). 0 < k) (length-map (filter (is_for next) es) (λ (e : Entry). e.1)) next_is.some in
-      omega (arith, some, turn-count last next es next_is.first, filtered-count p (λ e. is_after (Some next) e.0) es)
-
-  pub fewer-after : (last : Option Whom) (next : Whom) (es : List Entry) → IsNext last next es → later_count (Some next) es < later_count last es
-  fewer-after last next es next_is =
-      let units : ℕ = length (filter (is_for next) es) in
-      let some : 0 < units = subst (λ (k : ℕ). 0 < k) (length-map (filter (is_for next) es) (λ (e : Entry). e.1)) next_is.some in
-      omega (arith, some, turn-count last next es next_is.first)
-
-  -- ---- the units that stay, up to one
-
-  abbrev pub stays_upto : Option Whom → Entry → Bool
-  stays_upto last e = not (is_too_old clock t e) && not (is_after last e.0)
-
-  abbrev pub staying : Option Whom → List Entry → List Entry
-  staying last es = filter (stays_upto last) es
-
-  never : (b : Bool) → (b && false) ≡ false
-  never true = refl
-  never false = refl
-
-  always : (b : Bool) → (b && true) ≡ b
-  always true = refl
-  always false = refl
-
-  pub staying-none : (es : List Entry) → staying None es ≡ []
-  staying-none [] = refl
-  staying-none (e ∷ es) = ap (λ b. cond b (e ∷ staying None es) (staying None es)) (never (not (old e))) ∙ staying-none es
-
-  pub staying-all : (last : Option Whom) (es : List Entry) → NoneComesAfter last es → staying last es ≡ filter (λ e. not (old e)) es
-  staying-all last [] none = refl
-  staying-all last (e ∷ es) none =
-      ap (λ b. cond (not (old e) && not b) (e ∷ staying last es) (staying last es)) none.0
-      ∙ ap (λ b. cond b (e ∷ staying last es) (staying last es)) (always (not (old e)))
-      ∙ ap (λ fs. cond (not (old e)) (e ∷ fs) fs) (staying-all last es none.1)
-
-  abbrev units : List Entry → List DataUnit
-  units es = map (λ e. e.1) es
-
-  -- those for others are the same
-  pub staying-beside : (last : Option Whom) (next : Whom) (es : List Entry) → AllByRecursion (IsTurn last next) es → StayBeside next (staying last es) (staying (Some next) es)
-  staying-beside last next [] turns other differ = refl
-  staying-beside last next (e ∷ es) turns other differ = by (is_for other e) refl (staying-beside last next es turns.1 other differ)
-    where
-      apart : is_for other e ≡ true → is_after last e.0 ≡ is_after (Some next) e.0
-      apart here = turns.0 ∙ ap (λ b. b || is_after (Some next) e.0) (not_for_other other next e (λ same. differ (sym same)) here)
-
-      step : (c : Bool) → is_for other e ≡ true → units_for other (staying (Some next) es) ≡ units_for other (staying last es) → units_for other (cond c (e ∷ staying (Some next) es) (staying (Some next) es)) ≡ units_for other (cond c (e ∷ staying last es) (staying last es))
-      step true here rest = rw (here) (ap (λ us. e.1 ∷ us) rest)
-      step false here rest = rest
-
-      skip : (c d : Bool) → is_for other e ≡ false → units_for other (staying (Some next) es) ≡ units_for other (staying last es) → units_for other (cond c (e ∷ staying (Some next) es) (staying (Some next) es)) ≡ units_for other (cond d (e ∷ staying last es) (staying last es))
-      skip true true away rest = rw away rest
-      skip true false away rest = rw away rest
-      skip false true away rest = rw away rest
-      skip false false away rest = rest
-
-      by : (b : Bool) → is_for other e ≡ b → units_for other (staying (Some next) es) ≡ units_for other (staying last es) → units_for other (staying (Some next) (e ∷ es)) ≡ units_for other (staying last (e ∷ es))
-      by true here rest =
-          step (stays_upto (Some next) e) here rest
-          ∙ ap (λ b. units_for other (cond (not (old e) && not b) (e ∷ staying last es) (staying last es))) (sym (apart here))
-      by false away rest = skip (stays_upto (Some next) e) (stays_upto last e) away rest
-
-  -- and those for it are its that stay
-  pub staying-units : (next : Whom) (es : List Entry) → units_for next (staying (Some next) es) ≡ filter (stays clock t next) (units_for next es)
-  staying-units next [] = refl
-  staying-units next (e ∷ es) = by (is_for next e) refl (staying-units next es)
-    where
-      itself : is_for next e ≡ true → stays_upto (Some next) e ≡ stays clock t next e.1
-      itself here =
-          ap (λ b. not (old e) && not b) (ap (is_after (Some next)) (same_whom e.0 next here) ∙ after-itself next)
-          ∙ always (not (old e)) ∙ ap not (too-old next e here)
-
-      step : (c : Bool) → is_for next e ≡ true → units_for next (staying (Some next) es) ≡ filter (stays clock t next) (units_for next es) → units_for next (cond c (e ∷ staying (Some next) es) (staying (Some next) es)) ≡ cond c (e.1 ∷ filter (stays clock t next) (units_for next es)) (filter (stays clock t next) (units_for next es))
-      step true here rest = rw here (ap (λ us. e.1 ∷ us) rest)
-      step false here rest = rest
-
-      skip : (c : Bool) → is_for next e ≡ false → units_for next (staying (Some next) es) ≡ filter (stays clock t next) (units_for next es) → units_for next (cond c (e ∷ staying (Some next) es) (staying (Some next) es)) ≡ filter (stays clock t next) (units_for next es)
-      skip true away rest = rw away rest
-      skip false away rest = rest
-
-      by : (b : Bool) → is_for next e ≡ b → units_for next (staying (Some next) es) ≡ filter (stays clock t next) (units_for next es) → units_for next (staying (Some next) (e ∷ es)) ≡ filter (stays clock t next) (units_for next (e ∷ es))
-      by true here rest =
-          ap (λ c. units_for next (cond c (e ∷ staying (Some next) es) (staying (Some next) es))) (itself here)
-          ∙ step (stays clock t next e.1) here rest
-          ∙ sym (ap (λ (b : Bool). filter (stays clock t next) (units (cond b (e ∷ filter (is_for next) es) (filter (is_for next) es)))) here)
-      by false away rest =
-          skip (stays_upto (Some next) e) away rest
-          ∙ sym (ap (λ (b : Bool). filter (stays clock t next) (units (cond b (e ∷ filter (is_for next) es) (filter (is_for next) es)))) away)
-
--- ---- for nobody
-
-pub nobody-waits : (t : Table) (n : ℕ) → is_waited_for t [] n ≡ false
-nobody-waits [] n = refl
-nobody-waits (e ∷ t) n = by (has_aid n e.1) (nobody-waits t n)
-  where
-    by : (b : Bool) → is_waited_for t [] n ≡ false → ((b && false) || is_waited_for t [] n) ≡ false
-    by true rest = rest
-    by false rest = rest
+      by : (b : Bool) → is_for whom e ≡ b → (d : Bool) → old e ≡ d → filter (stays clock t whom) (units_for whom es) ≡ units_for whom (filter (λ e. not (old e)) es)
+          → filter (stays clock t whom) (units_for whom (e ∷ es)) ≡ units_for whom (filter (λ e. not (old e)) (e ∷ es))
+      by true here true is rest =
+          let late : nat_lt e.1.at (limit_for clock t whom) ≡ true = sym (too-old whom e here) ∙ is in
+          rw (here, is) (rw late rest)
+      by true here false is rest =
+          let young : nat_lt e.1.at (limit_for clock t whom) ≡ false = sym (too-old whom e here) ∙ is in
+          rw (here, is) (rw (here, young) (ap (λ us. e.1 ∷ us) rest))
+      by false away true is rest = rw (away, is) rest
+      by false away false is rest = rw (away, is) (rw away rest)
 
 -- ---- the last of some units
 

@@ -1,7 +1,7 @@
 //! The stations of a network with the units that are kept for them (IEEE Std 802.11-2016, 11.2.3).
 
 ghost use Rattle.std.specs.Prelude.{◌≡◌, ◌<◌, ◌≤◌, ◌+◌, ◌^◌, ◌++◌, ◌∷◌, ◌&&◌, ◌||◌, ℕ, List, [], not, None, Some};
-ghost use Rattle.std.specs.Prelude.{IfSome, IfOk, IsOk, OnOk, OnErr, true, filter, length, nat_lt, option_map};
+ghost use Rattle.std.specs.Prelude.{false, IsTrue, IfSome, IfOk, IsOk, OnOk, OnErr, true, filter, length, nat_lt, option_map};
 ghost use Rattle.std.specs.FinSet as set;
 ghost use Rattle.powersave.specs.Keep.{Entry, units_for, without_all, without_oldest, room_beside, first_frame};
 ghost use Rattle.powersave.specs.declared.unit.Whom.TheVariants as whoms;
@@ -130,8 +130,12 @@ impl Roster {
     {
         let Keeping { leaving, arriving } = keeping;
         let Some(arriving) = arriving else {
+            if is_settled(&change, &leaving, ages) {
+                return Ok(0);
+            }
+            let oldest = self.oldest_if(ages)?;
             self.change(change)?;
-            let dropped = self.age_if(ages, clock);
+            let dropped = self.age_if(ages, &oldest, clock);
             self.leave(&leaving);
             return Ok(dropped);
         };
@@ -268,6 +272,14 @@ impl Roster {
         set_bit(&mut self.traffic, aid);
         Ok(())
     }
+}
+
+/// Whether no station changes, and no unit leaves or ages, as where a probe is answered.
+fn is_settled(change: &Change, leaving: &Leaving, ages: bool) -> bool
+    ensures { IsTrue result
+        → (change.now ≡ Change.Nothing) × (leaving.now ≡ Leaving.Nothing) × (ages ≡ false) }
+{
+    !ages && matches!(change, Change::Nothing) && matches!(leaving, Leaving::Nothing)
 }
 
 /// The station whose identifier a change may change.

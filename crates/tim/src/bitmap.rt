@@ -45,6 +45,15 @@ impl Bitmap {
         }
     }
 
+    /// Another set of the same identifiers.
+    pub fn copy(&self) -> Bitmap
+        ensures { result ≡ self.now }
+    {
+        Bitmap {
+            octets: self.octets,
+        }
+    }
+
     /// Puts an association identifier, 1 to [`MAX_AID`], into the set, whether it has it or not. The others stay.
     pub fn set(&mut self, aid: u16)
         requires least { 1 ≤ aid }

@@ -53,7 +53,7 @@ impl Network {
         ensures err { OnErr result (reply.new ≡ reply.old) }
     {
         if self.setting().network.aging {
-            self.announce_for(reply, clock, &self.traffic_after_aging())
+            self.announce_for(reply, clock, &self.traffic_after_aging()?)
         } else {
             self.announce_for(reply, clock, self.traffic())
         }

@@ -1,22 +1,56 @@
 //! Units that are too old for the station that they are kept for (*profile*).
 
-ghost use Rattle.std.specs.Prelude.{◌≡◌, ◌<◌, ◌^◌, ◌&&◌, false, filter, length, nat_lt, not, IfSome, IfNone};
-ghost use Rattle.powersave.specs.Keep.{units_for, is_older, without_older, room_beside, CameInOrder, IsNext};
-ghost use Rattle.powersave.specs.Keep.{NoneComesAfter};
-ghost use Rattle.stations.specs.Roster.{AreWaitedFor, Follows, limit_for, stays};
+ghost use Rattle.std.specs.Prelude.{◌≡◌, ◌<◌, ◌≤◌, ◌^◌, ◌&&◌, filter, length, nat_lt, not, option_map, IfOk};
+ghost use Rattle.powersave.specs.Keep.{units_for, is_older, without_older, room_beside, CameInOrder, AreOldest};
+ghost use Rattle.stations.specs.Roster.{AreWaitedFor, Follows, AgesBy, limit_for, stays};
 ghost use Rattle.stations.specs.Sound.{CameBy};
 ghost use Rattle.stations.specs.KeptUnits.{is_too_old};
 
 use crate::roster::{Roster, follow};
 use crate::table::listen_with;
-use powersave::{Whom, parts_stay};
+use mac_frame::NoMemory;
+use powersave::{Oldest, Whom, parts_stay};
 use tim::Bitmap;
 
 impl Roster {
+    /// Where units age, those for whom units are kept, with the clock at which the oldest of them came. `NoMemory` where
+    /// memory ran out.
+    pub(crate) fn oldest_if(&self, ages: bool) -> Result<Option<Vec<Oldest>>, NoMemory>
+        ensures { IfOk result (λ oldest.
+            AgesBy ages (option_map (λ v. v.items) oldest) self.now.kept.entries) }
+    {
+        if ages {
+            Ok(Some(self.kept.oldest_of_each()?))
+        } else {
+            Ok(None)
+        }
+    }
+
+    /// Does as [`Roster::age`] where units age, and else nothing. `oldest` are those that [`Roster::oldest_if`] told.
+    pub(crate) fn age_if(&mut self, ages: bool, oldest: &Option<Vec<Oldest>>, clock: u32) -> u32
+        requires oldest { AgesBy ages (option_map (λ v. v.items) oldest.now) self.old.kept.entries }
+        requires came { CameBy clock self.old.kept.entries }
+        requires countable { length self.old.kept.entries < 2 ^ 32 }
+        ensures count { result
+            ≡ length (filter (λ entry. ages && is_too_old clock self.old.stations.table entry) self.old.kept.entries) }
+        ensures entries { self.new.kept.entries
+            ≡ filter (λ entry. not (ages && is_too_old clock self.old.stations.table entry)) self.old.kept.entries }
+        ensures stations { self.new.stations ≡ self.old.stations }
+        ensures quota { self.new.kept.quota ≡ self.old.kept.quota }
+        ensures puts { self.new.kept.puts ≡ self.old.kept.puts }
+    {
+        match oldest {
+            Some(oldest) => self.age(oldest.as_slice(), clock),
+            None => 0,
+        }
+    }
+
     /// Takes out each unit that is too old at this clock, which counts the beacon intervals that began: more began since
     /// it came than the listen interval of the station that it is kept for (IEEE Std 802.11-2016, 9.4.1.6). Answers how
-    /// many units these were. It takes no memory, and looks at no station for which none is kept.
-    pub fn age(&mut self, clock: u32) -> u32
+    /// many units these were. `oldest` tells those for whom units are kept: the units of one are only looked for where
+    /// the oldest of them is too old. It takes no memory.
+    fn age(&mut self, oldest: &[Oldest], clock: u32) -> u32
+        requires oldest { AreOldest oldest.now self.old.kept.entries }
         requires came { CameBy clock self.old.kept.entries }
         requires countable { length self.old.kept.entries < 2 ^ 32 }
         ensures count { result
@@ -28,84 +62,98 @@ impl Roster {
         ensures puts { self.new.kept.puts ≡ self.old.kept.puts }
     {
         let mut dropped = 0;
-        let mut last = None;
-        while let Some(whom) = self.next_kept(&last) {
-            dropped += self.age_for(&whom, clock);
-            last = Some(whom);
+        for one in oldest {
+            dropped += self.age_one(one, clock);
         }
         dropped
     }
 
-    /// Does as [`Roster::age`] where units age, and else nothing.
-    pub fn age_if(&mut self, ages: bool, clock: u32) -> u32
-        requires came { CameBy clock self.old.kept.entries }
-        requires countable { length self.old.kept.entries < 2 ^ 32 }
-        ensures count { result
-            ≡ length (filter (λ entry. ages && is_too_old clock self.old.stations.table entry) self.old.kept.entries) }
-        ensures entries { self.new.kept.entries
-            ≡ filter (λ entry. not (ages && is_too_old clock self.old.stations.table entry)) self.old.kept.entries }
-        ensures stations { self.new.stations ≡ self.old.stations }
-        ensures quota { self.new.kept.quota ≡ self.old.kept.quota }
-        ensures puts { self.new.kept.puts ≡ self.old.kept.puts }
-        ensures same { ages ≡ false → self.new ≡ self.old }
+    /// Takes out the units for one that are too old at this clock, where the oldest of them is, and answers how many
+    /// these were.
+    fn age_one(&mut self, one: &Oldest, clock: u32) -> u32
+        requires in_order { CameInOrder (units_for one.now.whom self.old.kept.entries) }
+        ensures count { one.now.at < limit_for clock self.old.stations.table one.now.whom → result ≡ length
+            (filter (is_older one.now.whom (limit_for clock self.old.stations.table one.now.whom))
+            self.old.kept.entries) }
+        ensures after { one.now.at < limit_for clock self.old.stations.table one.now.whom → self.new
+            ≡ record self.old {
+              kept = record self.old.kept {
+                entries = without_older one.now.whom (limit_for clock self.old.stations.table one.now.whom)
+                    self.old.kept.entries;
+                reserved = room_beside one.now.whom self.old.kept.reserved;
+              };
+            } }
+        ensures young { limit_for clock self.old.stations.table one.now.whom ≤ one.now.at
+            → (result ≡ 0) × (self.new ≡ self.old) }
     {
-        if ages { self.age(clock) } else { 0 }
-    }
-
-    /// The association identifiers of the stations that units are kept for once they have aged at this clock, as
-    /// [`Roster::age`] leaves them.
-    pub fn traffic_after_aging(&self, clock: u32) -> Bitmap
-        requires { CameBy clock self.now.kept.entries }
-        ensures { AreWaitedFor result self.now.stations.table
-            (filter (λ entry. not (is_too_old clock self.now.stations.table entry)) self.now.kept.entries) }
-    {
-        let mut bits = Bitmap::new();
-        let mut last = None;
-        while let Some(whom) = self.next_kept(&last) {
-            self.show_stays(&mut bits, &whom, clock);
-            last = Some(whom);
+        let limit = self.limit_for(&one.whom, clock);
+        if one.at < limit {
+            self.age_for(&one.whom, limit)
+        } else {
+            0
         }
-        bits
     }
 
-    /// The first for whom units are kept after another one, if there is one.
-    fn next_kept(&self, last: &Option<Whom>) -> Option<Whom>
-        ensures next { IfSome result (λ next. IsNext last.now next self.now.kept.entries) }
-        ensures none { IfNone result (NoneComesAfter last.now self.now.kept.entries) }
-    {
-        self.kept().next_whom(*last)
-    }
-
-    /// Takes out the units for one that are too old at this clock, and answers how many these were.
-    fn age_for(&mut self, whom: &Whom, clock: u32) -> u32
+    /// Takes out the units for one that came before a clock, and answers how many these were.
+    fn age_for(&mut self, whom: &Whom, limit: u32) -> u32
         requires in_order { CameInOrder (units_for whom.now self.old.kept.entries) }
-        ensures count { result ≡ length (filter
-            (is_older whom.now (limit_for clock self.old.stations.table whom.now)) self.old.kept.entries) }
+        ensures count { result ≡ length (filter (is_older whom.now limit) self.old.kept.entries) }
         ensures after { self.new ≡ record self.old {
           kept = record self.old.kept {
-            entries = without_older whom.now (limit_for clock self.old.stations.table whom.now) self.old.kept.entries;
+            entries = without_older whom.now limit self.old.kept.entries;
             reserved = room_beside whom.now self.old.kept.reserved;
           };
         } }
     {
         // the units for the others stay
         parts_stay();
-        let limit = self.limit_for(whom, clock);
         let dropped = self.kept.drop_older(*whom, limit);
         let waits = self.kept.count_for(*whom) > 0;
         follow(&mut self.traffic, &self.stations, whom, waits);
         dropped
     }
 
-    /// Shows in a bitmap whether units stay for one at this clock.
-    fn show_stays(&self, bits: &mut Bitmap, whom: &Whom, clock: u32)
-        requires { CameInOrder (units_for whom.now self.now.kept.entries) }
-        ensures { Follows self.now.stations whom.now
-            (nat_lt 0 (length (filter (stays clock self.now.stations.table whom.now)
-            (units_for whom.now self.now.kept.entries)))) bits.old bits.new }
+    /// The association identifiers of the stations that units are kept for once they have aged at this clock. `NoMemory`
+    /// where memory ran out.
+    pub fn traffic_after_aging(&self, clock: u32) -> Result<Bitmap, NoMemory>
+        requires { CameBy clock self.now.kept.entries }
+        ensures { IfOk result (λ bits. AreWaitedFor bits self.now.stations.table
+            (filter (λ entry. not (is_too_old clock self.now.stations.table entry)) self.now.kept.entries)) }
     {
-        let stays = self.some_stay(whom, clock);
-        follow(bits, &self.stations, whom, stays);
+        let oldest = self.kept.oldest_of_each()?;
+        let mut bits = self.traffic().copy();
+        self.show_each(&mut bits, oldest.as_slice(), clock);
+        Ok(bits)
+    }
+
+    /// Shows in a bitmap, which has those that units are kept for, for whom units stay at this clock.
+    fn show_each(&self, bits: &mut Bitmap, oldest: &[Oldest], clock: u32)
+        requires oldest { AreOldest oldest.now self.now.kept.entries }
+        requires came { CameBy clock self.now.kept.entries }
+        requires bits { AreWaitedFor bits.old self.now.stations.table self.now.kept.entries }
+        ensures { AreWaitedFor bits.new self.now.stations.table
+            (filter (λ entry. not (is_too_old clock self.now.stations.table entry)) self.now.kept.entries) }
+    {
+        // the units for the others stay
+        parts_stay();
+        for one in oldest {
+            self.show_one(bits, one, clock);
+        }
+    }
+
+    /// Shows in a bitmap whether units stay for one at this clock, where the oldest of them is too old.
+    fn show_one(&self, bits: &mut Bitmap, one: &Oldest, clock: u32)
+        requires { CameInOrder (units_for one.now.whom self.now.kept.entries) }
+        ensures old { one.now.at < limit_for clock self.now.stations.table one.now.whom →
+            Follows self.now.stations one.now.whom (nat_lt 0 (length
+            (filter (stays clock self.now.stations.table one.now.whom)
+            (units_for one.now.whom self.now.kept.entries)))) bits.old bits.new }
+        ensures young { limit_for clock self.now.stations.table one.now.whom ≤ one.now.at → bits.new ≡ bits.old }
+    {
+        if one.at < self.limit_for(&one.whom, clock) {
+            let stays = self.some_stay(&one.whom, clock);
+            follow(bits, &self.stations, &one.whom, stays);
+        }
     }
 
     /// Whether units stay for one at this clock: the one that came last does.

@@ -7,7 +7,7 @@ pub invariant_of-self : goal.invariant_of-self
 invariant_of-self c =
     let es : List Entry = c.self.inside.kept.entries in
     let whom = c.args.whom.now in
-    let limit = c.limit_for-limit.result in
+    let limit = c.args.limit in
     rw c.drop_older-dropped.ensures.after (record {
       limit = c.self.invariant.limit;
       sound = c.self.invariant.sound;

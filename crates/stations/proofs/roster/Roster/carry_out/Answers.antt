@@ -7,6 +7,7 @@ use Rattle.stations.specs.Keeping.{without, kept_after, entry_of}
 use Rattle.stations.specs.Roster.{RosterState, is_aged}
 use Rattle.stations.specs.Stations.{Table}
 use Rattle.stations.specs.declared.keeping.Arriving.{Arriving}
+use Rattle.stations.specs.declared.keeping.Leaving.{Leaving}
 use Rattle.stations.proofs.Aging.{same-aged, young}
 use Rattle.stations.proofs.roster.Roster.carry_out.Goals as goal
 
@@ -44,3 +45,18 @@ returns-clause-entries c =
     ap (λ (r : RosterState). r.kept.entries) c.in_ok-keep.ensures.ok
     ∙ ap (λ (a : Option Arriving). without c.args.keeping.leaving es ++ option_to_list (option_map entry_of a)) (sym c.in-Some.is)
     ∙ ap (kept_after c.args.keeping) (sym (young c.args.ages c.args.clock c.args.self.now.stations.table es off).0)
+
+-- where no station changes and no unit leaves or ages, all stays
+pub returns-then-is_settled-clause-count : goal.returns-then-is_settled-clause-count
+returns-then-is_settled-clause-count c =
+    let settled = c.is_settled.ensures c.if-is_settled.true in
+    sym (ap (λ (es : List Entry). length es) (young c.args.ages c.args.clock c.args.self.now.stations.table c.args.self.now.kept.entries settled.2).1)
+
+pub returns-then-is_settled-clause-entries : goal.returns-then-is_settled-clause-entries
+returns-then-is_settled-clause-entries c =
+    let settled = c.is_settled.ensures c.if-is_settled.true in
+    let es : List Entry = c.args.self.now.kept.entries in
+    let stays = young c.args.ages c.args.clock c.args.self.now.stations.table es settled.2 in
+    sym (ap (λ (leaving : Leaving). without leaving (filter (λ e. not (is_aged c.args.ages c.args.clock c.args.self.now.stations.table e)) es) ++ option_to_list (option_map entry_of c.args.keeping.arriving)) settled.1
+    ∙ ap (λ (a : Option Arriving). filter (λ e. not (is_aged c.args.ages c.args.clock c.args.self.now.stations.table e)) es ++ option_to_list (option_map entry_of a)) c.in_default.is
+    ∙ append-nil (filter (λ e. not (is_aged c.args.ages c.args.clock c.args.self.now.stations.table e)) es) ∙ stays.0)

@@ -1,0 +1,49 @@
+-- The oldest unit for each: the first of its queue.
+use Rattle.std.proofs.Common.{◌≡◌, ℕ, Bool, true, false, cond, List, [], ◌∷◌, ◌++◌, map, Option, Some, None, refl, sym, ap, ◌∙◌}
+use Rattle.std.specs.Map.{lookup}
+use Rattle.std.specs.Option.{option_map, unwrap_or}
+use Rattle.std.proofs.lemmas.Map.{NonePasses}
+use Rattle.powersave.specs.declared.unit.Whom.{Whom}
+use Rattle.powersave.specs.declared.unit.Oldest.{Oldest}
+use Rattle.powersave.specs.declared.unit.Unit.{Unit as Msdu}
+use Rattle.powersave.specs.declared.queues.Arrived.{Arrived}
+use Rattle.powersave.specs.Keep.{units_for, oldest_at, first_clock, AreOldest}
+use Rattle.powersave.specs.Queues.{Queue, Queues, is_whom, queue_for, oldest_of, oldest_in, entries_in, AreSound}
+use Rattle.powersave.proofs.Merges.{IsOnce}
+use Rattle.powersave.proofs.QueueSteps.{once, units_for-entries_in}
+
+abbrev clock_of : List Arrived → Option ℕ
+clock_of queue = first_clock (map (λ a. a.unit) queue)
+
+-- a queue for another tells nothing of one
+passed : (whom other : Whom) (queue : List Arrived) (os : List Oldest) → is_whom whom other ≡ false → oldest_at whom (oldest_of other queue ++ os) ≡ oldest_at whom os
+passed whom other [] os apart = refl
+passed whom other (a ∷ queue) os apart = ap (λ b. cond b (Some a.unit.at) (oldest_at whom os)) apart
+
+-- none stands for one
+none-told : (whom : Whom) (queues : Queues) → NonePasses (is_whom whom) queues → oldest_at whom (oldest_in queues) ≡ None
+none-told whom [] none = refl
+none-told whom (q ∷ queues) none = passed whom q.0 q.1.items (oldest_in queues) none.0 ∙ none-told whom queues none.1
+
+-- its own queue tells its first unit
+here-told : (whom other : Whom) (queue : List Arrived) (os : List Oldest) → is_whom whom other ≡ true → oldest_at whom os ≡ None → oldest_at whom (oldest_of other queue ++ os) ≡ clock_of queue
+here-told whom other [] os here none = none
+here-told whom other (a ∷ queue) os here none = ap (λ b. cond b (Some a.unit.at) (oldest_at whom os)) here
+
+told : (whom : Whom) (queues : Queues) → IsOnce (is_whom whom) queues → oldest_at whom (oldest_in queues) ≡ clock_of (queue_for whom queues)
+told whom [] apart = refl
+told whom (q ∷ queues) apart = by (is_whom whom q.0) refl (told whom queues apart.1)
+  where
+    by : (b : Bool) → is_whom whom q.0 ≡ b → oldest_at whom (oldest_in queues) ≡ clock_of (queue_for whom queues)
+        → oldest_at whom (oldest_of q.0 q.1.items ++ oldest_in queues) ≡ clock_of (unwrap_or (option_map (λ (v : Queue). v.items) (cond (is_whom whom q.0) (Some q.1) (lookup (is_whom whom) queues))) [])
+    by true here rest =
+        here-told whom q.0 q.1.items (oldest_in queues) here (none-told whom queues (apart.0 here))
+        ∙ sym (ap (λ b. clock_of (unwrap_or (option_map (λ (v : Queue). v.items) (cond b (Some q.1) (lookup (is_whom whom) queues))) [])) here)
+    by false away rest =
+        passed whom q.0 q.1.items (oldest_in queues) away ∙ rest
+        ∙ sym (ap (λ b. clock_of (unwrap_or (option_map (λ (v : Queue). v.items) (cond b (Some q.1) (lookup (is_whom whom) queues))) [])) away)
+
+pub all-told : (next : ℕ) (queues : Queues) → AreSound next queues → AreOldest (oldest_in queues) (entries_in queues)
+all-told next queues sound whom =
+    told whom queues (once whom queues sound.one_each)
+    ∙ sym (ap first_clock (units_for-entries_in next whom queues sound))
