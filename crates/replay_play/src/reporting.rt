@@ -1,49 +1,103 @@
 //! The report of what was played, whose frames become text in several threads.
 
-ghost use Rattle.std.specs.Prelude.{◌≡◌, ◌≤◌, IfOk, length, flat_map, ◌++◌};
+ghost use Rattle.std.specs.Prelude.{◌≡◌, ◌≤◌, ◌+◌, IfOk, Ok, length, flat_map};
 ghost use Rattle.std.specs.Thread.{IsSync};
 ghost use Rattle.trace.specs.Buffers.{CanWrite, Puts};
-ghost use Rattle.trace.specs.Report.{frame_line};
+ghost use Rattle.trace.specs.Endings.{Ends, failures_of};
+ghost use Rattle.trace.specs.Report.{frame_line, report_text, section_text};
+ghost use Rattle.trace.specs.Sinks.{MayFail, report_ending, write_ending};
 
+use events::Section;
 use mac_frame::{NoMemory, Octets};
 use std::alloc::Global;
 use std::thread;
 use std::thread::Threads;
-use trace::{Buffered, Counted, FrameLines, InTurn, Sink};
+use trace::{
+    Buffered, Counted, Failed, ReportFault, Sink, put_end_line, put_frames, put_heading,
+    put_stations,
+};
 
 /// How many octets of text stand in memory at a time for each network.
 const MOST_TEXT: usize = 1 << 20;
 
-/// How many octets a thread collects before it appends them to its text.
-const PIECE: usize = 4096;
+/// How many octets are collected before they go to the sink, so that a device is not asked for each line.
+const PIECE: usize = 65536;
 
-/// Four parts at a time, each of which a thread puts into memory, in turn where none can be made. Where memory for a
-/// part runs out, its lines are put one after the other, without memory.
-pub(crate) struct InThreads<'a, R> {
-    rt: &'a R,
+/// How many octets a thread collects before it appends them to its text.
+const SMALL_PIECE: usize = 4096;
+
+/// Has the sink take the report of the sections, whole, as [`trace::write_report`] does. The frames of each become text
+/// in several threads, as far as there are any.
+pub(crate) fn write_in_threads<R: Threads + Sync, W: Sink>(
+    rt: &R,
+    alloc: Global,
+    sections: &[Section],
+    out: &mut W,
+) -> Result<(), ReportFault>
+    requires { MayFail (W.failed out.old) }
+    ensures ends { Ends report_ending result (Ok (report_text sections.now)) (W.taken out.old) (W.taken out.new) }
+    ensures failures { W.failed out.new ≡ W.failed out.old + failures_of report_ending result }
+{
+    let mut piece = vec![in alloc; 0; PIECE]?;
+    write_through(rt, alloc, piece.as_mut_slice(), sections, out)?;
+    Ok(())
+}
+
+/// Has the sink take the report of the sections, through a piece of memory.
+fn write_through<R: Threads + Sync, W: Sink>(
+    rt: &R,
+    alloc: Global,
+    piece: &mut [u8],
+    sections: &[Section],
+    out: &mut W,
+) -> Result<(), Failed>
+    requires { MayFail (W.failed out.old) }
+    ensures ends { Ends write_ending result (Ok (report_text sections.now)) (W.taken out.old) (W.taken out.new) }
+    ensures failures { W.failed out.new ≡ W.failed out.old + failures_of write_ending result }
+{
+    let most = MOST_TEXT.saturating_mul(sections.len());
+    let mut buffered = Buffered::new(out, piece);
+    for section in sections {
+        put_section(rt, alloc, most, &mut buffered, section);
+    }
+    buffered.flush()
+}
+
+/// Puts what one network did.
+fn put_section<R: Threads + Sync, W: Sink>(
+    rt: &R,
     alloc: Global,
     most: usize,
+    out: &mut Buffered<'_, W>,
+    section: &Section,
+)
+    requires { CanWrite W.failed out.old }
+    ensures { Puts W.taken W.failed out.old out.new (section_text section.now) }
+{
+    put_heading(out, section);
+    put_stations(out, section.table.as_slice());
+    put_parts(rt, alloc, most, out, b"air ", section.air.as_slice());
+    put_parts(rt, alloc, most, out, b"wire ", section.wire.as_slice());
+    put_end_line(out);
 }
 
-impl<'a, R> InThreads<'a, R> {
-    /// That of a report of as many networks.
-    pub(crate) fn new(rt: &'a R, alloc: Global, networks: usize) -> InThreads<'a, R> {
-        InThreads {
-            rt,
-            alloc,
-            most: MOST_TEXT.saturating_mul(networks),
-        }
-    }
-}
-
-impl<R: Threads + Sync> FrameLines for InThreads<'_, R> {
-    fn put_frames<W: Sink>(&self, out: &mut Buffered<'_, W>, word: &[u8], frames: &[Octets]) {
-        let mut rest = frames;
-        while !rest.is_empty() {
-            let (some, others) = rest.split_at(first_of(word, rest, self.most));
-            put_quarters(self.rt, self.alloc, out, word, some);
-            rest = others;
-        }
+/// Puts a line for each frame, as [`put_frames`] does. About as many octets of text stand in memory at a time.
+fn put_parts<R: Threads + Sync, W: Sink>(
+    rt: &R,
+    alloc: Global,
+    most: usize,
+    out: &mut Buffered<'_, W>,
+    word: &[u8],
+    frames: &[Octets],
+)
+    requires { CanWrite W.failed out.old }
+    ensures { Puts W.taken W.failed out.old out.new (flat_map (frame_line word.now) frames.now) }
+{
+    let mut rest = frames;
+    while !rest.is_empty() {
+        let (some, others) = rest.split_at(first_of(word, rest, most));
+        put_quarters(rt, alloc, out, word, some);
+        rest = others;
     }
 }
 
@@ -128,10 +182,10 @@ fn halves<R: Threads + Sync>(
 fn text_of(alloc: Global, word: &[u8], frames: &[Octets]) -> Result<Vec<u8>, NoMemory>
     ensures { IfOk result (λ text. text.items ≡ flat_map (frame_line word.now) frames.now) }
 {
-    let mut piece = [0; PIECE];
+    let mut piece = [0; SMALL_PIECE];
     let mut text = Counted::new(Vec::with_capacity(alloc, text_len(word, frames))?);
     let mut out = Buffered::new(&mut text, &mut piece);
-    InTurn.put_frames(&mut out, word, frames);
+    put_frames(&mut out, word, frames);
     let Ok(()) = out.flush() else {
         return Err(NoMemory);
     };
@@ -160,6 +214,6 @@ fn put_text<W: Sink>(
 {
     match text {
         Ok(text) => out.put(text.as_slice()),
-        Err(NoMemory) => InTurn.put_frames(out, word, frames),
+        Err(NoMemory) => put_frames(out, word, frames),
     }
 }

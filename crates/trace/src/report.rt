@@ -64,26 +64,6 @@ impl From<AllocError> for ReportFault {
 /// How many octets are collected before they go to the sink, so that a device is not asked for each line.
 const PIECE: usize = 65536;
 
-/// How the lines of many frames are put.
-pub trait FrameLines {
-    /// Puts a line for each frame, after a word that says where it was sent.
-    fn put_frames<W: Sink>(&self, out: &mut Buffered<'_, W>, word: &[u8], frames: &[Octets])
-        requires { CanWrite W.failed out.old }
-        ensures { Puts W.taken W.failed out.old out.new (flat_map (frame_line word.now) frames.now) };
-}
-
-/// One line after the other, without memory.
-#[derive(Clone, Copy, Debug)]
-pub struct InTurn;
-
-impl FrameLines for InTurn {
-    fn put_frames<W: Sink>(&self, out: &mut Buffered<'_, W>, word: &[u8], frames: &[Octets]) {
-        for frame in frames {
-            put_frame_line(out, word, frame.as_slice());
-        }
-    }
-}
-
 /// Has the sink take the report of the sections, whole. Nothing is left in a buffer.
 ///
 /// `Write` comes exactly where a write to the sink failed, after which it is asked for nothing more: the number of its
@@ -98,57 +78,38 @@ pub fn write_report<W: Sink>(
     ensures ends { Ends report_ending result (Ok (report_text sections.now)) (W.taken out.old) (W.taken out.new) }
     ensures failures { W.failed out.new ≡ W.failed out.old + failures_of report_ending result }
 {
-    write_report_by(alloc, sections, &InTurn, out)
-}
-
-/// Does what [`write_report`] does, with the lines of frames put in this way.
-pub fn write_report_by<W: Sink, L: FrameLines>(
-    alloc: Global,
-    sections: &[Section],
-    lines: &L,
-    out: &mut W,
-) -> Result<(), ReportFault>
-    requires { MayFail (W.failed out.old) }
-    ensures ends { Ends report_ending result (Ok (report_text sections.now)) (W.taken out.old) (W.taken out.new) }
-    ensures failures { W.failed out.new ≡ W.failed out.old + failures_of report_ending result }
-{
     let mut piece = vec![in alloc; 0; PIECE]?;
-    write_through(piece.as_mut_slice(), sections, lines, out)?;
+    write_through(piece.as_mut_slice(), sections, out)?;
     Ok(())
 }
 
 /// Has the sink take the report of the sections, through a piece of memory.
-fn write_through<W: Sink, L: FrameLines>(
-    piece: &mut [u8],
-    sections: &[Section],
-    lines: &L,
-    out: &mut W,
-) -> Result<(), Failed>
+fn write_through<W: Sink>(piece: &mut [u8], sections: &[Section], out: &mut W) -> Result<(), Failed>
     requires { MayFail (W.failed out.old) }
     ensures ends { Ends write_ending result (Ok (report_text sections.now)) (W.taken out.old) (W.taken out.new) }
     ensures failures { W.failed out.new ≡ W.failed out.old + failures_of write_ending result }
 {
     let mut buffered = Buffered::new(out, piece);
     for section in sections {
-        put_section(&mut buffered, section, lines);
+        put_section(&mut buffered, section);
     }
     buffered.flush()
 }
 
 /// Puts what one network did.
-fn put_section<W: Sink, L: FrameLines>(out: &mut Buffered<'_, W>, section: &Section, lines: &L)
+fn put_section<W: Sink>(out: &mut Buffered<'_, W>, section: &Section)
     requires { CanWrite W.failed out.old }
     ensures { Puts W.taken W.failed out.old out.new (section_text section.now) }
 {
     put_heading(out, section);
     put_stations(out, section.table.as_slice());
-    lines.put_frames(out, b"air ", section.air.as_slice());
-    lines.put_frames(out, b"wire ", section.wire.as_slice());
+    put_frames(out, b"air ", section.air.as_slice());
+    put_frames(out, b"wire ", section.wire.as_slice());
     put_end_line(out);
 }
 
 /// Puts the lines of a network's name and of its counts.
-fn put_heading<W: Sink>(out: &mut Buffered<'_, W>, section: &Section)
+pub fn put_heading<W: Sink>(out: &mut Buffered<'_, W>, section: &Section)
     requires { CanWrite W.failed out.old }
     ensures { Puts W.taken W.failed out.old out.new
         (network_line section.now.config ++ counts_line (length section.now.events) section.now.counts) }
@@ -172,11 +133,21 @@ fn totals_of(section: &Section) -> Totals
 }
 
 /// Puts a line for each station that is known.
-fn put_stations<W: Sink>(out: &mut Buffered<'_, W>, table: &[StationRow])
+pub fn put_stations<W: Sink>(out: &mut Buffered<'_, W>, table: &[StationRow])
     requires { CanWrite W.failed out.old }
     ensures { Puts W.taken W.failed out.old out.new (flat_map station_line table.now) }
 {
     for row in table {
         put_station_line(out, row);
+    }
+}
+
+/// Puts a line for each frame, after a word that says where it was sent.
+pub fn put_frames<W: Sink>(out: &mut Buffered<'_, W>, word: &[u8], frames: &[Octets])
+    requires { CanWrite W.failed out.old }
+    ensures { Puts W.taken W.failed out.old out.new (flat_map (frame_line word.now) frames.now) }
+{
+    for frame in frames {
+        put_frame_line(out, word, frame.as_slice());
     }
 }

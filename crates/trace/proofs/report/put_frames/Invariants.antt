@@ -3,7 +3,7 @@ use Rattle.std.proofs.Common.{take}
 use Rattle.std.specs.Prelude.{flat_map}
 use Rattle.trace.specs.Buffers.{Puts}
 use Rattle.trace.specs.Report.{frame_line}
-use Rattle.trace.proofs.report.InTurnFrameLines.put_frames.Given as goal
+use Rattle.trace.proofs.report.put_frames.Given as goal
 
 abbrev pub invariant-loop-frame : goal.invariant-loop-frame
 invariant-loop-frame g l =

@@ -2,7 +2,7 @@
 use Rattle.std.proofs.Common.{ap}
 use Rattle.trace.specs.Report.{frame_line}
 use Rattle.trace.proofs.BufferSteps.{Puts-nothing, Puts-same, Puts-item, Puts-items}
-use Rattle.trace.proofs.report.InTurnFrameLines.put_frames.Goals as goal
+use Rattle.trace.proofs.report.put_frames.Goals as goal
 
 pub loop-frame-init : goal.loop-frame-init
 loop-frame-init g c = Puts-nothing _ c.requires
