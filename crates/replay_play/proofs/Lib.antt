@@ -1,1 +1,2 @@
 pub mod PlayEnds
+pub mod Parts

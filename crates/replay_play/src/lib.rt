@@ -9,6 +9,7 @@
 
 mod fault;
 mod playing;
+mod reporting;
 
 pub use fault::PlayTextFault;
 pub use playing::{play_text, report_play};

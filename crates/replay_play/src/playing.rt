@@ -9,6 +9,7 @@ ghost use Rattle.replay_play.specs.Playing.{AreLines, AreRead, EndsPlay, IsTrace
 ghost use Rattle.workers.specs.Names.{callers_fit};
 
 use crate::fault::PlayTextFault;
+use crate::reporting::write_in_threads;
 use ap_config::RadioConfig;
 use events::Line;
 use mac_frame::Octets;
@@ -16,7 +17,7 @@ use std::alloc::{AllocError, Global};
 use std::sync::Wait;
 use std::thread;
 use std::thread::Threads;
-use trace::{ReadFault, Sink, TraceTextFault, read_config, read_trace, write_report};
+use trace::{ReadFault, Sink, TraceTextFault, read_config, read_trace};
 use workers::{Gate, MAX_CALLERS, Played, play_lent};
 
 /// A gate that holds no source back.
@@ -69,7 +70,7 @@ pub fn report_play<R: Threads + Wait + Sync, W: Sink>(
     }
     let sources = read_traces(rt, alloc, &config, traces)?;
     let played = play_lent(rt, alloc, config, sources.as_slice(), &Open)?;
-    write_report(alloc, played.sections.as_slice(), out)?;
+    write_in_threads(rt, alloc, played.sections.as_slice(), out)?;
     Ok((sources, played))
 }
 

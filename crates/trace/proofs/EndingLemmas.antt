@@ -2,13 +2,10 @@
 use Rattle.std.proofs.Common.{◌≡◌, ℕ, List, [], Option, Result, Ok, Err, refl, sym, subst}
 use Rattle.std.proofs.KnownBytes.{Appends-nil, Keeps-refl}
 use Rattle.std.specs.Io.KnownBytes.{Appends}
-use Rattle.trace.specs.Endings.{AppendsPrefix, EndsSo, Ends, Well, WriteFailed, OutOfMemory, IsFaultOf}
+use Rattle.trace.specs.Endings.{AppendsPrefix, EndsSo, Well, WriteFailed, OutOfMemory, IsFaultOf}
 use Rattle.trace.specs.Faults.{read_ending}
-use Rattle.trace.specs.Sinks.{report_ending}
 use Rattle.trace.specs.declared.read_fault.ReadFault.{ReadFault}
 use Rattle.trace.specs.declared.read_fault.ReadFault.TheVariants as reads
-use Rattle.trace.specs.declared.report.ReportFault.{ReportFault}
-use Rattle.trace.specs.declared.report.ReportFault.TheVariants.{Write, NoMemory}
 
 -- memory ran out before anything was written
 pub nothing_written : {F : Type 0} (answer : Result (List ℕ) F) (known : Option (List ℕ))
@@ -33,12 +30,6 @@ pub part_kept : {F : Type 0} (answer : Result (List ℕ) F) (text : List ℕ) (o
     → answer ≡ Ok text → AppendsPrefix old new text → EndsSo OutOfMemory answer old new
 part_kept {F} answer text old new is written =
     subst (λ (a : Result (List ℕ) F). EndsSo OutOfMemory a old new) (sym is) written
-
--- of a report that was cut short a prefix was written
-pub Ends-prefix : (fault : ReportFault) {old new : Option (List ℕ)} {text : List ℕ}
-    → AppendsPrefix old new text → Ends {A = Unit} report_ending (Err fault) (Ok text) old new
-Ends-prefix Write part = part
-Ends-prefix NoMemory part = part
 
 -- a fault of one is that of the other
 pub same_fault : {A B F : Type 0} (one : Result A F) (other : Result B F) (e : ReadFault F)

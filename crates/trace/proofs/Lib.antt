@@ -9,7 +9,6 @@ pub mod TraceSteps
 pub mod PieceLines
 pub mod PieceLaws
 pub mod PieceSteps
-pub mod OneLine
 pub mod EndingLemmas
 pub mod SinkSteps
 pub mod BufferSteps

@@ -148,35 +148,51 @@ pub cut-unfinished : (text : List ℕ) → cut (unfinished_line text) ≡ unfini
 cut-unfinished [] = refl
 cut-unfinished (x ∷ xs) = unfinished-cons x xs (cut-unfinished xs)
 
--- ---- a text of which the beginning has no LF
+-- ---- a line that ends in a text
 
--- the first line ends at the first LF of the rest
-cut_more : (line text : List ℕ) (n : ℕ) → LacksLineFeed line → position is_line_feed text ≡ Some n
-    → cut (line ++ text) ≡ (line ++ take n text) ∷ cut (drop (n + 1) text)
-cut_more line text n lacks e =
+-- both parts of it
+cut_line : (line end text : List ℕ) → LacksLineFeed line → LacksLineFeed end
+    → cut (line ++ ended end ++ text) ≡ (line ++ end) ∷ cut text
+cut_line line end text before after =
+    ap (λ l. cut (l ++ text)) (sym (append_assoc line end (10 ∷ [])))
+    ∙ cut-ended (line ++ end) text (All-append (λ octet. octet ≡ 10 → ⊥) line end before after)
+
+pub whole_lines_line : (line end text : List ℕ) → LacksLineFeed line → LacksLineFeed end
+    → whole_lines (line ++ ended end ++ text) ≡ strip_carriage_return (line ++ end) ∷ whole_lines text
+whole_lines_line line end text before after =
+    ap (λ c. map strip_carriage_return (all_but_last c)) (cut_line line end text before after)
+    ∙ ap
+    (map strip_carriage_return)
+    (among ((line ++ end) ∷ []) (cut text) (slice_split-has_first is_line_feed text))
+
+pub unfinished_line_line : (line end text : List ℕ) → LacksLineFeed line → LacksLineFeed end
+    → unfinished_line (line ++ ended end ++ text) ≡ unfinished_line text
+unfinished_line_line line end text before after =
+    ap last_of (cut_line line end text before after)
+    ∙ at_last ((line ++ end) ∷ []) (cut text) (slice_split-has_first is_line_feed text)
+
+-- it ends at the first LF
+pub first_line : (text : List ℕ) (n : ℕ) → position is_line_feed text ≡ Some n
+    → (text ≡ ended (take n text) ++ drop (n + 1) text) × LacksLineFeed (take n text)
+first_line text n e =
     let at = position-Some is_line_feed text n 0 e in
-    let rest : List ℕ = drop (n + 1) text in
-    ap (λ t. cut (line ++ t)) (around_line_feed text n at.0 at.1)
-    ∙ ap cut
-    (sym (append_assoc line (ended (take n text)) rest)
-    ∙ ap (λ l. l ++ rest) (sym (append_assoc line (take n text) (10 ∷ []))))
-    ∙ cut-ended (line ++ take n text) rest
-    (All-append (λ octet. octet ≡ 10 → ⊥) line (take n text) lacks (prefix_lacks text n at.2))
+    (around_line_feed text n at.0 at.1, prefix_lacks text n at.2)
 
 pub whole_lines_more : (line text : List ℕ) (n : ℕ) → LacksLineFeed line → position is_line_feed text ≡ Some n
     → whole_lines (line ++ text) ≡ strip_carriage_return (line ++ take n text) ∷ whole_lines (drop (n + 1) text)
 whole_lines_more line text n lacks e =
-    ap (λ c. map strip_carriage_return (all_but_last c)) (cut_more line text n lacks e)
-    ∙ ap
-    (map strip_carriage_return)
-    (among ((line ++ take n text) ∷ []) (cut (drop (n + 1) text)) (slice_split-has_first is_line_feed (drop (n + 1) text)))
+    let first = first_line text n e in
+    ap (λ (t : List ℕ). whole_lines (line ++ t)) first.0
+    ∙ ap whole_lines (sym (append_assoc line (ended (take n text)) (drop (n + 1) text)))
+    ∙ whole_lines_line line (take n text) (drop (n + 1) text) lacks first.1
 
 pub unfinished_line_more : (line text : List ℕ) (n : ℕ) → LacksLineFeed line → position is_line_feed text ≡ Some n
     → unfinished_line (line ++ text) ≡ unfinished_line (drop (n + 1) text)
 unfinished_line_more line text n lacks e =
-    ap last_of (cut_more line text n lacks e)
-    ∙ at_last ((line ++ take n text) ∷ []) (cut (drop (n + 1) text))
-    (slice_split-has_first is_line_feed (drop (n + 1) text))
+    let first = first_line text n e in
+    ap (λ (t : List ℕ). unfinished_line (line ++ t)) first.0
+    ∙ ap unfinished_line (sym (append_assoc line (ended (take n text)) (drop (n + 1) text)))
+    ∙ unfinished_line_line line (take n text) (drop (n + 1) text) lacks first.1
 
 -- where no LF is, no line ends
 pub whole_lines_none : (text : List ℕ) → LacksLineFeed text → whole_lines text ≡ []

@@ -7,11 +7,11 @@ use Rattle.std.specs.Str.Lines.{strip_carriage_return}
 use Rattle.ap_config.specs.declared.config.RadioConfig.{RadioConfig}
 use Rattle.events.specs.declared.line.Line.{Line}
 use Rattle.trace.specs.Faults.{◌>>=◌}
-use Rattle.trace.specs.Texts.{is_line_feed, LacksLineFeed}
+use Rattle.trace.specs.Texts.{is_line_feed, LacksLineFeed, ended}
 use Rattle.trace.specs.TraceText.{max_lines, bssids_of, line_of, lines_from, lines_of}
-use Rattle.trace.specs.Pieces.{ReaderView, new_reader, whole_lines, unfinished_line, before_line, said_in, said_by_next, said_after, answer_to, answer_to_end, answer_to_all, after_piece, past, past_next}
+use Rattle.trace.specs.Pieces.{ReaderView, new_reader, whole_lines, unfinished_line, before_line, said_in, said_after, answer_to, answer_to_end, answer_to_all, after_piece, past}
 use Rattle.trace.specs.declared.fault.TraceFault.{TraceFault}
-use Rattle.trace.proofs.PieceLines.{whole_lines_more, unfinished_line_more, whole_lines_none, unfinished_line_none}
+use Rattle.trace.proofs.PieceLines.{first_line, whole_lines_line, unfinished_line_line, whole_lines_more, unfinished_line_more, whole_lines_none, unfinished_line_none}
 use Rattle.trace.proofs.PieceLaws.{all-read, limited, lines_from-append}
 
 -- nothing before a text
@@ -25,45 +25,37 @@ pub held_says : (r : ReaderView) (text : List ℕ) → LacksLineFeed text
     → said_in r text ≡ before_line (r.ended_lines + 1) text []
 held_says r text lacks =
     let same : r.ended_lines + 0 + 1 ≡ r.ended_lines + 1 = omega arith in
-    ap (λ (whole : List (List ℕ)). said_by_next r whole (unfinished_line text)) (whole_lines_none text lacks)
-    ∙ ap (said_by_next r []) (unfinished_line_none text lacks)
+    ap
+    (λ (whole : List (List ℕ)).
+    lines_from r.bssids (r.ended_lines + 1) whole >>= λ ls. before_line (r.ended_lines + length whole + 1) (unfinished_line text) ls)
+    (whole_lines_none text lacks)
+    ∙ ap (λ (u : List ℕ). before_line (r.ended_lines + 0 + 1) u []) (unfinished_line_none text lacks)
     ∙ ap (λ n. before_line n text []) same
 
 pub held_past : (r : ReaderView) (text : List ℕ) → LacksLineFeed text → record r { unfinished = text } ≡ past r text
 held_past r text lacks =
-    let same : r.ended_lines ≡ r.ended_lines + 0 = omega arith in
+    let same : r.ended_lines ≡ r.ended_lines + length (whole_lines text) =
+    omega (arith, ap length (whole_lines_none text lacks)) in
     ap (λ (n : ℕ). record r { ended_lines = n; unfinished = text }) same
-    ∙ sym
-    (ap (λ (whole : List (List ℕ)). past_next r whole (unfinished_line text)) (whole_lines_none text lacks)
-    ∙ ap (past_next r []) (unfinished_line_none text lacks))
+    ∙ ap
+    (λ (u : List ℕ). record r { ended_lines = r.ended_lines + length (whole_lines text); unfinished = u })
+    (sym (unfinished_line_none text lacks))
 
 -- ---- a piece in which some do
 
-pub lines_say : (r : ReaderView) (line text : List ℕ) (n : ℕ) → LacksLineFeed line
-    → position is_line_feed text ≡ Some n
-    → said_in r (line ++ text)
-    ≡ said_by_next r (strip_carriage_return (line ++ take n text) ∷ whole_lines (drop (n + 1) text))
-    (unfinished_line (drop (n + 1) text))
-lines_say r line text n lacks e =
-    ap
-    (λ (whole : List (List ℕ)). said_by_next r whole (unfinished_line (line ++ text)))
-    (whole_lines_more line text n lacks e)
-    ∙ ap
-    (said_by_next r (strip_carriage_return (line ++ take n text) ∷ whole_lines (drop (n + 1) text)))
-    (unfinished_line_more line text n lacks e)
+pieces : (r : ReaderView) (text : List ℕ) (n : ℕ) → position is_line_feed text ≡ Some n
+    → r.unfinished ++ text ≡ r.unfinished ++ ended (take n text) ++ drop (n + 1) text
+pieces r text n e =
+    ap (λ (t : List ℕ). r.unfinished ++ t) (first_line text n e).0
+    ∙ sym (append_assoc r.unfinished (ended (take n text)) (drop (n + 1) text))
 
-pub lines_past : (r : ReaderView) (line text : List ℕ) (n : ℕ) → LacksLineFeed line
-    → position is_line_feed text ≡ Some n
-    → past r (line ++ text)
-    ≡ past_next r (strip_carriage_return (line ++ take n text) ∷ whole_lines (drop (n + 1) text))
-    (unfinished_line (drop (n + 1) text))
-lines_past r line text n lacks e =
-    ap
-    (λ (whole : List (List ℕ)). past_next r whole (unfinished_line (line ++ text)))
-    (whole_lines_more line text n lacks e)
-    ∙ ap
-    (past_next r (strip_carriage_return (line ++ take n text) ∷ whole_lines (drop (n + 1) text)))
-    (unfinished_line_more line text n lacks e)
+pub piece_says : (r : ReaderView) (text : List ℕ) (n : ℕ) → position is_line_feed text ≡ Some n
+    → said_in r (r.unfinished ++ text) ≡ said_in r (r.unfinished ++ ended (take n text) ++ drop (n + 1) text)
+piece_says r text n e = ap (said_in r) (pieces r text n e)
+
+pub piece_past : (r : ReaderView) (text : List ℕ) (n : ℕ) → position is_line_feed text ≡ Some n
+    → past r (r.unfinished ++ text) ≡ past r (r.unfinished ++ ended (take n text) ++ drop (n + 1) text)
+piece_past r text n e = ap (past r) (pieces r text n e)
 
 -- the first line of a text, and those after it
 no_octet : LacksLineFeed []
@@ -131,91 +123,130 @@ limited-fault false number said met e = cc
 abbrev is_over : ℕ → List ℕ → Bool
 is_over number octets = nat_lt max_lines number && nat_lt 0 (length octets)
 
--- what the first of them says, and then what the others say
-abbrev FirstSays : ReaderView → List ℕ → List (List ℕ) → List Line → Result (List Line) TraceFault → Type 0
-FirstSays r line rest first all =
-    (lines_from r.bssids (r.ended_lines + 1) (line ∷ []) ≡ Ok first)
-    × (said_after first (lines_from r.bssids (r.ended_lines + 1 + 1) rest) ≡ all)
+-- what the lines of a text say that come next, and before the line after them
+abbrev pub then_more : ReaderView → List ℕ → Result (List Line) TraceFault → Result (List Line) TraceFault
+then_more r text said = do
+  all ← said
+  before_line (r.ended_lines + 1 + length (whole_lines text) + 1) (unfinished_line text) all
 
--- one line, and others
-parted : (r : ReaderView) (line : List ℕ) (rest : List (List ℕ)) (octets : List ℕ)
-    → said_by_next r (line ∷ rest) octets
-    ≡ ((lines_from r.bssids (r.ended_lines + 1) (line ∷ [])
-    >>= λ first. said_after first (lines_from r.bssids (r.ended_lines + 1 + 1) rest))
-    >>= λ ls. before_line (r.ended_lines + length (line ∷ rest) + 1) octets ls)
-parted r line rest octets =
+abbrev then_text : ReaderView → List ℕ → Result (List Line) TraceFault → Result (List Line) TraceFault
+then_text r text one = do
+  first ← one
+  said_after first (lines_from r.bssids (r.ended_lines + 1 + 1) (whole_lines text))
+
+-- the unfinished line ends, and others come
+says_both : (r : ReaderView) (end text : List ℕ) → LacksLineFeed r.unfinished → LacksLineFeed end
+    → said_in r (r.unfinished ++ ended end ++ text)
+    ≡ then_more r text
+    (then_text r text (lines_from r.bssids (r.ended_lines + 1) (strip_carriage_return (r.unfinished ++ end) ∷ [])))
+says_both r end text before after =
+    let line : List ℕ = strip_carriage_return (r.unfinished ++ end) in
     let one : r.ended_lines + 1 + length (line ∷ []) ≡ r.ended_lines + 1 + 1 = omega arith in
+    let number : r.ended_lines + length (line ∷ whole_lines text) + 1 ≡ r.ended_lines + 1 + length (whole_lines text) + 1 =
+    omega arith in
     ap
-    (λ (some : Result (List Line) TraceFault).
-    some >>= λ ls. before_line (r.ended_lines + length (line ∷ rest) + 1) octets ls)
-    (lines_from-append r.bssids (r.ended_lines + 1) (line ∷ []) rest
+    (λ (whole : List (List ℕ)).
+    lines_from r.bssids (r.ended_lines + 1) whole >>= λ ls. before_line (r.ended_lines + length whole + 1) (unfinished_line (r.unfinished ++ ended end ++ text)) ls)
+    (whole_lines_line r.unfinished end text before after)
     ∙ ap
-    (λ n. lines_from r.bssids (r.ended_lines + 1) (line ∷ []) >>= λ first. said_after first (lines_from r.bssids n rest))
+    (λ (u : List ℕ).
+    lines_from r.bssids (r.ended_lines + 1) (line ∷ whole_lines text) >>= λ ls. before_line (r.ended_lines + length (line ∷ whole_lines text) + 1) u ls)
+    (unfinished_line_line r.unfinished end text before after)
+    ∙ ap
+    (λ n. lines_from r.bssids (r.ended_lines + 1) (line ∷ whole_lines text) >>= λ ls. before_line n (unfinished_line text) ls)
+    number
+    ∙ ap
+    (then_more r text)
+    (lines_from-append r.bssids (r.ended_lines + 1) (line ∷ []) (whole_lines text)
+    ∙ ap
+    (λ n. lines_from r.bssids (r.ended_lines + 1) (line ∷ []) >>= λ first. said_after first (lines_from r.bssids n (whole_lines text)))
     one)
 
--- the first of them has a fault
-pub next-first_fault : (r : ReaderView) (line : List ℕ) (rest : List (List ℕ)) (octets : List ℕ) (met : TraceFault)
-    → lines_from r.bssids (r.ended_lines + 1) (line ∷ []) ≡ Err met → said_by_next r (line ∷ rest) octets ≡ Err met
-next-first_fault r line rest octets met e =
-    parted r line rest octets
+-- what that line says, and then what the others say
+abbrev SayBoth : ReaderView → List ℕ → List ℕ → List Line → Result (List Line) TraceFault → Type 0
+SayBoth r end text first all =
+    (lines_from r.bssids (r.ended_lines + 1) (strip_carriage_return (r.unfinished ++ end) ∷ []) ≡ Ok first)
+    × (said_after first (lines_from r.bssids (r.ended_lines + 1 + 1) (whole_lines text)) ≡ all)
+
+-- that line has a fault
+pub next-first_fault : (r : ReaderView) (end text : List ℕ) (met : TraceFault)
+    → LacksLineFeed r.unfinished → LacksLineFeed end
+    → lines_from r.bssids (r.ended_lines + 1) (strip_carriage_return (r.unfinished ++ end) ∷ []) ≡ Err met
+    → said_in r (r.unfinished ++ ended end ++ text) ≡ Err met
+next-first_fault r end text met before after e =
+    says_both r end text before after
+    ∙ ap (λ (one : Result (List Line) TraceFault). then_more r text (then_text r text one)) e
+
+-- another has a fault, or none
+pub next-says : (r : ReaderView) (end text : List ℕ) (first : List Line) (all : Result (List Line) TraceFault)
+    → LacksLineFeed r.unfinished → LacksLineFeed end → SayBoth r end text first all
+    → said_in r (r.unfinished ++ ended end ++ text) ≡ then_more r text all
+next-says r end text first all before after h =
+    says_both r end text before after
+    ∙ ap (λ (one : Result (List Line) TraceFault). then_more r text (then_text r text one)) h.0
+    ∙ ap (then_more r text) h.1
+
+-- an octet too many comes after them, or not
+pub more-fault : (r : ReaderView) (text : List ℕ) (all : List Line) (count : ℕ) (met : TraceFault)
+    → count ≡ r.ended_lines + 1 + length (whole_lines text)
+    → before_line (count + 1) (unfinished_line text) [] ≡ Err met → then_more r text (Ok all) ≡ Err met
+more-fault r text all count met same e =
+    ap (λ n. before_line (n + 1) (unfinished_line text) all) (sym same)
+    ∙ limited-fault (is_over (count + 1) (unfinished_line text)) (count + 1) all met e
+
+pub more-said : (r : ReaderView) (text : List ℕ) (all : List Line) (count : ℕ)
+    → count ≡ r.ended_lines + 1 + length (whole_lines text)
+    → before_line (count + 1) (unfinished_line text) [] ≡ Ok [] → then_more r text (Ok all) ≡ Ok all
+more-said r text all count same e =
+    ap (λ n. before_line (n + 1) (unfinished_line text) all) (sym same)
+    ∙ limited-on (is_over (count + 1) (unfinished_line text)) (count + 1) all e
+
+pub next-past : (r : ReaderView) (end text : List ℕ) (count : ℕ) → LacksLineFeed r.unfinished → LacksLineFeed end
+    → count ≡ r.ended_lines + 1 + length (whole_lines text)
+    → record r { ended_lines = count; unfinished = unfinished_line text }
+    ≡ past r (r.unfinished ++ ended end ++ text)
+next-past r end text count before after same =
+    let on : List ℕ = r.unfinished ++ ended end ++ text in
+    let number : count ≡ r.ended_lines + length (whole_lines on) =
+    omega (arith, same, ap length (whole_lines_line r.unfinished end text before after)) in
+    ap (λ (n : ℕ). record r { ended_lines = n; unfinished = unfinished_line text }) number
     ∙ ap
-    (λ (some : Result (List Line) TraceFault).
-    (some >>= λ first. said_after first (lines_from r.bssids (r.ended_lines + 1 + 1) rest))
-    >>= λ ls. before_line (r.ended_lines + length (line ∷ rest) + 1) octets ls)
-    e
+    (λ (u : List ℕ). record r { ended_lines = r.ended_lines + length (whole_lines on); unfinished = u })
+    (sym (unfinished_line_line r.unfinished end text before after))
 
-all_say : (r : ReaderView) (line : List ℕ) (rest : List (List ℕ)) (octets : List ℕ) (first : List Line)
-    (all : Result (List Line) TraceFault) → FirstSays r line rest first all
-    → said_by_next r (line ∷ rest) octets
-    ≡ (all >>= λ ls. before_line (r.ended_lines + length (line ∷ rest) + 1) octets ls)
-all_say r line rest octets first all h =
-    parted r line rest octets
-    ∙ ap
-    (λ (some : Result (List Line) TraceFault).
-    (some >>= λ ls. said_after ls (lines_from r.bssids (r.ended_lines + 1 + 1) rest))
-    >>= λ ls. before_line (r.ended_lines + length (line ∷ rest) + 1) octets ls)
-    h.0
-    ∙ ap
-    (λ (some : Result (List Line) TraceFault).
-    some >>= λ ls. before_line (r.ended_lines + length (line ∷ rest) + 1) octets ls)
-    h.1
+-- ---- a piece that is the end of one line, with the LF that ends it
 
--- another has a fault
-pub next-fault : (r : ReaderView) (line : List ℕ) (rest : List (List ℕ)) (octets : List ℕ) (first : List Line)
-    (met : TraceFault) → FirstSays r line rest first (Err met) → said_by_next r (line ∷ rest) octets ≡ Err met
-next-fault r line rest octets first met h = all_say r line rest octets first (Err met) h
+alone : (r : ReaderView) (end : List ℕ) → r.unfinished ++ ended end ≡ r.unfinished ++ ended end ++ []
+alone r end = sym (append-nil (r.unfinished ++ ended end))
 
--- the number of the line after them
-next_number : (ended : ℕ) (line : List ℕ) (rest : List (List ℕ)) (count : ℕ) → count ≡ ended + 1 + length rest
-    → ended + length (line ∷ rest) + 1 ≡ count + 1
-next_number ended line rest count e = omega arith
+-- no octet of the next line is one too many
+never_over : (over : Bool) (number : ℕ) (said : List Line) → limited (over && false) number said ≡ Ok said
+never_over true number said = refl
+never_over false number said = refl
 
--- an octet too many comes after them
-pub next-octet_fault : (r : ReaderView) (line : List ℕ) (rest : List (List ℕ)) (octets : List ℕ) (first : List Line)
-    (all : List Line) (count : ℕ) (met : TraceFault) → FirstSays r line rest first (Ok all)
-    → count ≡ r.ended_lines + 1 + length rest
-    → before_line (count + 1) octets [] ≡ Err met → said_by_next r (line ∷ rest) octets ≡ Err met
-next-octet_fault r line rest octets first all count met h same e =
-    all_say r line rest octets first (Ok all) h
-    ∙ ap (λ n. before_line n octets all) (next_number r.ended_lines line rest count same)
-    ∙ limited-fault (is_over (count + 1) octets) (count + 1) all met e
+pub line_says : (r : ReaderView) (end : List ℕ) (said : Option Line) → LacksLineFeed r.unfinished → LacksLineFeed end
+    → line_of r.bssids (r.ended_lines + 1) (strip_carriage_return (r.unfinished ++ end)) ≡ Ok said
+    → said_in r (r.unfinished ++ ended end) ≡ Ok (option_to_list said)
+line_says r end said before after e =
+    ap (said_in r) (alone r end)
+    ∙ next-says r end [] (option_to_list said) (Ok (option_to_list said)) before after (
+      lines_from-one r.bssids (r.ended_lines + 1) (strip_carriage_return (r.unfinished ++ end)) said e,
+      ap (λ (all : List Line). Ok all) (append-nil (option_to_list said)),
+    )
+    ∙ never_over (nat_lt max_lines (r.ended_lines + 1 + 0 + 1)) (r.ended_lines + 1 + 0 + 1) (option_to_list said)
 
--- none does
-pub next-said : (r : ReaderView) (line : List ℕ) (rest : List (List ℕ)) (octets : List ℕ) (first : List Line)
-    (all : List Line) (count : ℕ) → FirstSays r line rest first (Ok all)
-    → count ≡ r.ended_lines + 1 + length rest
-    → before_line (count + 1) octets [] ≡ Ok [] → said_by_next r (line ∷ rest) octets ≡ Ok all
-next-said r line rest octets first all count h same e =
-    all_say r line rest octets first (Ok all) h
-    ∙ ap (λ n. before_line n octets all) (next_number r.ended_lines line rest count same)
-    ∙ limited-on (is_over (count + 1) octets) (count + 1) all e
+pub line_has_fault : (r : ReaderView) (end : List ℕ) (met : TraceFault) → LacksLineFeed r.unfinished → LacksLineFeed end
+    → line_of r.bssids (r.ended_lines + 1) (strip_carriage_return (r.unfinished ++ end)) ≡ Err met
+    → said_in r (r.unfinished ++ ended end) ≡ Err met
+line_has_fault r end met before after e =
+    ap (said_in r) (alone r end)
+    ∙ next-first_fault r end [] met before after
+    (lines_from-fault r.bssids (r.ended_lines + 1) (strip_carriage_return (r.unfinished ++ end)) [] met e)
 
-pub next-past : (r : ReaderView) (line : List ℕ) (rest : List (List ℕ)) (octets : List ℕ) (count : ℕ)
-    → count ≡ r.ended_lines + 1 + length rest
-    → record r { ended_lines = count; unfinished = octets } ≡ past_next r (line ∷ rest) octets
-next-past r line rest octets count same =
-    let number : count ≡ r.ended_lines + length (line ∷ rest) = omega arith in
-    ap (λ (n : ℕ). record r { ended_lines = n; unfinished = octets }) number
+pub line_past : (r : ReaderView) (end : List ℕ) → LacksLineFeed r.unfinished → LacksLineFeed end
+    → record r { ended_lines = r.ended_lines + 1; unfinished = [] } ≡ past r (r.unfinished ++ ended end)
+line_past r end before after =
+    next-past r end [] (r.ended_lines + 1) before after (omega arith) ∙ ap (past r) (sym (alone r end))
 
 -- ---- a text that comes whole
 

@@ -33,11 +33,6 @@ pub Delivers-grown : (known : Option (List ℕ)) {p q : List ℕ} (text : List �
     → Delivers known p known q text
 Delivers-grown known text grown = record { written = []; in_order = sym grown; taken = Appends-nil known }
 
--- what it held was written
-pub Delivers-held : {a b : Option (List ℕ)} {p : List ℕ} → Appends a b p → Delivers a p b [] []
-Delivers-held {p} taken =
-    record { written = p; in_order = ap (λ l. l) (append-nil p ∙ sym (append-nil p)); taken = taken }
-
 -- one text, and then the next
 pub Delivers-then : {a b c : Option (List ℕ)} {p q s t u : List ℕ} → Delivers a p b q t → Delivers b q c s u
     → Delivers a p c s (t ++ u)
@@ -64,28 +59,6 @@ Stops-first {p} {t} u e = record {
     in_order = sym (append_assoc p t u) ∙ ap (λ l. l ++ u) e.prefix.in_order ∙ append_assoc e.prefix.written e.rest u;
     taken = e.prefix.taken;
   };
-}
-
--- an empty buffer let the text through
-pub Delivers-whole : {a b : Option (List ℕ)} {p q t : List ℕ} → p ≡ [] → q ≡ [] → Appends a b t → Delivers a p b q t
-Delivers-whole {p} {q} {t} e f taken = record {
-  written = t;
-  in_order = ap (λ l. l ++ t) e ∙ sym (append-nil t) ∙ ap (λ l. t ++ l) (sym f);
-  taken = taken;
-}
-
--- or a part of it
-pub Stops-part : {a b : Option (List ℕ)} {p t : List ℕ} → p ≡ [] → AppendsPrefix a b t → Stops a p b t
-Stops-part {t} e h = record {
-  rest = h.rest;
-  prefix = record { written = h.written; in_order = ap (λ l. l ++ t) e ∙ h.in_order; taken = h.taken };
-}
-
--- it stopped while what it held was written
-pub Stops-written : {a b : Option (List ℕ)} {p : List ℕ} → AppendsPrefix a b p → Stops a p b []
-Stops-written {p = p} h = record {
-  rest = h.rest;
-  prefix = record { written = h.written; in_order = append-nil p ∙ h.in_order; taken = h.taken };
 }
 
 -- ---- the whole way, from an empty buffer to an empty one

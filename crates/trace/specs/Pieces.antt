@@ -58,15 +58,11 @@ abbrev pub before_line : ℕ → List ℕ → List Line → Result (List Line) T
 before_line number octets said =
     if nat_lt max_lines number && nat_lt 0 (length octets) then Err (fault_in number TooMany) else Ok said
 
--- what the next whole lines say, and then comes an unfinished one
-abbrev pub said_by_next : ReaderView → List (List ℕ) → List ℕ → Result (List Line) TraceFault
-said_by_next r whole octets = do
-  said ← lines_from r.bssids (r.ended_lines + 1) whole
-  before_line (r.ended_lines + length whole + 1) octets said
-
--- what the whole lines of a text say, which begins with the line that was unfinished
+-- what the whole lines of a text say, which begins with the line that was unfinished, and before the line after them
 abbrev pub said_in : ReaderView → List ℕ → Result (List Line) TraceFault
-said_in r text = said_by_next r (whole_lines text) (unfinished_line text)
+said_in r text = do
+  said ← lines_from r.bssids (r.ended_lines + 1) (whole_lines text)
+  before_line (r.ended_lines + length (whole_lines text) + 1) (unfinished_line text) said
 
 -- what the last line says, of this number, if there is one
 abbrev pub said_last : List (List ℕ) → ℕ → List ℕ → Result (Option Line) TraceFault
@@ -93,13 +89,9 @@ abbrev pub after_answer : {A : Type 0} → Result A TraceFault → ReaderView �
 after_answer (Ok said) old next = next
 after_answer (Err met) old next = with_fault met old
 
--- the next whole lines have ended, and then came an unfinished one
-abbrev pub past_next : ReaderView → List (List ℕ) → List ℕ → ReaderView
-past_next r whole octets = record r { ended_lines = r.ended_lines + length whole; unfinished = octets }
-
 -- the whole lines of a text have ended, which begins with the line that was unfinished
 abbrev pub past : ReaderView → List ℕ → ReaderView
-past r text = past_next r (whole_lines text) (unfinished_line text)
+past r text = record r { ended_lines = r.ended_lines + length (whole_lines text); unfinished = unfinished_line text }
 
 abbrev pub after_piece : ReaderView → List ℕ → ReaderView
 after_piece r piece = after_answer (answer_to r piece) r (past r (r.unfinished ++ piece))

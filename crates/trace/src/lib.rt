@@ -34,7 +34,7 @@ pub use read::read_trace;
 pub use read_fault::ReadFault;
 pub use report::{
     Buffered, ReportFault, Totals, address_text, put_counts_line, put_end_line, put_frame_line,
-    put_network_line, put_station_line, write_report,
+    put_frames, put_heading, put_network_line, put_station_line, put_stations, write_report,
 };
 pub use sink::{Failed, Sink, write_all};
 pub use source::Source;

@@ -10,8 +10,8 @@ ghost use Rattle.trace.specs.Faults.{read_ending};
 ghost use Rattle.trace.specs.Texts.{LacksLineFeed, ended};
 ghost use Rattle.trace.specs.TraceText.{bssids_of, line_of, lines_from};
 ghost use Rattle.trace.specs.Pieces.{whole_lines, unfinished_line, new_reader, before_line, said_in, said_last};
-ghost use Rattle.trace.specs.Pieces.{said_by_next, past_next, answer_to, answer_to_end, after_piece, after_end, past};
-ghost use Rattle.trace.specs.Pieces.{past_end, Leaves, keeping, said_after};
+ghost use Rattle.trace.specs.Pieces.{answer_to, answer_to_end, after_piece, after_end, past, past_end, Leaves, keeping};
+ghost use Rattle.trace.specs.Pieces.{said_after};
 
 use crate::fault::{LineFault, TraceFault, TraceTextFault, in_text};
 use crate::line::{bssids_of, read_line};
@@ -152,18 +152,17 @@ impl LineReader {
         }
     }
 
-    /// What the lines say that end in a piece: the unfinished one, which ends with the octets before the first LF of
-    /// it, and the others.
-    fn read_lines(&mut self, first: &[u8], text: &[u8]) -> Result<Vec<Line>, TraceTextFault>
-        ensures exact { Gives (λ lines. lines.items) read_ending result (said_by_next self.old
-            (strip_carriage_return (self.old.unfinished ++ first.now) ∷ whole_lines text.now)
-            (unfinished_line text.now)) }
-        ensures ok { OnOk result (self.new ≡ past_next self.old
-            (strip_carriage_return (self.old.unfinished ++ first.now) ∷ whole_lines text.now)
-            (unfinished_line text.now)) }
+    /// What the lines say that end in a piece: the unfinished one, which ends with these octets and an LF, and those of
+    /// the text after it.
+    fn read_lines(&mut self, end: &[u8], text: &[u8]) -> Result<Vec<Line>, TraceTextFault>
+        requires unfinished { LacksLineFeed self.old.unfinished }
+        requires end { LacksLineFeed end.now }
+        ensures exact { Gives (λ lines. lines.items) read_ending result
+            (said_in self.old (self.old.unfinished ++ ended end.now ++ text.now)) }
+        ensures ok { OnOk result (self.new ≡ past self.old (self.old.unfinished ++ ended end.now ++ text.now)) }
         ensures err { OnErr result (self.new ≡ self.old) }
     {
-        let mut lines = self.read_first(first)?;
+        let mut lines = self.read_first(end)?;
         let (ended_lines, rest) = self.read_others(text, &mut lines)?;
         self.begin(ended_lines, rest)?;
         Ok(lines)

@@ -109,7 +109,7 @@ fn put_section<W: Sink>(out: &mut Buffered<'_, W>, section: &Section)
 }
 
 /// Puts the lines of a network's name and of its counts.
-fn put_heading<W: Sink>(out: &mut Buffered<'_, W>, section: &Section)
+pub fn put_heading<W: Sink>(out: &mut Buffered<'_, W>, section: &Section)
     requires { CanWrite W.failed out.old }
     ensures { Puts W.taken W.failed out.old out.new
         (network_line section.now.config ++ counts_line (length section.now.events) section.now.counts) }
@@ -133,7 +133,7 @@ fn totals_of(section: &Section) -> Totals
 }
 
 /// Puts a line for each station that is known.
-fn put_stations<W: Sink>(out: &mut Buffered<'_, W>, table: &[StationRow])
+pub fn put_stations<W: Sink>(out: &mut Buffered<'_, W>, table: &[StationRow])
     requires { CanWrite W.failed out.old }
     ensures { Puts W.taken W.failed out.old out.new (flat_map station_line table.now) }
 {
@@ -143,7 +143,7 @@ fn put_stations<W: Sink>(out: &mut Buffered<'_, W>, table: &[StationRow])
 }
 
 /// Puts a line for each frame, after a word that says where it was sent.
-fn put_frames<W: Sink>(out: &mut Buffered<'_, W>, word: &[u8], frames: &[Octets])
+pub fn put_frames<W: Sink>(out: &mut Buffered<'_, W>, word: &[u8], frames: &[Octets])
     requires { CanWrite W.failed out.old }
     ensures { Puts W.taken W.failed out.old out.new (flat_map (frame_line word.now) frames.now) }
 {

@@ -6,10 +6,10 @@ ghost use Rattle.workers.specs.Giving.{heard_at, line_of};
 
 use crate::answers::{Answer, Made, keep};
 use crate::ap::Ap;
-use crate::bell::Bell;
 use crate::given::Given;
 use crate::name::ApName;
 use crate::outcome::Outcome;
+use crate::outlet::Backlog;
 use events::Line;
 use mac_frame::NoMemory;
 use std::sync::Wait;
@@ -23,7 +23,7 @@ impl<N: ApName> Ap<N> {
         lines: &[Line],
         line: usize,
         answers: &mut Vec<Answer>,
-        bell: &mut Bell<'_>,
+        backlog: &mut Backlog,
     ) -> Result<(), NoMemory>
         requires { line < length lines.now }
         ensures { OnOk result (AddsHeard N.config lines.now line answers.old.items answers.new.items) }
@@ -31,7 +31,7 @@ impl<N: ApName> Ap<N> {
         answers.reserve(self.bssids.len())?;
         let given = Given::of(&lines[line]);
         for place in 0..self.bssids.len() {
-            let made = self.hear_at(rt, place, given, bell)?;
+            let made = self.hear_at(rt, place, given, backlog)?;
             keep(answers, line, place, made);
         }
         Ok(())
@@ -43,7 +43,7 @@ impl<N: ApName> Ap<N> {
         rt: &R,
         place: usize,
         given: Given<'_>,
-        bell: &mut Bell<'_>,
+        backlog: &mut Backlog,
     ) -> Result<Option<Made>, NoMemory>
         requires { place < length N.config.networks }
         ensures { IfOk result (λ made. (made ≡ None) ↔ (heard_at N.config (line_of given.entry) place ≡ [])) }
@@ -53,7 +53,7 @@ impl<N: ApName> Ap<N> {
         }
         let event = given.event(self.alloc)?;
         let (outcome, handing) = self.take_and_hand(rt, place, event);
-        bell.count(handing);
+        backlog.add(handing);
         match outcome {
             Outcome::Took(number) => Ok(Some(Made::Took(number))),
             Outcome::Full => Ok(Some(Made::Full)),

@@ -34,17 +34,17 @@ returns-in_err-played-clause-ends g c =
     (λ fault is. none-some fault (sym c.in_ok-config.ensures.sound ∙ (c.in_err-played.ensures.config fault).0 (ap Err is)))
     (λ is. true≢false (sym fits ∙ ap callers_fit (sym count) ∙ (c.in_err-played.ensures.sources.0 (ap Err is)).1)))
 
-pub returns-in_err-write_report-clause-ends : goal.returns-in_err-write_report-clause-ends
-returns-in_err-write_report-clause-ends g c =
-    let p = err_from_is_err_and c.from_residual-in_err-write_report.result c.from_residual-in_err-write_report.ensures.1 in
+pub returns-in_err-write_in_threads-clause-ends : goal.returns-in_err-write_in_threads-clause-ends
+returns-in_err-write_in_threads-clause-ends g c =
+    let p = err_from_is_err_and c.from_residual-in_err-write_in_threads.result c.from_residual-in_err-write_in_threads.ensures.1 in
     let fits : callers_fit (length c.args.traces.now) ≡ true = sym c.fit.ensures ∙ c.if-not-fit.false in
     let sources : List (List Line) = map (λ s. s.items) c.in_ok-sources.sources.items in
     let able : ArePlayable c.args.config.now c.args.traces.now c.in_ok-config.config sources = record { read = c.in_ok-config.ensures.exact; fit = fits; lines = c.in_ok-sources.ensures } in
     let said = c.in_ok-played.ensures in
     let play = played_is c.in_ok-config.config c.in_ok-sources.sources.items c.as_slice.result.now (λ s. s.items) c.as_slice.ensures.value c.in_ok-played.played said.networks said.sections said.air said.givers said.played in
     rw (p.1, p.2)
-    (report_plays c.in_err-write_report.field-0.0 c.in_ok-config.config c.args.config.now c.args.traces.now sources (whole_of c.in_ok-played.played said.air.0) _ _ able play
-    (rw c.as_slice-2.ensures at c.in_err-write_report.ensures.ends))
+    (report_plays c.in_err-write_in_threads.field-0.0 c.in_ok-config.config c.args.config.now c.args.traces.now sources (whole_of c.in_ok-played.played said.air.0) _ _ able play
+    (rw c.as_slice-2.ensures at c.in_err-write_in_threads.ensures.ends))
 
 pub returns-clause-ends : goal.returns-clause-ends
 returns-clause-ends g c =
@@ -54,4 +54,4 @@ returns-clause-ends g c =
     let said = c.in_ok-played.ensures in
     let play = played_is c.in_ok-config.config c.in_ok-sources.sources.items c.as_slice.result.now (λ s. s.items) c.as_slice.ensures.value c.in_ok-played.played said.networks said.sections said.air said.givers said.played in
     whole_plays c.in_ok-config.config c.args.config.now c.args.traces.now sources (whole_of c.in_ok-played.played said.air.0) _ _ able play
-    (rw c.as_slice-2.ensures at c.in_ok-write_report.ensures.ends)
+    (rw c.as_slice-2.ensures at c.in_ok-write_in_threads.ensures.ends)
