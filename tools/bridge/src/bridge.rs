@@ -920,7 +920,7 @@ while read -r word rest; do
     esac
 done
 "#;
-    const ANSWER: &str = "b000000002aa000000010200000001010200000001010010000002000000";
+    const ANSWER: &str = "b000000002aa000000010200000001010200000001011000000002000000";
 
     /// A port in place of a packet socket. A radio's shows what is sent by it, where `shows` says so.
     struct FakePort {
