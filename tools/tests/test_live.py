@@ -571,11 +571,12 @@ class Told(WithFiles):
         """A line has its level where standard error is the journal's, and else none."""
         with open(os.path.join(self.folder, "journal"), "w+", encoding="utf-8") as file:
             found = os.fstat(file.fileno())
-            for stream, wanted in ((f"{found.st_dev}:{found.st_ino}", "<4>live: hello\n"), ("1:2", "live: hello\n")):
+            journal = f"{found.st_dev}:{found.st_ino}"
+            for stream, wanted in ((journal, "<4>live: hello\n<4>you\n"), ("1:2", "live: hello\nyou\n")):
                 file.seek(0)
                 file.truncate()
                 with mock.patch.dict(os.environ, {"JOURNAL_STREAM": stream}), mock.patch("sys.stderr", file):
-                    telling.tell("hello", telling.WARNING)
+                    telling.tell("hello\nyou", telling.WARNING)
                 file.seek(0)
                 self.assertEqual(file.read(), wanted)
 
@@ -725,7 +726,7 @@ class Running(WithFiles):
             self.end()
         self.run_bridge(later)
         self.assertEqual(self.read("asked"), "open\n")
-        self.assertIn("it doesn't begin: all stays as it is", self.told.getvalue())
+        self.assertIn("all stays as it is: it doesn't begin", self.told.getvalue())
 
     def test_tables_by_the_clock(self):
         """--tables asks by itself."""
