@@ -76,7 +76,8 @@ class Silence:
         case("flood: the bridge begins", self.flooded.begin)
         case(f"after {FLOOD} authentications of random addresses a newcomer joins within two minutes", self.flood)
         self.cases.leave_all()
-        self.cases.end(self.flooded)
+        case("flood: the bridge ends, and takes down what it set up", self.flooded.end)
+        case("flood: `run` on the record gives what the program wrote", self.flooded.agrees_with_run)
 
     def join(self) -> None:
         """One of them will doze."""

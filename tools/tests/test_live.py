@@ -571,11 +571,12 @@ class Told(WithFiles):
         """A line has its level where standard error is the journal's, and else none."""
         with open(os.path.join(self.folder, "journal"), "w+", encoding="utf-8") as file:
             found = os.fstat(file.fileno())
-            for stream, wanted in ((f"{found.st_dev}:{found.st_ino}", "<4>live: hello\n"), ("1:2", "live: hello\n")):
+            journal = f"{found.st_dev}:{found.st_ino}"
+            for stream, wanted in ((journal, "<4>live: hello\n<4>you\n"), ("1:2", "live: hello\nyou\n")):
                 file.seek(0)
                 file.truncate()
                 with mock.patch.dict(os.environ, {"JOURNAL_STREAM": stream}), mock.patch("sys.stderr", file):
-                    telling.tell("hello", telling.WARNING)
+                    telling.tell("hello\nyou", telling.WARNING)
                 file.seek(0)
                 self.assertEqual(file.read(), wanted)
 
@@ -640,12 +641,12 @@ class Running(WithFiles):
             self.stack.callback(signal.signal, number, signal.getsignal(number))
         self.told = self.stack.enter_context(contextlib.redirect_stderr(io.StringIO()))
 
-    def run_bridge(self, later=lambda: None, tables=None, does=SENDS, status=0, after="true"):
+    def run_bridge(self, later=lambda: None, tables=None, does=SENDS, status=0, after="true", port=None):
         """Runs it; `later` is called by another thread after a while. Of the machine nothing is changed: what is set up
         is only kept."""
         path = self.write("bridge", BRIDGE.format(folder=self.folder, does=does, status=status, after=after), 0o755)
         wires = ((OURS, "wire1"),)
-        wanted = Wanted(self.config, "apctl", path, "phy0", "mon0", wires, "a.trace", tables)
+        wanted = Wanted(self.config, "apctl", path, "phy0", "mon0", wires, "a.trace", tables, status=port)
         self.followed = []
         setting_up = mock.Mock(follow=self.followed.append)
         with ExitStack() as stack:
@@ -725,7 +726,26 @@ class Running(WithFiles):
             self.end()
         self.run_bridge(later)
         self.assertEqual(self.read("asked"), "open\n")
-        self.assertIn("it doesn't begin: all stays as it is", self.told.getvalue())
+        self.assertIn("all stays as it is: it doesn't begin", self.told.getvalue())
+
+    @unittest.skipUnless(os.geteuid() == 0, "only root starts a program as another user")
+    def test_page(self):
+        """The page is another user's, is told where to ask, and is ended; where it ends by itself that is told."""
+        os.chmod(self.folder, 0o777)
+        page = self.write("page", f"#!/bin/sh\nid -un > {self.folder}/page-words; echo $* >> {self.folder}/page-words\n"
+                                  "sleep 60 & trap 'kill $!; exit 0' TERM; wait\n", 0o755)
+        with mock.patch.object(serving, "STATUS_PROGRAM", page):
+            self.run_bridge(self.end, port=9617)
+        self.assertEqual(self.read("page-words"), f"nobody\n9617 {self.folder}/phy0.sock\n")
+        self.assertIn(" --alive ", self.read("words"))
+        self.write("page", "#!/bin/sh\nexit 3\n", 0o755)
+        does = SENDS + "; [ $request = open ] && (sleep 0.3; echo alive)"
+        with mock.patch.object(serving, "STATUS_PROGRAM", page):
+            self.run_bridge(self.end, does=does, port=9617)
+        self.assertIn("--status 9617: the page ended with status 3", self.told.getvalue())
+        with mock.patch.object(serving, "STATUS_PROGRAM", f"{page}-is-nowhere"):
+            with self.assertRaisesRegex(Fault, "page-is-nowhere: .*No such file"):
+                self.run_bridge(self.end, port=9617)
 
     def test_tables_by_the_clock(self):
         """--tables asks by itself."""

@@ -361,19 +361,9 @@ impl<P: Port, C: io::Read + std::os::unix::io::AsRawFd> Bridge<P, C> {
             _ => return Ok(()),
         };
         while let Some((place, question)) = clients.next() {
-            match question {
-                Question::Status => clients.wait(place, time),
-                Question::Kick { .. } if !clients.is_root(place) => {
-                    clients.answer(place, &error("only root may kick a station"));
-                }
-                Question::Kick { bssid, station } => {
-                    let outcome = running.kick(bssid, station, time);
-                    let answer = outcome.map_or_else(|fault| error(&fault), |()| "{\"kicked\":true}".to_owned());
-                    clients.answer(place, &answer);
-                }
-                Question::Unknown => {
-                    clients.answer(place, &error("no such question: there are `status` and `kick BSSID ADDRESS`"));
-                }
+            match running.answer(question, clients.is_root(place), time) {
+                Some(answer) => clients.answer(place, &answer),
+                None => clients.wait(place, time),
             }
         }
         let waiting = clients.waiting();
@@ -577,11 +567,20 @@ impl<P: Port> Running<P> {
         }
     }
 
-    /// A station is forgotten, since a person asked for it; an answer where it can't be.
-    fn kick(&mut self, bssid: Address, station: Address, time: Nanos) -> Result<(), String> {
-        let errands = self.operating.kick(bssid, station, time)?;
-        self.run(errands, time);
-        Ok(())
+    /// The answer to a question, or `None` where the program has to be asked first; a station is kicked for root alone.
+    fn answer(&mut self, question: Question, is_root: bool, time: Nanos) -> Option<String> {
+        match question {
+            Question::Status => None,
+            Question::Unknown => Some(error("no such question: there are `status` and `kick BSSID ADDRESS`")),
+            Question::Kick { .. } if !is_root => Some(error("only root may kick a station")),
+            Question::Kick { bssid, station } => match self.operating.kick(bssid, station, time) {
+                Err(fault) => Some(error(&fault)),
+                Ok(errands) => {
+                    self.run(errands, time);
+                    Some("{\"kicked\":true}".to_owned())
+                }
+            },
+        }
     }
 
     /// Takes a line of a table, and answers whether it is to be shown; the stations are those of whole tables.
@@ -853,8 +852,8 @@ fn flow_of_wire(octets: &[u8]) -> Flow {
 mod tests {
     use super::*;
     use crate::faces::Face;
-    use crate::program::Record;
     use crate::own_frames::{deauthentication, departure, INACTIVITY};
+    use crate::program::Record;
     use crate::radiotap::sending_header;
     use crate::samples::{data, radiotap, Unit, OURS, STATION};
     use libc::sock_filter;
@@ -920,7 +919,7 @@ while read -r word rest; do
     esac
 done
 "#;
-    const ANSWER: &str = "b000000002aa000000010200000001010200000001010010000002000000";
+    const ANSWER: &str = "b000000002aa000000010200000001010200000001011000000002000000";
 
     /// A port in place of a packet socket. A radio's shows what is sent by it, where `shows` says so.
     struct FakePort {

@@ -84,8 +84,7 @@ impl Clients {
             }
             let place = self.place_for_one();
             let (input, output) = (Vec::new(), Vec::new());
-            let client =
-                Client { stream, is_root, input, output, wrote: now, waits_since: None, is_blocked: false };
+            let client = Client { stream, is_root, input, output, wrote: now, waits_since: None, is_blocked: false };
             self.clients[place] = Some(client);
             poller.add(descriptor, Token::Client(place), true, false)?;
         }

@@ -56,9 +56,9 @@ fn write_line(line: &str) {
 /// Whether standard error is the journal's: then the variable names its device and inode.
 fn is_journal() -> bool {
     let stream = std::env::var("JOURNAL_STREAM").ok();
-    stream.zip(std::fs::metadata("/proc/self/fd/2").ok()).map_or(false, |(stream, found)| {
-        stream == format!("{}:{}", found.dev(), found.ino())
-    })
+    stream
+        .zip(std::fs::metadata("/proc/self/fd/2").ok())
+        .map_or(false, |(stream, found)| stream == format!("{}:{}", found.dev(), found.ino()))
 }
 
 /// A moment of the wall clock, as `2026-11-25T22:30:50Z`.

@@ -280,7 +280,10 @@ mod tests {
         for (news, wanted) in [
             (News::Joins { aid: 3, listen: 5 }, "joins 02:00:00:00:01:01: identifier 3, listen interval 5"),
             (News::Leaves { reason: 3 }, "leaves 02:00:00:00:01:01: reason 3"),
-            (News::Refused { status: 17, is_association: true }, "is refused by 02:00:00:00:01:01: association, status 17"),
+            (
+                News::Refused { status: 17, is_association: true },
+                "is refused by 02:00:00:00:01:01: association, status 17",
+            ),
             (News::SentAway { reason: 7 }, "is sent away by 02:00:00:00:01:01: reason 7"),
             (
                 News::Forgotten(Forgotten::Silent(61 * SECOND)),

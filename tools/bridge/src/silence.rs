@@ -222,7 +222,8 @@ mod tests {
     #[test]
     fn what_is_asked_in_a_second_is_bounded() {
         let (mut roster, mut silence) = (Roster::new(vec![OURS]), Silence::new(Some(MOST), 1));
-        let flood: Vec<_> = (0..1000u16).map(|number| Address::of([2, 9, 0, 0, (number >> 8) as u8, number as u8])).collect();
+        let flood: Vec<_> =
+            (0..1000u16).map(|number| Address::of([2, 9, 0, 0, (number >> 8) as u8, number as u8])).collect();
         flood.iter().for_each(|address| enter(&mut roster, *address, 0));
         let (mut asked, mut forgotten) = (0, 0);
         for tenth in 0..1200 {

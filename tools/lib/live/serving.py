@@ -102,7 +102,7 @@ class AccessPoint:
                 successor.kill()
                 raise Fault(successor.fault or "the program didn't begin with it")
         except Fault as fault:
-            tell(f"{fault}: all stays as it is", ERROR)
+            tell(f"all stays as it is: {fault}", ERROR)
             self.service.ready("the configuration that was read last has a fault; the one before is served")
             return
         self.bridge.dismiss()

@@ -15,8 +15,9 @@ def is_journal() -> bool:
 
 
 def line_of(text: str, level: int) -> str:
-    """A line of this program, with its level where the journal reads it (sd-daemon(3))."""
-    return f"<{level}>live: {text}" if is_journal() else f"live: {text}"
+    """A line of this program, or several; with its level before each where the journal reads it (sd-daemon(3))."""
+    start = f"<{level}>" if is_journal() else ""
+    return "\n".join(start + line for line in f"live: {text}".split("\n"))
 
 
 def tell(text: str, level: int = NOTICE) -> None:
