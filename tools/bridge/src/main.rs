@@ -5,7 +5,7 @@
 //!      what comes                                                                        the program
 //!
 //!  mon0 ───▶ filter ───▶ recvmmsg ──▶ receiving ──▶ waiting: a lane of   ──▶ Feeder ═══▶ ┌────────────────┐
-//!            (kernel)    64 at most   judged, or    the air and of each      pipe of 32  │                │
+//!            (kernel)    8 at most    judged, or    the air and of each      pipe of 32  │                │
 //!  wire1 ──────────────▶ a call       counted as    wire, which take         events at   │   apctl live   │
 //!  wire2 ──────────────▶              left out      turns; 50 ms at most     most unread │   [--octets]   │
 //!                                                                              ▲         │                │
@@ -13,7 +13,7 @@
 //!                                                                                        │                │
 //!  mon0 ◀──┐                                                                             │                │
 //!  wire1 ◀─┼─ sendmmsg ◀─────── sending: a line for each interface, in order; ◀═════════ │                │
-//!  wire2 ◀─┘  64 at most a call    for the air stations: at which rate,         Answers  └────────────────┘
+//!  wire2 ◀─┘  8 at most a call     for the air stations: at which rate,         Answers  └────────────────┘
 //!  mon0 ───▶ what became of it ──▶ and again where it is lost
 //!  people ◀──────────────────── lines of tables and faults
 //! ```

@@ -12,8 +12,9 @@ use libc::{c_int, c_void, iovec, mmsghdr, sock_filter, sockaddr_ll};
 
 use crate::time::{Nanos, SECOND};
 
-/// How many packets are read or written by one call.
-pub const AT_A_TIME: usize = 64;
+/// How many packets are read or written by one call. Four calls read no more than may wait of one flow
+/// (`waiting::MOST_OF_FLOW`) before the program is given what was read: else bursts, in which TCP sends, would be cut.
+pub const AT_A_TIME: usize = 8;
 /// The octets that are read of a packet: a frame that goes on has fewer, with its header of radiotap.
 const PACKET_LEN: usize = 8192;
 const CONTROL_LEN: usize = 128;
