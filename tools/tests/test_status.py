@@ -18,7 +18,7 @@ from unittest import mock
 from common import TOOLS, ToolTest
 from status import asking, server
 from status.asking import status_of
-from status.document import NO_NAME, Untold, complete, name_of
+from status.document import NO_NAME, NOT_YET, Untold, complete, name_of
 from status.metrics import Family, Kind, metrics_of
 from status.server import MOST_CONNECTIONS, MOST_HEAD, policy_of, serve
 from statuses import FakeBridge, document, line_of, network, only_known, station
@@ -79,6 +79,11 @@ class Names(unittest.TestCase):
             with self.subTest(text=text):
                 self.assertEqual(name_of(text.encode().hex()), shown)
 
+    def test_a_name_that_was_not_told(self):
+        self.assertEqual(name_of(None), NOT_YET)
+        made = complete(document({**network(1, b""), "ssid": None, "counts": {}}), 0)
+        self.assertEqual(samples(parse(metrics_of(made)), "network_stations", ssid=NOT_YET), [0, 0])
+
     def test_every_pair_of_octets_has_a_name_that_can_be_printed(self):
         for pair in range(1 << 16):
             name = name_of(pair.to_bytes(2, "big").hex())
@@ -123,6 +128,8 @@ class Metrics(unittest.TestCase):
         self.assertEqual(samples(self.families, "network_lost_units_total", **guests), [2])
         self.assertEqual(samples(self.families, "network_events_total", ssid=MARKUP.decode()), [], "not known yet")
         self.assertEqual(samples(self.families, "network_stations", ssid=MARKUP.decode()), [0, 0])
+        crowded = parse(metrics_of(complete(document(network(1, b"x", [station(1), only_known(2)], known=5000)), 0)))
+        self.assertEqual(samples(crowded, "network_stations", state="authenticated"), [4999], "not all are listed")
 
     def test_the_numbers_of_stations(self):
         first, second = ({"bssid": "02:00:00:00:01:01", "station": f"02:aa:00:00:00:0{number}"} for number in (1, 2))

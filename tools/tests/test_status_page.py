@@ -99,12 +99,13 @@ class Shown(unittest.TestCase):
         self.look("unfolded")
 
     def test_no_station(self):
-        self.told = document(network(1, b"guests"), network(2, b"office", counts=None))
+        self.told = document(network(1, b"guests"), {**network(2, b"office", counts=None), "ssid": None})
         self.open()
         self.look("none")
         text = self.browser.value(TEXT)
         self.assertEqual(text.count("No station is here."), 2)
         self.assertIn("no counts yet", text)
+        self.assertIn("(name not told yet)", text)
         self.assertEqual(self.browser.faults, [])
 
     def test_a_name_that_is_markup_is_shown_as_it_is(self):
@@ -165,7 +166,7 @@ class Shown(unittest.TestCase):
             [told["address"] for one in self.told["networks"] for told in one["stations"] if told["aid"] is not None])
 
     def test_ten_thousand_strangers_are_counted(self):
-        self.told = document(network(1, b"guests", [station(1), *map(only_known, range(2, 10002))]))
+        self.told = document(network(1, b"guests", [station(1), *map(only_known, range(2, 1001))], known=10001))
         self.open()
         text = self.browser.value(TEXT)
         self.assertIn("10,000 stations that only authenticated", text)

@@ -3,13 +3,11 @@
 Stations are counted by their states; figures of its own has each that is associated. What isn't known (the signal where
 the radio tells none) has no line.
 """
-from collections import Counter
 from collections.abc import Iterator
 from dataclasses import dataclass, field
 
 CONTENT_TYPE = "text/plain; version=0.0.4; charset=utf-8"
 ASSOCIATED = "associated"
-STATES = ("authenticated", ASSOCIATED)
 PER_MILLISECOND = 1e-3
 RATE_UNIT = 62_500  # octets per second: 500 kb/s
 
@@ -107,9 +105,9 @@ def of_networks(networks: list[dict]) -> Iterator[Family]:
         labels = {"bssid": network["bssid"], "ssid": network["name"]}
         for name, family in counts.items():
             family.add((network["counts"] or {}).get(name), **labels)
-        in_state = Counter(station["state"] for station in network["stations"])
-        for state in STATES:
-            stations.add(in_state[state], **labels, state=state)
+        associated = sum(station["state"] == ASSOCIATED for station in network["stations"])
+        stations.add(associated, **labels, state=ASSOCIATED)
+        stations.add(network["known"] - associated, **labels, state="authenticated")
         for status, number in network["refusals"].items():
             refusals.add(number, **labels, status=str(status))
     yield from (*counts.values(), stations, refusals)
