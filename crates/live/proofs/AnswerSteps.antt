@@ -1,4 +1,4 @@
--- Lines that are answered, one after the other.
+-- What is said is answered, one after the other.
 use Rattle.std.proofs.Common.{◌≡◌, ℕ, ◌+◌, ◌≤◌, ◌<◌, ◌^◌, true, false, List, [], ◌∷◌, ◌++◌, Option, Some, None, Result, Ok, Err, map, refl, sym, ap, subst, ◌∙◌, arith, append-nil, get_or, length, suc, zero, Bor, codes, take, drop, take_at}
 use Rattle.std.specs.Prelude.{option_map, decimal}
 use Rattle.std.specs.List.{AllByRecursion}
@@ -16,13 +16,14 @@ use Rattle.trace.specs.declared.fault.LineFault.TheVariants.{TooMany}
 use Rattle.trace.specs.declared.report.buffer.Buffered.{Buffered}
 use Rattle.trace.proofs.BufferSteps.{Puts-then, Puts-nothing, Puts-same}
 use Rattle.live.specs.AnswerText.{answer_text, fault_words}
-use Rattle.live.specs.Answers.{Asked, IsTooLong, ForTables, Says, asks_for_tables, asked_by, Answer, MayAnswer, after_line_from, after_answer, Answers, Replies, Faulty, Unread}
+use Rattle.live.specs.Asked.{Asked, HasFault, ForTables, Says, asks_for_tables, asked_by, asked_in}
+use Rattle.live.specs.Answers.{Answer, MayAnswer, after_line_from, after_answer, Answers, Replies, Faulty, Unread}
 use Rattle.live.specs.Dispatch.{event_at}
 use Rattle.live.specs.Moments.{Moment, one_line_more, bssid_of, bssids_at, Reply, taken_if, after_if}
 use Rattle.live.specs.Networks.{IsMoment, opened}
 use Rattle.live.specs.Output.{AreAnswered}
 use Rattle.live.specs.PartialLine.{line_in}
-use Rattle.live.specs.TextLines.{TextLine, Octets}
+use Rattle.live.specs.TextLines.{Octets}
 use Rattle.live.proofs.IsolationLaws.{bssids-first}
 use Rattle.live.proofs.MoreLines.{joins, texts-join, bssids-answers}
 
@@ -36,12 +37,12 @@ pub asks-else : (bssids : List (List ℕ)) (octets : List ℕ) → asks_for_tabl
     → asked_by bssids (Octets octets) ≡ Says (said_by bssids octets)
 asks-else bssids octets is = rw is refl
 
-pub answered-one : {W : Type 0} (taken : W → Option (List ℕ)) (failed : W → ℕ) (m next : Moment) (line : TextLine)
-    (asked : Asked) (answer : Answer) (old new : Buffered W) → asked_by (bssids_at m) line ≡ asked
-    → MayAnswer m asked answer → next ≡ after_answer m asked answer
+pub answered-one : {W : Type 0} (taken : W → Option (List ℕ)) (failed : W → ℕ) (m next : Moment) (said asked : Asked)
+    (answer : Answer) (old new : Buffered W) → said ≡ asked → MayAnswer m asked answer
+    → next ≡ after_answer m asked answer
     → Puts taken failed old new (answer_text (bssids_at m) (m.lines + 1) answer)
-    → AreAnswered taken failed m next old new (line ∷ [])
-answered-one taken failed m next line asked answer old new is may after puts = record {
+    → AreAnswered taken failed m next old new (said ∷ [])
+answered-one taken failed m next said asked answer old new is may after puts = record {
   answers = answer ∷ [];
   answered =
       subst
@@ -58,13 +59,13 @@ pub answered-none : {W : Type 0} (taken : W → Option (List ℕ)) (failed : W �
 answered-none taken failed m w can = record { answers = []; answered = refl; puts = Puts-nothing w can }
 
 pub answered-then : {W : Type 0} (taken : W → Option (List ℕ)) (failed : W → ℕ) (m between next : Moment)
-    (lines more : List TextLine) (old mid new : Buffered W)
-    → AreAnswered taken failed m between old mid lines → AreAnswered taken failed between next mid new more
-    → AreAnswered taken failed m next old new (lines ++ more)
-answered-then taken failed m between next lines more old mid new a b = record {
+    (said more : List Asked) (old mid new : Buffered W)
+    → AreAnswered taken failed m between old mid said → AreAnswered taken failed between next mid new more
+    → AreAnswered taken failed m next old new (said ++ more)
+answered-then taken failed m between next said more old mid new a b = record {
   answers = a.answers ++ b.answers;
   answered =
-      joins m lines more (a.answers ++ b.answers) next
+      joins m said more (a.answers ++ b.answers) next
       (record {
         some = a.answers;
         others = b.answers;
@@ -73,7 +74,7 @@ answered-then taken failed m between next lines more old mid new a b = record {
         first = a.answered;
         later = b.answered;
       });
-  puts = Puts-same (sym (texts-join m between lines a.answers b.answers a.answered)) (Puts-then a.puts b.puts);
+  puts = Puts-same (sym (texts-join m between said a.answers b.answers a.answered)) (Puts-then a.puts b.puts);
 }
 
 -- ---- what holds between two lines
@@ -103,21 +104,20 @@ few-answer : (m : Moment) (asked : Asked) (answer : Answer) → AreFew m.lines m
 few-answer m (Says (Ok (Some said))) (Replies rs) few = few-line 0 m.lines m.networks said rs few
 few-answer m asked answer few = few-more m.networks m.lines (m.lines + 1) (omega arith) few
 
-few-answers : (m : Moment) (lines : List TextLine) (answers : List Answer) (next : Moment)
-    → Answers m lines answers next → AreFew m.lines m.networks → AreFew next.lines next.networks
+few-answers : (m : Moment) (said : List Asked) (answers : List Answer) (next : Moment)
+    → Answers m said answers next → AreFew m.lines m.networks → AreFew next.lines next.networks
 few-answers m [] [] next h few = subst (λ (o : Moment). AreFew o.lines o.networks) (sym h) few
 few-answers m [] (answer ∷ answers) next h few = absurd h
-few-answers m (line ∷ lines) [] next h few = absurd h
-few-answers m (line ∷ lines) (answer ∷ answers) next h few =
-    let asked : Asked = asked_by (bssids_at m) line in
-    few-answers (after_answer m asked answer) lines answers next h.1 (few-answer m asked answer few)
+few-answers m (asked ∷ said) [] next h few = absurd h
+few-answers m (asked ∷ said) (answer ∷ answers) next h few =
+    few-answers (after_answer m asked answer) said answers next h.1 (few-answer m asked answer few)
 
 pub moment-answered : {W : Type 0} (taken : W → Option (List ℕ)) (failed : W → ℕ) (bssids : List (List ℕ))
-    (m next : Moment) (lines : List TextLine) (old new : Buffered W) → IsMoment bssids m
-    → AreAnswered taken failed m next old new lines → IsMoment bssids next
-moment-answered taken failed bssids m next lines old new h a = record {
-  addresses = h.addresses ∙ sym (bssids-answers m lines a.answers next a.answered);
-  few = few-answers m lines a.answers next a.answered h.few;
+    (m next : Moment) (said : List Asked) (old new : Buffered W) → IsMoment bssids m
+    → AreAnswered taken failed m next old new said → IsMoment bssids next
+moment-answered taken failed bssids m next said old new h a = record {
+  addresses = h.addresses ∙ sym (bssids-answers m said a.answers next a.answered);
+  few = few-answers m said a.answers next a.answered h.few;
 }
 
 -- each network may take an event more
@@ -154,9 +154,9 @@ pub answered-octets : {W : Type 0} (taken : W → Option (List ℕ)) (failed : W
     → number ≡ lines + 1 → asked_by (map bssid_of ns) (Octets octets) ≡ asked → MayAnswer (at lines ns) asked answer
     → at (lines + 1) next ≡ after_answer (at lines ns) asked answer
     → Puts taken failed old new (answer_text (map bssid_of ns) number answer)
-    → AreAnswered taken failed (at lines ns) (at number next) old new (Octets octets ∷ [])
+    → AreAnswered taken failed (at lines ns) (at number next) old new (asked_by (map bssid_of ns) (Octets octets) ∷ [])
 answered-octets taken failed lines number ns next octets asked answer old new count is may after puts =
-    answered-one taken failed (at lines ns) (at number next) (Octets octets) asked answer old new is may
+    answered-one taken failed (at lines ns) (at number next) (asked_by (map bssid_of ns) (Octets octets)) asked answer old new is may
     (ap (λ (k : ℕ). at k next) count ∙ after)
     (Puts-same (ap (λ (k : ℕ). answer_text (map bssid_of ns) k answer) count) puts)
 
@@ -182,13 +182,14 @@ unread-after m (Err fault) = refl
 pub answered-long : {W : Type 0} (taken : W → Option (List ℕ)) (failed : W → ℕ) (lines : ℕ) (ns : List NetworkState)
     (m : Moment) (line : Option (Bor (List ℕ))) (old new : Buffered W) → at lines ns ≡ m → line ≡ None
     → Puts taken failed old new (ended (fault_words (codes "L" ++ decimal (code_of TooMany)) (lines + 1)))
-    → AreAnswered taken failed m (at (lines + 1) ns) old new (line_in (option_map (λ octets. octets.now) line) ∷ [])
+    → AreAnswered taken failed m (at (lines + 1) ns) old new (asked_in m (line_in (option_map (λ octets. octets.now) line) ∷ []))
 answered-long taken failed lines ns m line old new view none puts =
     subst
     (λ (o : Moment).
-    AreAnswered taken failed o (at (lines + 1) ns) old new (line_in (option_map (λ octets. octets.now) line) ∷ []))
+    AreAnswered taken failed o (at (lines + 1) ns) old new (asked_in o (line_in (option_map (λ octets. octets.now) line) ∷ [])))
     view
-    (answered-one taken failed (at lines ns) (at (lines + 1) ns) (line_in (option_map (λ octets. octets.now) line)) IsTooLong
+    (answered-one taken failed (at lines ns) (at (lines + 1) ns)
+    (asked_by (map bssid_of ns) (line_in (option_map (λ octets. octets.now) line))) (HasFault TooMany)
     (Faulty TooMany) old new
     (ap (λ (o : Option (Bor (List ℕ))). asked_by (map bssid_of ns) (line_in (option_map (λ octets. octets.now) o))) none)
     refl
@@ -199,22 +200,22 @@ pub answered-line : {W : Type 0} (taken : W → Option (List ℕ)) (failed : W �
     (ns lent lent' now : List NetworkState) (m : Moment) (line : Option (Bor (List ℕ))) (octets : Bor (List ℕ))
     (old new : Buffered W) → at lines ns ≡ m → line ≡ Some octets → lent ≡ ns → now ≡ lent'
     → ((k : ℕ) → lines + 1 ≡ k + 1
-    → AreAnswered taken failed (at k lent) (at (lines + 1) lent') old new (Octets octets.now ∷ []))
-    → AreAnswered taken failed m (at (lines + 1) now) old new (line_in (option_map (λ octets. octets.now) line) ∷ [])
+    → AreAnswered taken failed (at k lent) (at (lines + 1) lent') old new (asked_by (map bssid_of lent) (Octets octets.now) ∷ []))
+    → AreAnswered taken failed m (at (lines + 1) now) old new (asked_in m (line_in (option_map (λ octets. octets.now) line) ∷ []))
 answered-line taken failed lines ns lent lent' now m line octets old new view some before after answered =
     subst
     (λ (o : Moment).
-    AreAnswered taken failed o (at (lines + 1) now) old new (line_in (option_map (λ octets. octets.now) line) ∷ []))
+    AreAnswered taken failed o (at (lines + 1) now) old new (asked_in o (line_in (option_map (λ octets. octets.now) line) ∷ [])))
     (ap (at lines) before ∙ view)
     (subst
     (λ (ms : List NetworkState).
     AreAnswered taken failed (at lines lent) (at (lines + 1) ms) old new
-    (line_in (option_map (λ octets. octets.now) line) ∷ []))
+    (asked_in (at lines lent) (line_in (option_map (λ octets. octets.now) line) ∷ [])))
     (sym after)
     (subst
     (λ (o : Option (Bor (List ℕ))).
     AreAnswered taken failed (at lines lent) (at (lines + 1) lent') old new
-    (line_in (option_map (λ octets. octets.now) o) ∷ []))
+    (asked_in (at lines lent) (line_in (option_map (λ octets. octets.now) o) ∷ [])))
     (sym some)
     (answered lines refl)))
 

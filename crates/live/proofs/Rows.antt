@@ -16,7 +16,8 @@ use Rattle.trace.specs.Report.{network_line, counts_line, station_line, frame_li
 use Rattle.trace.specs.declared.fault.LineFault.TheVariants.{UnknownKind}
 use Rattle.live.specs.TextLines.{Octets, TooLong, line_with, lines_of_text, partial_in, lines_in, partial_after, last_line}
 use Rattle.live.specs.Moments.{Moment, first_moment, Sends, Refuses, is_past_clock, reply_of, taken_if, after_if}
-use Rattle.live.specs.Answers.{ForTables, Says, asked_by, Answer, Replies, Tables, Unread, MayAnswer, after_answer}
+use Rattle.live.specs.Asked.{ForTables, Says, asked_by}
+use Rattle.live.specs.Answers.{Answer, Replies, Tables, Unread, MayAnswer, after_answer}
 use Rattle.live.specs.AnswerText.{table_text, answer_text, answers_text, live_text}
 
 abbrev cr : List ℕ

@@ -1,5 +1,6 @@
 -- What a run leaves, by how it ended.
 use Rattle.std.proofs.Common.{◌≡◌, ℕ, ◌+◌, List, [], ◌++◌, length, Option, Result, Ok, Err, refl, sym, ap, subst, ◌∙◌, append_assoc, append-nil, arith, inl, inr}
+use Rattle.std.proofs.lemmas.List.{map-append}
 use Rattle.std.proofs.KnownBytes.{Appends-trans, Consumes-nil, Keeps-refl}
 use Rattle.std.specs.Io.KnownBytes.{Appends, Keeps}
 use Rattle.ap_config.specs.declared.config.ConfigFault.{ConfigFault}
@@ -17,13 +18,15 @@ use Rattle.trace.specs.declared.report.ReportFault.TheVariants as reports
 use Rattle.trace.specs.declared.sink.Failed.{Failed}
 use Rattle.live.specs.AnswerText.{tables_text, text_after}
 use Rattle.live.specs.Answers.{Answer, Answers, answers_of}
+use Rattle.live.specs.Asked.{Asked, asked_by, asked_in}
 use Rattle.live.specs.LiveView.{LiveState, TakesEnd, fed, state}
-use Rattle.live.specs.Moments.{Moment, first_moment}
+use Rattle.live.specs.Moments.{Moment, first_moment, bssids_at}
 use Rattle.live.specs.Run.{AnswersAll, AnswersInput, RunsLive, StopsInPiece, StopsReading, Texts, Progress, progress, live_ending, max_reads}
 use Rattle.live.specs.TextLines.{TextLine, Octets, ended_lines, partial_in, last_line, lines_of_text}
 use Rattle.live.specs.declared.fault.LiveFault.{LiveFault}
 use Rattle.live.specs.declared.fault.LiveFault.TheVariants.{Config, NoMemory, Read, Write}
 use Rattle.live.proofs.EnoughMemory.{answers-may}
+use Rattle.live.proofs.FeedSteps.{asked-later}
 use Rattle.live.proofs.MoreLines.{joins, texts-join}
 use Rattle.live.proofs.PieceLines.{all-lines}
 use Rattle.live.proofs.RunSteps.{counted-none, prefix-after, prefix-longer}
@@ -75,39 +78,46 @@ abbrev whole : RadioConfig → List Answer → Moment → List ℕ
 whole c answers last = count_line (length c.networks) ++ text_after (first_moment c) answers ++ tables_text last.networks
 
 said-all : (c : RadioConfig) (ct text : List ℕ) (answers : List Answer) (last : Moment) → configuration_of ct ≡ Ok c
-    → Answers (first_moment c) (lines_of_text text) answers last → AnswersAll (texts ct text) (whole c answers last)
+    → Answers (first_moment c) (asked_in (first_moment c) (lines_of_text text)) answers last → AnswersAll (texts ct text) (whole c answers last)
 said-all c ct text answers last is answered =
     record { config = c; answers = answers; last = last; read = is; answered = answered; said_is = refl }
 
 -- the lines that ended, and then the last one
 all-answered : (m between last : Moment) (text : List ℕ) (partial : TextLine) (some more : List Answer)
-    → Answers m (ended_lines text) some between → partial ≡ partial_in text → Answers between (last_line partial) more last
-    → Answers m (lines_of_text text) (some ++ more) last
+    → Answers m (asked_in m (ended_lines text)) some between → partial ≡ partial_in text
+    → Answers between (asked_in between (last_line partial)) more last
+    → Answers m (asked_in m (lines_of_text text)) (some ++ more) last
 all-answered m between last text partial some more first is later =
-    subst (λ (ls : List TextLine). Answers m ls (some ++ more) last) (sym (all-lines text))
-    (joins m (ended_lines text) (last_line (partial_in text)) (some ++ more) last
+    subst (λ (said : List Asked). Answers m said (some ++ more) last)
+    (sym (map-append (asked_by (bssids_at m)) (ended_lines text) (last_line (partial_in text)))
+    ∙ sym (ap (asked_in m) (all-lines text)))
+    (joins m (asked_in m (ended_lines text)) (asked_in m (last_line (partial_in text))) (some ++ more) last
     (record {
       some = some;
       others = more;
       between = between;
       all = refl;
       first = first;
-      later = subst (λ (b : TextLine). Answers between (last_line b) more last) is later;
+      later =
+          subst (λ (said : List Asked). Answers between said more last)
+          (asked-later m between (asked_in m (ended_lines text)) some (last_line partial) first
+          ∙ ap (λ (b : TextLine). asked_in m (last_line b)) is)
+          later;
     }))
 
 -- its text, which begins with that of the lines that ended
-whole-is : (c : RadioConfig) (between last : Moment) (lines : List TextLine) (some more : List Answer)
-    → Answers (first_moment c) lines some between
+whole-is : (c : RadioConfig) (between last : Moment) (said : List Asked) (some more : List Answer)
+    → Answers (first_moment c) said some between
     → (count_line (length c.networks) ++ text_after (first_moment c) some)
     ++ (text_after between more ++ tables_text last.networks)
     ≡ whole c (some ++ more) last
-whole-is c between last lines some more h =
+whole-is c between last said some more h =
     let count : List ℕ = count_line (length c.networks) in
     let one : List ℕ = text_after (first_moment c) some in
     let two : List ℕ = text_after between more in
     let tables : List ℕ = tables_text last.networks in
     let joined : text_after (first_moment c) (some ++ more) ≡ one ++ two =
-    texts-join (first_moment c) between lines some more h in
+    texts-join (first_moment c) between said some more h in
     sym (append_assoc (count ++ one) two tables)
     ∙ ap (λ (t : List ℕ). t ++ tables) (append_assoc count one two)
     ∙ ap (λ (t : List ℕ). count ++ t ++ tables) (sym joined)
@@ -125,8 +135,8 @@ pub count-runs : (e : ReportFault) (c : RadioConfig) (ct : List ℕ) (source : S
 count-runs reports.NoMemory c ct source old new is part kept = memory-runs ct source old new (kept refl)
 count-runs reports.Write c ct source old new is part kept =
     let m : Moment = first_moment c in
-    let some = answers-may m (lines_of_text []) in
-    let answers : List Answer = answers_of m (lines_of_text []) in
+    let some = answers-may m (asked_in m (lines_of_text [])) in
+    let answers : List Answer = answers_of m (asked_in m (lines_of_text [])) in
     record {
       text = [];
       reads = none-read source WriteFailed refl;
@@ -198,8 +208,8 @@ input-runs Read c ct old mid new live is count s = record {
   };
 }
 input-runs Write c ct old mid new live is count s =
-    let rest = answers-may live.moment (last_line live.partial) in
-    let more : List Answer = answers_of live.moment (last_line live.partial) in
+    let rest = answers-may live.moment (asked_in live.moment (last_line live.partial)) in
+    let more : List Answer = answers_of live.moment (asked_in live.moment (last_line live.partial)) in
     record {
       text = s.text;
       reads = s.reads;
@@ -211,7 +221,7 @@ input-runs Write c ct old mid new live is count s =
             rest.1);
         written =
             subst (AppendsPrefix old.taken new.sink.taken)
-            (whole-is c live.moment rest.0 (ended_lines s.text) s.answers more s.answered)
+            (whole-is c live.moment rest.0 (asked_in (first_moment c) (ended_lines s.text)) s.answers more s.answered)
             (prefix-longer (count_line (length c.networks) ++ text_after (first_moment c) s.answers)
             (text_after live.moment more ++ tables_text rest.0.networks)
             (prefix-after (count_line (length c.networks)) (text_after (first_moment c) s.answers) count s.written));
@@ -246,7 +256,7 @@ end-runs e u c ct old mid read new live is count s t = record {
         t.answered);
     written =
         subst (AppendsPrefix old.taken new.taken)
-        (whole-is c live.moment t.last (ended_lines s.text) s.answers t.answers s.answered)
+        (whole-is c live.moment t.last (asked_in (first_moment c) (ended_lines s.text)) s.answers t.answers s.answered)
         (prefix-after (count_line (length c.networks) ++ text_after (first_moment c) s.answers)
         (text_after live.moment t.answers ++ tables_text t.last.networks)
         (Appends-trans old.taken mid.sink.taken read.sink.taken (count_line (length c.networks))
@@ -289,7 +299,7 @@ whole-runs u v w c ct old mid read new live is count s t = record {
     at_end = s.written.0;
     written =
         subst (Appends old.taken new.taken)
-        (whole-is c live.moment t.last (ended_lines s.text) s.answers t.answers s.answered)
+        (whole-is c live.moment t.last (asked_in (first_moment c) (ended_lines s.text)) s.answers t.answers s.answered)
         (Appends-trans old.taken read.sink.taken new.taken
         (count_line (length c.networks) ++ text_after (first_moment c) s.answers)
         (text_after live.moment t.answers ++ tables_text t.last.networks)

@@ -9,13 +9,16 @@ use Rattle.trace.specs.Streams.{reads_after}
 use Rattle.trace.specs.declared.sink.Failed.{Failed}
 use Rattle.live.specs.AnswerText.{text_after}
 use Rattle.live.specs.Answers.{Answer, Answers}
+use Rattle.live.specs.Asked.{Asked, asked_by, asked_in}
 use Rattle.live.specs.LiveView.{LiveState, TakesPiece, fed}
-use Rattle.live.specs.Moments.{Moment}
+use Rattle.live.specs.Moments.{Moment, bssids_at}
 use Rattle.live.specs.Run.{AnswersInput, Progress, max_reads}
 use Rattle.live.specs.declared.fault.LiveFault.TheVariants.{Write}
 use Rattle.live.specs.TextLines.{TextLine, Octets, ended_lines, partial_in, partial_after, lines_in}
 use Rattle.live.proofs.MoreLines.{joins, texts-join}
+use Rattle.live.proofs.FeedSteps.{asked-later}
 use Rattle.live.proofs.PieceLines.{ended-more, partial-more}
+use Rattle.std.proofs.lemmas.List.{map-append}
 
 -- ---- a prefix
 
@@ -63,7 +66,7 @@ pub record InputSoFar (count : ℕ) (old new : Progress) : Type 0 where
   pub answers : List Answer
   pub took : Consumes old.streams.source.left new.streams.source.left text
   pub counted : new.streams.source.reads ≡ reads_after old.streams.source.reads count
-  pub answered : Answers old.live.moment (ended_lines text) answers new.live.moment
+  pub answered : Answers old.live.moment (asked_in old.live.moment (ended_lines text)) answers new.live.moment
   pub partial : new.live.partial ≡ partial_in text
   pub written : Appends old.streams.sink.taken new.streams.sink.taken (text_after old.live.moment answers)
   pub lines : new.live.moment.lines ≤ 4096 * count
@@ -82,19 +85,25 @@ input-none old partial first = record {
 
 -- the lines of a piece more
 piece-more : (m : Moment) (live live' : LiveState) (text piece : List ℕ) (some more : List Answer)
-    → Answers m (ended_lines text) some live.moment → live.partial ≡ partial_in text
-    → Answers live.moment (lines_in live.partial piece) more live'.moment
-    → Answers m (ended_lines (text ++ piece)) (some ++ more) live'.moment
+    → Answers m (asked_in m (ended_lines text)) some live.moment → live.partial ≡ partial_in text
+    → Answers live.moment (asked_in live.moment (lines_in live.partial piece)) more live'.moment
+    → Answers m (asked_in m (ended_lines (text ++ piece))) (some ++ more) live'.moment
 piece-more m live live' text piece some more first partial later =
-    subst (λ (ls : List TextLine). Answers m ls (some ++ more) live'.moment) (sym (ended-more text piece))
-    (joins m (ended_lines text) (lines_in (partial_in text) piece) (some ++ more) live'.moment
+    subst (λ (said : List Asked). Answers m said (some ++ more) live'.moment)
+    (sym (map-append (asked_by (bssids_at m)) (ended_lines text) (lines_in (partial_in text) piece))
+    ∙ sym (ap (asked_in m) (ended-more text piece)))
+    (joins m (asked_in m (ended_lines text)) (asked_in m (lines_in (partial_in text) piece)) (some ++ more) live'.moment
     (record {
       some = some;
       others = more;
       between = live.moment;
       all = refl;
       first = first;
-      later = subst (λ (b : TextLine). Answers live.moment (lines_in b piece) more live'.moment) partial later;
+      later =
+          subst (λ (said : List Asked). Answers live.moment said more live'.moment)
+          (asked-later m live.moment (asked_in m (ended_lines text)) some (lines_in live.partial piece) first
+          ∙ ap (λ (b : TextLine). asked_in m (lines_in b piece)) partial)
+          later;
     }))
 
 partial-then : (live live' : LiveState) (text piece : List ℕ) → live.partial ≡ partial_in text
@@ -118,7 +127,7 @@ input-more count old mid new piece u s took one few t lines = record {
   partial = partial-then mid.live new.live s.text piece s.partial t.partial;
   written =
       subst (Appends old.streams.sink.taken new.streams.sink.taken)
-      (sym (texts-join old.live.moment mid.live.moment (ended_lines s.text) s.answers t.answers s.answered))
+      (sym (texts-join old.live.moment mid.live.moment (asked_in old.live.moment (ended_lines s.text)) s.answers t.answers s.answered))
       (Appends-trans old.streams.sink.taken mid.streams.sink.taken new.streams.sink.taken
       (text_after old.live.moment s.answers) (text_after mid.live.moment t.answers) s.written t.written);
   lines = omega (arith, s.lines, lines, few);
@@ -147,7 +156,7 @@ input-cut count old mid new piece e s within took one same short t = record {
   partial = partial-then mid.live new.live s.text piece s.partial t.partial;
   written =
       subst (AppendsPrefix old.streams.sink.taken new.streams.sink.taken)
-      (sym (texts-join old.live.moment mid.live.moment (ended_lines s.text) s.answers t.answers s.answered))
+      (sym (texts-join old.live.moment mid.live.moment (asked_in old.live.moment (ended_lines s.text)) s.answers t.answers s.answered))
       (prefix-after (text_after old.live.moment s.answers) (text_after mid.live.moment t.answers) s.written t.written);
   stops = record {
     before = s.text;

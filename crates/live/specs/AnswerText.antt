@@ -9,6 +9,7 @@ use Rattle.trace.specs.Report.{network_line, counts_line, station_line, frame_li
 use Rattle.trace.specs.Texts.{ended}
 use Rattle.trace.specs.TraceText.{code_of}
 use Rattle.live.specs.TextLines.{TextLine}
+use Rattle.live.specs.Asked.{asked_in}
 use Rattle.live.specs.Moments.{Moment, bssids_at, Reply, Sends, Refuses}
 use Rattle.live.specs.Answers.{Answer, Nothing, Replies, Tables, Faulty, Unread, answers_of}
 
@@ -81,4 +82,4 @@ text_after m answers = answers_text (bssids_at m) (m.lines + 1) answers
 
 -- the text of the answers to lines where memory suffices for all of them
 abbrev pub live_text : Moment → List TextLine → List ℕ
-live_text m lines = text_after m (answers_of m lines)
+live_text m lines = text_after m (answers_of m (asked_in m lines))

@@ -2,6 +2,7 @@ pub mod TextLines
 pub mod PartialLine
 pub mod Moments
 pub mod Dispatch
+pub mod Asked
 pub mod Answers
 pub mod AnswerText
 pub mod Own

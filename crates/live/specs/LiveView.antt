@@ -5,6 +5,7 @@ use Rattle.trace.specs.Sinks.{write_ending}
 use Rattle.trace.specs.declared.sink.Failed.{Failed}
 use Rattle.live.specs.AnswerText.{tables_text, text_after}
 use Rattle.live.specs.Answers.{Answer, Answers}
+use Rattle.live.specs.Asked.{asked_in}
 use Rattle.live.specs.Moments.{Moment}
 use Rattle.live.specs.TextLines.{TextLine, partial_after, last_line, lines_in}
 
@@ -28,7 +29,7 @@ fed live taken = record { live = live; taken = taken }
 -- failed, a prefix of them.
 pub record TakesPiece (result : Result Unit Failed) (piece : List ℕ) (old new : Fed) : Type 0 where
   pub answers : List Answer
-  pub answered : Answers old.live.moment (lines_in old.live.partial piece) answers new.live.moment
+  pub answered : Answers old.live.moment (asked_in old.live.moment (lines_in old.live.partial piece)) answers new.live.moment
   pub partial : new.live.partial ≡ partial_after old.live.partial piece
   pub written : Ends write_ending result (Ok (text_after old.live.moment answers)) old.taken new.taken
 
@@ -37,6 +38,6 @@ pub record TakesPiece (result : Result Unit Failed) (piece : List ℕ) (old new 
 pub record TakesEnd (result : Result Unit Failed) (old : Fed) (taken : Option (List ℕ)) : Type 0 where
   pub answers : List Answer
   pub last : Moment
-  pub answered : Answers old.live.moment (last_line old.live.partial) answers last
+  pub answered : Answers old.live.moment (asked_in old.live.moment (last_line old.live.partial)) answers last
   pub written :
       Ends write_ending result (Ok (text_after old.live.moment answers ++ tables_text last.networks)) old.taken taken

@@ -1,4 +1,4 @@
--- What is put into the output about lines, and what becomes of the networks meanwhile.
+-- What is put into the output about what is said, and what becomes of the networks meanwhile.
 use Rattle.std.specs.Prelude.{◌≡◌, ℕ, List, Option, flat_map, map}
 use Rattle.network.specs.NetworkView.{NetworkState}
 use Rattle.events.specs.declared.line.Line.{Line}
@@ -9,7 +9,7 @@ use Rattle.live.specs.AnswerText.{frame_words, reply_text_if, replies_text, text
 use Rattle.live.specs.Answers.{Answer, Answers, MayReplyFrom, after_line_from}
 use Rattle.live.specs.Dispatch.{event_at}
 use Rattle.live.specs.Moments.{Moment, Reply, MayReplyIf, taken_if, after_if, bssid_of}
-use Rattle.live.specs.TextLines.{TextLine}
+use Rattle.live.specs.Asked.{Asked}
 
 -- a line for each frame, after a word that says where it went and the address of its network
 abbrev pub frames_text : List ℕ → List ℕ → List (List ℕ) → List ℕ
@@ -31,9 +31,9 @@ pub record HaveReplied {W : Type 0} (taken : W → Option (List ℕ)) (failed : 
   pub after : next ≡ after_line_from 0 ns line replies
   pub puts : Puts taken failed old new (replies_text number (map bssid_of ns) replies)
 
--- Lines were answered, from one moment to another, and the text of their answers was put.
+-- This was answered, from one moment to another, and the text of the answers was put.
 pub record AreAnswered {W : Type 0} (taken : W → Option (List ℕ)) (failed : W → ℕ) (m next : Moment)
-    (old new : Buffered W) (lines : List TextLine) : Type 0 where
+    (old new : Buffered W) (said : List Asked) : Type 0 where
   pub answers : List Answer
-  pub answered : Answers m lines answers next
+  pub answered : Answers m said answers next
   pub puts : Puts taken failed old new (text_after m answers)

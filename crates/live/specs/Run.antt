@@ -8,6 +8,7 @@ use Rattle.trace.specs.Report.{count_line}
 use Rattle.trace.specs.Streams.{Reads, SinkView, Streams}
 use Rattle.live.specs.AnswerText.{tables_text, text_after}
 use Rattle.live.specs.Answers.{Answer, Answers}
+use Rattle.live.specs.Asked.{asked_in}
 use Rattle.live.specs.Moments.{Moment, first_moment}
 use Rattle.live.specs.TextLines.{ended_lines, lines_of_text, partial_in}
 use Rattle.live.specs.LiveView.{LiveState}
@@ -51,7 +52,7 @@ pub record StopsInPiece (m : Moment) (text : List ℕ) (old new : SinkView) : Ty
   pub short : length piece ≤ 4096
   pub answers : List Answer
   pub between : Moment
-  pub answered : Answers m (ended_lines before) answers between
+  pub answered : Answers m (asked_in m (ended_lines before)) answers between
   pub rest : List ℕ
   pub written : Appends old.taken new.taken (text_after m answers ++ rest)
 
@@ -72,7 +73,7 @@ pub record AnswersInput (result : Result Unit LiveFault) (old new : Progress) : 
   pub text : List ℕ
   pub answers : List Answer
   pub reads : Reads (ending_of live_ending result) max_reads old.streams.source new.streams.source text
-  pub answered : Answers old.live.moment (ended_lines text) answers new.live.moment
+  pub answered : Answers old.live.moment (asked_in old.live.moment (ended_lines text)) answers new.live.moment
   pub partial : new.live.partial ≡ partial_in text
   pub written : WrittenSoFar result (text_after old.live.moment answers) old.streams new.streams
   pub stops : IfErr result (λ fault. StopsWith fault old.live.moment text old.streams new.streams)
@@ -91,7 +92,7 @@ pub record AnswersAll (texts : Texts) (said : List ℕ) : Type 0 where
   pub answers : List Answer
   pub last : Moment
   pub read : configuration_of texts.config ≡ Ok config
-  pub answered : Answers (first_moment config) (lines_of_text texts.lines) answers last
+  pub answered : Answers (first_moment config) (asked_in (first_moment config) (lines_of_text texts.lines)) answers last
   pub said_is : said ≡ count_line (length config.networks) ++ text_after (first_moment config) answers
       ++ tables_text last.networks
 
@@ -101,7 +102,7 @@ pub record AnswersEnded (texts : Texts) (said : List ℕ) : Type 0 where
   pub answers : List Answer
   pub last : Moment
   pub read : configuration_of texts.config ≡ Ok config
-  pub answered : Answers (first_moment config) (ended_lines texts.lines) answers last
+  pub answered : Answers (first_moment config) (asked_in (first_moment config) (ended_lines texts.lines)) answers last
   pub said_is : said ≡ count_line (length config.networks) ++ text_after (first_moment config) answers
 
 -- nothing was read or written

@@ -6,6 +6,7 @@ ghost use Rattle.trace.specs.Buffers.{CanWrite};
 ghost use Rattle.trace.specs.Endings.{failures_of};
 ghost use Rattle.trace.specs.Sinks.{MayFail, write_ending};
 ghost use Rattle.trace.specs.Texts.{LacksLineFeed};
+ghost use Rattle.live.specs.Asked.{asked_in};
 ghost use Rattle.live.specs.LiveView.{TakesPiece, TakesEnd, fed, state};
 ghost use Rattle.live.specs.Moments.{first_moment};
 ghost use Rattle.live.specs.Output.{AreAnswered};
@@ -35,7 +36,8 @@ pub struct Live {
 }
 
 impl Model for Live {
-    ghost use Rattle.live.specs.LiveView.{LiveState};
+    ghost use Rattle.live.specs.Asked.{asked_in};
+ghost use Rattle.live.specs.LiveView.{LiveState};
 
     ghost Value = { LiveState };
 
@@ -151,7 +153,7 @@ fn answer_lines<W: Sink>(
     requires countable { networks.old.lines + length piece.now < 2 ^ 62 }
     requires can_write { CanWrite W.failed out.old }
     ensures answered { AreAnswered W.taken W.failed networks.old networks.new out.old out.new
-        (lines_in partial.old piece.now) }
+        (asked_in networks.old (lines_in partial.old piece.now)) }
     ensures partial { partial.new ≡ partial_after partial.old piece.now }
     ensures lines { networks.new.lines ≤ networks.old.lines + length piece.now }
 {
@@ -174,7 +176,7 @@ fn answer_ended<W: Sink>(
     requires countable { networks.old.lines < 2 ^ 62 }
     requires can_write { CanWrite W.failed out.old }
     ensures answered { AreAnswered W.taken W.failed networks.old networks.new out.old out.new
-        (ended_with partial.old octets.now ∷ []) }
+        (asked_in networks.old (ended_with partial.old octets.now ∷ [])) }
     ensures unended { IsUnended partial.old }
     ensures partial { partial.new ≡ Octets [] }
 {
@@ -191,7 +193,8 @@ fn answer_ended<W: Sink>(
 fn answer_last<W: Sink>(networks: &mut Networks, partial: &PartialLine, out: &mut Buffered<'_, W>)
     requires countable { networks.old.lines < 2 ^ 62 }
     requires can_write { CanWrite W.failed out.old }
-    ensures { AreAnswered W.taken W.failed networks.old networks.new out.old out.new (last_line partial.now) }
+    ensures { AreAnswered W.taken W.failed networks.old networks.new out.old out.new
+        (asked_in networks.old (last_line partial.now)) }
 {
     if partial.is_empty() {
         return;

@@ -5,6 +5,7 @@ ghost use Rattle.std.specs.List.{AllByRecursion};
 ghost use Rattle.std.specs.Str.{bytes_eq};
 ghost use Rattle.ap_config.specs.Configuration.{fault_of, network_fault, setting_fault};
 ghost use Rattle.trace.specs.Buffers.{CanWrite, Puts};
+ghost use Rattle.live.specs.Asked.{asked_in, asked_by};
 ghost use Rattle.live.specs.AnswerText.{tables_text};
 ghost use Rattle.live.specs.Moments.{first_moment, bssid_of};
 ghost use Rattle.live.specs.Networks.{opened};
@@ -79,7 +80,7 @@ impl Networks {
         requires countable { self.old.lines < 2 ^ 62 }
         requires can_write { CanWrite W.failed out.old }
         ensures { AreAnswered W.taken W.failed self.old self.new out.old
-            out.new (line_in (option_map (λ octets. octets.now) line.entry) ∷ []) }
+            out.new (asked_in self.old (line_in (option_map (λ octets. octets.now) line.entry) ∷ [])) }
     {
         self.lines += 1;
         let number = self.lines;
@@ -144,7 +145,7 @@ fn answer_octets<W: Sink>(
     requires can_write { CanWrite W.failed out.old }
     ensures { (lines : ℕ) → number ≡ lines + 1 → AreAnswered W.taken W.failed
         (record { lines = lines; networks = networks.old }) (record { lines = number; networks = networks.new })
-        out.old out.new (Octets line.now ∷ []) }
+        out.old out.new (asked_by (map bssid_of networks.old) (Octets line.now) ∷ []) }
 {
     let content = without_spaces_at_end(line);
     if asks_for_tables(content) {

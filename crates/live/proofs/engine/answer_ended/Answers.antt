@@ -1,4 +1,5 @@
 use Rattle.std.proofs.Common.{[], ◌∷◌, ◌∙◌, ap, subst}
+use Rattle.live.specs.Asked.{asked_in}
 use Rattle.live.specs.Output.{AreAnswered}
 use Rattle.live.specs.PartialLine.{ended_with}
 use Rattle.live.specs.TextLines.{TextLine}
@@ -11,7 +12,7 @@ returns-clause-answered g c =
     (λ (l : TextLine).
     AreAnswered g.W.Sink.taken g.W.Sink.failed c.args.networks.now c.answer-2.new.self c.args.out.now
     c.answer-2.new.out
-    (l ∷ []))
+    (asked_in c.args.networks.now (l ∷ [])))
     (c.ended.ensures ∙ ap (λ (b : TextLine). ended_with b []) c.add.ensures.after
     ∙ ended-after c.args.partial.now c.args.octets.now c.add.ensures.unended c.requires.lacks)
     c.answer-2.ensures

@@ -1,4 +1,5 @@
 use Rattle.std.proofs.Common.{◌≡◌, ◌∙◌, List, [], ◌∷◌, ap, sym, subst}
+use Rattle.live.specs.Asked.{asked_in}
 use Rattle.live.specs.Output.{AreAnswered}
 use Rattle.live.specs.TextLines.{TextLine, Octets}
 use Rattle.live.proofs.FeedSteps.{last-whole}
@@ -11,6 +12,6 @@ returns g c =
     subst
     (λ (ls : List TextLine).
     AreAnswered g.W.Sink.taken g.W.Sink.failed c.args.networks.now c.answer.new.self
-    c.args.out.now c.answer.new.out ls)
+    c.args.out.now c.answer.new.out (asked_in c.args.networks.now ls))
     (ap (λ (l : TextLine). l ∷ []) c.whole.ensures ∙ sym (last-whole c.args.partial.now some))
     c.answer.ensures

@@ -5,7 +5,8 @@ use Rattle.events.specs.declared.line.Line.{Line}
 use Rattle.trace.specs.TraceText.{content_of, said_by, takes_memory}
 use Rattle.trace.specs.declared.fault.LineFault.{LineFault}
 use Rattle.trace.proofs.BufferSteps.{Puts-nothing}
-use Rattle.live.specs.Answers.{asks_for_tables, ForTables, MayBeUnread, Says, Nothing, Replies, Tables, Faulty, Unread}
+use Rattle.live.specs.Asked.{asks_for_tables, ForTables, Says}
+use Rattle.live.specs.Answers.{MayBeUnread, Nothing, Replies, Tables, Faulty, Unread}
 use Rattle.live.specs.Dispatch.{line_as}
 use Rattle.live.proofs.AnswerSteps.{at, answered-octets, asks-tables, asks-content, unread-after}
 use Rattle.live.proofs.UnreadLines.{may-be-unread}
