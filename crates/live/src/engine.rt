@@ -37,7 +37,7 @@ pub struct Live {
 
 impl Model for Live {
     ghost use Rattle.live.specs.Asked.{asked_in};
-ghost use Rattle.live.specs.LiveView.{LiveState};
+    ghost use Rattle.live.specs.LiveView.{LiveState};
 
     ghost Value = { LiveState };
 
