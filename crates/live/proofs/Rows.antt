@@ -18,7 +18,9 @@ use Rattle.live.specs.TextLines.{Octets, TooLong, line_with, lines_of_text, part
 use Rattle.live.specs.Moments.{Moment, first_moment, Sends, Refuses, is_past_clock, reply_of, taken_if, after_if}
 use Rattle.live.specs.Asked.{ForTables, Says, asked_by}
 use Rattle.live.specs.Answers.{Answer, Replies, Tables, Unread, MayAnswer, after_answer}
-use Rattle.live.specs.AnswerText.{table_text, answer_text, answers_text, live_text}
+use Rattle.live.specs.AnswerText.{table_text}
+use Rattle.live.specs.Written.{written_answer, written_answers, live_text}
+use Rattle.live.specs.declared.face.Face.TheVariants.{Lines}
 
 abbrev cr : List ℕ
 cr = 13 ∷ []
@@ -160,7 +162,7 @@ a_tick_is_always_read h = h
 pub and_then_nothing_changes : after_answer start (Says (Ok (Some (line.Air [])))) Unread ≡ record start { lines = 1 }
 and_then_nothing_changes = refl
 
-pub it_is_told_so : answers_text bssids 7 (Unread ∷ []) ≡ codes "fault memory line 7" ++ lf
+pub it_is_told_so : written_answers Lines bssids 7 (Unread ∷ []) ≡ codes "fault memory line 7" ++ lf
 unfolding digits
 it_is_told_so = refl
 
@@ -168,7 +170,7 @@ it_is_told_so = refl
 abbrev refused : Answer
 refused = Replies (Some (Refuses NoMemory) ∷ Some (Sends ((1 ∷ 2 ∷ []) ∷ []) ((3 ∷ []) ∷ [])) ∷ [])
 
-pub a_refusal_is_told_at_its_place : answer_text bssids 7 refused
+pub a_refusal_is_told_at_its_place : written_answer Lines bssids 7 refused
     ≡ codes "fault memory line 7 network 02:00:00:00:00:01" ++ lf
     ++ codes "air 02:00:00:00:00:02 0102"
     ++ lf
@@ -204,7 +206,7 @@ nothing_has_changed_then = refl
 pub one_before_it_is_not_full : is_past_clock (at_clock 4294967294) Tick ≡ false
 one_before_it_is_not_full = refl
 
-pub a_full_clock_is_told : answer_text bssids 7 (Replies (Some (Refuses Clock) ∷ None ∷ []))
+pub a_full_clock_is_told : written_answer Lines bssids 7 (Replies (Some (Refuses Clock) ∷ None ∷ []))
     ≡ codes "fault clock line 7 network 02:00:00:00:00:01" ++ lf
 unfolding digits
 a_full_clock_is_told = refl
