@@ -1,5 +1,5 @@
 -- Lines that end in a piece, one after the other.
-use Rattle.std.proofs.Common.{◌≡◌, ℕ, suc, ◌+◌, ◌-◌, ◌<◌, ◌≤◌, Bool, true, false, List, [], ◌∷◌, ◌++◌, Option, Some}
+use Rattle.std.proofs.Common.{◌≡◌, ℕ, ◌+◌, ◌-◌, ◌<◌, ◌≤◌, Bool, true, false, List, [], ◌∷◌, ◌++◌, Option, Some}
 use Rattle.std.proofs.Common.{refl, sym, ap, subst, ◌∙◌, arith, append-nil, append_assoc, take, drop, length, length-append, length-drop}
 use Rattle.std.specs.Prelude.{nat_lt}
 use Rattle.std.specs.List.{position}
@@ -14,7 +14,7 @@ use Rattle.trace.proofs.TextLemmas.{prefix_lacks}
 use Rattle.live.specs.Output.{AreAnswered}
 use Rattle.live.specs.PartialLine.{ended_with, whole_with, IsUnended}
 use Rattle.live.specs.Asked.{Asked, asked_by, asked_in, asked_by_all}
-use Rattle.live.specs.Answers.{Answer, Answers, after_answer}
+use Rattle.live.specs.Answers.{Answer, Answers}
 use Rattle.live.specs.Moments.{Moment, bssids_at}
 use Rattle.live.specs.TextLines.{TextLine, Octets, TooLong, max_line, line_with, partial_after, lines_in, last_line}
 use Rattle.live.specs.declared.face.Face.TheVariants.{Lines}

@@ -8,7 +8,7 @@ use Rattle.live.specs.LiveView.{Finishes, Takes, TakesEnd, TakesPiece, fed, runn
 use Rattle.live.specs.Moments.{Moment}
 use Rattle.live.specs.Inputs.{line_begun, nothing_begun, face_of, IsUnfinished, IsSaidIn, last_said, IsSaid, IsAllSaid}
 use Rattle.live.specs.Records.{record_asks, records_ask, cut_record}
-use Rattle.live.specs.TextLines.{ended_lines, partial_in, partial_after, lines_in, last_line, lines_of_text}
+use Rattle.live.specs.TextLines.{ended_lines, partial_in, lines_in, last_line}
 use Rattle.live.specs.declared.begun.Begun.{Begun}
 use Rattle.live.specs.declared.begun.Begun.TheVariants.{Line, Record}
 use Rattle.live.specs.declared.face.Face.{Face}

@@ -1,13 +1,10 @@
 -- Records that end in a piece, one after the other.
-use Rattle.std.proofs.Common.{◌≡◌, ℕ, ◌+◌, ◌<◌, ◌≤◌, List, [], ◌∷◌, ◌++◌, length, map, take, drop, take-append-drop, Option}
+use Rattle.std.proofs.Common.{◌≡◌, ℕ, ◌+◌, ◌≤◌, List, [], ◌∷◌, ◌++◌, length, take, drop, take-append-drop, Option}
 use Rattle.std.proofs.Common.{refl, sym, ap, subst, ◌∙◌, arith, append_assoc, append-nil, length-append}
-use Rattle.std.specs.List.{AllByRecursion}
 use Rattle.std.proofs.lemmas.List.{map-append, nil_from_length}
 use Rattle.trace.specs.Buffers.{CanWrite}
 use Rattle.trace.specs.declared.report.buffer.Buffered.{Buffered}
-use Rattle.live.specs.Answers.{Answer, Answers}
 use Rattle.live.specs.Asked.{Asked, asked_in}
-use Rattle.live.specs.Inputs.{IsSaidIn}
 use Rattle.live.specs.Moments.{Moment, bssids_at}
 use Rattle.live.specs.Output.{AnswersPiece, AnswersRecords, AreAnswered}
 use Rattle.live.specs.Records.{IsBegun, IsRecord, all_octets, record_asks, records_ask}

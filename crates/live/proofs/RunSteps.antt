@@ -1,11 +1,10 @@
 -- What was read of an input, and the answers to what was said in it.
 use Rattle.std.specs.Prelude.{max, min}
 use Rattle.std.proofs.Common.{◌≡◌, ℕ, ◌+◌, ◌-◌, ◌*◌, ◌^◌, ◌≤◌, List, [], ◌++◌, length, Option, Ok, Err}
-use Rattle.std.proofs.Common.{refl, sym, ap, subst, ◌∙◌, arith, length-append, append_assoc}
+use Rattle.std.proofs.Common.{refl, sym, ap, subst, ◌∙◌, arith, append_assoc}
 use Rattle.std.proofs.KnownBytes.{Appends-nil, Appends-trans, Consumes-nil, Consumes-trans}
 use Rattle.std.specs.Io.KnownBytes.{Appends, Consumes}
-use Rattle.trace.specs.Endings.{AppendsPrefix, Ends}
-use Rattle.trace.specs.Sinks.{write_ending}
+use Rattle.trace.specs.Endings.{AppendsPrefix}
 use Rattle.trace.specs.Streams.{reads_after}
 use Rattle.trace.specs.declared.sink.Failed.{Failed}
 use Rattle.live.specs.Answers.{Answer, Answers}

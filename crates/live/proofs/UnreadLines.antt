@@ -1,12 +1,11 @@
 -- Which lines may stay unread where memory runs out.
-use Rattle.std.proofs.Common.{◌≡◌, ℕ, Bool, true, false, List, [], ◌∷◌, length, Option, Some, None, Result, Ok, Err, refl, codes}
+use Rattle.std.proofs.Common.{◌≡◌, ℕ, Bool, true, false, List, length, Option, Some, None, Result, Ok, Err, refl, codes}
 use Rattle.std.specs.Prelude.{nat_lt, if◌then◌else◌}
 use Rattle.std.specs.Option.{ok_or}
 use Rattle.std.specs.Str.{bytes_eq}
 use Rattle.hex.specs.Hex.{decode_of}
 use Rattle.hex.specs.declared.error.FromHexError.{FromHexError}
 use Rattle.mac_frame.specs.Address.{address_of}
-use Rattle.events.specs.declared.line.Line.{Line}
 use Rattle.events.specs.declared.line.Line.TheVariants.{Air, Wire}
 use Rattle.trace.specs.Faults.{◌>>=◌}
 use Rattle.trace.specs.TraceText.{max_octets, within_limit, octets_of, digits_of, place_with, place_named, is_skipped, first_word, after_first_word, without_spaces_at_start, content_of, said_by, takes_memory, without_spaces_at_end}

@@ -4,7 +4,6 @@ use Rattle.network.specs.NetworkView.{NetworkState}
 use Rattle.trace.specs.Report.{count_line}
 use Rattle.trace.specs.Texts.{ended}
 use Rattle.trace.specs.TraceText.{code_of}
-use Rattle.trace.specs.declared.fault.LineFault.{LineFault}
 use Rattle.live.specs.AnswerOctets.{count_record, record_fault, reply_octets, tables_octets, told}
 use Rattle.live.specs.AnswerText.{fault_words, reply_text, tables_text}
 use Rattle.live.specs.Answers.{Answer, Nothing, Replies, Tables, Faulty, Unread, answers_of}

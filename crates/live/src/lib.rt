@@ -38,7 +38,8 @@ mod written;
 
 pub use fault::LiveFault;
 pub use laws::{
-    as_replayed, enough_memory, isolation, lines_come_in_pieces, more_lines, records_come_in_pieces, two_inputs,
+    as_replayed, enough_memory, isolation, lines_come_in_pieces, more_lines,
+    records_come_in_pieces, two_inputs,
 };
 pub use live_lines::Live;
 pub use run::{live, live_octets};

@@ -60,7 +60,11 @@ fn answer_ended<W: Sink>(
 }
 
 /// Answers the last line, if one has begun.
-pub fn answer_last_line<W: Sink>(networks: &mut Networks, partial: &PartialLine, out: &mut Buffered<'_, W>)
+pub fn answer_last_line<W: Sink>(
+    networks: &mut Networks,
+    partial: &PartialLine,
+    out: &mut Buffered<'_, W>,
+)
     requires countable { networks.old.lines < 2 ^ 62 }
     requires can_write { CanWrite W.failed out.old }
     ensures { AreAnswered W.taken W.failed faces.Lines networks.old networks.new out.old out.new

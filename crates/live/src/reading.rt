@@ -81,13 +81,7 @@ pub fn read_record(alloc: Global, bssids: &[MacAddr], octets: &[u8]) -> Reading
 }
 
 /// What a record of this kind says.
-fn read_kind(
-    alloc: Global,
-    bssids: &[MacAddr],
-    kind: u8,
-    bssid: MacAddr,
-    octets: &[u8],
-) -> Reading
+fn read_kind(alloc: Global, bssids: &[MacAddr], kind: u8, bssid: MacAddr, octets: &[u8]) -> Reading
     ensures { IsReading result (kind_asks bssids.now kind bssid octets.now) }
 {
     match kind {

@@ -180,12 +180,7 @@ pub fn put_sent<W: Sink>(out: &mut Buffered<'_, W>, bssid: MacAddr, sent: &Sent)
 }
 
 /// Puts the record of a frame, if there is one.
-fn put_frame_if<W: Sink>(
-    out: &mut Buffered<'_, W>,
-    kind: u8,
-    bssid: &[u8],
-    frame: Option<&Octets>,
-)
+fn put_frame_if<W: Sink>(out: &mut Buffered<'_, W>, kind: u8, bssid: &[u8], frame: Option<&Octets>)
     requires { CanWrite W.failed out.old }
     ensures { Puts W.taken W.failed out.old out.new
         (frames_octets kind bssid.now (option_to_list (option_map (λ octets. octets.now) frame.entry))) }

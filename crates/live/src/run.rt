@@ -123,7 +123,6 @@ fn write_count_record<W: Sink>(count: usize, out: &mut W) -> Result<(), ReportFa
     Ok(())
 }
 
-
 /// Answers what ends in what a source has left, of a piece before the next is read.
 fn answer_input<R: Source, W: Sink>(
     engine: &mut Engine,

@@ -5,7 +5,6 @@ use Rattle.trace.specs.Endings.{failures_of}
 use Rattle.trace.specs.Sinks.{write_ending}
 use Rattle.trace.proofs.BufferSteps.{Puts-then, Puts-flushed}
 use Rattle.live.specs.LiveView.{Finishes, running}
-use Rattle.live.specs.Inputs.{face_of}
 use Rattle.live.specs.Written.{written_tables}
 use Rattle.std.proofs.Common.{ap}
 use Rattle.trace.proofs.BufferSteps.{Puts-same}

@@ -1,8 +1,8 @@
-use Rattle.std.proofs.Common.{◌≡◌, refl, ap, sym, subst, Some, None, Ok, Err, List, ℕ, ◌+◌}
+use Rattle.std.proofs.Common.{refl, ap, subst, Some, None, Ok, List, ◌+◌}
 use Rattle.trace.proofs.BufferSteps.{Puts-nothing}
 use Rattle.network.specs.NetworkView.{NetworkState}
 use Rattle.live.specs.Answers.{Nothing, Replies, Tables, Unread}
-use Rattle.live.specs.Asked.{Asked, ForTables, Says}
+use Rattle.live.specs.Asked.{ForTables, Says}
 use Rattle.live.specs.Dispatch.{line_as}
 use Rattle.live.specs.Readings.{IsReading}
 use Rattle.live.specs.declared.reading.Reading.{Reading}

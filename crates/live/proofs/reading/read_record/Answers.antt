@@ -1,4 +1,4 @@
-use Rattle.std.proofs.Common.{◌≡◌, ℕ, List, drop, subst}
+use Rattle.std.proofs.Common.{ℕ, List, drop, subst}
 use Rattle.std.specs.Prelude.{slice_index}
 use Rattle.std.proofs.lemmas.List.{take_rest}
 use Rattle.live.specs.Readings.{IsReading}

@@ -1,4 +1,4 @@
-use Rattle.std.proofs.Common.{◌≡◌, ◌∙◌, ap, append_assoc}
+use Rattle.std.proofs.Common.{◌≡◌, ap, append_assoc}
 use Rattle.mac_frame.specs.Address.{address_text}
 use Rattle.live.specs.AnswerOctets.{told}
 use Rattle.trace.proofs.BufferSteps.{Puts-same}

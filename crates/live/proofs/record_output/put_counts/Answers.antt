@@ -1,6 +1,5 @@
 use Rattle.std.proofs.Common.{◌≡◌, ◌∙◌, ap, append_assoc}
 use Rattle.std.specs.Fmt.{decimal}
-use Rattle.mac_frame.specs.Address.{address_text}
 use Rattle.live.specs.AnswerOctets.{told}
 use Rattle.trace.proofs.BufferSteps.{Puts-same}
 use Rattle.trace.specs.Report.{counts_line}

@@ -1,7 +1,7 @@
-use Rattle.std.proofs.Common.{◌≡◌, ◌∙◌, ◌≤◌, ◌++◌, ℕ, List, [], ◌∷◌, length, arith, sym, subst}
+use Rattle.std.proofs.Common.{◌≤◌, ◌++◌, ℕ, List, [], ◌∷◌, length, arith, sym, subst}
 use Rattle.live.specs.Moments.{bssids_at}
 use Rattle.live.specs.Output.{AreAnswered}
-use Rattle.live.specs.Records.{IsBegun, IsRecord, lacking, records_ask}
+use Rattle.live.specs.Records.{IsBegun, IsRecord, records_ask}
 use Rattle.live.specs.declared.face.Face.TheVariants.{Records}
 use Rattle.live.proofs.RecordLaws.{begun-on}
 use Rattle.live.proofs.RecordSteps.{parts-are, records-front, records-added, records-whole}
@@ -38,7 +38,7 @@ returns-else-is_whole-clause-answers g c =
     let few : length more ≤ c.lacking.result = omega (arith, c.split_at.ensures.front_len, c.min.ensures) in
     let not : IsRecord (c.args.partial.now ++ more) → ⊥ =
     λ (e : IsRecord (c.args.partial.now ++ more)).
-        let yes = c.is_whole.ensures.1 (subst IsRecord (sym c.add.ensures) e) in cc (yes, c.if-is_whole.false) in
+    let yes = c.is_whole.ensures.1 (subst IsRecord (sym c.add.ensures) e) in cc (yes, c.if-is_whole.false) in
     records-added _ _ c.args.networks.now _ c.args.partial.now more c.add.new.self c.args.piece.now c.split_at.result.1.now
     c.requires.can_write c.add.ensures front
     (subst IsBegun (sym c.add.ensures)

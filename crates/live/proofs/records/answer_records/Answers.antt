@@ -21,6 +21,8 @@ loop-rest-preserved g c =
     c.loop-rest.invariant c.answer_next-rest.ensures.answers
 
 pub returns : goal.returns
-returns g c =
-    records-all _ _ c.args.networks.now _ _ _ c.args.partial.now _ _ c.loop-rest.rest.now
-    (eqb-true _ _ (sym c.is_empty.ensures ∙ c.loop-rest-test.false)) c.loop-rest.invariant
+returns g c = record {
+  answers =
+      records-all _ _ c.args.networks.now _ _ _ c.args.partial.now _ _ c.loop-rest.rest.now
+      (eqb-true _ _ (sym c.is_empty.ensures ∙ c.loop-rest-test.false)) c.loop-rest.invariant;
+}
