@@ -6,10 +6,10 @@ use Rattle.network.specs.NetworkView.{NetworkState}
 use Rattle.events.specs.declared.event.Event.{Event}
 use Rattle.events.specs.declared.line.Line.{Line}
 use Rattle.network.specs.declared.network.NetworkRefusal.TheVariants.{NoMemory, Clock}
-use Rattle.live.specs.TextLines.{TextLine}
 use Rattle.live.specs.Dispatch.{event_at}
-use Rattle.live.specs.Moments.{Moment, bssids_at, Reply, Sends, Refuses, is_past_clock, reply_of, MayReply, reply_if, MayReplyIf}
-use Rattle.live.specs.Answers.{Asked, IsTooLong, ForTables, Says, asked_by, Answer, Replies, Unread, replies_from, MayReplyFrom, answer_of, MayAnswer, after_answer, Answers, answers_of, HasMemory, IsUnrefused, AreUnrefused}
+use Rattle.live.specs.Moments.{Moment, Reply, Sends, Refuses, is_past_clock, reply_of, MayReply, reply_if, MayReplyIf}
+use Rattle.live.specs.Asked.{Asked, HasFault, ForTables, Says}
+use Rattle.live.specs.Answers.{Answer, Replies, Unread, replies_from, MayReplyFrom, answer_of, MayAnswer, after_answer, Answers, answers_of, HasMemory, IsUnrefused, AreUnrefused}
 
 -- ---- what must be
 
@@ -41,16 +41,15 @@ answer-only m (Says (Ok (Some line))) (Replies rs) h k =
 answer-only m asked Unread h k = absurd k
 answer-only m asked answer h k = h
 
-pub answers-only : (m : Moment) (lines : List TextLine) (answers : List Answer) (next : Moment)
-    → Answers m lines answers next → AreUnrefused answers → answers ≡ answers_of m lines
+pub answers-only : (m : Moment) (said : List Asked) (answers : List Answer) (next : Moment)
+    → Answers m said answers next → AreUnrefused answers → answers ≡ answers_of m said
 answers-only m [] [] next h k = refl
 answers-only m [] (answer ∷ answers) next h k = absurd h
-answers-only m (line ∷ lines) [] next h k = absurd h
-answers-only m (line ∷ lines) (answer ∷ answers) next h k =
-    let asked : Asked = asked_by (bssids_at m) line in
-    ap (λ (rest : List Answer). answer ∷ rest) (answers-only (after_answer m asked answer) lines answers next h.1 k.1)
+answers-only m (asked ∷ said) [] next h k = absurd h
+answers-only m (asked ∷ said) (answer ∷ answers) next h k =
+    ap (λ (rest : List Answer). answer ∷ rest) (answers-only (after_answer m asked answer) said answers next h.1 k.1)
     ∙ ap
-    (λ (a : Answer). a ∷ answers_of (after_answer m asked a) lines)
+    (λ (a : Answer). a ∷ answers_of (after_answer m asked a) said)
     (answer-only m asked answer h.0 k.0)
 
 -- ---- that it may be
@@ -71,15 +70,14 @@ line-may place [] line = refl
 line-may place (n ∷ ns) line = (reply-if-may n (event_at place n line), line-may (place + 1) ns line)
 
 answer-may : (m : Moment) (asked : Asked) → MayAnswer m asked (answer_of m asked)
-answer-may m IsTooLong = refl
+answer-may m (HasFault fault) = refl
 answer-may m ForTables = refl
 answer-may m (Says (Ok None)) = refl
 answer-may m (Says (Ok (Some line))) = line-may 0 m.networks line
 answer-may m (Says (Err fault)) = refl
 
-pub answers-may : (m : Moment) (lines : List TextLine) → (next : Moment) × Answers m lines (answers_of m lines) next
+pub answers-may : (m : Moment) (said : List Asked) → (next : Moment) × Answers m said (answers_of m said) next
 answers-may m [] = (m, refl)
-answers-may m (line ∷ lines) =
-    let asked : Asked = asked_by (bssids_at m) line in
-    let on = answers-may (after_answer m asked (answer_of m asked)) lines in
+answers-may m (asked ∷ said) =
+    let on = answers-may (after_answer m asked (answer_of m asked)) said in
     (on.0, (answer-may m asked, on.1))

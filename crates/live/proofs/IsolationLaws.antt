@@ -9,10 +9,9 @@ use Rattle.ap_config.specs.Places.{network_at, setting_in, setting_at, no_networ
 use Rattle.ap_config.specs.declared.config.NetConfig.{NetConfig}
 use Rattle.ap_config.specs.declared.config.RadioConfig.{RadioConfig}
 use Rattle.events.specs.declared.event.Event.{Event}
-use Rattle.trace.specs.TraceText.{bssids_of}
-use Rattle.live.specs.TextLines.{TextLine}
-use Rattle.live.specs.Moments.{Moment, first_moment, bssid_of, bssids_at}
-use Rattle.live.specs.Answers.{Asked, IsTooLong, ForTables, Says, asked_by, Answer, Tables, MayAnswer, after_answer, Answers}
+use Rattle.live.specs.Moments.{Moment, first_moment, bssid_of}
+use Rattle.live.specs.Asked.{Asked, HasFault, ForTables, Says}
+use Rattle.live.specs.Answers.{Answer, Tables, MayAnswer, after_answer, Answers}
 use Rattle.live.specs.Own.{events_at, air_at, wire_at, alone_after, IsAlone, AreAlike}
 use Rattle.live.proofs.OwnSteps.{AloneLaws, alone_after-none}
 use Rattle.live.proofs.OwnLines.{OwnAlone, own}
@@ -34,58 +33,57 @@ network-first c place within =
 
 -- ---- after some lines
 
-own-alone : AloneLaws → (c : RadioConfig) (lines : List TextLine) (answers : List Answer) (next : Moment) (place : ℕ)
-    → place < length c.networks → Answers (first_moment c) lines answers next
-    → OwnAlone (setting_at c place) place (bssids_of c) [] lines answers next
-own-alone laws c lines answers next place within h =
+own-alone : AloneLaws → (c : RadioConfig) (said : List Asked) (answers : List Answer) (next : Moment) (place : ℕ)
+    → place < length c.networks → Answers (first_moment c) said answers next
+    → OwnAlone (setting_at c place) place [] said answers next
+own-alone laws c said answers next place within h =
     let s : Setting = setting_at c place in
-    let there = own laws s place (first_moment c) [] lines answers next h
-    (network-first c place within ∙ ap (λ (n : NetworkState). Some n) (sym (alone_after-none laws s))) in
-    subst (λ (bs : List (List ℕ)). OwnAlone s place bs [] lines answers next) (bssids-first c c.networks) there
+    own laws s place (first_moment c) [] said answers next h
+    (network-first c place within ∙ ap (λ (n : NetworkState). Some n) (sym (alone_after-none laws s)))
 
 -- ---- the tables that were asked for
 
 tables-are : (m : Moment) (asked : Asked) (networks : List NetworkState) → MayAnswer m asked (Tables networks)
     → networks ≡ m.networks
-tables-are m IsTooLong networks h = cc
+tables-are m (HasFault fault) networks h = cc
 tables-are m ForTables networks h = cc
 tables-are m (Says (Ok None)) networks h = cc
 tables-are m (Says (Ok (Some line))) networks h = cc
 tables-are m (Says (Err fault)) networks h = cc
 
--- they are those of the moment to which the lines before led
-tables-at : (m next : Moment) (lines : List TextLine) (answers : List Answer) (k : ℕ) (networks : List NetworkState)
-    → Answers m lines answers next → slice_get answers k ≡ Some (Tables networks)
-    → (between : Moment) × Answers m (take k lines) (take k answers) between × (networks ≡ between.networks)
+-- they are those of the moment to which what was said before led
+tables-at : (m next : Moment) (said : List Asked) (answers : List Answer) (k : ℕ) (networks : List NetworkState)
+    → Answers m said answers next → slice_get answers k ≡ Some (Tables networks)
+    → (between : Moment) × Answers m (take k said) (take k answers) between × (networks ≡ between.networks)
 tables-at m next [] [] k networks h e = absurd (cc)
 tables-at m next [] (answer ∷ answers) k networks h e = absurd h
-tables-at m next (line ∷ lines) [] k networks h e = absurd h
-tables-at m next (line ∷ lines) (answer ∷ answers) zero networks h e =
+tables-at m next (asked ∷ said) [] k networks h e = absurd h
+tables-at m next (asked ∷ said) (answer ∷ answers) zero networks h e =
     let is : answer ≡ Tables networks = cc in (
       m,
       refl,
-      tables-are m (asked_by (bssids_at m) line) networks
-          (subst (λ (a : Answer). MayAnswer m (asked_by (bssids_at m) line) a) is h.0),
+      tables-are m asked networks
+          (subst (λ (a : Answer). MayAnswer m asked a) is h.0),
     )
-tables-at m next (line ∷ lines) (answer ∷ answers) (suc k) networks h e =
-    let on = tables-at (after_answer m (asked_by (bssids_at m) line) answer) next lines answers k networks h.1 e in
+tables-at m next (asked ∷ said) (answer ∷ answers) (suc k) networks h e =
+    let on = tables-at (after_answer m asked answer) next said answers k networks h.1 e in
     (on.0, (h.0, on.1), on.2)
 
 -- ---- the law
 
-pub is-alone : AloneLaws → (c : RadioConfig) (lines : List TextLine) (answers : List Answer) (next : Moment) (place : ℕ)
-    → place < length c.networks → Answers (first_moment c) lines answers next → IsAlone c place lines answers next
-is-alone laws c lines answers next place within h =
+pub is-alone : AloneLaws → (c : RadioConfig) (said : List Asked) (answers : List Answer) (next : Moment) (place : ℕ)
+    → place < length c.networks → Answers (first_moment c) said answers next → IsAlone c place said answers next
+is-alone laws c said answers next place within h =
     let s : Setting = setting_at c place in
-    let all = own-alone laws c lines answers next place within h in
+    let all = own-alone laws c said answers next place within h in
     record {
       air = sym (all.air ∙ ap (λ (n : Network). n.air ++ air_at place answers) (laws.first s));
       wire = sym (all.wire ∙ ap (λ (n : Network). n.wire ++ wire_at place answers) (laws.first s));
       last = all.there;
       asked = λ k networks e.
-          let at = tables-at (first_moment c) next lines answers k networks h e in
+          let at = tables-at (first_moment c) next said answers k networks h e in
           ap (λ (ns : List NetworkState). slice_get ns place) at.2
-          ∙ (own-alone laws c (take k lines) (take k answers) at.0 place within at.1).there;
+          ∙ (own-alone laws c (take k said) (take k answers) at.0 place within at.1).there;
     }
 
 -- ---- two inputs
@@ -99,23 +97,23 @@ setting-alike c d p q channel interval network =
 
 abbrev pub Isolated : Type 0
 Isolated =
-    (c : RadioConfig) (lines : List TextLine) (answers : List Answer) (next : Moment) (place : ℕ)
-    → place < length c.networks → Answers (first_moment c) lines answers next → IsAlone c place lines answers next
+    (c : RadioConfig) (said : List Asked) (answers : List Answer) (next : Moment) (place : ℕ)
+    → place < length c.networks → Answers (first_moment c) said answers next → IsAlone c place said answers next
 
-pub alike : Isolated → (c d : RadioConfig) (lines others : List TextLine) (answers replies : List Answer)
-    (next after : Moment) (p q : ℕ) → AreAlike c d lines others answers replies p q
-    → Answers (first_moment c) lines answers next → Answers (first_moment d) others replies after
+pub alike : Isolated → (c d : RadioConfig) (said others : List Asked) (answers replies : List Answer)
+    (next after : Moment) (p q : ℕ) → AreAlike c d said others answers replies p q
+    → Answers (first_moment c) said answers next → Answers (first_moment d) others replies after
     → (air_at p answers ≡ air_at q replies) × (wire_at p answers ≡ wire_at q replies)
     × (slice_get next.networks p ≡ slice_get after.networks q)
-alike isolated c d lines others answers replies next after p q h first second =
-    let one = isolated c lines answers next p h.here first in
+alike isolated c d said others answers replies next after p q h first second =
+    let one = isolated c said answers next p h.here first in
     let two = isolated d others replies after q h.there second in
     let s = setting-alike c d p q h.channel h.interval h.network in
-    let network : alone (setting_at c p) (events_at c p lines answers) ≡ alone (setting_at d q) (events_at d q others replies) =
-    ap (λ (t : Setting). alone t (events_at c p lines answers)) s
+    let network : alone (setting_at c p) (events_at c p said answers) ≡ alone (setting_at d q) (events_at d q others replies) =
+    ap (λ (t : Setting). alone t (events_at c p said answers)) s
     ∙ ap (λ (es : List Event). alone (setting_at d q) es) h.events in
-    let state : alone_after (setting_at c p) (events_at c p lines answers) ≡ alone_after (setting_at d q) (events_at d q others replies) =
-    ap (λ (t : Setting). alone_after t (events_at c p lines answers)) s
+    let state : alone_after (setting_at c p) (events_at c p said answers) ≡ alone_after (setting_at d q) (events_at d q others replies) =
+    ap (λ (t : Setting). alone_after t (events_at c p said answers)) s
     ∙ ap (λ (es : List Event). alone_after (setting_at d q) es) h.events in (
       one.air ∙ ap (λ (n : Network). n.air) network ∙ sym two.air,
       one.wire ∙ ap (λ (n : Network). n.wire) network ∙ sym two.wire,

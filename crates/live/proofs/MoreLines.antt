@@ -1,15 +1,16 @@
--- The answers to lines, and then to others.
-use Rattle.std.proofs.Common.{◌≡◌, ℕ, ◌+◌, List, [], ◌∷◌, ◌++◌, length, Some, Ok}
+-- The answers to what is said, and then to more.
+use Rattle.std.proofs.Common.{◌≡◌, ℕ, suc, ◌+◌, List, [], ◌∷◌, ◌++◌, length, Some, Ok}
 use Rattle.std.proofs.Common.{refl, sym, ap, subst, ◌∙◌, arith, append_assoc}
-use Rattle.live.specs.TextLines.{TextLine}
 use Rattle.live.specs.Moments.{Moment, bssids_at}
-use Rattle.live.specs.Answers.{Asked, Says, asked_by, Answer, Replies}
+use Rattle.live.specs.Asked.{Asked, Says}
+use Rattle.live.specs.Answers.{Answer, Replies}
 use Rattle.live.specs.Answers.{after_answer, Answers, Begins}
-use Rattle.live.specs.AnswerText.{answer_text, answers_text, text_after}
+use Rattle.live.specs.Written.{written_answer, written_answers, written_after}
+use Rattle.live.specs.declared.face.Face.{Face}
 use Rattle.live.proofs.OwnLines.{bssids-answer}
 
-pub begins : (m : Moment) (lines more : List TextLine) (answers : List Answer) (next : Moment)
-    → Answers m (lines ++ more) answers next → Begins m lines more answers next
+pub begins : (m : Moment) (said more : List Asked) (answers : List Answer) (next : Moment)
+    → Answers m (said ++ more) answers next → Begins m said more answers next
 begins m [] more answers next h = record {
   some = [];
   others = answers;
@@ -18,9 +19,9 @@ begins m [] more answers next h = record {
   first = refl;
   later = h;
 }
-begins m (line ∷ lines) more [] next h = absurd h
-begins m (line ∷ lines) more (answer ∷ answers) next h =
-    let on = begins (after_answer m (asked_by (bssids_at m) line) answer) lines more answers next h.1 in
+begins m (asked ∷ said) more [] next h = absurd h
+begins m (asked ∷ said) more (answer ∷ answers) next h =
+    let on = begins (after_answer m asked answer) said more answers next h.1 in
     record {
       some = answer ∷ on.some;
       others = on.others;
@@ -30,73 +31,86 @@ begins m (line ∷ lines) more (answer ∷ answers) next h =
       later = on.later;
     }
 
-join-both : (m between next : Moment) (lines more : List TextLine) (some others : List Answer)
-    → Answers m lines some between → Answers between more others next → Answers m (lines ++ more) (some ++ others) next
+join-both : (m between next : Moment) (said more : List Asked) (some others : List Answer)
+    → Answers m said some between → Answers between more others next → Answers m (said ++ more) (some ++ others) next
 join-both m between next [] more [] others h k = subst (λ (o : Moment). Answers o more others next) h k
 join-both m between next [] more (answer ∷ some) others h k = absurd h
-join-both m between next (line ∷ lines) more [] others h k = absurd h
-join-both m between next (line ∷ lines) more (answer ∷ some) others h k =
-    (h.0, join-both (after_answer m (asked_by (bssids_at m) line) answer) between next lines more some others h.1 k)
+join-both m between next (asked ∷ said) more [] others h k = absurd h
+join-both m between next (asked ∷ said) more (answer ∷ some) others h k =
+    (h.0, join-both (after_answer m asked answer) between next said more some others h.1 k)
 
-pub joins : (m : Moment) (lines more : List TextLine) (answers : List Answer) (next : Moment)
-    → Begins m lines more answers next → Answers m (lines ++ more) answers next
-joins m lines more answers next b =
+pub joins : (m : Moment) (said more : List Asked) (answers : List Answer) (next : Moment)
+    → Begins m said more answers next → Answers m (said ++ more) answers next
+joins m said more answers next b =
     subst
-    (λ (all : List Answer). Answers m (lines ++ more) all next)
+    (λ (all : List Answer). Answers m (said ++ more) all next)
     (sym b.all)
-    (join-both m b.between next lines more b.some b.others b.first b.later)
+    (join-both m b.between next said more b.some b.others b.first b.later)
 
--- ---- their text
+-- ---- what is written of them
 
 lines-answer : (m : Moment) (asked : Asked) (answer : Answer) → (after_answer m asked answer).lines ≡ m.lines + 1
 lines-answer m (Says (Ok (Some line))) (Replies rs) = refl
 lines-answer m asked answer = refl
 
-pub lines-answers : (m : Moment) (lines : List TextLine) (answers : List Answer) (next : Moment)
-    → Answers m lines answers next → next.lines ≡ m.lines + length answers
+lines-answers : (m : Moment) (said : List Asked) (answers : List Answer) (next : Moment)
+    → Answers m said answers next → next.lines ≡ m.lines + length answers
 lines-answers m [] [] next h = let same : next.lines ≡ m.lines = ap (λ (o : Moment). o.lines) h in omega arith
 lines-answers m [] (answer ∷ answers) next h = absurd h
-lines-answers m (line ∷ lines) [] next h = absurd h
-lines-answers m (line ∷ lines) (answer ∷ answers) next h =
-    let asked : Asked = asked_by (bssids_at m) line in
+lines-answers m (asked ∷ said) [] next h = absurd h
+lines-answers m (asked ∷ said) (answer ∷ answers) next h =
     let on : next.lines ≡ (after_answer m asked answer).lines + length answers =
-    lines-answers (after_answer m asked answer) lines answers next h.1 in
+    lines-answers (after_answer m asked answer) said answers next h.1 in
     let one : (after_answer m asked answer).lines ≡ m.lines + 1 = lines-answer m asked answer in
     omega (arith, on, one)
 
-pub bssids-answers : (m : Moment) (lines : List TextLine) (answers : List Answer) (next : Moment)
-    → Answers m lines answers next → bssids_at next ≡ bssids_at m
+-- as many answers as there is said
+length-answers : (m : Moment) (said : List Asked) (answers : List Answer) (next : Moment)
+    → Answers m said answers next → length answers ≡ length said
+length-answers m [] [] next h = refl
+length-answers m [] (answer ∷ answers) next h = absurd h
+length-answers m (asked ∷ said) [] next h = absurd h
+length-answers m (asked ∷ said) (answer ∷ answers) next h =
+    ap suc (length-answers (after_answer m asked answer) said answers next h.1)
+
+pub lines-said : (m : Moment) (said : List Asked) (answers : List Answer) (next : Moment)
+    → Answers m said answers next → next.lines ≡ m.lines + length said
+lines-said m said answers next h =
+    lines-answers m said answers next h
+    ∙ ap (λ (k : ℕ). m.lines + k) (length-answers m said answers next h)
+
+pub bssids-answers : (m : Moment) (said : List Asked) (answers : List Answer) (next : Moment)
+    → Answers m said answers next → bssids_at next ≡ bssids_at m
 bssids-answers m [] [] next h = ap bssids_at h
 bssids-answers m [] (answer ∷ answers) next h = absurd h
-bssids-answers m (line ∷ lines) [] next h = absurd h
-bssids-answers m (line ∷ lines) (answer ∷ answers) next h =
-    let asked : Asked = asked_by (bssids_at m) line in
-    bssids-answers (after_answer m asked answer) lines answers next h.1 ∙ bssids-answer m asked answer
+bssids-answers m (asked ∷ said) [] next h = absurd h
+bssids-answers m (asked ∷ said) (answer ∷ answers) next h =
+    bssids-answers (after_answer m asked answer) said answers next h.1 ∙ bssids-answer m asked answer
 
-texts-append : (bssids : List (List ℕ)) (number : ℕ) (some others : List Answer)
-    → answers_text bssids number (some ++ others)
-    ≡ answers_text bssids number some ++ answers_text bssids (number + length some) others
-texts-append bssids number [] others =
-    let same : number ≡ number + 0 = omega arith in ap (λ n. answers_text bssids n others) same
-texts-append bssids number (answer ∷ some) others =
+texts-append : (face : Face) (bssids : List (List ℕ)) (number : ℕ) (some others : List Answer)
+    → written_answers face bssids number (some ++ others)
+    ≡ written_answers face bssids number some ++ written_answers face bssids (number + length some) others
+texts-append face bssids number [] others =
+    let same : number ≡ number + 0 = omega arith in ap (λ n. written_answers face bssids n others) same
+texts-append face bssids number (answer ∷ some) others =
     let count : number + 1 + length some ≡ number + length (answer ∷ some) = omega arith in
-    ap (λ (t : List ℕ). answer_text bssids number answer ++ t)
-    (texts-append bssids (number + 1) some others
-    ∙ ap (λ n. answers_text bssids (number + 1) some ++ answers_text bssids n others) count)
+    ap (λ (t : List ℕ). written_answer face bssids number answer ++ t)
+    (texts-append face bssids (number + 1) some others
+    ∙ ap (λ n. written_answers face bssids (number + 1) some ++ written_answers face bssids n others) count)
     ∙ sym
-    (append_assoc (answer_text bssids number answer) (answers_text bssids (number + 1) some)
-    (answers_text bssids (number + length (answer ∷ some)) others))
+    (append_assoc (written_answer face bssids number answer) (written_answers face bssids (number + 1) some)
+    (written_answers face bssids (number + length (answer ∷ some)) others))
 
-pub texts-join : (m between : Moment) (lines : List TextLine) (some others : List Answer)
-    → Answers m lines some between
-    → text_after m (some ++ others) ≡ text_after m some ++ text_after between others
-texts-join m between lines some others h =
+pub texts-join : (face : Face) (m between : Moment) (said : List Asked) (some others : List Answer)
+    → Answers m said some between
+    → written_after face m (some ++ others) ≡ written_after face m some ++ written_after face between others
+texts-join face m between said some others h =
     let count : m.lines + 1 + length some ≡ between.lines + 1 =
-    omega (arith, lines-answers m lines some between h) in
-    texts-append (bssids_at m) (m.lines + 1) some others
+    omega (arith, lines-answers m said some between h) in
+    texts-append face (bssids_at m) (m.lines + 1) some others
     ∙ ap
-    (λ n. text_after m some ++ answers_text (bssids_at m) n others)
+    (λ n. written_after face m some ++ written_answers face (bssids_at m) n others)
     count
     ∙ ap
-    (λ (bs : List (List ℕ)). text_after m some ++ answers_text bs (between.lines + 1) others)
-    (sym (bssids-answers m lines some between h))
+    (λ (bs : List (List ℕ)). written_after face m some ++ written_answers face bs (between.lines + 1) others)
+    (sym (bssids-answers m said some between h))

@@ -7,11 +7,11 @@ use Rattle.network.specs.NetworkView.{NetworkState}
 use Rattle.events.specs.declared.event.Event.{Event}
 use Rattle.events.specs.declared.line.Line.{Line}
 use Rattle.ap_config.specs.declared.setting.Setting.{Setting}
-use Rattle.live.specs.Answers.{Asked, IsTooLong, ForTables, Says, asked_by, Answer, Replies, MayReplyFrom, after_line_from, MayAnswer, after_answer, Answers}
+use Rattle.live.specs.Asked.{Asked, HasFault, ForTables, Says}
+use Rattle.live.specs.Answers.{Answer, Replies, MayReplyFrom, after_line_from, MayAnswer, after_answer, Answers}
 use Rattle.live.specs.Dispatch.{event_at}
 use Rattle.live.specs.Moments.{Moment, bssid_of, bssids_at, Reply, MayReplyIf, taken_if, after_if}
 use Rattle.live.specs.Own.{event_in, reply_in, events_taken, air_in, wire_in, air_at, wire_at, alone_after}
-use Rattle.live.specs.TextLines.{TextLine}
 use Rattle.live.proofs.OwnSteps.{AloneLaws, MayHaveReplied, RepliesAlone, replies-alone, setting-if, taken-none}
 
 -- ---- one line, from a place on
@@ -68,7 +68,7 @@ one-line : (place : ℕ) (m : Moment) (n : NetworkState) (asked : Asked) (answer
 one-line place m n (Says (Ok (Some line))) (Replies rs) h e =
     let one = at-place 0 place place m.networks line rs n (omega arith) h e in
     (may-have n (event_at place n line) (slice_index_or rs place None) one.0, one.1)
-one-line place m n IsTooLong (Replies rs) h e = absurd (cc)
+one-line place m n (HasFault fault) (Replies rs) h e = absurd (cc)
 one-line place m n ForTables (Replies rs) h e = absurd (cc)
 one-line place m n (Says (Ok None)) (Replies rs) h e = absurd (cc)
 one-line place m n (Says (Err fault)) (Replies rs) h e = absurd (cc)
@@ -77,29 +77,27 @@ one-line place m n asked answer h e = (
   e ∙ ap (λ (o : Option Event). Some (after_if n o)) (sym (taken-none (event_in place (bssid_of n) asked))),
 )
 
--- ---- all lines
+-- ---- all that is said
 
--- a network that took these events goes on with lines, alone with those that it takes of them
-pub record OwnAlone (s : Setting) (place : ℕ) (bssids : List (List ℕ)) (es : List Event) (lines : List TextLine)
-    (answers : List Answer) (next : Moment) : Type 0 where
-  pub there : slice_get next.networks place
-      ≡ Some (alone_after s (es ++ events_taken place s.network.bssid bssids lines answers))
-  pub air : (alone s (es ++ events_taken place s.network.bssid bssids lines answers)).air
+-- a network that took these events goes on, alone with those that it takes of what is said
+pub record OwnAlone (s : Setting) (place : ℕ) (es : List Event) (said : List Asked) (answers : List Answer)
+    (next : Moment) : Type 0 where
+  pub there : slice_get next.networks place ≡ Some (alone_after s (es ++ events_taken place s.network.bssid said answers))
+  pub air : (alone s (es ++ events_taken place s.network.bssid said answers)).air
       ≡ (alone s es).air ++ air_at place answers
-  pub wire : (alone s (es ++ events_taken place s.network.bssid bssids lines answers)).wire
+  pub wire : (alone s (es ++ events_taken place s.network.bssid said answers)).wire
       ≡ (alone s es).wire ++ wire_at place answers
 
-own-more : (s : Setting) (place : ℕ) (bssids : List (List ℕ)) (es : List Event) (line : TextLine)
-    (lines : List TextLine) (answer : Answer) (answers : List Answer) (next : Moment)
-    → RepliesAlone s es (event_in place s.network.bssid (asked_by bssids line)) (reply_in place answer)
-    → OwnAlone s place bssids
-    (es ++ option_to_list (taken_if (event_in place s.network.bssid (asked_by bssids line)) (reply_in place answer)))
-    lines answers next
-    → OwnAlone s place bssids es (line ∷ lines) (answer ∷ answers) next
-own-more s place bssids es line lines answer answers next one on =
-    let event : Option Event = event_in place s.network.bssid (asked_by bssids line) in
+own-more : (s : Setting) (place : ℕ) (es : List Event) (asked : Asked) (said : List Asked) (answer : Answer)
+    (answers : List Answer) (next : Moment)
+    → RepliesAlone s es (event_in place s.network.bssid asked) (reply_in place answer)
+    → OwnAlone s place (es ++ option_to_list (taken_if (event_in place s.network.bssid asked) (reply_in place answer))) said
+    answers next
+    → OwnAlone s place es (asked ∷ said) (answer ∷ answers) next
+own-more s place es asked said answer answers next one on =
+    let event : Option Event = event_in place s.network.bssid asked in
     let some : List Event = option_to_list (taken_if event (reply_in place answer)) in
-    let more : List Event = events_taken place s.network.bssid bssids lines answers in
+    let more : List Event = events_taken place s.network.bssid said answers in
     let all : (es ++ some) ++ more ≡ es ++ (some ++ more) = append_assoc es some more in
     record {
       there = on.there ∙ ap (λ (xs : List Event). Some (alone_after s xs)) all;
@@ -113,29 +111,25 @@ own-more s place bssids es line lines answer answers next one on =
           ∙ append_assoc (alone s es).wire (wire_in (reply_in place answer)) (wire_at place answers);
     }
 
--- what one line leads to
-pub record OneTaken (s : Setting) (place : ℕ) (m : Moment) (es : List Event) (line : TextLine) (answer : Answer) : Type 0
+-- what one of them leads to
+pub record OneTaken (s : Setting) (place : ℕ) (m : Moment) (es : List Event) (asked : Asked) (answer : Answer) : Type 0
   where
-    pub alone_there : RepliesAlone s es (event_in place s.network.bssid (asked_by (bssids_at m) line)) (reply_in place answer)
-    pub there : slice_get (after_answer m (asked_by (bssids_at m) line) answer).networks place
+    pub alone_there : RepliesAlone s es (event_in place s.network.bssid asked) (reply_in place answer)
+    pub there : slice_get (after_answer m asked answer).networks place
         ≡ Some
         (alone_after s
-        (es
-        ++ option_to_list
-        (taken_if (event_in place s.network.bssid (asked_by (bssids_at m) line)) (reply_in place answer))))
+        (es ++ option_to_list (taken_if (event_in place s.network.bssid asked) (reply_in place answer))))
 
-pub one-taken : AloneLaws → (s : Setting) (place : ℕ) (m : Moment) (es : List Event) (line : TextLine) (answer : Answer)
-    → MayAnswer m (asked_by (bssids_at m) line) answer → slice_get m.networks place ≡ Some (alone_after s es)
-    → OneTaken s place m es line answer
-one-taken laws s place m es line answer h e =
-    let asked : Asked = asked_by (bssids_at m) line in
+pub one-taken : AloneLaws → (s : Setting) (place : ℕ) (m : Moment) (es : List Event) (asked : Asked) (answer : Answer)
+    → MayAnswer m asked answer → slice_get m.networks place ≡ Some (alone_after s es) → OneTaken s place m es asked answer
+one-taken laws s place m es asked answer h e =
     let one = one-line place m (alone_after s es) asked answer h e in
     let on = replies-alone laws s es (event_in place s.network.bssid asked) (reply_in place answer) one.0 in
     record { alone_there = on; there = one.1 ∙ ap (λ (n : NetworkState). Some n) on.after }
 
-pub own : AloneLaws → (s : Setting) (place : ℕ) (m : Moment) (es : List Event) (lines : List TextLine)
-    (answers : List Answer) (next : Moment) → Answers m lines answers next
-    → slice_get m.networks place ≡ Some (alone_after s es) → OwnAlone s place (bssids_at m) es lines answers next
+pub own : AloneLaws → (s : Setting) (place : ℕ) (m : Moment) (es : List Event) (said : List Asked)
+    (answers : List Answer) (next : Moment) → Answers m said answers next
+    → slice_get m.networks place ≡ Some (alone_after s es) → OwnAlone s place es said answers next
 own laws s place m es [] [] next h e =
     let none : es ++ [] ≡ es = append-nil es in
     record {
@@ -145,11 +139,9 @@ own laws s place m es [] [] next h e =
       wire = ap (λ (xs : List Event). (alone s xs).wire) none ∙ sym (append-nil (alone s es).wire);
     }
 own laws s place m es [] (answer ∷ answers) next h e = absurd h
-own laws s place m es (line ∷ lines) [] next h e = absurd h
-own laws s place m es (line ∷ lines) (answer ∷ answers) next h e =
-    let asked : Asked = asked_by (bssids_at m) line in
-    let one = one-taken laws s place m es line answer h.0 e in
+own laws s place m es (asked ∷ said) [] next h e = absurd h
+own laws s place m es (asked ∷ said) (answer ∷ answers) next h e =
+    let one = one-taken laws s place m es asked answer h.0 e in
     let some : List Event = option_to_list (taken_if (event_in place s.network.bssid asked) (reply_in place answer)) in
-    let on = own laws s place (after_answer m asked answer) (es ++ some) lines answers next h.1 one.there in
-    own-more s place (bssids_at m) es line lines answer answers next one.alone_there
-    (subst (λ (bs : List (List ℕ)). OwnAlone s place bs (es ++ some) lines answers next) (bssids-answer m asked answer) on)
+    let on = own laws s place (after_answer m asked answer) (es ++ some) said answers next h.1 one.there in
+    own-more s place es asked said answer answers next one.alone_there on

@@ -33,13 +33,14 @@ use Rattle.trace.specs.TraceText.{max_lines, without_spaces_at_end, content_of, 
 use Rattle.trace.specs.declared.fault.LineFault.{LineFault}
 use Rattle.trace.specs.declared.fault.LineFault.TheVariants.{UnknownKind, TooMany}
 use Rattle.trace.specs.declared.fault.TraceFault.{TraceFault}
-use Rattle.live.specs.Answers.{Asked, Says, asks_for_tables, asked_by, Answer, Nothing, Replies, Tables, Faulty, Unread, MayAnswer, after_answer, Answers, HasMemory, IsUnrefused, AreUnrefused}
+use Rattle.live.specs.Asked.{Asked, Says, asks_for_tables, asked_by, asked_by_all, asked_in}
+use Rattle.live.specs.Answers.{Answer, Nothing, Replies, Tables, Faulty, Unread, MayAnswer, after_answer, Answers, HasMemory, IsUnrefused, AreUnrefused}
 use Rattle.live.specs.Dispatch.{event_for}
-use Rattle.live.specs.Moments.{Moment, first_moment, bssid_of, bssids_at, Reply, Sends, Refuses, is_past_clock, sending, MayReplyIf, taken_if}
+use Rattle.live.specs.Moments.{Moment, first_moment, bssid_of, Reply, Sends, Refuses, is_past_clock, sending, MayReplyIf, taken_if}
 use Rattle.live.specs.Own.{event_in, reply_in, events_taken, events_at, alone_after, IsLikeTrace, IsShown, IsAlone}
-use Rattle.live.specs.TextLines.{TextLine, max_line, line_with}
+use Rattle.live.specs.TextLines.{max_line, line_with}
 use Rattle.live.proofs.OwnSteps.{AloneLaws, alone_after-none}
-use Rattle.live.proofs.OwnLines.{at-place, bssids-answer, one-taken}
+use Rattle.live.proofs.OwnLines.{at-place, one-taken}
 use Rattle.live.proofs.IsolationLaws.{bssids-first, network-first, is-alone}
 
 -- ---- which lines were read
@@ -200,25 +201,24 @@ event-said place bssid (Some line) =
 taken-all : AloneLaws → Reachable → (s : Setting) (place : ℕ) (bssids : List (List ℕ)) (number : ℕ) (m : Moment)
     (es : List Event) (parts : List (List ℕ)) (answers : List Answer) (next : Moment) (all : List Line)
     → network_fault s.network ≡ None → length es + length (heard place s.network.bssid all) < 4294967295
-    → bssids_at m ≡ bssids → slice_get m.networks place ≡ Some (alone_after s es)
+    → slice_get m.networks place ≡ Some (alone_after s es)
     → AllByRecursion (λ line. length line ≤ max_line) parts → lines_from bssids number parts ≡ Ok all
-    → Answers m (map line_with parts) answers next → AreUnrefused answers
-    → events_taken place s.network.bssid bssids (map line_with parts) answers ≡ heard place s.network.bssid all
-taken-all laws reach s place bssids number m es [] [] next all sound few same there short e h k =
+    → Answers m (asked_by_all bssids (map line_with parts)) answers next → AreUnrefused answers
+    → events_taken place s.network.bssid (asked_by_all bssids (map line_with parts)) answers
+    ≡ heard place s.network.bssid all
+taken-all laws reach s place bssids number m es [] [] next all sound few there short e h k =
     let none : [] ≡ all = cc in ap (heard place s.network.bssid) none
-taken-all laws reach s place bssids number m es [] (answer ∷ answers) next all sound few same there short e h k = absurd h
-taken-all laws reach s place bssids number m es (line ∷ parts) [] next all sound few same there short e h k = absurd h
-taken-all laws reach s place bssids number m es (line ∷ parts) (answer ∷ answers) next all sound few same there short e h
-    k =
+taken-all laws reach s place bssids number m es [] (answer ∷ answers) next all sound few there short e h k = absurd h
+taken-all laws reach s place bssids number m es (line ∷ parts) [] next all sound few there short e h k = absurd h
+taken-all laws reach s place bssids number m es (line ∷ parts) (answer ∷ answers) next all sound few there short e h k =
     let bssid : List ℕ = s.network.bssid in
+    let said : Asked = asked_by bssids (line_with line) in
     let says = says-both bssids number line parts all e in
-    let said : said_by bssids line ≡ Ok says.said = not-over bssids number line says.said (nat_lt max_lines number) says.one in
-    let asked : asked_by bssids (line_with line) ≡ Says (Ok says.said) = asked-line bssids line says.said short.0 said in
-    let here : asked_by (bssids_at m) (line_with line) ≡ Says (Ok says.said) =
-    ap (λ (bs : List (List ℕ)). asked_by bs (line_with line)) same ∙ asked in
+    let one_said : said_by bssids line ≡ Ok says.said = not-over bssids number line says.said (nat_lt max_lines number) says.one in
+    let asked : said ≡ Says (Ok says.said) = asked-line bssids line says.said short.0 one_said in
     let reply : Option Reply = reply_in place answer in
     let may : MayReplyIf (alone_after s es) (event_in place bssid (Says (Ok says.said))) reply =
-    reply-read place m (alone_after s es) says.said answer (subst (λ (a : Asked). MayAnswer m a answer) here h.0) k.0 there in
+    reply-read place m (alone_after s es) says.said answer (subst (λ (a : Asked). MayAnswer m a answer) asked h.0) k.0 there in
     let first : List Event = heard place bssid (option_to_list says.said) in
     let later : List Event = heard place bssid says.later in
     let both : heard place bssid all ≡ first ++ later =
@@ -228,22 +228,17 @@ taken-all laws reach s place bssids number m es (line ∷ parts) (answer ∷ ans
     let one : taken_if (event_in place bssid (Says (Ok says.said))) reply ≡ event_in place bssid (Says (Ok says.said)) =
     taken-one reach s es (event_in place bssid (Says (Ok says.said))) reply sound (omega (arith, few)) may
     (memory-in place answer k.0) in
-    let some : option_to_list (taken_if (event_in place bssid (asked_by bssids (line_with line))) reply) ≡ first =
+    let some : option_to_list (taken_if (event_in place bssid said) reply) ≡ first =
     ap (λ (a : Asked). option_to_list (taken_if (event_in place bssid a) reply)) asked
     ∙ ap (λ (o : Option Event). option_to_list o) one
     ∙ event-said place bssid says.said in
-    let taken : option_to_list (taken_if (event_in place bssid (asked_by (bssids_at m) (line_with line))) reply) ≡ first =
-    ap (λ (bs : List (List ℕ)). option_to_list (taken_if (event_in place bssid (asked_by bs (line_with line))) reply)) same
-    ∙ some in
-    let after = one-taken laws s place m es (line_with line) answer h.0 there in
-    let on = taken-all laws reach s place bssids (number + 1)
-    (after_answer m (asked_by (bssids_at m) (line_with line)) answer)
+    let after = one-taken laws s place m es said answer h.0 there in
+    let on = taken-all laws reach s place bssids (number + 1) (after_answer m said answer)
     (es ++ first) parts answers next says.later sound
     (omega (arith, few, count, length-append es first))
-    (bssids-answer m (asked_by (bssids_at m) (line_with line)) answer ∙ same)
-    (after.there ∙ ap (λ (xs : List Event). Some (alone_after s (es ++ xs))) taken)
+    (after.there ∙ ap (λ (xs : List Event). Some (alone_after s (es ++ xs))) some)
     short.1 says.rest h.1 k.1 in
-    ap (λ (xs : List Event). xs ++ events_taken place bssid bssids (map line_with parts) answers) some
+    ap (λ (xs : List Event). xs ++ events_taken place bssid (asked_by_all bssids (map line_with parts)) answers) some
     ∙ ap (λ (xs : List Event). first ++ xs) on
     ∙ sym both
 
@@ -267,10 +262,10 @@ network-sound (n ∷ ns) (suc place) within h = network-sound ns place (omega ar
 abbrev pub CheckedNetworks : Type 0
 CheckedNetworks = (c : RadioConfig) → fault_of c ≡ None → AllByRecursion (λ n. network_fault n ≡ None) c.networks
 
-shown : (c : RadioConfig) (place : ℕ) (lines : List TextLine) (answers : List Answer) (next : Moment) (es : List Event)
-    (section : Section) → IsAlone c place lines answers next → events_at c place lines answers ≡ es
+shown : (c : RadioConfig) (place : ℕ) (said : List Asked) (answers : List Answer) (next : Moment) (es : List Event)
+    (section : Section) → IsAlone c place said answers next → events_at c place said answers ≡ es
     → section ≡ section_of (setting_at c place) es → IsShown section place answers next
-shown c place lines answers next es section alone_there are is =
+shown c place said answers next es section alone_there are is =
     let s : Setting = setting_at c place in
     record {
       air = alone_there.air ∙ ap (λ (xs : List Event). (alone s xs).air) are ∙ sym (ap (λ (t : Section). t.air) is);
@@ -295,13 +290,19 @@ is-shown laws reach checked c text said place answers next section h e =
     let few : length {A = Event} [] + length hs < 4294967295 = omega arith in
     let begins : slice_get (first_moment c).networks place ≡ Some (alone_after s []) =
     network-first c place h.there ∙ ap (λ (n : NetworkState). Some n) (sym (alone_after-none laws s)) in
-    let events : events_at c place (map line_with (lines text)) answers ≡ hs =
-    taken-all laws reach s place (bssids_of c) 1 (first_moment c) [] (lines text) answers next said sound few
-    (bssids-first c c.networks) begins h.short h.read h.answered h.unrefused in
+    let read : asked_in (first_moment c) (map line_with (lines text))
+    ≡ asked_by_all (bssids_of c) (map line_with (lines text)) =
+    ap (λ (bs : List (List ℕ)). asked_by_all bs (map line_with (lines text))) (bssids-first c c.networks) in
+    let answered : Answers (first_moment c) (asked_by_all (bssids_of c) (map line_with (lines text))) answers next =
+    subst (λ (all : List Asked). Answers (first_moment c) all answers next) read h.answered in
+    let events : events_at c place (asked_in (first_moment c) (map line_with (lines text))) answers ≡ hs =
+    ap (λ (all : List Asked). events_at c place all answers) read
+    ∙ taken-all laws reach s place (bssids_of c) 1 (first_moment c) [] (lines text) answers next said sound few
+    begins h.short h.read answered h.unrefused in
     let own : own_events place (network_at c place) said ≡ hs = take_all (network_at c place).max_events hs most in
     let is : section ≡ section_of s (own_events place (network_at c place) said) =
     let same : Some section ≡ Some (section_of s (own_events place (network_at c place) said)) =
     sym e ∙ section-at c said place h.there in cc in
-    shown c place (map line_with (lines text)) answers next hs section
-    (is-alone laws c (map line_with (lines text)) answers next place h.there h.answered)
+    shown c place (asked_in (first_moment c) (map line_with (lines text))) answers next hs section
+    (is-alone laws c (asked_in (first_moment c) (map line_with (lines text))) answers next place h.there h.answered)
     events (is ∙ ap (section_of s) own)

@@ -1,35 +1,17 @@
--- What is answered to lines.
-use Rattle.std.specs.Prelude.{ℕ, ◌+◌, ◌≡◌, Bool, List, [], ◌∷◌, codes, Option, Some, None, Result, Ok, Err, ◌++◌}
-use Rattle.std.specs.Prelude.{IfSome, if◌then◌else◌}
+-- What is answered to what is said.
+use Rattle.std.specs.Prelude.{ℕ, ◌+◌, ◌≡◌, List, [], ◌∷◌, Option, Some, None, Result, Ok, Err, ◌++◌}
+use Rattle.std.specs.Prelude.{IfSome}
 use Rattle.std.specs.List.{AllByRecursion}
-use Rattle.std.specs.Str.{bytes_eq}
 use Rattle.network.specs.NetworkView.{NetworkState}
 use Rattle.events.specs.declared.line.Line.{Line}
 use Rattle.events.specs.declared.line.Line.TheVariants as line
 use Rattle.network.specs.declared.network.NetworkRefusal.TheVariants.{NoMemory, Clock}
-use Rattle.trace.specs.TraceText.{without_spaces_at_end, said_by}
 use Rattle.trace.specs.declared.fault.LineFault.{LineFault}
-use Rattle.trace.specs.declared.fault.LineFault.TheVariants.{UnknownKind, TooMany}
-use Rattle.live.specs.TextLines.{TextLine, Octets, TooLong}
+use Rattle.trace.specs.declared.fault.LineFault.TheVariants.{UnknownKind}
+use Rattle.live.specs.Asked.{Asked, HasFault, ForTables, Says}
 use Rattle.live.specs.Dispatch.{event_at}
-use Rattle.live.specs.Moments.{Moment, one_line_more, bssids_at, Reply, Sends, Refuses, reply_if, MayReplyIf, taken_if}
+use Rattle.live.specs.Moments.{Moment, one_line_more, Reply, Sends, Refuses, reply_if, MayReplyIf, taken_if}
 use Rattle.live.specs.Moments.{after_if}
-
--- ---- what a line asks
-
--- `I` asks for what the report says of each network but for its frames; it is read as `T` is (profile).
-abbrev pub asks_for_tables : List ℕ → Bool
-asks_for_tables octets = bytes_eq (without_spaces_at_end octets) (codes "I")
-
--- What a line is: too long, whatever it is; `I`; or a line of a trace, with what that says or its first fault.
-pub data Asked : Type 0 where
-  IsTooLong : Asked
-  ForTables : Asked
-  Says : Result (Option Line) LineFault → Asked
-
-abbrev pub asked_by : List (List ℕ) → TextLine → Asked
-asked_by bssids TooLong = IsTooLong
-asked_by bssids (Octets octets) = if asks_for_tables octets then ForTables else Says (said_by bssids octets)
 
 -- ---- what is answered
 
@@ -64,7 +46,7 @@ after_line_from place ns line replies = ns
 
 -- where memory suffices
 abbrev pub answer_of : Moment → Asked → Answer
-answer_of m IsTooLong = Faulty TooMany
+answer_of m (HasFault fault) = Faulty fault
 answer_of m ForTables = Tables m.networks
 answer_of m (Says (Ok None)) = Nothing
 answer_of m (Says (Ok (Some line))) = Replies (replies_from 0 m.networks line)
@@ -78,7 +60,7 @@ MayBeUnread (Err UnknownKind) = ⊥
 MayBeUnread said = Unit {0}
 
 -- Such a line may stay unread where memory runs out; and where a line is read, each network may refuse it so. Tables
--- and lines that are too long take no memory.
+-- and faults that are found without memory take none.
 abbrev pub MayAnswer : Moment → Asked → Answer → Type 0
 MayAnswer m (Says said) Unread = MayBeUnread said
 MayAnswer m (Says (Ok (Some line))) (Replies replies) = MayReplyFrom 0 m.networks line replies
@@ -90,24 +72,22 @@ after_answer m (Says (Ok (Some line))) (Replies replies) =
     record (one_line_more m) { networks = after_line_from 0 m.networks line replies }
 after_answer m asked answer = one_line_more m
 
--- ---- lines, the first of them first
+-- ---- all that is said, the first of it first
 
--- The answers to lines, from one moment to another.
-abbrev pub Answers : Moment → List TextLine → List Answer → Moment → Type 0
+-- The answers to what is said, from one moment to another.
+abbrev pub Answers : Moment → List Asked → List Answer → Moment → Type 0
 Answers m [] [] next = next ≡ m
 Answers m [] (answer ∷ answers) next = ⊥
-Answers m (line ∷ lines) [] next = ⊥
-Answers m (line ∷ lines) (answer ∷ answers) next =
-    MayAnswer m (asked_by (bssids_at m) line) answer
-    × Answers (after_answer m (asked_by (bssids_at m) line) answer) lines answers next
+Answers m (asked ∷ said) [] next = ⊥
+Answers m (asked ∷ said) (answer ∷ answers) next =
+    MayAnswer m asked answer × Answers (after_answer m asked answer) said answers next
 
--- where memory suffices for all of them
-abbrev pub answers_of : Moment → List TextLine → List Answer
+-- where memory suffices for all of it
+abbrev pub answers_of : Moment → List Asked → List Answer
 answers_of m [] = []
-answers_of m (line ∷ lines) =
-    let asked = asked_by (bssids_at m) line in
+answers_of m (asked ∷ said) =
     let answer = answer_of m asked in
-    answer ∷ answers_of (after_answer m asked answer) lines
+    answer ∷ answers_of (after_answer m asked answer) said
 
 -- ---- memory that suffices
 
@@ -127,13 +107,13 @@ IsUnrefused Unread = ⊥
 abbrev pub AreUnrefused : List Answer → Type 0
 AreUnrefused answers = AllByRecursion IsUnrefused answers
 
--- ---- more lines
+-- ---- more that is said
 
--- the answers to lines and then to others: those to the lines, which lead to a moment, and then those to the others
-pub record Begins (m : Moment) (lines more : List TextLine) (answers : List Answer) (next : Moment) : Type 0 where
+-- the answers to some and then to more: those to the first, which lead to a moment, and then those to the rest
+pub record Begins (m : Moment) (said more : List Asked) (answers : List Answer) (next : Moment) : Type 0 where
   pub some : List Answer
   pub others : List Answer
   pub between : Moment
   pub all : answers ≡ some ++ others
-  pub first : Answers m lines some between
+  pub first : Answers m said some between
   pub later : Answers between more others next

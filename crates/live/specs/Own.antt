@@ -1,4 +1,4 @@
--- What of the lines and of the answers is one network's own.
+-- What of all that is said and answered is one network's own.
 use Rattle.std.specs.Prelude.{ℕ, ◌<◌, ◌≤◌, ◌≡◌, List, [], ◌∷◌, ◌++◌, length, flat_map, take, slice_get, Ok, Option}
 use Rattle.std.specs.Prelude.{Some, None, option_to_list}
 use Rattle.std.specs.List.{slice_index_or, AllByRecursion}
@@ -13,15 +13,16 @@ use Rattle.ap_config.specs.declared.config.RadioConfig.{RadioConfig}
 use Rattle.events.specs.declared.event.Event.{Event}
 use Rattle.events.specs.declared.line.Line.{Line}
 use Rattle.events.specs.declared.section.Section.{Section}
-use Rattle.trace.specs.TraceText.{bssids_of, lines_of}
-use Rattle.live.specs.TextLines.{TextLine, max_line, lines_of_text}
+use Rattle.trace.specs.TraceText.{lines_of}
+use Rattle.live.specs.TextLines.{max_line, lines_of_text}
 use Rattle.live.specs.Dispatch.{event_for}
 use Rattle.live.specs.Moments.{Moment, first_moment, Reply, Sends, taken_if}
-use Rattle.live.specs.Answers.{Asked, Says, asked_by, Answer, Replies, Tables, Answers, AreUnrefused}
+use Rattle.live.specs.Asked.{Asked, Says, asked_in}
+use Rattle.live.specs.Answers.{Answer, Replies, Tables, Answers, AreUnrefused}
 
 -- ---- its events
 
--- the event that a line is to it
+-- the event that this is to it
 abbrev pub event_in : ℕ → List ℕ → Asked → Option Event
 event_in place bssid (Says (Ok (Some line))) = event_for place bssid line
 event_in place bssid asked = None
@@ -31,16 +32,15 @@ abbrev pub reply_in : ℕ → Answer → Option Reply
 reply_in place (Replies replies) = slice_index_or replies place None
 reply_in place answer = None
 
--- line by line, the events that it took: those that the lines were to it, less those that it refused
-abbrev pub events_taken : ℕ → List ℕ → List (List ℕ) → List TextLine → List Answer → List Event
-events_taken place bssid bssids (line ∷ lines) (answer ∷ answers) =
-    option_to_list (taken_if (event_in place bssid (asked_by bssids line)) (reply_in place answer))
-    ++ events_taken place bssid bssids lines answers
-events_taken place bssid bssids lines answers = []
+-- one after the other, the events that it took: those that were said to it, less those that it refused
+abbrev pub events_taken : ℕ → List ℕ → List Asked → List Answer → List Event
+events_taken place bssid (asked ∷ said) (answer ∷ answers) =
+    option_to_list (taken_if (event_in place bssid asked) (reply_in place answer)) ++ events_taken place bssid said answers
+events_taken place bssid said answers = []
 
 -- the events of the network at a place of a configuration
-abbrev pub events_at : RadioConfig → ℕ → List TextLine → List Answer → List Event
-events_at c place lines answers = events_taken place (network_at c place).bssid (bssids_of c) lines answers
+abbrev pub events_at : RadioConfig → ℕ → List Asked → List Answer → List Event
+events_at c place said answers = events_taken place (network_at c place).bssid said answers
 
 -- ---- its frames
 
@@ -52,7 +52,7 @@ abbrev pub wire_in : Option Reply → List (List ℕ)
 wire_in (Some (Sends air wire)) = wire
 wire_in reply = []
 
--- the frames of its `air` lines, and of its `wire` lines
+-- the frames that it sent on the air, and those on the wire
 abbrev pub air_at : ℕ → List Answer → List (List ℕ)
 air_at place answers = flat_map (λ answer. air_in (reply_in place answer)) answers
 
@@ -67,27 +67,27 @@ alone_after s es = record { setting = s; events = length es; network = unsent (a
 
 -- What was written of the network at a place, and what is known of it in the end, is what it does alone with its own
 -- events: its frames, its table at each `I`, with its events so far, and its table at the last moment.
-pub record IsAlone (c : RadioConfig) (place : ℕ) (lines : List TextLine) (answers : List Answer) (next : Moment) :
+pub record IsAlone (c : RadioConfig) (place : ℕ) (said : List Asked) (answers : List Answer) (next : Moment) :
     Type 0 where
-  pub air : air_at place answers ≡ (alone (setting_at c place) (events_at c place lines answers)).air
-  pub wire : wire_at place answers ≡ (alone (setting_at c place) (events_at c place lines answers)).wire
-  pub last : slice_get next.networks place ≡ Some (alone_after (setting_at c place) (events_at c place lines answers))
+  pub air : air_at place answers ≡ (alone (setting_at c place) (events_at c place said answers)).air
+  pub wire : wire_at place answers ≡ (alone (setting_at c place) (events_at c place said answers)).wire
+  pub last : slice_get next.networks place ≡ Some (alone_after (setting_at c place) (events_at c place said answers))
   pub asked :
       (k : ℕ) (networks : List NetworkState)
       → slice_get answers k ≡ Some (Tables networks)
       → slice_get networks place
-      ≡ Some (alone_after (setting_at c place) (events_at c place (take k lines) (take k answers)))
+      ≡ Some (alone_after (setting_at c place) (events_at c place (take k said) (take k answers)))
 
 -- The network at place p of one configuration and that at place q of another have the same configuration, channel and
--- interval, and the same events. The other networks, their events and the lines may differ.
-pub record AreAlike (c d : RadioConfig) (lines others : List TextLine) (answers replies : List Answer) (p q : ℕ) :
+-- interval, and the same events. The other networks, their events and all else that is said may differ.
+pub record AreAlike (c d : RadioConfig) (said others : List Asked) (answers replies : List Answer) (p q : ℕ) :
     Type 0 where
   pub here : p < length c.networks
   pub there : q < length d.networks
   pub channel : c.channel ≡ d.channel
   pub interval : c.interval ≡ d.interval
   pub network : network_at c p ≡ network_at d q
-  pub events : events_at c p lines answers ≡ events_at d q others replies
+  pub events : events_at c p said answers ≡ events_at d q others replies
 
 -- ---- as in a report
 
@@ -110,5 +110,5 @@ pub record IsLikeTrace (c : RadioConfig) (text : List ℕ) (said : List Line) (p
   pub short : AllByRecursion (λ line. length line ≤ max_line) (lines text)
   pub there : place < length c.networks
   pub events : length (heard place (network_at c place).bssid said) ≤ (network_at c place).max_events
-  pub answered : Answers (first_moment c) (lines_of_text text) answers next
+  pub answered : Answers (first_moment c) (asked_in (first_moment c) (lines_of_text text)) answers next
   pub unrefused : AreUnrefused answers

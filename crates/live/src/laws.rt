@@ -10,12 +10,16 @@ ghost use Rattle.events.specs.declared.line.Line.{Line};
 ghost use Rattle.events.specs.declared.section.Section.{Section};
 ghost use Rattle.trace.specs.Report.{network_line, counts_line, station_line};
 ghost use Rattle.trace.specs.Texts.{ended};
-ghost use Rattle.live.specs.AnswerText.{table_text, text_after};
+ghost use Rattle.live.specs.AnswerText.{table_text};
 ghost use Rattle.live.specs.Answers.{Answer, Answers, answers_of, AreUnrefused, Begins};
+ghost use Rattle.live.specs.Asked.{Asked};
 ghost use Rattle.live.specs.Moments.{Moment, first_moment};
 ghost use Rattle.live.specs.Own.{IsAlone, AreAlike, IsLikeTrace, IsShown, air_at, wire_at, alone_after};
-ghost use Rattle.live.specs.TextLines.{TextLine, lines_of_text, ended_lines, partial_in, lines_in, partial_after};
+ghost use Rattle.live.specs.TextLines.{lines_of_text, ended_lines, partial_in, lines_in, partial_after};
 ghost use Rattle.live.specs.TextLines.{last_line};
+ghost use Rattle.live.specs.Records.{AreRecords};
+ghost use Rattle.live.specs.Written.{written_after};
+ghost use Rattle.live.specs.declared.face.Face.{Face};
 
 use ap_config::checked_networks;
 use network::{one_step, reachable, steps_append};
@@ -28,13 +32,23 @@ pub fn lines_come_in_pieces()
     ensures last { (text : List ℕ) → lines_of_text text ≡ ended_lines text ++ last_line (partial_in text) }
 {}
 
-/// No network reaches another: what is written of one, line by line, is what it does alone with its own events, what it
-/// hears of the lines that were read, less what it refused. So are the tables that `I` asks for, and those of the last
-/// moment.
+/// Octets are at most one list of records and what has begun of one; and however they are cut, the records that end in
+/// the pieces are those of the whole.
+pub fn records_come_in_pieces()
+    ensures one { (octets : List ℕ) (records others : List (List ℕ)) (begun rest : List ℕ)
+        → AreRecords octets records begun → AreRecords octets others rest → (records ≡ others) × (begun ≡ rest) }
+    ensures pieces { (octets piece : List ℕ) (records more : List (List ℕ)) (begun rest : List ℕ)
+        → AreRecords octets records begun → AreRecords (begun ++ piece) more rest
+        → AreRecords (octets ++ piece) (records ++ more) rest }
+{}
+
+/// No network reaches another, whatever is said, however it comes: what is answered of one, one answer after the other, is
+/// what it does alone with its own events, what it hears of what was read, less what it refused. So are the tables that
+/// are asked for, and those of the last moment.
 pub fn isolation()
-    ensures alone { (c : RadioConfig) (lines : List TextLine) (answers : List Answer) (next : Moment) (place : ℕ)
-        → place < length c.networks → Answers (first_moment c) lines answers next
-        → IsAlone c place lines answers next }
+    ensures alone { (c : RadioConfig) (said : List Asked) (answers : List Answer) (next : Moment) (place : ℕ)
+        → place < length c.networks → Answers (first_moment c) said answers next
+        → IsAlone c place said answers next }
     ensures shown { (s : Setting) (es : List Event) → table_text (alone_after s es)
         ≡ network_line s.network ++ counts_line (length es) (counts_of (length es) (alone s es))
         ++ flat_map station_line (table_of (alone s es)) ++ ended (codes "end") }
@@ -44,10 +58,10 @@ pub fn isolation()
 }
 
 /// Of two inputs in which a network has the same configuration, channel, interval and events, its frames and its last
-/// table are the same, whatever the other networks and the other lines are.
+/// table are the same, whatever the other networks are and whatever else is said.
 pub fn two_inputs()
-    ensures { (c d : RadioConfig) (lines others : List TextLine) (answers replies : List Answer) (next after : Moment)
-        (p q : ℕ) → AreAlike c d lines others answers replies p q → Answers (first_moment c) lines answers next
+    ensures { (c d : RadioConfig) (said others : List Asked) (answers replies : List Answer) (next after : Moment)
+        (p q : ℕ) → AreAlike c d said others answers replies p q → Answers (first_moment c) said answers next
         → Answers (first_moment d) others replies after
         → (air_at p answers ≡ air_at q replies) × (wire_at p answers ≡ wire_at q replies)
         × (slice_get next.networks p ≡ slice_get after.networks q) }
@@ -55,24 +69,24 @@ pub fn two_inputs()
     isolation();
 }
 
-/// The answers to more lines begin with the answers to fewer, so that what holds of all answers holds at each moment;
-/// and so do their texts.
+/// The answers to more that is said begin with the answers to the first of it, so that what holds of all answers holds at
+/// each moment; and so does what is written of them, in either face.
 pub fn more_lines()
-    ensures begin { (m : Moment) (lines more : List TextLine) (answers : List Answer) (next : Moment)
-        → Answers m (lines ++ more) answers next → Begins m lines more answers next }
-    ensures join { (m : Moment) (lines more : List TextLine) (answers : List Answer) (next : Moment)
-        → Begins m lines more answers next → Answers m (lines ++ more) answers next }
-    ensures text { (m between : Moment) (lines : List TextLine) (some others : List Answer)
-        → Answers m lines some between
-        → text_after m (some ++ others) ≡ text_after m some ++ text_after between others }
+    ensures begin { (m : Moment) (said more : List Asked) (answers : List Answer) (next : Moment)
+        → Answers m (said ++ more) answers next → Begins m said more answers next }
+    ensures join { (m : Moment) (said more : List Asked) (answers : List Answer) (next : Moment)
+        → Begins m said more answers next → Answers m (said ++ more) answers next }
+    ensures written { (face : Face) (m between : Moment) (said : List Asked) (some others : List Answer)
+        → Answers m said some between
+        → written_after face m (some ++ others) ≡ written_after face m some ++ written_after face between others }
 {}
 
-/// Where nothing is refused for memory, the answers are the ones of `live_text`, and there are such.
+/// Where nothing is refused for memory, the answers are the ones of `answers_of`, and there are such.
 pub fn enough_memory()
-    ensures only { (m : Moment) (lines : List TextLine) (answers : List Answer) (next : Moment)
-        → Answers m lines answers next → AreUnrefused answers → answers ≡ answers_of m lines }
-    ensures some { (m : Moment) (lines : List TextLine)
-        → (next : Moment) × Answers m lines (answers_of m lines) next }
+    ensures only { (m : Moment) (said : List Asked) (answers : List Answer) (next : Moment)
+        → Answers m said answers next → AreUnrefused answers → answers ≡ answers_of m said }
+    ensures some { (m : Moment) (said : List Asked)
+        → (next : Moment) × Answers m said (answers_of m said) next }
 {}
 
 /// Where a text is a trace, so that no line of it has a fault, is `I` or is one of more than 1,000,000, no line is too
