@@ -1,3 +1,4 @@
+pub mod AddressOrder
 pub mod Cells
 pub mod Addresses
 pub mod AddressTexts
