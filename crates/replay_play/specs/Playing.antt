@@ -47,7 +47,7 @@ pub record IsFirstFault (c : RadioConfig) (traces : List (List â„•)) (source : â
 
 -- ---- what is played
 
--- What an access point of this configuration ended with that so many sources of lines fed: each section is that of the
+-- What an access point of this configuration ended with that was fed by sources of these lines: each section is that of the
 -- network alone, with as many events at most as it may take; what left of a network is all that it sent, and nothing
 -- else left; each event was given by one source; and what a source gave a network are the first of those events that
 -- the network hears of the source's lines, all of them where the network is not full.

@@ -1,10 +1,11 @@
 -- Texts, and the configuration or the fault that reading finds in each.
-use Rattle.std.proofs.Common.{◌≡◌, ℕ, codes, true, false, List, [], ◌∷◌, ◌++◌, Ok, Err, refl}
+use Rattle.std.proofs.Common.{◌≡◌, ℕ, codes, Bool, true, false, List, [], ◌∷◌, ◌++◌, Ok, Err, refl}
 use Rattle.std.specs.Prelude.{⊤, replicate}
 use Rattle.std.specs.Str.{chars, is_utf8}
 use Rattle.toml.proofs.OnLiterals.{toml_on_literals}
 use Rattle.hex.proofs.OnLiterals.{hex_on_literals}
 use Rattle.ap_config.specs.Configuration.{of_radio, of_network}
+use Rattle.ap_config.specs.declared.config.RadioConfig.{RadioConfig}
 use Rattle.trace.specs.ConfigurationText.{number_at, text_at, array_at, truth_at, version_at, bssid_at, ssid_at, rates_at, network_of_table, with_options, is_listed, networks_at, radio_of, document_of, configuration_of}
 
 -- what is opened to compute the configuration of a text
@@ -37,24 +38,28 @@ entry = codes "[[network]]\n"
 
 -- ---- what is found in them
 
+-- the configuration of these keys
+abbrev lab_radio : Bool → Bool → RadioConfig
+lab_radio relay aging = record {
+  channel = 6;
+  interval = 100;
+  queue = 64;
+  networks = record {
+    bssid = 2 ∷ 0 ∷ 0 ∷ 0 ∷ 0 ∷ 1 ∷ [];
+    ssid = codes "lab";
+    rates = 130 ∷ 132 ∷ 11 ∷ 22 ∷ [];
+    dtim = 1;
+    max_stations = 8;
+    max_known = 16;
+    quota = 8;
+    max_events = 100;
+    relay = relay;
+    aging = aging;
+  } ∷ [];
+}
+
 base_is_read : configuration_of (sound_radio ++ entry ++ sound_keys)
-    ≡ Ok (record {
-      channel = 6;
-      interval = 100;
-      queue = 64;
-      networks = record {
-        bssid = 2 ∷ 0 ∷ 0 ∷ 0 ∷ 0 ∷ 1 ∷ [];
-        ssid = codes "lab";
-        rates = 130 ∷ 132 ∷ 11 ∷ 22 ∷ [];
-        dtim = 1;
-        max_stations = 8;
-        max_known = 16;
-        quota = 8;
-        max_events = 100;
-        relay = true;
-        aging = false;
-      } ∷ [];
-    })
+    ≡ Ok (lab_radio true false)
 unfolding configuration_on_literals
 base_is_read = refl
 
@@ -373,23 +378,7 @@ options_text relay aging = codes "relay = " ++ relay ++ codes "\naging = " ++ ag
 
 options_are_read : configuration_of
     (second_radio ++ entry ++ sound_keys ++ options_text (codes "false") (codes "true"))
-    ≡ Ok (record {
-      channel = 6;
-      interval = 100;
-      queue = 64;
-      networks = record {
-        bssid = 2 ∷ 0 ∷ 0 ∷ 0 ∷ 0 ∷ 1 ∷ [];
-        ssid = codes "lab";
-        rates = 130 ∷ 132 ∷ 11 ∷ 22 ∷ [];
-        dtim = 1;
-        max_stations = 8;
-        max_known = 16;
-        quota = 8;
-        max_events = 100;
-        relay = false;
-        aging = true;
-      } ∷ [];
-    })
+    ≡ Ok (lab_radio false true)
 unfolding configuration_on_literals
 options_are_read = refl
 

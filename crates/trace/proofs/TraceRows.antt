@@ -1,6 +1,6 @@
 -- What single texts say, computed.
 use Rattle.std.proofs.Common.{◌≡◌, ℕ, List, [], ◌∷◌, ◌++◌, Ok, Err, codes, refl}
-use Rattle.std.specs.Prelude.{replicate}
+use Rattle.std.specs.Prelude.{map, replicate}
 use Rattle.hex.proofs.OnLiterals.{hex_on_literals}
 use Rattle.ap_config.specs.declared.config.RadioConfig.{RadioConfig}
 use Rattle.ap_config.proofs.Samples.{network, radio}
@@ -70,20 +70,16 @@ no_digit config = refl
 
 -- ---- words
 
-pub unknown_word : (config : RadioConfig) → lines_of config (codes "X") ≡ Err (fault 1 1)
-unknown_word config = refl
+-- a word of no kind, also before odd digits; no space after the word; lower case; a space or a tab beside the word
+-- where none may be; a carriage return that ends no line; something after a tick
+abbrev of_no_kind : List (List ℕ)
+of_no_kind =
+    codes "X" ∷ codes "X 4" ∷ codes "A00" ∷ codes "a 00" ∷ codes "w 02:00:00:00:00:01 00" ∷ codes "t" ∷ codes " A 00"
+    ∷ codes " #" ∷ (codes "A" ++ tab ++ codes "00") ∷ (codes "W" ++ tab ++ codes "02:00:00:00:00:01 00") ∷ cr
+    ∷ (codes "T" ++ cr) ∷ (codes "T" ++ cr ++ cr ++ lf) ∷ (codes "T" ++ cr ++ codes "  " ++ lf) ∷ codes "T 00" ∷ []
 
-pub no_space_after_the_word : (config : RadioConfig) → lines_of config (codes "A00") ≡ Err (fault 1 1)
-no_space_after_the_word config = refl
-
-pub lower_case_word : (config : RadioConfig) → lines_of config (codes "a 00") ≡ Err (fault 1 1)
-lower_case_word config = refl
-
-pub space_before_the_word : (config : RadioConfig) → lines_of config (codes " A 00") ≡ Err (fault 1 1)
-space_before_the_word config = refl
-
-pub tab_after_the_word : (config : RadioConfig) → lines_of config (codes "A" ++ tab ++ codes "00") ≡ Err (fault 1 1)
-tab_after_the_word config = refl
+pub unknown_kinds : (config : RadioConfig) → map (lines_of config) of_no_kind ≡ replicate 15 (Err (fault 1 1))
+unknown_kinds config = refl
 
 pub tab_at_the_end : (config : RadioConfig) → lines_of config (codes "A 00" ++ tab) ≡ Err (fault 2 1)
 unfolding hex_on_literals
@@ -119,40 +115,21 @@ pub wired_frame_of_no_octets : lines_of two (codes "W 02:00:00:00:00:01") ≡ Ok
 unfolding hex_on_literals
 wired_frame_of_no_octets = refl
 
-pub no_address : (config : RadioConfig) → lines_of config (codes "W") ≡ Err (fault 3 1)
-no_address config = refl
+-- nothing and spaces; five pairs, also before odd digits; no space after six, or another character
+abbrev of_no_address : List (List ℕ)
+of_no_address =
+    codes "W" ∷ (codes "W   " ++ cr ++ lf) ∷ codes "W 02:00:00:00:00 00" ∷ codes "W 02:00:00:00:00 4"
+    ∷ codes "W 02:00:00:00:00:0100" ∷ (codes "W 02:00:00:00:00:01" ++ tab ++ codes "00")
+    ∷ (codes "W 02:00:00:00:00:01" ++ cr) ∷ []
 
-pub spaces_for_an_address : (config : RadioConfig) → lines_of config (codes "W   " ++ cr ++ lf) ≡ Err (fault 3 1)
-spaces_for_an_address config = refl
-
-pub five_pairs_are_no_address : (config : RadioConfig) → lines_of config (codes "W 02:00:00:00:00 00") ≡ Err (fault 3 1)
-five_pairs_are_no_address config = refl
+pub no_addresses : (config : RadioConfig) → map (lines_of config) of_no_address ≡ replicate 7 (Err (fault 3 1))
+no_addresses config = refl
 
 pub address_of_no_network : lines_of two (codes "W 02:00:00:00:00:09 00") ≡ Err (fault 4 1)
 address_of_no_network = refl
 
 pub broadcast_is_no_network : lines_of two (codes "W ff:ff:ff:ff:ff:ff 00") ≡ Err (fault 4 1)
 broadcast_is_no_network = refl
-
-pub no_space_after_the_address : (config : RadioConfig)
-    → lines_of config (codes "W 02:00:00:00:00:0100") ≡ Err (fault 3 1)
-no_space_after_the_address config = refl
-
-pub tab_after_the_address : (config : RadioConfig)
-    → lines_of config (codes "W 02:00:00:00:00:01" ++ tab ++ codes "00") ≡ Err (fault 3 1)
-tab_after_the_address config = refl
-
-pub tab_before_the_address : (config : RadioConfig)
-    → lines_of config (codes "W" ++ tab ++ codes "02:00:00:00:00:01 00") ≡ Err (fault 1 1)
-tab_before_the_address config = refl
-
-pub carriage_return_after_the_address : (config : RadioConfig)
-    → lines_of config (codes "W 02:00:00:00:00:01" ++ cr) ≡ Err (fault 3 1)
-carriage_return_after_the_address config = refl
-
-pub lower_case_word_of_a_wired_frame : (config : RadioConfig)
-    → lines_of config (codes "w 02:00:00:00:00:01 00") ≡ Err (fault 1 1)
-lower_case_word_of_a_wired_frame config = refl
 
 pub odd_digits_of_a_wired_frame : lines_of two (codes "W 02:00:00:00:00:01 4") ≡ Err (fault 2 1)
 unfolding hex_on_literals
@@ -162,10 +139,6 @@ pub too_many_octets_of_a_wired_frame : lines_of two (codes "W 02:00:00:00:00:01 
     (fault 5 1)
 unfolding hex_on_literals
 too_many_octets_of_a_wired_frame = refl
-
--- what is wrong with the address comes before what is wrong with the octets
-pub no_address_with_odd_digits : (config : RadioConfig) → lines_of config (codes "W 02:00:00:00:00 4") ≡ Err (fault 3 1)
-no_address_with_odd_digits config = refl
 
 pub no_network_with_odd_digits : lines_of two (codes "W 02:00:00:00:00:09 4") ≡ Err (fault 4 1)
 no_network_with_odd_digits = refl
@@ -181,24 +154,6 @@ tick_is_read config = refl
 pub tick_with_spaces_before_a_carriage_return : (config : RadioConfig)
     → lines_of config (codes "T  " ++ cr ++ lf) ≡ Ok (Tick ∷ [])
 tick_with_spaces_before_a_carriage_return config = refl
-
-pub something_after_a_tick : (config : RadioConfig) → lines_of config (codes "T 00") ≡ Err (fault 1 1)
-something_after_a_tick config = refl
-
-pub tick_with_spaces_after_a_carriage_return : (config : RadioConfig)
-    → lines_of config (codes "T" ++ cr ++ codes "  " ++ lf) ≡ Err (fault 1 1)
-tick_with_spaces_after_a_carriage_return config = refl
-
-pub tick_with_two_carriage_returns : (config : RadioConfig)
-    → lines_of config (codes "T" ++ cr ++ cr ++ lf) ≡ Err (fault 1 1)
-tick_with_two_carriage_returns config = refl
-
-pub tick_with_a_carriage_return_at_the_very_end : (config : RadioConfig)
-    → lines_of config (codes "T" ++ cr) ≡ Err (fault 1 1)
-tick_with_a_carriage_return_at_the_very_end config = refl
-
-pub lower_case_word_of_a_tick : (config : RadioConfig) → lines_of config (codes "t") ≡ Err (fault 1 1)
-lower_case_word_of_a_tick config = refl
 
 pub lines_of_each_kind : lines_of two
     (codes "T" ++ lf ++ codes "A 01" ++ lf ++ codes "W 02:aa:00:00:00:02 02" ++ lf ++ codes "T" ++ lf)
@@ -224,9 +179,6 @@ skipped_lines_count config = refl
 pub lines_of_spaces_are_skipped : (config : RadioConfig)
     → lines_of config (codes "  " ++ lf ++ codes " " ++ cr ++ lf ++ codes "   ") ≡ Ok []
 lines_of_spaces_are_skipped config = refl
-
-pub space_before_a_comment : (config : RadioConfig) → lines_of config (codes " #") ≡ Err (fault 1 1)
-space_before_a_comment config = refl
 
 pub first_fault_of_two : (config : RadioConfig)
     → lines_of config (codes "A 00" ++ lf ++ codes "A 4" ++ lf ++ codes "X") ≡ Err (fault 2 2)
@@ -257,9 +209,6 @@ pub carriage_return_without_line_feed : (config : RadioConfig) → lines_of conf
 unfolding hex_on_literals
 carriage_return_without_line_feed config = refl
 
-pub carriage_return_as_a_word : (config : RadioConfig) → lines_of config cr ≡ Err (fault 1 1)
-carriage_return_as_a_word config = refl
-
 pub spaces_at_the_very_end : (config : RadioConfig) → lines_of config (codes "A 00  ") ≡ Ok (Air (0 ∷ []) ∷ [])
 unfolding hex_on_literals
 spaces_at_the_very_end config = refl
@@ -286,10 +235,6 @@ fault_before_the_limit bssids = refl
 pub spaces_alone_after_the_word : (config : RadioConfig) → lines_of config (codes "A   " ++ lf) ≡ Ok (Air [] ∷ [])
 unfolding hex_on_literals
 spaces_alone_after_the_word config = refl
-
--- the word comes before the digits
-pub unknown_word_with_odd_digits : (config : RadioConfig) → lines_of config (codes "X 4") ≡ Err (fault 1 1)
-unknown_word_with_odd_digits config = refl
 
 -- no digit comes before the number of octets
 pub no_digit_among_too_many : (config : RadioConfig)

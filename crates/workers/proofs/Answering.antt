@@ -1,6 +1,6 @@
 -- What sources are answered, and what is dealt to them.
 use Rattle.std.proofs.Common.{append_assoc, ◌≡◌, ◌≢◌, ◌↔◌, ◌⊎◌, ℕ, zero, suc, ◌+◌, ◌<◌, ◌≤◌, Bool, true, false, List, [], ◌∷◌, ◌++◌, length, map, drop, get_or, Some, None, Result, Err, inl, inr, refl, sym, ap, ◌∙◌, subst, arith}
-use Rattle.std.specs.Prelude.{All, ◌==◌, cond, if◌then◌else◌, slice_get}
+use Rattle.std.specs.Prelude.{All, IfErr, ◌==◌, cond, if◌then◌else◌, slice_get}
 use Rattle.std.specs.List.{AllZip, cons_option, enumerate_from, filter, flat_map}
 use Rattle.std.proofs.lemmas.Bool.{eq-eqb, eqb-true, ne_eqb, lt-ltb}
 use Rattle.std.proofs.lemmas.Grind.{flat_map-append}
@@ -22,10 +22,11 @@ use Rattle.ap_config.specs.declared.open_fault.OpenFault.{OpenFault}
 use Rattle.ap_config.specs.declared.open_fault.OpenFault.TheVariants as opening
 use Rattle.events.specs.declared.section.Section.{Section}
 use Rattle.workers.specs.Giving.{heard_at, AreHeard, entry_of, entries_of, event_of}
-use Rattle.workers.specs.Playing.{ArePlayed, is_from, Answers, events_at, AreAnswers, AreAnswered, play_fault_of}
+use Rattle.workers.specs.Playing.{ArePlayed, is_from, Answers, events_at, AreAnswers, AreAnswered, IsLater, play_fault_of}
 use Rattle.workers.specs.Receipts.{receipts_of, histories_of, limits_of, dealt, AreReceipts, IsFullAt, AreFullLast}
 use Rattle.workers.specs.declared.caller.Entry.{Entry}
 use Rattle.workers.specs.declared.caller.Entry.TheVariants.{Receipt, Refused}
+use Rattle.workers.specs.declared.finish.FinishFault.TheVariants as ends
 use Rattle.workers.specs.declared.outcome.Outcome.{Outcome}
 use Rattle.workers.specs.declared.playing.PlayFault.{PlayFault}
 use Rattle.workers.specs.declared.playing.PlayFault.TheVariants as faults
@@ -263,3 +264,18 @@ config-fault config opening.NoMemory o r y opened is told says fault = (
   λ same. absurd (cc),
   λ there. (let q = (says fault).1 there in absurd (cc)),
 )
+
+-- ---- no memory while the access point is finished
+
+pub later_is_memory : {A : Type 0} (result : Result A PlayFault) → IfErr result IsLater
+    → result ≢ Err (faults.Finish ends.NoMemory)
+later_is_memory {A = A} result later is = subst (λ (r : Result A PlayFault). IfErr r IsLater) is later
+
+opening_is_memory : (fault : OpenFault) → play_fault_of fault ≢ faults.Finish ends.NoMemory
+opening_is_memory (opening.Config fault) is = cc
+opening_is_memory opening.Callers is = cc
+opening_is_memory opening.NoMemory is = cc
+
+pub opened_is_memory : {A : Type 0} (result : Result A PlayFault) (fault : OpenFault) (met : PlayFault)
+    → result ≡ Err met → met ≡ play_fault_of fault → result ≢ Err (faults.Finish ends.NoMemory)
+opened_is_memory result fault met made is never = opening_is_memory fault cc

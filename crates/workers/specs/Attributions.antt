@@ -27,7 +27,7 @@ pub record AttributionView : Type 0 where
   pub caller : ℕ
   pub next : ℕ
 
--- that of a network with so many events, before any receipt
+-- that of a network with this number of events, before any receipt
 abbrev pub fresh_attribution : ℕ → AttributionView
 fresh_attribution events = record { givers = replicate events None; caller = 0; next = 0 }
 

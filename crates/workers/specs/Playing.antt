@@ -1,5 +1,5 @@
 -- What sources give to an access point, and what is dealt to each of them (profile).
-use Rattle.std.specs.Prelude.{ℕ, ◌≡◌, ◌<◌, ◌==◌, ◌++◌, ◌∷◌, Bool, List, [], length, Some, slice_get, slice_index_or, ⊤}
+use Rattle.std.specs.Prelude.{ℕ, ◌≡◌, ◌<◌, ◌==◌, Bool, List, [], length, Some, slice_get, slice_index_or, ⊤}
 use Rattle.std.specs.List.{AllZip, filter, flat_map}
 use Rattle.ap_config.specs.Configuration.{most_networks}
 use Rattle.events.specs.Lines.{heard}
@@ -16,6 +16,7 @@ use Rattle.workers.specs.Giving.{heard_at}
 use Rattle.workers.specs.Receipts.{dealt}
 use Rattle.workers.specs.declared.caller.Entry.{Entry}
 use Rattle.workers.specs.declared.caller.Entry.TheVariants.{Receipt, Refused}
+use Rattle.workers.specs.declared.finish.FinishFault.TheVariants as ends
 use Rattle.workers.specs.declared.playing.PlayFault.{PlayFault}
 use Rattle.workers.specs.declared.playing.PlayFault.TheVariants as faults
 
@@ -65,12 +66,6 @@ abbrev pub AreAnswers : RadioConfig → List Line → List Entry → Type 0
 AreAnswers config lines entries =
     (place : ℕ) → place < most_networks → AllZip Answers (events_at config place lines) (filter (is_from place) entries)
 
--- those of one line, after the old entries
-pub record AddsAnswers (config : RadioConfig) (line : Line) (old new : List Entry) : Type 0 where
-  pub added : List Entry
-  pub after : new ≡ old ++ added
-  pub answers : AreAnswers config (line ∷ []) added
-
 -- those of each source
 abbrev pub AreAnswered : RadioConfig → List (List Line) → List (List Entry) → Type 0
 AreAnswered config sources callers = AllZip (AreAnswers config) sources callers
@@ -83,10 +78,12 @@ play_fault_of (opening.Config fault) = faults.Config fault
 play_fault_of opening.Callers = faults.Sources
 play_fault_of opening.NoMemory = faults.NoMemory
 
--- a fault that comes after the configuration and the sources were tested
+-- A fault that comes after the configuration and the sources were tested. Where memory ran out it is `NoMemory`, also
+-- while the access point is finished.
 abbrev pub IsLater : PlayFault → Type 0
 IsLater (faults.Config fault) = ⊥
 IsLater faults.Sources = ⊥
 IsLater faults.NoThread = ⊤
 IsLater faults.NoMemory = ⊤
+IsLater (faults.Finish ends.NoMemory) = ⊥
 IsLater (faults.Finish fault) = ⊤

@@ -50,7 +50,7 @@ AreReceipts callers histories givers =
     → receipts_of place (slice_index_or callers i [])
     ≡ dealt (slice_index_or givers place []) (numbered (slice_index_or histories place [])) i
 
--- each event of each network has a giver, who is one of so many callers
+-- each event of each network has a giver, who is one of this number of callers
 pub record AreGivers (callers : ℕ) (histories : List (List Event)) (givers : List (List ℕ)) : Type 0 where
   pub networks : length givers ≡ length histories
   pub events : (place : ℕ) → length (slice_index_or givers place []) ≡ length (slice_index_or histories place [])

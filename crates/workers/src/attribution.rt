@@ -29,7 +29,7 @@ impl Model for Attribution {
 }
 
 impl Attribution {
-    /// That of a network with so many events, before any receipt.
+    /// That of a network with this number of events, before any receipt.
     pub(crate) fn new(alloc: Global, events: usize) -> Result<Attribution, NoMemory>
         ensures { IfOk result (λ attribution. attribution ≡ fresh_attribution events) }
     {

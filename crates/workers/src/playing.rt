@@ -1,6 +1,6 @@
 //! Several sources that feed one access point at the same time (*profile*).
 
-ghost use Rattle.std.specs.Prelude.{◌≡◌, ◌↔◌, None, Some, Err, IfOk, IfErr, List, vec_len, length, map, false};
+ghost use Rattle.std.specs.Prelude.{◌≡◌, ◌≢◌, ◌↔◌, None, Some, Err, IfOk, IfErr, List, vec_len, length, map, false};
 ghost use Rattle.ap_config.specs.Configuration.{fault_of};
 ghost use Rattle.ap_config.specs.declared.config.ConfigFault.{ConfigFault};
 ghost use Rattle.events.specs.declared.air_item.AirItem.{AirItem};
@@ -9,6 +9,7 @@ ghost use Rattle.workers.specs.Ending.{AreSections, HaveLeft, ArePlaced};
 ghost use Rattle.workers.specs.Names.{AreNamed, callers_fit};
 ghost use Rattle.workers.specs.Playing.{ArePlayed, IsLater};
 ghost use Rattle.workers.specs.Receipts.{AreGivers, histories_of};
+ghost use Rattle.workers.specs.declared.finish.FinishFault.TheVariants as ends;
 ghost use Rattle.workers.specs.declared.playing.PlayFault.TheVariants as faults;
 
 use crate::ap::Ap;
@@ -126,6 +127,9 @@ pub fn play<G: Gate + Sync, R: Threads + Wait + Sync>(
     ensures sources { (result ≡ Err PlayFault.Sources) ↔
         ((fault_of config ≡ None) × (callers_fit (vec_len sources) ≡ false)) }
 
+    // Where memory ran out it is `NoMemory`, also while the access point is finished.
+    ensures memory { result ≢ Err (PlayFault.Finish ends.NoMemory) }
+
     // Each section is that of the network alone, with its own events, as many at most as it may take.
     ensures networks { IfOk result (λ end. length end.sections ≡ length config.networks) }
     ensures sections { IfOk result (λ end. AreSections config end.sections) }
@@ -157,6 +161,7 @@ pub fn play_lent<G: Gate + Sync, R: Threads + Wait + Sync>(
     ensures config { (fault : ConfigFault) → (result ≡ Err (PlayFault.Config fault)) ↔ (fault_of config ≡ Some fault) }
     ensures sources { (result ≡ Err PlayFault.Sources) ↔
         ((fault_of config ≡ None) × (callers_fit (length sources.now) ≡ false)) }
+    ensures memory { result ≢ Err (PlayFault.Finish ends.NoMemory) }
     ensures networks { IfOk result (λ end. length end.sections ≡ length config.networks) }
     ensures sections { IfOk result (λ end. AreSections config end.sections) }
 

@@ -48,7 +48,7 @@ fn section_of(mut network: Bss, mut air: Vec<Octets>) -> Result<Section, NoMemor
     network.into_section(List::from_vec(air))
 }
 
-/// What left of each of so many networks, in order of place.
+/// What left of each of this number of networks, in order of place.
 fn by_network(
     alloc: Global,
     networks: usize,

@@ -64,7 +64,7 @@ fn bssids_of(alloc: Global, networks: &[NetConfig]) -> Result<Vec<MacAddr>, NoMe
     Ok(networks.iter().map(|network| network.bssid).collect(alloc)?)
 }
 
-/// So many callers without entries.
+/// This number of callers without entries.
 fn open_callers(alloc: Global, count: u32) -> Result<Vec<Caller>, NoMemory>
     ensures { IfOk result (λ callers. callers.items ≡ replicate count []) }
 {

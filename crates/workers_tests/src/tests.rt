@@ -40,7 +40,7 @@ fn octets(alloc: Global, digits: &str) -> Result<Octets, Fail> {
     Ok(fixtures::octets(alloc, digits)?)
 }
 
-/// The configuration of the network with this last octet of its address, which takes so many events.
+/// The configuration of the network with this last octet of its address, which takes this number of events.
 fn network(alloc: Global, last: u8, max_events: u32) -> Result<NetConfig, NoMemory> {
     Ok(NetConfig {
         bssid: MacAddr::new([2, 0, 0, 0, 0, last]),
@@ -56,7 +56,7 @@ fn network(alloc: Global, last: u8, max_events: u32) -> Result<NetConfig, NoMemo
     })
 }
 
-/// The configuration of a radio whose queue holds so many frames, with a network for each of these numbers of events
+/// The configuration of a radio whose queue holds this number of frames, with a network for each of these numbers of events
 /// that they take.
 fn radio(alloc: Global, queue: u16, max_events: &[u32]) -> Result<RadioConfig, NoMemory> {
     let mut networks = Vec::new(alloc);

@@ -42,7 +42,7 @@ pub(super) enum Move {
     Pumps(u32),
     /// So many frames of the network at a place go to the queue, and its first leaves.
     PumpsAt(usize, u32),
-    /// A frame leaves, or none, and so many have left then.
+    /// A frame leaves, or none, and this many have left then.
     Leaves(bool, usize),
     /// The first network shows how many events it took, how many intervals began, how many of its events are unread,
     /// and how many stations it knows.
@@ -240,7 +240,7 @@ fn was_told(caller: &Caller, numbers: &[Option<u32>]) -> bool {
     caller.entries().len() == numbers.len()
 }
 
-/// Whether so many frames of the network at a place go to the queue, which is empty, and its first leaves.
+/// Whether this number of frames of the network at a place go to the queue, which is empty, and its first leaves.
 fn pumps_at<N: ApName, R: Wait>(
     rt: &R,
     ap: &Ap<N>,
@@ -312,8 +312,8 @@ pub(super) fn make_all<N: ApName, R: Wait + Abort>(
     Ok(())
 }
 
-/// Whether the first network sent these frames, and these left; and whether it took so many events, counted so many
-/// beacon intervals, and left so many events unread. No unit was lost, and none is kept.
+/// Whether the first network sent these frames, and these left; and whether it took these numbers of events, counted these
+/// beacon intervals, and left these events unread. No unit was lost, and none is kept.
 fn are_sent(alloc: Global, end: &Finished, sent: &[&str], counts: [u32; 3]) -> Result<bool, Fail> {
     let section = section_at(&end.sections, 0)?;
     let [events, clock, unread] = counts;
@@ -331,7 +331,7 @@ fn are_sent(alloc: Global, end: &Finished, sent: &[&str], counts: [u32; 3]) -> R
     )
 }
 
-/// Whether an access point of one network and one caller, which takes so many events, ends so after these moves.
+/// Whether an access point of one network and one caller, which takes this number of events, ends so after these moves.
 fn ends_so<R: Threads + Wait + Abort + Sync>(
     rt: &R,
     alloc: Global,

@@ -12,7 +12,7 @@ pub(super) const CHANNEL: ConfigFault = ConfigFault {
     place: None,
 };
 
-/// On a channel, with so many callers: the configuration's fault comes first.
+/// On a channel, with this number of callers: the configuration's fault comes first.
 const ROWS: [(u8, u32, Option<OpenFault>); 5] = [
     (6, 0, Some(OpenFault::Callers)),
     (6, 65, Some(OpenFault::Callers)),
@@ -21,7 +21,7 @@ const ROWS: [(u8, u32, Option<OpenFault>); 5] = [
     (15, 0, Some(OpenFault::Config(CHANNEL))),
 ];
 
-/// Why no access point of one network is opened on a channel for so many callers, if none is.
+/// Why no access point of one network is opened on a channel for this number of callers, if none is.
 fn fault(alloc: Global, channel: u8, callers: u32) -> Result<Option<OpenFault>, Fail> {
     let mut config = radio(alloc, 64, &[100])?;
     config.channel = channel;

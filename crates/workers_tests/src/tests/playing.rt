@@ -197,7 +197,7 @@ fn a_line_is_given_once_the_gate_let_it(rt: HostRuntime) -> Result<(), Fail> {
     Ok(())
 }
 
-/// On a channel, so many sources: the configuration's fault comes first.
+/// On a channel, with this number of sources: the configuration's fault comes first.
 const ROWS: [(u8, u32, Option<PlayFault>); 5] = [
     (6, 0, Some(PlayFault::Sources)),
     (6, 65, Some(PlayFault::Sources)),
@@ -206,7 +206,7 @@ const ROWS: [(u8, u32, Option<PlayFault>); 5] = [
     (15, 0, Some(PlayFault::Config(CHANNEL))),
 ];
 
-/// Why so many sources of one tick are not played on a channel, if they are not.
+/// Why this number of sources of one tick are not played on a channel, if they are not.
 fn fault<R: Threads + Wait + Sync>(
     rt: &R,
     alloc: Global,

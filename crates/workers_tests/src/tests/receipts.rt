@@ -267,7 +267,7 @@ const ROWS: [Row; 19] = [
     },
 ];
 
-/// Its one caller gives so many ticks, and the stranger, if there is one, one more. Answers the stranger, or else the
+/// Its one caller gives this number of ticks, and the stranger, if there is one, one more. Answers the stranger, or else the
 /// caller. Of the frames one is queued then.
 fn tell<N: ApName, R: Wait>(
     rt: &R,

@@ -64,7 +64,7 @@ fn run_of<N: ApName + Send + Sync, R: Threads + Wait + Abort + Sync>(
     Ok(ap.finish(rt, callers, transmitter))
 }
 
-/// What a new access point of so many callers ends with.
+/// What a new access point of this number of callers ends with.
 pub(super) fn run<R: Threads + Wait + Abort + Sync>(
     rt: &R,
     alloc: Global,

@@ -6,7 +6,7 @@ use Rattle.events.specs.declared.line.Line.{Line}
 use Rattle.workers.specs.Ending.{AreSections}
 use Rattle.workers.specs.Playing.{ArePlayed}
 use Rattle.workers.specs.declared.finish.Finished.{Finished}
-use Rattle.workers.proofs.Answering.{config-fault}
+use Rattle.workers.proofs.Answering.{config-fault, later_is_memory, opened_is_memory}
 use Rattle.workers.proofs.playing.play.Goals as goal
 
 pub returns-in_err-parts-clause-config : goal.returns-in_err-parts-clause-config
@@ -21,3 +21,11 @@ returns-clause-sections g c =
 pub returns-clause-played : goal.returns-clause-played
 returns-clause-played g c =
     subst (λ (x : RadioConfig × List (List Line)). IfOk c.play_of.result (λ (end : Finished). ArePlayed x.0 x.1 end.sections end.givers)) (λ k. (c.in_ok-parts.ensures.opened.0 k, map (λ s. s.items) (c.as_slice.ensures.value k))) c.play_of.ensures.played
+
+pub returns-in_err-parts-clause-memory : goal.returns-in_err-parts-clause-memory
+returns-in_err-parts-clause-memory g c =
+    let p = err_from_is_err_and c.from_residual.result c.from_residual.ensures.1 in
+    opened_is_memory c.from_residual.result c.in_err-parts.field-0.0 p.0 p.1 p.2
+
+pub returns-clause-memory : goal.returns-clause-memory
+returns-clause-memory g c = later_is_memory c.play_of.result c.play_of.ensures.err

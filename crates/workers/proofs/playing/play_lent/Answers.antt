@@ -6,7 +6,7 @@ use Rattle.events.specs.declared.air_item.AirItem.{AirItem}
 use Rattle.workers.specs.Ending.{AreSections, HaveLeft, ArePlaced}
 use Rattle.workers.specs.Playing.{ArePlayed}
 use Rattle.workers.specs.declared.playing.Played.{Played}
-use Rattle.workers.proofs.Answering.{config-fault}
+use Rattle.workers.proofs.Answering.{config-fault, later_is_memory, opened_is_memory}
 use Rattle.workers.proofs.playing.play_lent.Goals as goal
 
 pub returns-in_err-parts-clause-config : goal.returns-in_err-parts-clause-config
@@ -25,3 +25,11 @@ returns-clause-air g c =
 pub returns-clause-played : goal.returns-clause-played
 returns-clause-played g c =
     subst (λ (config : RadioConfig). IfOk c.play_lent_of.result (λ (end : Played). ArePlayed config (map (λ s. s.items) c.args.sources.now) end.sections end.givers)) c.in_ok-parts.ensures.opened.0 c.play_lent_of.ensures.played
+
+pub returns-in_err-parts-clause-memory : goal.returns-in_err-parts-clause-memory
+returns-in_err-parts-clause-memory g c =
+    let p = err_from_is_err_and c.from_residual.result c.from_residual.ensures.1 in
+    opened_is_memory c.from_residual.result c.in_err-parts.field-0.0 p.0 p.1 p.2
+
+pub returns-clause-memory : goal.returns-clause-memory
+returns-clause-memory g c = later_is_memory c.play_lent_of.result c.play_lent_of.ensures.err
