@@ -222,8 +222,10 @@ def check_left(wanted: Wanted, own: list[str]) -> None:
 
 def set_country(country: str | None, made: Changes, stack: ExitStack) -> None:
     """Sets the country whose rules of the air hold, until the end."""
+    if country is None:
+        return
     before = machine.country()
-    if country is None or country == before:
+    if country == before:
         return
     change = Change(changes.COUNTRY, before)
     made.add(change)
