@@ -122,6 +122,9 @@ class Shown(unittest.TestCase):
         self.assertEqual(self.browser.value("typeof x"), "undefined")
         self.assertEqual(self.browser.value("getComputedStyle(document.body).margin"), "0px", "its style holds")
         self.assertEqual(self.browser.faults, [])
+        for change in ("document.body.innerHTML = '<b>x</b>'", "document.createElement('script').text = 'x = 1'"):
+            self.assertEqual(self.browser.value(f"try {{ {change}; 'taken' }} catch (fault) {{ fault.name }}"),
+                             "TypeError", "nothing may become markup or a script")
 
     def test_the_bridge_ended_and_is_there_again(self):
         self.open()

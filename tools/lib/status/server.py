@@ -201,9 +201,10 @@ class Server(socketserver.ThreadingTCPServer):
 
     def close(self) -> None:
         """Ends it; the port is free then."""
-        self.shutdown()
+        if self.serving.is_alive():
+            self.shutdown()
+            self.serving.join()
         self.server_close()
-        self.serving.join()
 
 
 def serve(port: int, ask: Callable[[], dict]) -> Server:

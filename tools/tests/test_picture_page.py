@@ -1,0 +1,59 @@
+"""Tests of the page that tools/picture writes, in a real browser."""
+import os
+import unittest
+
+from browser import Browser, needs_chromium
+from common import THREE, ToolTest, tool
+
+TOLD = "document.getElementById('lines').innerText"
+
+
+@needs_chromium
+class Asked(ToolTest):
+    """The page of the example of three networks."""
+
+    def setUp(self):
+        super().setUp()
+        page = self.path("three.html")
+        told = tool("picture", os.path.join(THREE, "input"), os.path.join(THREE, "stdout"), "--out", page)
+        self.assertEqual(told, (0, "", ""))
+        self.browser = Browser()
+        self.addCleanup(self.browser.close)
+        self.browser.size(1500, 900)
+        self.browser.open(f"file://{page}")
+
+    def do(self, kind, shape):
+        """What a pointer does on a shape."""
+        self.browser.value(f"{shape}.dispatchEvent(new MouseEvent('{kind}', {{ bubbles: true }})); 0")
+
+    def test_pointer_shows_a_line_and_its_frames(self):
+        """A shape that is pointed at shows its line field by field; a click holds it, a second one lets go."""
+        first, other = ("document.querySelector('g[data-lines=\"2\"]')",
+                        "document.querySelector('g[data-lines=\"5\"]')")
+        self.do("mouseover", first)
+        told = self.browser.value(TOLD)
+        for words in ("line 2, 0.000 s: authentication on the air", "Frame Control", "Open System",
+                      "guest sent on the air: authentication"):
+            self.assertIn(words, told)
+        self.do("click", first)
+        self.do("mouseover", other)
+        self.assertIn("line 2,", self.browser.value(TOLD))
+        self.do("click", first)
+        self.do("mouseover", other)
+        self.assertIn("line 5,", self.browser.value(TOLD))
+        self.assertEqual(self.browser.faults, [])
+
+    def test_it_finds_what_is_asked_for(self):
+        """An address is found from one line to the next, and what isn't there is not."""
+        ask = ("box = document.getElementById('ask'); box.value = '{}';"
+               "box.dispatchEvent(new KeyboardEvent('keydown', {{ key: 'Enter' }}));"
+               "document.getElementById('found').textContent")
+        self.assertRegex(self.browser.value(ask.format("02:aa:00:00:00:04")), r"^find 1 of \d+$")
+        self.assertRegex(self.browser.value(ask.format("02:aa:00:00:00:04")), r"^find 2 of \d+$")
+        self.assertEqual(self.browser.value(ask.format("02:aa:00:00:00:99")), "nothing found")
+        self.assertEqual(self.browser.value("document.querySelectorAll('g.asked').length"), 1)
+        self.assertEqual(self.browser.faults, [])
+
+
+if __name__ == "__main__":
+    unittest.main()
