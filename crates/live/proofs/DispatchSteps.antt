@@ -8,7 +8,8 @@ use Rattle.events.specs.declared.line.Line.{Line}
 use Rattle.trace.specs.Buffers.{CanWrite, Puts}
 use Rattle.trace.specs.declared.report.buffer.Buffered.{Buffered}
 use Rattle.trace.proofs.BufferSteps.{Puts-then, Puts-nothing, Puts-same}
-use Rattle.live.specs.AnswerText.{reply_text, reply_text_if, replies_text}
+use Rattle.live.specs.Written.{written_reply, written_reply_if, written_replies}
+use Rattle.live.specs.declared.face.Face.{Face}
 use Rattle.live.specs.Answers.{MayReplyFrom, after_line_from}
 use Rattle.live.specs.Dispatch.{event_at}
 use Rattle.live.specs.Moments.{Reply, MayReply, MayReplyIf, taken_if, after_if, bssid_of}
@@ -42,17 +43,17 @@ after-more place next (m ∷ ns) said (other ∷ rs) n r is h =
     (λ (ms : List NetworkState). after_if m (taken_if (event_at place m said) other) ∷ ms)
     (after-more (place + 1) next ns said rs n r there h.1)
 
-text-more : (place number : ℕ) (ns : List NetworkState) (said : Line) (rs : List (Option Reply)) (n : NetworkState)
+text-more : (face : Face) (place number : ℕ) (ns : List NetworkState) (said : Line) (rs : List (Option Reply)) (n : NetworkState)
     (r : Option Reply) → MayReplyFrom place ns said rs
-    → replies_text number (map bssid_of ns) rs ++ reply_text_if number (bssid_of n) r
-    ≡ replies_text number (map bssid_of (ns ++ n ∷ [])) (rs ++ r ∷ [])
-text-more place number [] said [] n r h = sym (append-nil (reply_text_if number (bssid_of n) r))
-text-more place number [] said (other ∷ rs) n r h = absurd (cc)
-text-more place number (m ∷ ns) said [] n r h = absurd h
-text-more place number (m ∷ ns) said (other ∷ rs) n r h =
-    let first : List ℕ = reply_text_if number (bssid_of m) other in
-    append_assoc first (replies_text number (map bssid_of ns) rs) (reply_text_if number (bssid_of n) r)
-    ∙ ap (λ (t : List ℕ). first ++ t) (text-more (place + 1) number ns said rs n r h.1)
+    → written_replies face number (map bssid_of ns) rs ++ written_reply_if face number (bssid_of n) r
+    ≡ written_replies face number (map bssid_of (ns ++ n ∷ [])) (rs ++ r ∷ [])
+text-more face place number [] said [] n r h = sym (append-nil (written_reply_if face number (bssid_of n) r))
+text-more face place number [] said (other ∷ rs) n r h = absurd (cc)
+text-more face place number (m ∷ ns) said [] n r h = absurd h
+text-more face place number (m ∷ ns) said (other ∷ rs) n r h =
+    let first : List ℕ = written_reply_if face number (bssid_of m) other in
+    append_assoc first (written_replies face number (map bssid_of ns) rs) (written_reply_if face number (bssid_of n) r)
+    ∙ ap (λ (t : List ℕ). first ++ t) (text-more face (place + 1) number ns said rs n r h.1)
 
 length-after : (place : ℕ) (ns : List NetworkState) (said : Line) (rs : List (Option Reply))
     → length (after_line_from place ns said rs) ≡ length ns
@@ -63,47 +64,47 @@ length-after place (m ∷ ns) said (r ∷ rs) = ap suc (length-after (place + 1)
 -- ---- the networks up to a place
 
 -- those before the place have replied, and the others are as they were
-pub record ReplySoFar {W : Type 0} (taken : W → Option (List ℕ)) (failed : W → ℕ) (place number : ℕ) (said : Line)
+pub record ReplySoFar {W : Type 0} (taken : W → Option (List ℕ)) (failed : W → ℕ) (face : Face) (place number : ℕ) (said : Line)
     (ns now : List NetworkState) (old new : Buffered W) : Type 0 where
   pub done : List NetworkState
-  pub replied : HaveReplied taken failed number said (take place ns) done old new
+  pub replied : HaveReplied taken failed face number said (take place ns) done old new
   pub rest : now ≡ done ++ drop place ns
   pub within : place ≤ length ns
 
-length-done : {W : Type 0} (taken : W → Option (List ℕ)) (failed : W → ℕ) (place number : ℕ) (said : Line)
-    (ns now : List NetworkState) (old new : Buffered W) (s : ReplySoFar taken failed place number said ns now old new)
+length-done : {W : Type 0} (taken : W → Option (List ℕ)) (failed : W → ℕ) (face : Face) (place number : ℕ) (said : Line)
+    (ns now : List NetworkState) (old new : Buffered W) (s : ReplySoFar taken failed face place number said ns now old new)
     → length s.done ≡ place
-length-done taken failed place number said ns now old new s =
+length-done taken failed face place number said ns now old new s =
     let all : length s.done ≡ length (take place ns) =
     ap length s.replied.after ∙ length-after 0 (take place ns) said s.replied.replies in
     let within : place ≤ length ns = s.within in
     omega (arith, all, length-take place ns)
 
 -- the network there is as it was
-network-there : {W : Type 0} (taken : W → Option (List ℕ)) (failed : W → ℕ) (place number : ℕ) (said : Line)
+network-there : {W : Type 0} (taken : W → Option (List ℕ)) (failed : W → ℕ) (face : Face) (place number : ℕ) (said : Line)
     (ns now : List NetworkState) (old new : Buffered W) (d : NetworkState)
-    → ReplySoFar taken failed place number said ns now old new → place < length ns → get_or now place d ≡ get_or ns place d
-network-there taken failed place number said ns now old new d s within =
-    let count : length s.done ≡ place = length-done taken failed place number said ns now old new s in
+    → ReplySoFar taken failed face place number said ns now old new → place < length ns → get_or now place d ≡ get_or ns place d
+network-there taken failed face place number said ns now old new d s within =
+    let count : length s.done ≡ place = length-done taken failed face place number said ns now old new s in
     ap (λ (ms : List NetworkState). get_or ms place d) (s.rest ∙ ap (λ (ms : List NetworkState). s.done ++ ms) (drop_more ns place d within))
     ∙ ap (λ (k : ℕ). get_or (s.done ++ get_or ns place d ∷ drop (place + 1) ns) k d) (sym count)
     ∙ get_or-append_seam s.done (get_or ns place d) (drop (place + 1) ns) d
 
-pub replies-none : {W : Type 0} (taken : W → Option (List ℕ)) (failed : W → ℕ) (number : ℕ) (said : Line)
-    (ns : List NetworkState) (w : Buffered W) → CanWrite failed w → ReplySoFar taken failed 0 number said ns ns w w
-replies-none taken failed number said ns w can = record {
+pub replies-none : {W : Type 0} (taken : W → Option (List ℕ)) (failed : W → ℕ) (face : Face) (number : ℕ) (said : Line)
+    (ns : List NetworkState) (w : Buffered W) → CanWrite failed w → ReplySoFar taken failed face 0 number said ns ns w w
+replies-none taken failed face number said ns w can = record {
   done = [];
   replied = record { replies = []; may = refl; after = refl; puts = Puts-nothing w can };
   rest = refl;
   within = omega arith;
 }
 
-pub replies-more : {W : Type 0} (taken : W → Option (List ℕ)) (failed : W → ℕ) (place number : ℕ) (said : Line)
+pub replies-more : {W : Type 0} (taken : W → Option (List ℕ)) (failed : W → ℕ) (face : Face) (place number : ℕ) (said : Line)
     (ns now : List NetworkState) (old mid new : Buffered W) (n next : NetworkState)
-    → ReplySoFar taken failed place number said ns now old mid → place < length ns → n ≡ get_or now place n
-    → HasReplied taken failed place number said n next mid new
-    → ReplySoFar taken failed (place + 1) number said ns (set now place next) old new
-replies-more taken failed place number said ns now old mid new n next s within there h = record {
+    → ReplySoFar taken failed face place number said ns now old mid → place < length ns → n ≡ get_or now place n
+    → HasReplied taken failed face place number said n next mid new
+    → ReplySoFar taken failed face (place + 1) number said ns (set now place next) old new
+replies-more taken failed face place number said ns now old mid new n next s within there h = record {
   done = s.done ++ next ∷ [];
   replied = record {
     replies = s.replied.replies ++ h.reply ∷ [];
@@ -117,9 +118,9 @@ replies-more taken failed place number said ns now old mid new n next s within t
         ∙ ap (λ (ms : List NetworkState). after_line_from 0 ms said (s.replied.replies ++ h.reply ∷ [])) (sym upto);
     puts =
         Puts-same
-        (text-more 0 number (take place ns) said s.replied.replies n h.reply s.replied.may
+        (text-more face 0 number (take place ns) said s.replied.replies n h.reply s.replied.may
         ∙ ap
-        (λ (ms : List NetworkState). replies_text number (map bssid_of ms) (s.replied.replies ++ h.reply ∷ []))
+        (λ (ms : List NetworkState). written_replies face number (map bssid_of ms) (s.replied.replies ++ h.reply ∷ []))
         (sym upto))
         (Puts-then s.replied.puts h.puts);
   };
@@ -133,45 +134,45 @@ replies-more taken failed place number said ns now old mid new n next s within t
 }
   where
     done : length s.done ≡ place
-    done = length-done taken failed place number said ns now old mid s
+    done = length-done taken failed face place number said ns now old mid s
 
     count : place ≡ 0 + length (take place ns)
     count = omega (arith, length-take place ns)
 
     here : n ≡ get_or ns place n
-    here = there ∙ network-there taken failed place number said ns now old mid n s within
+    here = there ∙ network-there taken failed face place number said ns now old mid n s within
 
     upto : take (place + 1) ns ≡ take place ns ++ n ∷ []
     upto = take_more ns place n within ∙ ap (λ (m : NetworkState). take place ns ++ m ∷ []) (sym here)
 
-pub replies-all : {W : Type 0} (taken : W → Option (List ℕ)) (failed : W → ℕ) (place number : ℕ) (said : Line)
-    (ns now : List NetworkState) (old new : Buffered W) → ReplySoFar taken failed place number said ns now old new
-    → length ns ≤ place → HaveReplied taken failed number said ns now old new
-replies-all taken failed place number said ns now old new s all =
+pub replies-all : {W : Type 0} (taken : W → Option (List ℕ)) (failed : W → ℕ) (face : Face) (place number : ℕ) (said : Line)
+    (ns now : List NetworkState) (old new : Buffered W) → ReplySoFar taken failed face place number said ns now old new
+    → length ns ≤ place → HaveReplied taken failed face number said ns now old new
+replies-all taken failed face place number said ns now old new s all =
     let whole : take place ns ≡ ns = take_all place ns all in
     let same : now ≡ s.done =
     s.rest ∙ ap (λ (ms : List NetworkState). s.done ++ ms) (drop_all place ns all) ∙ append-nil s.done in
-    subst (λ (ms : List NetworkState). HaveReplied taken failed number said ns ms old new) (sym same)
-    (subst (λ (ms : List NetworkState). HaveReplied taken failed number said ms s.done old new) whole s.replied)
+    subst (λ (ms : List NetworkState). HaveReplied taken failed face number said ns ms old new) (sym same)
+    (subst (λ (ms : List NetworkState). HaveReplied taken failed face number said ms s.done old new) whole s.replied)
 
 -- ---- one network
 
-pub replied-none : {W : Type 0} (taken : W → Option (List ℕ)) (failed : W → ℕ) (place number : ℕ) (said : Line)
+pub replied-none : {W : Type 0} (taken : W → Option (List ℕ)) (failed : W → ℕ) (face : Face) (place number : ℕ) (said : Line)
     (n : NetworkState) (w : Buffered W) → CanWrite failed w → event_at place n said ≡ None
-    → HasReplied taken failed place number said n n w w
-replied-none taken failed place number said n w can none = record {
+    → HasReplied taken failed face place number said n n w w
+replied-none taken failed face place number said n w can none = record {
   reply = None;
   may = subst (λ (o : Option Event). MayReplyIf n o None) (sym none) refl;
   after = sym (ap (λ (o : Option Event). after_if n (taken_if o None)) none);
   puts = Puts-nothing w can;
 }
 
-pub replied-one : {W : Type 0} (taken : W → Option (List ℕ)) (failed : W → ℕ) (place number : ℕ) (said : Line)
+pub replied-one : {W : Type 0} (taken : W → Option (List ℕ)) (failed : W → ℕ) (face : Face) (place number : ℕ) (said : Line)
     (n next : NetworkState) (e : Event) (reply : Reply) (old new : Buffered W)
     → event_at place n said ≡ Some e → MayReply n e reply → next ≡ after_if n (taken_if (Some e) (Some reply))
-    → Puts taken failed old new (reply_text number (bssid_of n) reply)
-    → HasReplied taken failed place number said n next old new
-replied-one taken failed place number said n next e reply old new one may after puts = record {
+    → Puts taken failed old new (written_reply face number (bssid_of n) reply)
+    → HasReplied taken failed face place number said n next old new
+replied-one taken failed face place number said n next e reply old new one may after puts = record {
   reply = Some reply;
   may = subst (λ (o : Option Event). MayReplyIf n o (Some reply)) (sym one) may;
   after = after ∙ sym (ap (λ (o : Option Event). after_if n (taken_if o (Some reply))) one);

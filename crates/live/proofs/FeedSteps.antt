@@ -1,5 +1,5 @@
 -- Lines that end in a piece, one after the other.
-use Rattle.std.proofs.Common.{◌≡◌, ℕ, suc, ◌+◌, ◌-◌, ◌<◌, ◌≤◌, Bool, true, false, List, [], ◌∷◌, ◌++◌, Option, Some}
+use Rattle.std.proofs.Common.{◌≡◌, ℕ, ◌+◌, ◌-◌, ◌<◌, ◌≤◌, Bool, true, false, List, [], ◌∷◌, ◌++◌, Option, Some}
 use Rattle.std.proofs.Common.{refl, sym, ap, subst, ◌∙◌, arith, append-nil, append_assoc, take, drop, length, length-append, length-drop}
 use Rattle.std.specs.Prelude.{nat_lt}
 use Rattle.std.specs.List.{position}
@@ -14,12 +14,13 @@ use Rattle.trace.proofs.TextLemmas.{prefix_lacks}
 use Rattle.live.specs.Output.{AreAnswered}
 use Rattle.live.specs.PartialLine.{ended_with, whole_with, IsUnended}
 use Rattle.live.specs.Asked.{Asked, asked_by, asked_in, asked_by_all}
-use Rattle.live.specs.Answers.{Answer, Answers, after_answer}
+use Rattle.live.specs.Answers.{Answer, Answers}
 use Rattle.live.specs.Moments.{Moment, bssids_at}
 use Rattle.live.specs.TextLines.{TextLine, Octets, TooLong, max_line, line_with, partial_after, lines_in, last_line}
+use Rattle.live.specs.declared.face.Face.TheVariants.{Lines}
 use Rattle.live.proofs.AnswerSteps.{answered-none, answered-then}
 use Rattle.live.proofs.PartialSteps.{long-on, partial-over, partial-on, first-line, first-partial, no-line}
-use Rattle.live.proofs.MoreLines.{lines-answers, bssids-answers}
+use Rattle.live.proofs.MoreLines.{lines-said, bssids-answers}
 use Rattle.live.proofs.PieceLines.{over, stripped}
 
 -- ---- octets that end a line
@@ -54,7 +55,7 @@ line-lacks piece n is = prefix_lacks piece n (position-Some is_line_feed piece n
 pub record FeedSoFar {W : Type 0} (taken : W → Option (List ℕ)) (failed : W → ℕ) (m now : Moment) (old new : Buffered W)
     (partial partial' : TextLine) (piece rest : List ℕ) : Type 0 where
   pub lines : List TextLine
-  pub answered : AreAnswered taken failed m now old new (asked_in m lines)
+  pub answered : AreAnswered taken failed Lines m now old new (asked_in m lines)
   pub all : lines_in partial piece ≡ lines ++ lines_in partial' rest
   pub next : partial_after partial piece ≡ partial_after partial' rest
   pub few : now.lines + length rest ≤ m.lines + length piece
@@ -63,20 +64,11 @@ pub feed-none : {W : Type 0} (taken : W → Option (List ℕ)) (failed : W → �
     (partial : TextLine) (piece : List ℕ) → CanWrite failed w → FeedSoFar taken failed m m w w partial partial piece piece
 feed-none taken failed m w partial piece can = record {
   lines = [];
-  answered = answered-none taken failed m w can;
+  answered = answered-none taken failed Lines m w can;
   all = refl;
   next = refl;
   few = omega arith;
 }
-
--- as many answers as there is said
-length-answers : (m : Moment) (said : List Asked) (answers : List Answer) (next : Moment)
-    → Answers m said answers next → length answers ≡ length said
-length-answers m [] [] next h = refl
-length-answers m [] (answer ∷ answers) next h = absurd h
-length-answers m (asked ∷ said) [] next h = absurd h
-length-answers m (asked ∷ said) (answer ∷ answers) next h =
-    ap suc (length-answers (after_answer m asked answer) said answers next h.1)
 
 -- lines say the same at a later moment
 pub asked-later : (m now : Moment) (said : List Asked) (answers : List Answer) (lines : List TextLine)
@@ -89,20 +81,20 @@ pub feed-more : {W : Type 0} (taken : W → Option (List ℕ)) (failed : W → �
     (partial partial' line : TextLine) (piece rest : List ℕ) (n : ℕ)
     → FeedSoFar taken failed m now old mid partial partial' piece rest → IsUnended partial'
     → position is_line_feed rest ≡ Some n → line ≡ ended_with partial' (take n rest)
-    → AreAnswered taken failed now next mid new (asked_in now (line ∷ []))
+    → AreAnswered taken failed Lines now next mid new (asked_in now (line ∷ []))
     → FeedSoFar taken failed m next old new partial (Octets []) piece (drop (n + 1) rest)
 feed-more taken failed m now next old mid new partial partial' line piece rest n s lacks is same a =
-    let count : next.lines ≡ now.lines + 1 = lines-answers now (asked_in now (line ∷ [])) a.answers next a.answered ∙ one in
+    let count : next.lines ≡ now.lines + 1 = lines-said now (asked_in now (line ∷ [])) a.answers next a.answered in
     let within : n < length rest = (position-Some is_line_feed rest n 0 is).0 in
     let few : now.lines + length rest ≤ m.lines + length piece = s.few in
     let long : length (drop (n + 1) rest) ≡ length rest - (n + 1) = length-drop (n + 1) rest in
     record {
       lines = s.lines ++ line ∷ [];
       answered =
-          subst (λ (said : List Asked). AreAnswered taken failed m next old new said)
+          subst (λ (said : List Asked). AreAnswered taken failed Lines m next old new said)
           (sym (map-append (asked_by (bssids_at m)) s.lines (line ∷ [])))
-          (answered-then taken failed m now next (asked_in m s.lines) (asked_in m (line ∷ [])) old mid new s.answered
-          (subst (λ (said : List Asked). AreAnswered taken failed now next mid new said)
+          (answered-then taken failed Lines m now next (asked_in m s.lines) (asked_in m (line ∷ [])) old mid new s.answered
+          (subst (λ (said : List Asked). AreAnswered taken failed Lines now next mid new said)
           (asked-later m now (asked_in m s.lines) s.answered.answers (line ∷ []) s.answered.answered) a));
       all =
           s.all
@@ -112,19 +104,16 @@ feed-more taken failed m now next old mid new partial partial' line piece rest n
       next = s.next ∙ first-partial partial' rest n lacks is;
       few = omega (arith, count, within, few, long);
     }
-  where
-    one : now.lines + length a.answers ≡ now.lines + 1
-    one = ap (λ (k : ℕ). now.lines + k) (length-answers now (asked_in now (line ∷ [])) a.answers next a.answered)
 
 -- no LF is left
 pub feed-all : {W : Type 0} (taken : W → Option (List ℕ)) (failed : W → ℕ) (m now : Moment) (old new : Buffered W)
     (partial partial' : TextLine) (piece rest : List ℕ)
     → FeedSoFar taken failed m now old new partial partial' piece rest → IsUnended partial' → LacksLineFeed rest
-    → AreAnswered taken failed m now old new (asked_in m (lines_in partial piece))
+    → AreAnswered taken failed Lines m now old new (asked_in m (lines_in partial piece))
 feed-all taken failed m now old new partial partial' piece rest s lacks none =
     let all : lines_in partial piece ≡ s.lines =
     s.all ∙ ap (λ (ls : List TextLine). s.lines ++ ls) (no-line partial' rest lacks none) ∙ append-nil s.lines in
-    subst (λ (ls : List TextLine). AreAnswered taken failed m now old new (asked_in m ls)) (sym all) s.answered
+    subst (λ (ls : List TextLine). AreAnswered taken failed Lines m now old new (asked_in m ls)) (sym all) s.answered
 
 -- ---- the last line
 

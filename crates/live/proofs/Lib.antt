@@ -12,5 +12,9 @@ pub mod ReplySteps
 pub mod DispatchSteps
 pub mod AnswerSteps
 pub mod FeedSteps
+pub mod RecordLaws
+pub mod RecordSteps
+pub mod ToldSteps
+pub mod InputSteps
 pub mod RunSteps
 pub mod RunEnds

@@ -1,11 +1,12 @@
 -- The answers to what is said, and then to more.
-use Rattle.std.proofs.Common.{◌≡◌, ℕ, ◌+◌, List, [], ◌∷◌, ◌++◌, length, Some, Ok}
+use Rattle.std.proofs.Common.{◌≡◌, ℕ, suc, ◌+◌, List, [], ◌∷◌, ◌++◌, length, Some, Ok}
 use Rattle.std.proofs.Common.{refl, sym, ap, subst, ◌∙◌, arith, append_assoc}
 use Rattle.live.specs.Moments.{Moment, bssids_at}
 use Rattle.live.specs.Asked.{Asked, Says}
 use Rattle.live.specs.Answers.{Answer, Replies}
 use Rattle.live.specs.Answers.{after_answer, Answers, Begins}
-use Rattle.live.specs.AnswerText.{answer_text, answers_text, text_after}
+use Rattle.live.specs.Written.{written_answer, written_answers, written_after}
+use Rattle.live.specs.declared.face.Face.{Face}
 use Rattle.live.proofs.OwnLines.{bssids-answer}
 
 pub begins : (m : Moment) (said more : List Asked) (answers : List Answer) (next : Moment)
@@ -46,13 +47,13 @@ joins m said more answers next b =
     (sym b.all)
     (join-both m b.between next said more b.some b.others b.first b.later)
 
--- ---- their text
+-- ---- what is written of them
 
 lines-answer : (m : Moment) (asked : Asked) (answer : Answer) → (after_answer m asked answer).lines ≡ m.lines + 1
 lines-answer m (Says (Ok (Some line))) (Replies rs) = refl
 lines-answer m asked answer = refl
 
-pub lines-answers : (m : Moment) (said : List Asked) (answers : List Answer) (next : Moment)
+lines-answers : (m : Moment) (said : List Asked) (answers : List Answer) (next : Moment)
     → Answers m said answers next → next.lines ≡ m.lines + length answers
 lines-answers m [] [] next h = let same : next.lines ≡ m.lines = ap (λ (o : Moment). o.lines) h in omega arith
 lines-answers m [] (answer ∷ answers) next h = absurd h
@@ -63,6 +64,21 @@ lines-answers m (asked ∷ said) (answer ∷ answers) next h =
     let one : (after_answer m asked answer).lines ≡ m.lines + 1 = lines-answer m asked answer in
     omega (arith, on, one)
 
+-- as many answers as there is said
+length-answers : (m : Moment) (said : List Asked) (answers : List Answer) (next : Moment)
+    → Answers m said answers next → length answers ≡ length said
+length-answers m [] [] next h = refl
+length-answers m [] (answer ∷ answers) next h = absurd h
+length-answers m (asked ∷ said) [] next h = absurd h
+length-answers m (asked ∷ said) (answer ∷ answers) next h =
+    ap suc (length-answers (after_answer m asked answer) said answers next h.1)
+
+pub lines-said : (m : Moment) (said : List Asked) (answers : List Answer) (next : Moment)
+    → Answers m said answers next → next.lines ≡ m.lines + length said
+lines-said m said answers next h =
+    lines-answers m said answers next h
+    ∙ ap (λ (k : ℕ). m.lines + k) (length-answers m said answers next h)
+
 pub bssids-answers : (m : Moment) (said : List Asked) (answers : List Answer) (next : Moment)
     → Answers m said answers next → bssids_at next ≡ bssids_at m
 bssids-answers m [] [] next h = ap bssids_at h
@@ -71,30 +87,30 @@ bssids-answers m (asked ∷ said) [] next h = absurd h
 bssids-answers m (asked ∷ said) (answer ∷ answers) next h =
     bssids-answers (after_answer m asked answer) said answers next h.1 ∙ bssids-answer m asked answer
 
-texts-append : (bssids : List (List ℕ)) (number : ℕ) (some others : List Answer)
-    → answers_text bssids number (some ++ others)
-    ≡ answers_text bssids number some ++ answers_text bssids (number + length some) others
-texts-append bssids number [] others =
-    let same : number ≡ number + 0 = omega arith in ap (λ n. answers_text bssids n others) same
-texts-append bssids number (answer ∷ some) others =
+texts-append : (face : Face) (bssids : List (List ℕ)) (number : ℕ) (some others : List Answer)
+    → written_answers face bssids number (some ++ others)
+    ≡ written_answers face bssids number some ++ written_answers face bssids (number + length some) others
+texts-append face bssids number [] others =
+    let same : number ≡ number + 0 = omega arith in ap (λ n. written_answers face bssids n others) same
+texts-append face bssids number (answer ∷ some) others =
     let count : number + 1 + length some ≡ number + length (answer ∷ some) = omega arith in
-    ap (λ (t : List ℕ). answer_text bssids number answer ++ t)
-    (texts-append bssids (number + 1) some others
-    ∙ ap (λ n. answers_text bssids (number + 1) some ++ answers_text bssids n others) count)
+    ap (λ (t : List ℕ). written_answer face bssids number answer ++ t)
+    (texts-append face bssids (number + 1) some others
+    ∙ ap (λ n. written_answers face bssids (number + 1) some ++ written_answers face bssids n others) count)
     ∙ sym
-    (append_assoc (answer_text bssids number answer) (answers_text bssids (number + 1) some)
-    (answers_text bssids (number + length (answer ∷ some)) others))
+    (append_assoc (written_answer face bssids number answer) (written_answers face bssids (number + 1) some)
+    (written_answers face bssids (number + length (answer ∷ some)) others))
 
-pub texts-join : (m between : Moment) (said : List Asked) (some others : List Answer)
+pub texts-join : (face : Face) (m between : Moment) (said : List Asked) (some others : List Answer)
     → Answers m said some between
-    → text_after m (some ++ others) ≡ text_after m some ++ text_after between others
-texts-join m between said some others h =
+    → written_after face m (some ++ others) ≡ written_after face m some ++ written_after face between others
+texts-join face m between said some others h =
     let count : m.lines + 1 + length some ≡ between.lines + 1 =
     omega (arith, lines-answers m said some between h) in
-    texts-append (bssids_at m) (m.lines + 1) some others
+    texts-append face (bssids_at m) (m.lines + 1) some others
     ∙ ap
-    (λ n. text_after m some ++ answers_text (bssids_at m) n others)
+    (λ n. written_after face m some ++ written_answers face (bssids_at m) n others)
     count
     ∙ ap
-    (λ (bs : List (List ℕ)). text_after m some ++ answers_text bs (between.lines + 1) others)
+    (λ (bs : List (List ℕ)). written_after face m some ++ written_answers face bs (between.lines + 1) others)
     (sym (bssids-answers m said some between h))

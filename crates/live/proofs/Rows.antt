@@ -13,12 +13,16 @@ use Rattle.events.specs.declared.line.Line.TheVariants as line
 use Rattle.network.specs.declared.network.NetworkRefusal.TheVariants.{NoMemory, Clock}
 use Rattle.ap_config.proofs.Samples.{network, radio, setting}
 use Rattle.trace.specs.Report.{network_line, counts_line, station_line, frame_line}
-use Rattle.trace.specs.declared.fault.LineFault.TheVariants.{UnknownKind}
+use Rattle.trace.specs.declared.fault.LineFault.TheVariants.{UnknownKind, UnknownNetwork}
 use Rattle.live.specs.TextLines.{Octets, TooLong, line_with, lines_of_text, partial_in, lines_in, partial_after, last_line}
 use Rattle.live.specs.Moments.{Moment, first_moment, Sends, Refuses, is_past_clock, reply_of, taken_if, after_if}
-use Rattle.live.specs.Asked.{ForTables, Says, asked_by}
-use Rattle.live.specs.Answers.{Answer, Replies, Tables, Unread, MayAnswer, after_answer}
-use Rattle.live.specs.AnswerText.{table_text, answer_text, answers_text, live_text}
+use Rattle.live.specs.Asked.{HasFault, ForTables, Says, asked_by}
+use Rattle.live.specs.Answers.{Answer, Faulty, Replies, Tables, Unread, MayAnswer, after_answer}
+use Rattle.live.specs.AnswerText.{table_text}
+use Rattle.live.specs.AnswerOctets.{record_of, told}
+use Rattle.live.specs.Records.{record_asks, record_len}
+use Rattle.live.specs.Written.{written_answer, written_answers, written_count, live_text}
+use Rattle.live.specs.declared.face.Face.TheVariants.{Lines, Records}
 
 abbrev cr : List ℕ
 cr = 13 ∷ []
@@ -160,7 +164,7 @@ a_tick_is_always_read h = h
 pub and_then_nothing_changes : after_answer start (Says (Ok (Some (line.Air [])))) Unread ≡ record start { lines = 1 }
 and_then_nothing_changes = refl
 
-pub it_is_told_so : answers_text bssids 7 (Unread ∷ []) ≡ codes "fault memory line 7" ++ lf
+pub it_is_told_so : written_answers Lines bssids 7 (Unread ∷ []) ≡ codes "fault memory line 7" ++ lf
 unfolding digits
 it_is_told_so = refl
 
@@ -168,7 +172,7 @@ it_is_told_so = refl
 abbrev refused : Answer
 refused = Replies (Some (Refuses NoMemory) ∷ Some (Sends ((1 ∷ 2 ∷ []) ∷ []) ((3 ∷ []) ∷ [])) ∷ [])
 
-pub a_refusal_is_told_at_its_place : answer_text bssids 7 refused
+pub a_refusal_is_told_at_its_place : written_answer Lines bssids 7 refused
     ≡ codes "fault memory line 7 network 02:00:00:00:00:01" ++ lf
     ++ codes "air 02:00:00:00:00:02 0102"
     ++ lf
@@ -204,7 +208,57 @@ nothing_has_changed_then = refl
 pub one_before_it_is_not_full : is_past_clock (at_clock 4294967294) Tick ≡ false
 one_before_it_is_not_full = refl
 
-pub a_full_clock_is_told : answer_text bssids 7 (Replies (Some (Refuses Clock) ∷ None ∷ []))
+pub a_full_clock_is_told : written_answer Lines bssids 7 (Replies (Some (Refuses Clock) ∷ None ∷ []))
     ≡ codes "fault clock line 7 network 02:00:00:00:00:01" ++ lf
 unfolding digits
 a_full_clock_is_told = refl
+
+-- ---- records
+
+abbrev nobody : List ℕ
+nobody = 0 ∷ 0 ∷ 0 ∷ 0 ∷ 0 ∷ 0 ∷ []
+
+pub the_low_octet_of_a_length_comes_first : record_len (65 ∷ 0 ∷ 0 ∷ 0 ∷ 0 ∷ 0 ∷ 0 ∷ 1 ∷ 2 ∷ []) ≡ Some 522
+the_low_octet_of_a_length_comes_first = refl
+
+pub eight_octets_say_no_length : record_len (65 ∷ 0 ∷ 0 ∷ 0 ∷ 0 ∷ 0 ∷ 0 ∷ 1 ∷ []) ≡ None
+eight_octets_say_no_length = refl
+
+pub a_record_of_the_air : record_asks bssids (65 ∷ 0 ∷ 0 ∷ 0 ∷ 0 ∷ 0 ∷ 0 ∷ 2 ∷ 0 ∷ 7 ∷ 8 ∷ [])
+    ≡ Says (Ok (Some (line.Air (7 ∷ 8 ∷ []))))
+a_record_of_the_air = refl
+
+pub one_of_the_wire_names_its_network : record_asks bssids (87 ∷ 2 ∷ 0 ∷ 0 ∷ 0 ∷ 0 ∷ 2 ∷ 1 ∷ 0 ∷ 7 ∷ [])
+    ≡ Says (Ok (Some (line.Wire 1 (7 ∷ []))))
+one_of_the_wire_names_its_network = refl
+
+pub a_record_of_no_network_is_l4 : record_asks bssids (87 ∷ 2 ∷ 0 ∷ 0 ∷ 0 ∷ 0 ∷ 9 ∷ 0 ∷ 0 ∷ []) ≡ HasFault UnknownNetwork
+a_record_of_no_network_is_l4 = refl
+
+pub the_air_has_no_bssid : record_asks bssids (65 ∷ 2 ∷ 0 ∷ 0 ∷ 0 ∷ 0 ∷ 1 ∷ 0 ∷ 0 ∷ []) ≡ HasFault UnknownKind
+the_air_has_no_bssid = refl
+
+pub a_tick_has_no_octets : record_asks bssids (84 ∷ 0 ∷ 0 ∷ 0 ∷ 0 ∷ 0 ∷ 0 ∷ 1 ∷ 0 ∷ 7 ∷ []) ≡ HasFault UnknownKind
+a_tick_has_no_octets = refl
+
+pub a_record_that_is_a_tick : record_asks bssids (84 ∷ 0 ∷ 0 ∷ 0 ∷ 0 ∷ 0 ∷ 0 ∷ 0 ∷ 0 ∷ []) ≡ Says (Ok (Some line.Tick))
+a_record_that_is_a_tick = refl
+
+pub one_that_asks_for_tables : record_asks bssids (73 ∷ 0 ∷ 0 ∷ 0 ∷ 0 ∷ 0 ∷ 0 ∷ 0 ∷ 0 ∷ []) ≡ ForTables
+one_that_asks_for_tables = refl
+
+pub small_letters_are_no_kinds : record_asks bssids (97 ∷ 0 ∷ 0 ∷ 0 ∷ 0 ∷ 0 ∷ 0 ∷ 0 ∷ 0 ∷ []) ≡ HasFault UnknownKind
+small_letters_are_no_kinds = refl
+
+pub two_networks_are_open : written_count Records 2 ≡ 79 ∷ 0 ∷ 0 ∷ 0 ∷ 0 ∷ 0 ∷ 2 ∷ 0 ∷ 0 ∷ []
+two_networks_are_open = refl
+
+pub a_fault_of_a_record_is_a_line_for_people : written_answer Records bssids 7 (Faulty UnknownKind)
+    ≡ 78 ∷ nobody ++ (18 ∷ 0 ∷ codes "fault L1 record 7" ++ lf)
+unfolding digits told record_of
+a_fault_of_a_record_is_a_line_for_people = refl
+
+pub frames_are_records_of_their_network : written_answer Records bssids 7 (Replies (None ∷ Some (Sends ((1 ∷ 2 ∷ []) ∷ []) ((3 ∷ []) ∷ [])) ∷ []))
+    ≡ 65 ∷ 2 ∷ 0 ∷ 0 ∷ 0 ∷ 0 ∷ 2 ∷ 2 ∷ 0 ∷ 1 ∷ 2 ∷ 87 ∷ 2 ∷ 0 ∷ 0 ∷ 0 ∷ 0 ∷ 2 ∷ 1 ∷ 0 ∷ 3 ∷ []
+unfolding record_of
+frames_are_records_of_their_network = refl

@@ -1,6 +1,5 @@
 -- What a run leaves, by how it ended.
 use Rattle.std.proofs.Common.{◌≡◌, ℕ, ◌+◌, List, [], ◌++◌, length, Option, Result, Ok, Err, refl, sym, ap, subst, ◌∙◌, append_assoc, append-nil, arith, inl, inr}
-use Rattle.std.proofs.lemmas.List.{map-append}
 use Rattle.std.proofs.KnownBytes.{Appends-trans, Consumes-nil, Keeps-refl}
 use Rattle.std.specs.Io.KnownBytes.{Appends, Keeps}
 use Rattle.ap_config.specs.declared.config.ConfigFault.{ConfigFault}
@@ -8,33 +7,34 @@ use Rattle.ap_config.specs.declared.config.RadioConfig.{RadioConfig}
 use Rattle.trace.specs.ConfigurationText.{configuration_of}
 use Rattle.trace.specs.Endings.{AppendsPrefix, Ending, Ends, IsFaultOf, Refused, WriteFailed, OutOfMemory, failures_of}
 use Rattle.trace.specs.Faults.{read_as, read_ending, report_as}
-use Rattle.trace.specs.Report.{count_line}
-use Rattle.trace.specs.Sinks.{report_ending}
+use Rattle.trace.specs.Sinks.{report_ending, write_ending}
 use Rattle.trace.specs.Streams.{FailsAt, Reads, SinkView, SourceView, Streams}
 use Rattle.trace.specs.declared.read_fault.ReadFault.{ReadFault}
 use Rattle.trace.specs.declared.read_fault.ReadFault.TheVariants as reads
 use Rattle.trace.specs.declared.report.ReportFault.{ReportFault}
 use Rattle.trace.specs.declared.report.ReportFault.TheVariants as reports
 use Rattle.trace.specs.declared.sink.Failed.{Failed}
-use Rattle.live.specs.AnswerText.{tables_text, text_after}
 use Rattle.live.specs.Answers.{Answer, Answers, answers_of}
-use Rattle.live.specs.Asked.{Asked, asked_by, asked_in}
-use Rattle.live.specs.LiveView.{LiveState, TakesEnd, fed, state}
+use Rattle.live.specs.Asked.{Asked}
+use Rattle.live.specs.Inputs.{IsAllSaid, IsSaidIn, face_of, last_said, nothing_begun}
+use Rattle.live.specs.LiveView.{Finishes, running}
 use Rattle.live.specs.Moments.{Moment, first_moment, bssids_at}
-use Rattle.live.specs.Run.{AnswersAll, AnswersInput, RunsLive, StopsInPiece, StopsReading, Texts, Progress, progress, live_ending, max_reads}
-use Rattle.live.specs.TextLines.{TextLine, Octets, ended_lines, partial_in, last_line, lines_of_text}
+use Rattle.live.specs.Run.{AnswersAll, AnswersInput, Runs, StopsInPiece, StopsReading, Texts, Progress, progress, live_ending, max_reads}
+use Rattle.live.specs.Written.{written_after, written_count, written_tables}
+use Rattle.live.specs.declared.begun.Begun.{Begun}
+use Rattle.live.specs.declared.face.Face.{Face}
+use Rattle.live.specs.declared.face.Face.TheVariants.{Lines, Records}
 use Rattle.live.specs.declared.fault.LiveFault.{LiveFault}
 use Rattle.live.specs.declared.fault.LiveFault.TheVariants.{Config, NoMemory, Read, Write}
 use Rattle.live.proofs.EnoughMemory.{answers-may}
-use Rattle.live.proofs.FeedSteps.{asked-later}
-use Rattle.live.proofs.MoreLines.{joins, texts-join}
-use Rattle.live.proofs.PieceLines.{all-lines}
+use Rattle.live.proofs.InputSteps.{said-none, said-all, said-ended, said-face}
+use Rattle.live.proofs.MoreLines.{bssids-answers, joins, texts-join}
 use Rattle.live.proofs.RunSteps.{counted-none, prefix-after, prefix-longer}
 
 -- ---- before the first read
 
 abbrev texts : List ℕ → List ℕ → Texts
-texts config lines = record { config = config; lines = lines }
+texts config input = record { config = config; input = input }
 
 abbrev both : SourceView → SinkView → Streams
 both source sink = record { source = source; sink = sink }
@@ -49,49 +49,61 @@ none-read source ending failed = record {
   failed = failed;
 }
 
-pub memory-runs : (ct : List ℕ) (source : SourceView) (old new : SinkView) → Keeps old.taken new.taken
-    → RunsLive (Err NoMemory) ct (both source old) (both source new)
-memory-runs ct source old new kept = record {
-  text = [];
+pub memory-runs : (face : Face) (ct : List ℕ) (source : SourceView) (old new : SinkView) → Keeps old.taken new.taken
+    → Runs face (Err NoMemory) ct (both source old) (both source new)
+memory-runs face ct source old new kept = record {
+  input = [];
   reads = none-read source OutOfMemory refl;
   end = record { unread = refl; source = refl; unwritten = kept };
 }
 
-pub config-runs : (e : ReadFault ConfigFault) (ct : List ℕ) (source : SourceView) (sink : SinkView)
+pub config-runs : (face : Face) (e : ReadFault ConfigFault) (ct : List ℕ) (source : SourceView) (sink : SinkView)
     → IsFaultOf (configuration_of ct) (read_ending e)
-    → RunsLive (Err (read_as Config NoMemory e)) ct (both source sink) (both source sink)
-config-runs (reads.At fault) ct source sink h = record {
-  text = [];
+    → Runs face (Err (read_as Config NoMemory e)) ct (both source sink) (both source sink)
+config-runs face (reads.At fault) ct source sink h = record {
+  input = [];
   reads = none-read source (Refused (Config fault)) refl;
   end = (h, record { unread = refl; source = refl; unwritten = Keeps-refl sink.taken });
 }
-config-runs reads.NoMemory ct source sink h = memory-runs ct source sink sink (Keeps-refl sink.taken)
+config-runs face reads.NoMemory ct source sink h = memory-runs face ct source sink sink (Keeps-refl sink.taken)
 
--- ---- all lines
+-- ---- all that is said
 
--- before the first line
-abbrev first : RadioConfig → Streams → Progress
-first c streams = progress (state (first_moment c) (Octets [])) streams
+-- before anything is said
+abbrev pub first : Face → RadioConfig → Streams → Progress
+first face c streams = progress (first_moment c) (nothing_begun face) streams
 
--- what is said of a text, some of whose answers are these
-abbrev whole : RadioConfig → List Answer → Moment → List ℕ
-whole c answers last = count_line (length c.networks) ++ text_after (first_moment c) answers ++ tables_text last.networks
+-- what is to be written, where these are the answers
+abbrev pub whole : Face → RadioConfig → List Answer → Moment → List ℕ
+whole face c answers last =
+    written_count face (length c.networks) ++ written_after face (first_moment c) answers ++ written_tables face last.networks
 
-said-all : (c : RadioConfig) (ct text : List ℕ) (answers : List Answer) (last : Moment) → configuration_of ct ≡ Ok c
-    → Answers (first_moment c) (asked_in (first_moment c) (lines_of_text text)) answers last → AnswersAll (texts ct text) (whole c answers last)
-said-all c ct text answers last is answered =
-    record { config = c; answers = answers; last = last; read = is; answered = answered; said_is = refl }
+said-whole : (face : Face) (c : RadioConfig) (ct input : List ℕ) (said : List Asked) (answers : List Answer) (last : Moment)
+    → configuration_of ct ≡ Ok c → IsAllSaid face (bssids_at (first_moment c)) input said
+    → Answers (first_moment c) said answers last → AnswersAll face (texts ct input) (whole face c answers last)
+said-whole face c ct input said answers last is all answered = record {
+  config = c;
+  said = said;
+  answers = answers;
+  last = last;
+  read = is;
+  is_said = all;
+  answered = answered;
+  written_is = refl;
+}
 
--- the lines that ended, and then the last one
-all-answered : (m between last : Moment) (text : List ℕ) (partial : TextLine) (some more : List Answer)
-    → Answers m (asked_in m (ended_lines text)) some between → partial ≡ partial_in text
-    → Answers between (asked_in between (last_line partial)) more last
-    → Answers m (asked_in m (lines_of_text text)) (some ++ more) last
-all-answered m between last text partial some more first is later =
-    subst (λ (said : List Asked). Answers m said (some ++ more) last)
-    (sym (map-append (asked_by (bssids_at m)) (ended_lines text) (last_line (partial_in text)))
-    ∙ sym (ap (asked_in m) (all-lines text)))
-    (joins m (asked_in m (ended_lines text)) (asked_in m (last_line (partial_in text))) (some ++ more) last
+-- what was said as far as it had ended, and then what the end says
+all-answered : (face : Face) (c : RadioConfig) (ct input : List ℕ) (between last : Moment) (begun : Begun)
+    (said : List Asked) (some more : List Answer) → configuration_of ct ≡ Ok c
+    → IsSaidIn (bssids_at (first_moment c)) (nothing_begun face) input said begun
+    → Answers (first_moment c) said some between → Answers between (last_said (bssids_at between) begun) more last
+    → AnswersAll face (texts ct input) (whole face c (some ++ more) last)
+all-answered face c ct input between last begun said some more is are first later =
+    let m : Moment = first_moment c in
+    let end : List Asked = last_said (bssids_at m) begun in
+    said-whole face c ct input (said ++ end) (some ++ more) last is
+    (said-all face (bssids_at m) input said begun are)
+    (joins m said end (some ++ more) last
     (record {
       some = some;
       others = more;
@@ -99,25 +111,24 @@ all-answered m between last text partial some more first is later =
       all = refl;
       first = first;
       later =
-          subst (λ (said : List Asked). Answers between said more last)
-          (asked-later m between (asked_in m (ended_lines text)) some (last_line partial) first
-          ∙ ap (λ (b : TextLine). asked_in m (last_line b)) is)
+          subst (λ (bs : List (List ℕ)). Answers between (last_said bs begun) more last)
+          (bssids-answers m said some between first)
           later;
     }))
 
--- its text, which begins with that of the lines that ended
-whole-is : (c : RadioConfig) (between last : Moment) (said : List Asked) (some more : List Answer)
+-- it begins with what was to be written of what had ended
+whole-is : (face : Face) (c : RadioConfig) (between last : Moment) (said : List Asked) (some more : List Answer)
     → Answers (first_moment c) said some between
-    → (count_line (length c.networks) ++ text_after (first_moment c) some)
-    ++ (text_after between more ++ tables_text last.networks)
-    ≡ whole c (some ++ more) last
-whole-is c between last said some more h =
-    let count : List ℕ = count_line (length c.networks) in
-    let one : List ℕ = text_after (first_moment c) some in
-    let two : List ℕ = text_after between more in
-    let tables : List ℕ = tables_text last.networks in
-    let joined : text_after (first_moment c) (some ++ more) ≡ one ++ two =
-    texts-join (first_moment c) between said some more h in
+    → (written_count face (length c.networks) ++ written_after face (first_moment c) some)
+    ++ (written_after face between more ++ written_tables face last.networks)
+    ≡ whole face c (some ++ more) last
+whole-is face c between last said some more h =
+    let count : List ℕ = written_count face (length c.networks) in
+    let one : List ℕ = written_after face (first_moment c) some in
+    let two : List ℕ = written_after face between more in
+    let tables : List ℕ = written_tables face last.networks in
+    let joined : written_after face (first_moment c) (some ++ more) ≡ one ++ two =
+    texts-join face (first_moment c) between said some more h in
     sym (append_assoc (count ++ one) two tables)
     ∙ ap (λ (t : List ℕ). t ++ tables) (append_assoc count one two)
     ∙ ap (λ (t : List ℕ). count ++ t ++ tables) (sym joined)
@@ -127,25 +138,28 @@ whole-is c between last said some more h =
 abbrev bad : {E : Type 0} → E → Result Unit E
 bad e = Err e
 
-pub count-runs : (e : ReportFault) (c : RadioConfig) (ct : List ℕ) (source : SourceView) (old new : SinkView)
-    → configuration_of ct ≡ Ok c
-    → Ends {A = Unit} report_ending (Err e) (Ok (count_line (length c.networks))) old.taken new.taken
+pub count-runs : (face : Face) (e : ReportFault) (c : RadioConfig) (ct : List ℕ) (source : SourceView)
+    (old new : SinkView) → configuration_of ct ≡ Ok c
+    → Ends {A = Unit} report_ending (Err e) (Ok (written_count face (length c.networks))) old.taken new.taken
     → (bad e ≡ bad reports.NoMemory → Keeps old.taken new.taken)
-    → RunsLive (Err (report_as Write NoMemory e)) ct (both source old) (both source new)
-count-runs reports.NoMemory c ct source old new is part kept = memory-runs ct source old new (kept refl)
-count-runs reports.Write c ct source old new is part kept =
+    → Runs face (Err (report_as Write NoMemory e)) ct (both source old) (both source new)
+count-runs face reports.NoMemory c ct source old new is part kept = memory-runs face ct source old new (kept refl)
+count-runs face reports.Write c ct source old new is part kept =
     let m : Moment = first_moment c in
-    let some = answers-may m (asked_in m (lines_of_text [])) in
-    let answers : List Answer = answers_of m (asked_in m (lines_of_text [])) in
+    let end : List Asked = last_said (bssids_at m) (nothing_begun face) in
+    let some = answers-may m end in
+    let answers : List Answer = answers_of m end in
     record {
-      text = [];
+      input = [];
       reads = none-read source WriteFailed refl;
       end = record {
-        said = whole c answers some.0;
-        all = said-all c ct [] answers some.0 is some.1;
-        written =
-            prefix-longer (count_line (length c.networks) ++ text_after m answers) (tables_text some.0.networks)
-            (prefix-longer (count_line (length c.networks)) (text_after m answers) part);
+        written = whole face c answers some.0;
+        all = said-whole face c ct [] end answers some.0 is
+            (said-all face (bssids_at m) [] [] (nothing_begun face) (said-none face (bssids_at m))) some.1;
+        grown =
+            prefix-longer (written_count face (length c.networks) ++ written_after face m answers)
+            (written_tables face some.0.networks)
+            (prefix-longer (written_count face (length c.networks)) (written_after face m answers) part);
         stops = inl refl;
       };
     }
@@ -155,173 +169,210 @@ pub count-failures : (e : ReportFault) (failed : ℕ)
 count-failures reports.NoMemory failed = refl
 count-failures reports.Write failed = refl
 
--- all was written before that is said of the lines that ended before
-stops-reading : (c : RadioConfig) (ct text : List ℕ) (old mid new : SinkView) → configuration_of ct ≡ Ok c
-    → Appends old.taken mid.taken (count_line (length c.networks)) → StopsInPiece (first_moment c) text mid new
-    → StopsReading (texts ct text) old new
-stops-reading c ct text old mid new is count s =
-    let said : List ℕ = count_line (length c.networks) ++ text_after (first_moment c) s.answers in
+-- all was written before that is to be written of what had ended before
+stops-reading : (face : Face) (c : RadioConfig) (ct input : List ℕ) (old mid new : SinkView) → configuration_of ct ≡ Ok c
+    → Appends old.taken mid.taken (written_count face (length c.networks))
+    → StopsInPiece face (first_moment c) input mid new → StopsReading face (texts ct input) old new
+stops-reading face c ct input old mid new is count s =
+    let said : List ℕ = written_count face (length c.networks) ++ written_after face (first_moment c) s.answers in
     record {
       before = s.before;
       piece = s.piece;
       read = s.read;
       short = s.short;
-      said = said;
+      written = said;
       ended = record {
         config = c;
+        said = s.said;
         answers = s.answers;
         last = s.between;
         read = is;
+        is_said = s.is_said;
         answered = s.answered;
-        said_is = refl;
+        written_is = refl;
       };
       rest = s.rest;
-      written =
+      grown =
           subst (Appends old.taken new.taken)
-          (sym (append_assoc (count_line (length c.networks)) (text_after (first_moment c) s.answers) s.rest))
-          (Appends-trans old.taken mid.taken new.taken (count_line (length c.networks))
-          (text_after (first_moment c) s.answers ++ s.rest) count s.written);
+          (sym
+          (append_assoc (written_count face (length c.networks)) (written_after face (first_moment c) s.answers) s.rest))
+          (Appends-trans old.taken mid.taken new.taken (written_count face (length c.networks))
+          (written_after face (first_moment c) s.answers ++ s.rest) count s.written);
     }
 
 -- ---- reading ended before the source did, or a write failed
 
-pub input-runs : (e : LiveFault) (c : RadioConfig) (ct : List ℕ) (old : SinkView) (mid new : Streams) (live : LiveState)
-    → configuration_of ct ≡ Ok c → Appends old.taken mid.sink.taken (count_line (length c.networks))
-    → AnswersInput (Err e) (first c mid) (progress live new)
-    → RunsLive (Err e) ct (both mid.source old) new
-input-runs Read c ct old mid new live is count s = record {
-  text = s.text;
+pub input-runs : (face : Face) (e : LiveFault) (c : RadioConfig) (ct : List ℕ) (old : SinkView) (mid new : Streams)
+    (moment : Moment) (begun : Begun) → configuration_of ct ≡ Ok c
+    → Appends old.taken mid.sink.taken (written_count face (length c.networks))
+    → AnswersInput face (Err e) (first face c mid) (progress moment begun new)
+    → Runs face (Err e) ct (both mid.source old) new
+input-runs face Read c ct old mid new moment begun is count s = record {
+  input = s.input;
   reads = s.reads;
   end = record {
-    said = count_line (length c.networks) ++ text_after (first_moment c) s.answers;
+    written = written_count face (length c.networks) ++ written_after face (first_moment c) s.answers;
     ended = record {
       config = c;
+      said = s.said;
       answers = s.answers;
-      last = live.moment;
+      last = moment;
       read = is;
+      is_said = said-ended face (bssids_at (first_moment c)) s.input s.said begun s.is_said;
       answered = s.answered;
-      said_is = refl;
+      written_is = refl;
     };
-    written =
-        Appends-trans old.taken mid.sink.taken new.sink.taken (count_line (length c.networks))
-        (text_after (first_moment c) s.answers) count s.written;
+    grown =
+        Appends-trans old.taken mid.sink.taken new.sink.taken (written_count face (length c.networks))
+        (written_after face (first_moment c) s.answers) count s.written;
   };
 }
-input-runs Write c ct old mid new live is count s =
-    let rest = answers-may live.moment (asked_in live.moment (last_line live.partial)) in
-    let more : List Answer = answers_of live.moment (asked_in live.moment (last_line live.partial)) in
+input-runs face Write c ct old mid new moment begun is count s =
+    let end : List Asked = last_said (bssids_at moment) begun in
+    let rest = answers-may moment end in
+    let more : List Answer = answers_of moment end in
     record {
-      text = s.text;
+      input = s.input;
       reads = s.reads;
       end = record {
-        said = whole c (s.answers ++ more) rest.0;
+        written = whole face c (s.answers ++ more) rest.0;
         all =
-            said-all c ct s.text (s.answers ++ more) rest.0 is
-            (all-answered (first_moment c) live.moment rest.0 s.text live.partial s.answers more s.answered s.partial
-            rest.1);
-        written =
+            all-answered face c ct s.input moment rest.0 begun s.said s.answers more is s.is_said s.answered rest.1;
+        grown =
             subst (AppendsPrefix old.taken new.sink.taken)
-            (whole-is c live.moment rest.0 (asked_in (first_moment c) (ended_lines s.text)) s.answers more s.answered)
-            (prefix-longer (count_line (length c.networks) ++ text_after (first_moment c) s.answers)
-            (text_after live.moment more ++ tables_text rest.0.networks)
-            (prefix-after (count_line (length c.networks)) (text_after (first_moment c) s.answers) count s.written));
-        stops = inr (stops-reading c ct s.text old mid.sink new.sink is count s.stops);
+            (whole-is face c moment rest.0 s.said s.answers more s.answered)
+            (prefix-longer (written_count face (length c.networks) ++ written_after face (first_moment c) s.answers)
+            (written_after face moment more ++ written_tables face rest.0.networks)
+            (prefix-after (written_count face (length c.networks)) (written_after face (first_moment c) s.answers) count
+            s.written));
+        stops = inr (stops-reading face c ct s.input old mid.sink new.sink is count s.stops);
       };
     }
-input-runs NoMemory c ct old mid new live is count s = absurd s.written
-input-runs (Config fault) c ct old mid new live is count s = absurd s.written
+input-runs face NoMemory c ct old mid new moment begun is count s = absurd s.written
+input-runs face (Config fault) c ct old mid new moment begun is count s = absurd s.written
 
 -- ---- the source came to its end
 
-pub end-runs : (e : Failed) (u : Unit {0}) (c : RadioConfig) (ct : List ℕ) (old : SinkView) (mid read : Streams)
-    (new : SinkView) (live : LiveState) → configuration_of ct ≡ Ok c
-    → Appends old.taken mid.sink.taken (count_line (length c.networks))
-    → AnswersInput (Ok u) (first c mid) (progress live read)
-    → TakesEnd (Err e) (fed live read.sink.taken) new.taken
-    → RunsLive (Err Write) ct (both mid.source old) (both read.source new)
-end-runs e u c ct old mid read new live is count s t = record {
-  text = s.text;
-  reads = record {
-    taken = s.reads.taken;
-    made = s.reads.made;
-    within = s.reads.within;
-    counted = s.reads.counted;
-    failed = s.reads.failed;
-  };
-  end = record {
-    said = whole c (s.answers ++ t.answers) t.last;
-    all =
-        said-all c ct s.text (s.answers ++ t.answers) t.last is
-        (all-answered (first_moment c) live.moment t.last s.text live.partial s.answers t.answers s.answered s.partial
-        t.answered);
-    written =
-        subst (AppendsPrefix old.taken new.taken)
-        (whole-is c live.moment t.last (asked_in (first_moment c) (ended_lines s.text)) s.answers t.answers s.answered)
-        (prefix-after (count_line (length c.networks) ++ text_after (first_moment c) s.answers)
-        (text_after live.moment t.answers ++ tables_text t.last.networks)
-        (Appends-trans old.taken mid.sink.taken read.sink.taken (count_line (length c.networks))
-        (text_after (first_moment c) s.answers) count s.written.1)
-        t.written);
-    stops =
-        inr
-        (stops-reading c ct s.text old mid.sink new is count
-        (record {
-          before = s.text;
-          piece = [];
-          read = sym (append-nil s.text);
-          short = omega arith;
-          answers = s.answers;
-          between = live.moment;
-          answered = s.answered;
-          rest = t.written.written;
-          written =
-              Appends-trans mid.sink.taken read.sink.taken new.taken (text_after (first_moment c) s.answers)
-              t.written.written s.written.1 t.written.taken;
-        }));
-  };
-}
+-- the end is written in the face of what has begun
+end-in : (face : Face) (r : Result Unit Failed) (moment : Moment) (begun : Begun) (old new : Option (List ℕ))
+    → face_of begun ≡ face → Finishes r (running moment begun old) new
+    → (answers : List Answer) × (last : Moment) × Answers moment (last_said (bssids_at moment) begun) answers last
+    × Ends write_ending r (Ok (written_after face moment answers ++ written_tables face last.networks)) old new
+end-in face r moment begun old new same t = (
+  t.answers,
+  t.last,
+  t.answered,
+  subst
+      (λ (f : Face). Ends write_ending r (Ok (written_after f moment t.answers ++ written_tables f t.last.networks)) old new)
+      same
+      t.written,
+)
 
-pub whole-runs : (u v w : Unit {0}) (c : RadioConfig) (ct : List ℕ) (old : SinkView) (mid read : Streams)
-    (new : SinkView) (live : LiveState) → configuration_of ct ≡ Ok c
-    → Appends old.taken mid.sink.taken (count_line (length c.networks))
-    → AnswersInput (Ok u) (first c mid) (progress live read)
-    → TakesEnd (Ok v) (fed live read.sink.taken) new.taken
-    → RunsLive (Ok w) ct (both mid.source old) (both read.source new)
-whole-runs u v w c ct old mid read new live is count s t = record {
-  text = s.text;
-  reads = s.reads;
-  end = record {
-    said = whole c (s.answers ++ t.answers) t.last;
-    all =
-        said-all c ct s.text (s.answers ++ t.answers) t.last is
-        (all-answered (first_moment c) live.moment t.last s.text live.partial s.answers t.answers s.answered s.partial
-        t.answered);
-    at_end = s.written.0;
-    written =
-        subst (Appends old.taken new.taken)
-        (whole-is c live.moment t.last (asked_in (first_moment c) (ended_lines s.text)) s.answers t.answers s.answered)
-        (Appends-trans old.taken read.sink.taken new.taken
-        (count_line (length c.networks) ++ text_after (first_moment c) s.answers)
-        (text_after live.moment t.answers ++ tables_text t.last.networks)
-        (Appends-trans old.taken mid.sink.taken read.sink.taken (count_line (length c.networks))
-        (text_after (first_moment c) s.answers) count s.written.1)
-        t.written);
-  };
-}
+pub end-runs : (face : Face) (e : Failed) (u : Unit {0}) (c : RadioConfig) (ct : List ℕ) (old : SinkView)
+    (mid read : Streams) (new : SinkView) (moment : Moment) (begun : Begun) → configuration_of ct ≡ Ok c
+    → Appends old.taken mid.sink.taken (written_count face (length c.networks))
+    → AnswersInput face (Ok u) (first face c mid) (progress moment begun read)
+    → Finishes (Err e) (running moment begun read.sink.taken) new.taken
+    → Runs face (Err Write) ct (both mid.source old) (both read.source new)
+end-runs face e u c ct old mid read new moment begun is count s finished =
+    let same : face_of begun ≡ face = said-face face (bssids_at (first_moment c)) s.input s.said begun s.is_said in
+    let t = end-in face (Err e) moment begun read.sink.taken new.taken same finished in
+    let part : AppendsPrefix read.sink.taken new.taken (written_after face moment t.0 ++ written_tables face t.1.networks) =
+    t.3 in
+    record {
+      input = s.input;
+      reads = record {
+        taken = s.reads.taken;
+        made = s.reads.made;
+        within = s.reads.within;
+        counted = s.reads.counted;
+        failed = s.reads.failed;
+      };
+      end = record {
+        written = whole face c (s.answers ++ t.0) t.1;
+        all = all-answered face c ct s.input moment t.1 begun s.said s.answers t.0 is s.is_said s.answered t.2;
+        grown =
+            subst (AppendsPrefix old.taken new.taken)
+            (whole-is face c moment t.1 s.said s.answers t.0 s.answered)
+            (prefix-after (written_count face (length c.networks) ++ written_after face (first_moment c) s.answers)
+            (written_after face moment t.0 ++ written_tables face t.1.networks)
+            (Appends-trans old.taken mid.sink.taken read.sink.taken (written_count face (length c.networks))
+            (written_after face (first_moment c) s.answers) count s.written.1)
+            part);
+        stops =
+            inr
+            (stops-reading face c ct s.input old mid.sink new is count
+            (record {
+              before = s.input;
+              piece = [];
+              read = sym (append-nil s.input);
+              short = omega arith;
+              said = s.said;
+              answers = s.answers;
+              between = moment;
+              is_said = said-ended face (bssids_at (first_moment c)) s.input s.said begun s.is_said;
+              answered = s.answered;
+              rest = part.written;
+              written =
+                  Appends-trans mid.sink.taken read.sink.taken new.taken (written_after face (first_moment c) s.answers)
+                  part.written s.written.1 part.taken;
+            }));
+      };
+    }
+
+pub whole-runs : (face : Face) (u v w : Unit {0}) (c : RadioConfig) (ct : List ℕ) (old : SinkView)
+    (mid read : Streams) (new : SinkView) (moment : Moment) (begun : Begun) → configuration_of ct ≡ Ok c
+    → Appends old.taken mid.sink.taken (written_count face (length c.networks))
+    → AnswersInput face (Ok u) (first face c mid) (progress moment begun read)
+    → Finishes (Ok v) (running moment begun read.sink.taken) new.taken
+    → Runs face (Ok w) ct (both mid.source old) (both read.source new)
+whole-runs face u v w c ct old mid read new moment begun is count s finished =
+    let same : face_of begun ≡ face = said-face face (bssids_at (first_moment c)) s.input s.said begun s.is_said in
+    let t = end-in face (Ok v) moment begun read.sink.taken new.taken same finished in
+    record {
+      input = s.input;
+      reads = s.reads;
+      end = record {
+        written = whole face c (s.answers ++ t.0) t.1;
+        all = all-answered face c ct s.input moment t.1 begun s.said s.answers t.0 is s.is_said s.answered t.2;
+        at_end = s.written.0;
+        grown =
+            subst (Appends old.taken new.taken)
+            (whole-is face c moment t.1 s.said s.answers t.0 s.answered)
+            (Appends-trans old.taken read.sink.taken new.taken
+            (written_count face (length c.networks) ++ written_after face (first_moment c) s.answers)
+            (written_after face moment t.0 ++ written_tables face t.1.networks)
+            (Appends-trans old.taken mid.sink.taken read.sink.taken (written_count face (length c.networks))
+            (written_after face (first_moment c) s.answers) count s.written.1)
+            t.3);
+      };
+    }
 
 -- ---- as the call has it
 
-pub from-first : (r : Result Unit LiveFault) (c : RadioConfig) (begin : LiveState) (mid : Streams) (end : Progress)
-    → begin ≡ state (first_moment c) (Octets []) → AnswersInput r (progress begin mid) end
-    → AnswersInput r (first c mid) end
-from-first r c begin mid end is s = subst (λ (l : LiveState). AnswersInput r (progress l mid) end) is s
+face-same : (face : Face) → face_of (nothing_begun face) ≡ face
+face-same Lines = refl
+face-same Records = refl
 
-pub counted : (count : ℕ) (c : RadioConfig) (old new : Option (List ℕ)) → count ≡ length c.networks
-    → Appends old new (count_line count) → Appends old new (count_line (length c.networks))
-counted count c old new is h = subst (λ (n : ℕ). Appends old new (count_line n)) is h
+pub from-first : (face : Face) (r : Result Unit LiveFault) (c : RadioConfig) (moment : Moment) (begun : Begun)
+    (mid : Streams) (end : Progress) → moment ≡ first_moment c → begun ≡ nothing_begun face
+    → AnswersInput (face_of begun) r (progress moment begun mid) end → AnswersInput face r (first face c mid) end
+from-first face r c moment begun mid end at is s =
+    subst (λ (f : Face). AnswersInput f r (first face c mid) end) (face-same face)
+    (subst (λ (b : Begun). AnswersInput (face_of b) r (progress (first_moment c) b mid) end) is
+    (subst (λ (m : Moment). AnswersInput (face_of begun) r (progress m begun mid) end) at s))
 
-pub counted-part : (e : ReportFault) (count : ℕ) (c : RadioConfig) (old new : Option (List ℕ))
-    → count ≡ length c.networks → Ends {A = Unit} report_ending (Err e) (Ok (count_line count)) old new
-    → Ends {A = Unit} report_ending (Err e) (Ok (count_line (length c.networks))) old new
-counted-part e count c old new is h =
-    subst (λ (n : ℕ). Ends {A = Unit} report_ending (Err e) (Ok (count_line n)) old new) is h
+-- it begins with nothing
+pub begins-so : (face : Face) (begun : Begun) → begun ≡ nothing_begun face → begun ≡ nothing_begun (face_of begun)
+begins-so face begun is =
+    is ∙ ap nothing_begun (sym (face-same face)) ∙ ap (λ (b : Begun). nothing_begun (face_of b)) (sym is)
+
+pub counted : (face : Face) (count : ℕ) (c : RadioConfig) (old new : Option (List ℕ)) → count ≡ length c.networks
+    → Appends old new (written_count face count) → Appends old new (written_count face (length c.networks))
+counted face count c old new is h = subst (λ (n : ℕ). Appends old new (written_count face n)) is h
+
+pub counted-part : (face : Face) (e : ReportFault) (count : ℕ) (c : RadioConfig) (old new : Option (List ℕ))
+    → count ≡ length c.networks → Ends {A = Unit} report_ending (Err e) (Ok (written_count face count)) old new
+    → Ends {A = Unit} report_ending (Err e) (Ok (written_count face (length c.networks))) old new
+counted-part face e count c old new is h =
+    subst (λ (n : ℕ). Ends {A = Unit} report_ending (Err e) (Ok (written_count face n)) old new) is h

@@ -1,24 +1,24 @@
--- What was read of an input, and the answers to the lines that ended in it.
+-- What was read of an input, and the answers to what was said in it.
 use Rattle.std.specs.Prelude.{max, min}
 use Rattle.std.proofs.Common.{◌≡◌, ℕ, ◌+◌, ◌-◌, ◌*◌, ◌^◌, ◌≤◌, List, [], ◌++◌, length, Option, Ok, Err}
-use Rattle.std.proofs.Common.{refl, sym, ap, subst, ◌∙◌, arith, length-append, append_assoc}
+use Rattle.std.proofs.Common.{refl, sym, ap, subst, ◌∙◌, arith, append_assoc}
 use Rattle.std.proofs.KnownBytes.{Appends-nil, Appends-trans, Consumes-nil, Consumes-trans}
 use Rattle.std.specs.Io.KnownBytes.{Appends, Consumes}
 use Rattle.trace.specs.Endings.{AppendsPrefix}
 use Rattle.trace.specs.Streams.{reads_after}
 use Rattle.trace.specs.declared.sink.Failed.{Failed}
-use Rattle.live.specs.AnswerText.{text_after}
 use Rattle.live.specs.Answers.{Answer, Answers}
-use Rattle.live.specs.Asked.{Asked, asked_by, asked_in}
-use Rattle.live.specs.LiveView.{LiveState, TakesPiece, fed}
+use Rattle.live.specs.Asked.{Asked}
+use Rattle.live.specs.Inputs.{IsSaidIn, face_of, nothing_begun}
+use Rattle.live.specs.LiveView.{Takes, running}
 use Rattle.live.specs.Moments.{Moment, bssids_at}
 use Rattle.live.specs.Run.{AnswersInput, Progress, max_reads}
+use Rattle.live.specs.Written.{written_after}
+use Rattle.live.specs.declared.begun.Begun.{Begun}
+use Rattle.live.specs.declared.face.Face.{Face}
 use Rattle.live.specs.declared.fault.LiveFault.TheVariants.{Write}
-use Rattle.live.specs.TextLines.{TextLine, Octets, ended_lines, partial_in, partial_after, lines_in}
-use Rattle.live.proofs.MoreLines.{joins, texts-join}
-use Rattle.live.proofs.FeedSteps.{asked-later}
-use Rattle.live.proofs.PieceLines.{ended-more, partial-more}
-use Rattle.std.proofs.lemmas.List.{map-append}
+use Rattle.live.proofs.InputSteps.{said-none, said-more, said-ended, said-face}
+use Rattle.live.proofs.MoreLines.{bssids-answers, joins, texts-join}
 
 -- ---- a prefix
 
@@ -60,115 +60,132 @@ counted-more old mid new count before here = one_more (2 ^ 64 - 1) old mid new c
 
 -- ---- so far
 
--- the lines that ended in what so many reads gave were answered, and no write failed
-pub record InputSoFar (count : ℕ) (old new : Progress) : Type 0 where
-  pub text : List ℕ
+-- what was said in what this many reads gave was answered, and no write failed
+pub record InputSoFar (face : Face) (count : ℕ) (old new : Progress) : Type 0 where
+  pub input : List ℕ
+  pub said : List Asked
   pub answers : List Answer
-  pub took : Consumes old.streams.source.left new.streams.source.left text
+  pub took : Consumes old.streams.source.left new.streams.source.left input
   pub counted : new.streams.source.reads ≡ reads_after old.streams.source.reads count
-  pub answered : Answers old.live.moment (asked_in old.live.moment (ended_lines text)) answers new.live.moment
-  pub partial : new.live.partial ≡ partial_in text
-  pub written : Appends old.streams.sink.taken new.streams.sink.taken (text_after old.live.moment answers)
-  pub lines : new.live.moment.lines ≤ 4096 * count
+  pub is_said : IsSaidIn (bssids_at old.moment) (nothing_begun face) input said new.begun
+  pub answered : Answers old.moment said answers new.moment
+  pub written : Appends old.streams.sink.taken new.streams.sink.taken (written_after face old.moment answers)
+  pub lines : new.moment.lines ≤ 4096 * count
 
-pub input-none : (old : Progress) → old.live.partial ≡ Octets [] → old.live.moment.lines ≡ 0 → InputSoFar 0 old old
-input-none old partial first = record {
-  text = [];
+pub input-none : (face : Face) (old : Progress) → old.begun ≡ nothing_begun face → old.moment.lines ≡ 0
+    → InputSoFar face 0 old old
+input-none face old begun first = record {
+  input = [];
+  said = [];
   answers = [];
   took = Consumes-nil old.streams.source.left;
   counted = counted-none old.streams.source.reads;
+  is_said =
+      subst (λ (b : Begun). IsSaidIn (bssids_at old.moment) (nothing_begun face) [] [] b) (sym begun)
+      (said-none face (bssids_at old.moment));
   answered = refl;
-  partial = partial;
   written = Appends-nil old.streams.sink.taken;
   lines = omega arith;
 }
 
--- the lines of a piece more
-piece-more : (m : Moment) (live live' : LiveState) (text piece : List ℕ) (some more : List Answer)
-    → Answers m (asked_in m (ended_lines text)) some live.moment → live.partial ≡ partial_in text
-    → Answers live.moment (asked_in live.moment (lines_in live.partial piece)) more live'.moment
-    → Answers m (asked_in m (ended_lines (text ++ piece))) (some ++ more) live'.moment
-piece-more m live live' text piece some more first partial later =
-    subst (λ (said : List Asked). Answers m said (some ++ more) live'.moment)
-    (sym (map-append (asked_by (bssids_at m)) (ended_lines text) (lines_in (partial_in text) piece))
-    ∙ sym (ap (asked_in m) (ended-more text piece)))
-    (joins m (asked_in m (ended_lines text)) (asked_in m (lines_in (partial_in text) piece)) (some ++ more) live'.moment
-    (record {
-      some = some;
-      others = more;
-      between = live.moment;
-      all = refl;
-      first = first;
-      later =
-          subst (λ (said : List Asked). Answers live.moment said more live'.moment)
-          (asked-later m live.moment (asked_in m (ended_lines text)) some (lines_in live.partial piece) first
-          ∙ ap (λ (b : TextLine). asked_in m (lines_in b piece)) partial)
-          later;
-    }))
+-- what is said in a piece more
+piece-more : (m between next : Moment) (said more : List Asked) (some others : List Answer) → Answers m said some between
+    → Answers between more others next → Answers m (said ++ more) (some ++ others) next
+piece-more m between next said more some others first later =
+    joins m said more (some ++ others) next
+    (record { some = some; others = others; between = between; all = refl; first = first; later = later })
 
-partial-then : (live live' : LiveState) (text piece : List ℕ) → live.partial ≡ partial_in text
-    → live'.partial ≡ partial_after live.partial piece → live'.partial ≡ partial_in (text ++ piece)
-partial-then live live' text piece partial next =
-    next ∙ ap (λ (b : TextLine). partial_after b piece) partial ∙ sym (partial-more text piece)
+-- it is said to the same networks
+piece-said : (face : Face) (m between : Moment) (input piece : List ℕ) (said more : List Asked) (some : List Answer)
+    (mid next : Begun) → Answers m said some between → IsSaidIn (bssids_at m) (nothing_begun face) input said mid
+    → IsSaidIn (bssids_at between) mid piece more next
+    → IsSaidIn (bssids_at m) (nothing_begun face) (input ++ piece) (said ++ more) next
+piece-said face m between input piece said more some mid next h is k =
+    said-more face (bssids_at m) input piece said more mid next is
+    (subst (λ (bs : List (List ℕ)). IsSaidIn bs mid piece more next) (bssids-answers m said some between h) k)
 
-pub input-more : (count : ℕ) (old mid new : Progress) (piece : List ℕ) (u : Unit {0}) → InputSoFar count old mid
-    → Consumes mid.streams.source.left new.streams.source.left piece
+pub input-more : (face : Face) (count : ℕ) (old mid new : Progress) (piece : List ℕ) (u : Unit {0})
+    → InputSoFar face count old mid → Consumes mid.streams.source.left new.streams.source.left piece
     → new.streams.source.reads ≡ reads_after mid.streams.source.reads 1 → length piece ≤ 4096
-    → TakesPiece (Ok u) piece (fed mid.live mid.streams.sink.taken) (fed new.live new.streams.sink.taken)
-    → new.live.moment.lines ≤ mid.live.moment.lines + length piece → InputSoFar (count + 1) old new
-input-more count old mid new piece u s took one few t lines = record {
-  text = s.text ++ piece;
-  answers = s.answers ++ t.answers;
-  took =
-      Consumes-trans old.streams.source.left mid.streams.source.left new.streams.source.left s.text piece s.took took;
-  counted =
-      counted-more old.streams.source.reads mid.streams.source.reads new.streams.source.reads count s.counted one;
-  answered = piece-more old.live.moment mid.live new.live s.text piece s.answers t.answers s.answered s.partial t.answered;
-  partial = partial-then mid.live new.live s.text piece s.partial t.partial;
-  written =
-      subst (Appends old.streams.sink.taken new.streams.sink.taken)
-      (sym (texts-join old.live.moment mid.live.moment (asked_in old.live.moment (ended_lines s.text)) s.answers t.answers s.answered))
-      (Appends-trans old.streams.sink.taken mid.streams.sink.taken new.streams.sink.taken
-      (text_after old.live.moment s.answers) (text_after mid.live.moment t.answers) s.written t.written);
-  lines = omega (arith, s.lines, lines, few);
-}
+    → Takes (Ok u) piece (running mid.moment mid.begun mid.streams.sink.taken)
+    (running new.moment new.begun new.streams.sink.taken)
+    → new.moment.lines ≤ mid.moment.lines + length piece → InputSoFar face (count + 1) old new
+input-more face count old mid new piece u s took one few t lines =
+    let same : face_of mid.begun ≡ face =
+    said-face face (bssids_at old.moment) s.input s.said mid.begun s.is_said in
+    let grown : Appends mid.streams.sink.taken new.streams.sink.taken (written_after face mid.moment t.answers) =
+    subst (λ (f : Face). Appends mid.streams.sink.taken new.streams.sink.taken (written_after f mid.moment t.answers)) same
+    t.written in
+    record {
+      input = s.input ++ piece;
+      said = s.said ++ t.said;
+      answers = s.answers ++ t.answers;
+      took =
+          Consumes-trans old.streams.source.left mid.streams.source.left new.streams.source.left s.input piece s.took took;
+      counted =
+          counted-more old.streams.source.reads mid.streams.source.reads new.streams.source.reads count s.counted one;
+      is_said =
+          piece-said face old.moment mid.moment s.input piece s.said t.said s.answers mid.begun new.begun s.answered s.is_said
+          t.is_said;
+      answered = piece-more old.moment mid.moment new.moment s.said t.said s.answers t.answers s.answered t.answered;
+      written =
+          subst (Appends old.streams.sink.taken new.streams.sink.taken)
+          (sym (texts-join face old.moment mid.moment s.said s.answers t.answers s.answered))
+          (Appends-trans old.streams.sink.taken mid.streams.sink.taken new.streams.sink.taken
+          (written_after face old.moment s.answers) (written_after face mid.moment t.answers) s.written grown);
+      lines = omega (arith, s.lines, lines, few);
+    }
 
 -- a write failed on the way
-pub input-cut : (count : ℕ) (old mid new : Progress) (piece : List ℕ) (e : Failed) → InputSoFar count old mid
-    → count + 1 ≤ max_reads → Consumes mid.streams.source.left new.streams.source.left piece
+pub input-cut : (face : Face) (count : ℕ) (old mid new : Progress) (piece : List ℕ) (e : Failed)
+    → InputSoFar face count old mid → count + 1 ≤ max_reads
+    → Consumes mid.streams.source.left new.streams.source.left piece
     → new.streams.source.reads ≡ reads_after mid.streams.source.reads 1
     → new.streams.source.failed ≡ old.streams.source.failed → length piece ≤ 4096
-    → TakesPiece (Err e) piece (fed mid.live mid.streams.sink.taken) (fed new.live new.streams.sink.taken)
-    → AnswersInput (Err Write) old new
-input-cut count old mid new piece e s within took one same short t = record {
-  text = s.text ++ piece;
-  answers = s.answers ++ t.answers;
-  reads = record {
-    taken =
-        Consumes-trans old.streams.source.left mid.streams.source.left new.streams.source.left s.text piece s.took took;
-    made = count + 1;
-    within = within;
-    counted =
-        counted-more old.streams.source.reads mid.streams.source.reads new.streams.source.reads count s.counted one;
-    failed = same;
-  };
-  answered = piece-more old.live.moment mid.live new.live s.text piece s.answers t.answers s.answered s.partial t.answered;
-  partial = partial-then mid.live new.live s.text piece s.partial t.partial;
-  written =
-      subst (AppendsPrefix old.streams.sink.taken new.streams.sink.taken)
-      (sym (texts-join old.live.moment mid.live.moment (asked_in old.live.moment (ended_lines s.text)) s.answers t.answers s.answered))
-      (prefix-after (text_after old.live.moment s.answers) (text_after mid.live.moment t.answers) s.written t.written);
-  stops = record {
-    before = s.text;
-    piece = piece;
-    read = refl;
-    short = short;
-    answers = s.answers;
-    between = mid.live.moment;
-    answered = s.answered;
-    rest = t.written.written;
-    written =
-        Appends-trans old.streams.sink.taken mid.streams.sink.taken new.streams.sink.taken
-        (text_after old.live.moment s.answers) t.written.written s.written t.written.taken;
-  };
-}
+    → Takes (Err e) piece (running mid.moment mid.begun mid.streams.sink.taken)
+    (running new.moment new.begun new.streams.sink.taken)
+    → AnswersInput face (Err Write) old new
+input-cut face count old mid new piece e s within took one same short t =
+    let known : face_of mid.begun ≡ face =
+    said-face face (bssids_at old.moment) s.input s.said mid.begun s.is_said in
+    let part : AppendsPrefix mid.streams.sink.taken new.streams.sink.taken (written_after face mid.moment t.answers) =
+    subst
+    (λ (f : Face). AppendsPrefix mid.streams.sink.taken new.streams.sink.taken (written_after f mid.moment t.answers)) known
+    t.written in
+    record {
+      input = s.input ++ piece;
+      said = s.said ++ t.said;
+      answers = s.answers ++ t.answers;
+      reads = record {
+        taken =
+            Consumes-trans old.streams.source.left mid.streams.source.left new.streams.source.left s.input piece s.took took;
+        made = count + 1;
+        within = within;
+        counted =
+            counted-more old.streams.source.reads mid.streams.source.reads new.streams.source.reads count s.counted one;
+        failed = same;
+      };
+      is_said =
+          piece-said face old.moment mid.moment s.input piece s.said t.said s.answers mid.begun new.begun s.answered s.is_said
+          t.is_said;
+      answered = piece-more old.moment mid.moment new.moment s.said t.said s.answers t.answers s.answered t.answered;
+      written =
+          subst (AppendsPrefix old.streams.sink.taken new.streams.sink.taken)
+          (sym (texts-join face old.moment mid.moment s.said s.answers t.answers s.answered))
+          (prefix-after (written_after face old.moment s.answers) (written_after face mid.moment t.answers) s.written part);
+      stops = record {
+        before = s.input;
+        piece = piece;
+        read = refl;
+        short = short;
+        said = s.said;
+        answers = s.answers;
+        between = mid.moment;
+        is_said = said-ended face (bssids_at old.moment) s.input s.said mid.begun s.is_said;
+        answered = s.answered;
+        rest = part.written;
+        written =
+            Appends-trans old.streams.sink.taken mid.streams.sink.taken new.streams.sink.taken
+            (written_after face old.moment s.answers) part.written s.written part.taken;
+      };
+    }

@@ -1,18 +1,20 @@
 -- Which lines may stay unread where memory runs out.
-use Rattle.std.proofs.Common.{◌≡◌, ℕ, Bool, true, false, List, [], ◌∷◌, length, Option, Some, None, Result, Ok, Err, refl, codes}
+use Rattle.std.proofs.Common.{◌≡◌, ℕ, Bool, true, false, List, length, Option, Some, None, Result, Ok, Err, refl, codes}
 use Rattle.std.specs.Prelude.{nat_lt, if◌then◌else◌}
 use Rattle.std.specs.Option.{ok_or}
 use Rattle.std.specs.Str.{bytes_eq}
 use Rattle.hex.specs.Hex.{decode_of}
 use Rattle.hex.specs.declared.error.FromHexError.{FromHexError}
 use Rattle.mac_frame.specs.Address.{address_of}
-use Rattle.events.specs.declared.line.Line.{Line}
 use Rattle.events.specs.declared.line.Line.TheVariants.{Air, Wire}
 use Rattle.trace.specs.Faults.{◌>>=◌}
-use Rattle.trace.specs.TraceText.{max_octets, within_limit, octets_of, digits_of, place_with, place_named, is_skipped, first_word, after_first_word, without_spaces_at_start, content_of, takes_memory}
+use Rattle.trace.specs.TraceText.{max_octets, within_limit, octets_of, digits_of, place_with, place_named, is_skipped, first_word, after_first_word, without_spaces_at_start, content_of, said_by, takes_memory, without_spaces_at_end}
 use Rattle.trace.specs.declared.fault.LineFault.{LineFault}
 use Rattle.trace.specs.declared.fault.LineFault.TheVariants.{UnknownKind, NotHexadecimal, NoAddress, UnknownNetwork, TooMany}
 use Rattle.live.specs.Answers.{MayBeUnread}
+use Rattle.live.specs.Asked.{asked_by}
+use Rattle.live.specs.Readings.{IsUnread}
+use Rattle.live.specs.TextLines.{Octets}
 
 -- its word is known
 abbrev IsKnown : {X : Type 0} → Result X LineFault → Type 0
@@ -84,3 +86,12 @@ may-be-unread bssids line takes =
         (place-known (address_of (first_word wired)) (λ address. place_with address bssids))
         (octets-known (decode_of (digits_of (after_first_word wired)))))
     by false is false a false w = absurd (takes (rw (is, a, w) refl))
+
+-- a line that is not `I`
+pub unread-line : (bssids : List (List ℕ)) (octets : List ℕ) → bytes_eq (without_spaces_at_end octets) (codes "I") ≡ false
+    → (takes_memory (without_spaces_at_end octets) ≡ false → ⊥) → IsUnread (asked_by bssids (Octets octets))
+unread-line bssids octets not takes = record {
+  said = said_by bssids octets;
+  is = rw not refl;
+  may = may-be-unread bssids (without_spaces_at_end octets) takes;
+}

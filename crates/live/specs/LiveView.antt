@@ -3,11 +3,14 @@ use Rattle.std.specs.Prelude.{◌≡◌, ℕ, List, ◌++◌, Option, Result, Ok
 use Rattle.trace.specs.Endings.{Ends}
 use Rattle.trace.specs.Sinks.{write_ending}
 use Rattle.trace.specs.declared.sink.Failed.{Failed}
-use Rattle.live.specs.AnswerText.{tables_text, text_after}
+use Rattle.live.specs.AnswerText.{tables_text}
 use Rattle.live.specs.Answers.{Answer, Answers}
-use Rattle.live.specs.Asked.{asked_in}
-use Rattle.live.specs.Moments.{Moment}
+use Rattle.live.specs.Asked.{Asked, asked_in}
+use Rattle.live.specs.Inputs.{IsSaidIn, face_of, last_said}
+use Rattle.live.specs.Moments.{Moment, bssids_at}
 use Rattle.live.specs.TextLines.{TextLine, partial_after, last_line, lines_in}
+use Rattle.live.specs.Written.{text_after, written_after, written_tables}
+use Rattle.live.specs.declared.begun.Begun.{Begun}
 
 -- the moment after the lines that have ended, and what has begun of the next line
 pub record LiveState : Type 0 where
@@ -41,3 +44,35 @@ pub record TakesEnd (result : Result Unit Failed) (old : Fed) (taken : Option (L
   pub answered : Answers old.live.moment (asked_in old.live.moment (last_line old.live.partial)) answers last
   pub written :
       Ends write_ending result (Ok (text_after old.live.moment answers ++ tables_text last.networks)) old.taken taken
+
+-- ---- in either face
+
+-- the moment after what has ended, what has begun of the next, and what its sink has taken, where that is known
+pub record Running : Type 0 where
+  pub moment : Moment
+  pub begun : Begun
+  pub taken : Option (List ℕ)
+
+abbrev pub running : Moment → Begun → Option (List ℕ) → Running
+running moment begun taken = record { moment = moment; begun = begun; taken = taken }
+
+-- It took a piece: what is said in it is answered, and the sink has gained the answers; or, where a write failed, a prefix
+-- of them.
+pub record Takes (result : Result Unit Failed) (piece : List ℕ) (old new : Running) : Type 0 where
+  pub said : List Asked
+  pub answers : List Answer
+  pub is_said : IsSaidIn (bssids_at old.moment) old.begun piece said new.begun
+  pub answered : Answers old.moment said answers new.moment
+  pub written : Ends write_ending result (Ok (written_after (face_of old.begun) old.moment answers)) old.taken new.taken
+
+-- It came to the end of the input: what that says is answered, and the sink has gained the answer and the tables of the
+-- moment after it; or, where a write failed, a prefix of them.
+pub record Finishes (result : Result Unit Failed) (old : Running) (taken : Option (List ℕ)) : Type 0 where
+  pub answers : List Answer
+  pub last : Moment
+  pub answered : Answers old.moment (last_said (bssids_at old.moment) old.begun) answers last
+  pub written :
+      Ends write_ending result
+      (Ok
+      (written_after (face_of old.begun) old.moment answers ++ written_tables (face_of old.begun) last.networks))
+      old.taken taken

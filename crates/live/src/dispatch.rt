@@ -1,14 +1,15 @@
-//! Each line to the networks to which it is an event, and their replies.
+//! Each event to the networks to which it is one, and their replies.
 
 ghost use Rattle.std.specs.Prelude.{◌≡◌, ◌<◌, ◌^◌, Some, None, if◌then◌else◌};
 ghost use Rattle.std.specs.List.{AllByRecursion};
 ghost use Rattle.trace.specs.Buffers.{CanWrite, Puts};
-ghost use Rattle.live.specs.AnswerText.{reply_text};
 ghost use Rattle.live.specs.Dispatch.{event_for, line_as};
 ghost use Rattle.live.specs.Moments.{Reply, MayReply, taken_if, after_if, bssid_of};
 ghost use Rattle.live.specs.Output.{HasReplied, HaveReplied};
+ghost use Rattle.live.specs.Written.{written_reply};
 
-use crate::output::{put_refusal, put_sent};
+use crate::face::Face;
+use crate::written::{put_refusal, put_sent};
 use events::{Event, Line, hears};
 use mac_frame::MacAddr;
 use network::Network;
@@ -60,6 +61,7 @@ impl LineEvent {
 /// Has each network, in order of place, take the line of a number where it is an event to it, and puts its reply before
 /// the next is asked. One that refuses it doesn't keep the next from it. Each took fewer than 2^62 events before.
 pub fn reply_all<W: Sink>(
+    face: Face,
     networks: &mut [Network],
     line: &LineEvent,
     number: u64,
@@ -67,16 +69,17 @@ pub fn reply_all<W: Sink>(
 )
     requires countable { AllByRecursion (λ n. n.events < 2 ^ 62) networks.old }
     requires can_write { CanWrite W.failed out.old }
-    ensures { HaveReplied W.taken W.failed number (line_as line.now.place line.now.event)
+    ensures { HaveReplied W.taken W.failed face number (line_as line.now.place line.now.event)
         networks.old networks.new out.old out.new }
 {
     for place in 0..networks.len() {
-        reply_at(&mut networks[place], line, place, number, out);
+        reply_at(face, &mut networks[place], line, place, number, out);
     }
 }
 
 /// Has the network at a place take the line of a number, where it is an event to it, and puts its reply.
 fn reply_at<W: Sink>(
+    face: Face,
     network: &mut Network,
     line: &LineEvent,
     place: usize,
@@ -85,27 +88,33 @@ fn reply_at<W: Sink>(
 )
     requires countable { network.old.events < 2 ^ 62 }
     requires can_write { CanWrite W.failed out.old }
-    ensures { HasReplied W.taken W.failed place number (line_as line.now.place line.now.event)
+    ensures { HasReplied W.taken W.failed face place number (line_as line.now.place line.now.event)
         network.old network.new out.old out.new }
 {
     let bssid = network.setting().network.bssid;
     if line.is_for(place, bssid) {
-        reply(network, &line.event, number, out);
+        reply(face, network, &line.event, number, out);
     }
 }
 
 /// Has a network take an event, where it took fewer than 2^62 before, and puts its reply: the frames that it sends, or
 /// that it refuses the line of a number.
-fn reply<W: Sink>(network: &mut Network, event: &Event, number: u64, out: &mut Buffered<'_, W>)
+fn reply<W: Sink>(
+    face: Face,
+    network: &mut Network,
+    event: &Event,
+    number: u64,
+    out: &mut Buffered<'_, W>,
+)
     requires countable { network.old.events < 2 ^ 62 }
     requires can_write { CanWrite W.failed out.old }
     ensures { (reply : Reply) × MayReply network.old event.now reply
         × (network.new ≡ after_if network.old (taken_if (Some event.now) (Some reply)))
-        × Puts W.taken W.failed out.old out.new (reply_text number (bssid_of network.old) reply) }
+        × Puts W.taken W.failed out.old out.new (written_reply face number (bssid_of network.old) reply) }
 {
     let bssid = network.setting().network.bssid;
     match network.take(event) {
-        Ok(sent) => put_sent(out, bssid, &sent),
-        Err(why) => put_refusal(out, why, bssid, number),
+        Ok(sent) => put_sent(face, out, bssid, &sent),
+        Err(why) => put_refusal(face, out, why, bssid, number),
     }
 }

@@ -10,13 +10,16 @@ ghost use Rattle.events.specs.declared.line.Line.{Line};
 ghost use Rattle.events.specs.declared.section.Section.{Section};
 ghost use Rattle.trace.specs.Report.{network_line, counts_line, station_line};
 ghost use Rattle.trace.specs.Texts.{ended};
-ghost use Rattle.live.specs.AnswerText.{table_text, text_after};
+ghost use Rattle.live.specs.AnswerText.{table_text};
 ghost use Rattle.live.specs.Answers.{Answer, Answers, answers_of, AreUnrefused, Begins};
 ghost use Rattle.live.specs.Asked.{Asked};
 ghost use Rattle.live.specs.Moments.{Moment, first_moment};
 ghost use Rattle.live.specs.Own.{IsAlone, AreAlike, IsLikeTrace, IsShown, air_at, wire_at, alone_after};
 ghost use Rattle.live.specs.TextLines.{lines_of_text, ended_lines, partial_in, lines_in, partial_after};
 ghost use Rattle.live.specs.TextLines.{last_line};
+ghost use Rattle.live.specs.Records.{AreRecords};
+ghost use Rattle.live.specs.Written.{written_after};
+ghost use Rattle.live.specs.declared.face.Face.{Face};
 
 use ap_config::checked_networks;
 use network::{one_step, reachable, steps_append};
@@ -27,6 +30,16 @@ pub fn lines_come_in_pieces()
         → ended_lines (text ++ piece) ≡ ended_lines text ++ lines_in (partial_in text) piece }
     ensures partial { (text piece : List ℕ) → partial_in (text ++ piece) ≡ partial_after (partial_in text) piece }
     ensures last { (text : List ℕ) → lines_of_text text ≡ ended_lines text ++ last_line (partial_in text) }
+{}
+
+/// Octets are at most one list of records and what has begun of one; and however they are cut, the records that end in
+/// the pieces are those of the whole.
+pub fn records_come_in_pieces()
+    ensures one { (octets : List ℕ) (records others : List (List ℕ)) (begun rest : List ℕ)
+        → AreRecords octets records begun → AreRecords octets others rest → (records ≡ others) × (begun ≡ rest) }
+    ensures pieces { (octets piece : List ℕ) (records more : List (List ℕ)) (begun rest : List ℕ)
+        → AreRecords octets records begun → AreRecords (begun ++ piece) more rest
+        → AreRecords (octets ++ piece) (records ++ more) rest }
 {}
 
 /// No network reaches another, whatever is said, however it comes: what is answered of one, one answer after the other, is
@@ -57,15 +70,15 @@ pub fn two_inputs()
 }
 
 /// The answers to more that is said begin with the answers to the first of it, so that what holds of all answers holds at
-/// each moment; and so do their texts.
+/// each moment; and so does what is written of them, in either face.
 pub fn more_lines()
     ensures begin { (m : Moment) (said more : List Asked) (answers : List Answer) (next : Moment)
         → Answers m (said ++ more) answers next → Begins m said more answers next }
     ensures join { (m : Moment) (said more : List Asked) (answers : List Answer) (next : Moment)
         → Begins m said more answers next → Answers m (said ++ more) answers next }
-    ensures text { (m between : Moment) (said : List Asked) (some others : List Answer)
+    ensures written { (face : Face) (m between : Moment) (said : List Asked) (some others : List Answer)
         → Answers m said some between
-        → text_after m (some ++ others) ≡ text_after m some ++ text_after between others }
+        → written_after face m (some ++ others) ≡ written_after face m some ++ written_after face between others }
 {}
 
 /// Where nothing is refused for memory, the answers are the ones of `answers_of`, and there are such.

@@ -18,18 +18,28 @@
 //! Where the input comes from, and where the answers go, is left to the program.
 #![tactic(auto)]
 
+mod begun;
 mod dispatch;
 mod engine;
+mod face;
 mod fault;
 mod laws;
+mod lines;
+mod live_lines;
 mod networks;
 mod output;
 mod partial;
+mod reading;
+mod record;
+mod record_output;
+mod records;
 mod run;
+mod written;
 
-pub use engine::Live;
 pub use fault::LiveFault;
 pub use laws::{
-    as_replayed, enough_memory, isolation, lines_come_in_pieces, more_lines, two_inputs,
+    as_replayed, enough_memory, isolation, lines_come_in_pieces, more_lines,
+    records_come_in_pieces, two_inputs,
 };
-pub use run::live;
+pub use live_lines::Live;
+pub use run::{live, live_octets};

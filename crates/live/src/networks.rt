@@ -1,29 +1,29 @@
-//! The networks of a configuration, which answer one line after another.
+//! The networks of a configuration, which answer one line or record after another.
 
-ghost use Rattle.std.specs.Prelude.{◌≡◌, ◌+◌, ◌<◌, ◌^◌, ◌∷◌, [], ℕ, None, IfOk, codes, map, option_map};
+ghost use Rattle.std.specs.Prelude.{◌≡◌, ◌+◌, ◌<◌, ◌^◌, ◌∷◌, [], ℕ, None, IfOk, map, option_map};
 ghost use Rattle.std.specs.List.{AllByRecursion};
-ghost use Rattle.std.specs.Str.{bytes_eq};
 ghost use Rattle.ap_config.specs.Configuration.{fault_of, network_fault, setting_fault};
 ghost use Rattle.trace.specs.Buffers.{CanWrite, Puts};
-ghost use Rattle.live.specs.Asked.{asked_in, asked_by};
-ghost use Rattle.live.specs.AnswerText.{tables_text};
-ghost use Rattle.live.specs.Moments.{first_moment, bssid_of};
+ghost use Rattle.live.specs.Asked.{Asked, asked_in};
+ghost use Rattle.live.specs.Moments.{bssids_at, first_moment};
 ghost use Rattle.live.specs.Networks.{opened};
 ghost use Rattle.live.specs.Output.{AreAnswered};
 ghost use Rattle.live.specs.PartialLine.{line_in};
-ghost use Rattle.live.specs.TextLines.{Octets};
+ghost use Rattle.live.specs.Readings.{IsReading};
+ghost use Rattle.live.specs.Records.{IsRecord, records_ask};
+ghost use Rattle.live.specs.Written.{written_tables};
+ghost use Rattle.live.specs.declared.face.Face.TheVariants as faces;
 
-use crate::dispatch::{LineEvent, reply_all};
-use crate::output::{put_line_fault, put_tables, put_unread};
+use crate::dispatch::reply_all;
+use crate::face::Face;
+use crate::reading::{Reading, read_line, read_record};
+use crate::written::{put_fault, put_tables, put_unread};
 use ap_config::{NetConfig, RadioConfig, Setting, checked_networks};
 use mac_frame::{List, MacAddr, NoMemory};
 use network::Network;
 use std::alloc::Global;
 use std::marker::Model;
-use trace::{Buffered, LineFault, ReadFault, Sink, bssids_of, read_content, without_spaces_at_end};
-
-/// What a line says that asks for tables.
-const TABLES: &[u8] = b"I";
+use trace::{Buffered, Sink, bssids_of};
 
 /// The networks of a configuration, between two lines. Contracts see the moment.
 #[derive(Drop)]
@@ -76,35 +76,46 @@ impl Networks {
 
     /// Answers the next line, taken without what ends it; `None` where it is too long. Fewer than 2^62 lines ended
     /// before it.
-    pub fn answer<W: Sink>(&mut self, line: Option<&[u8]>, out: &mut Buffered<'_, W>)
+    pub fn answer_line<W: Sink>(&mut self, line: Option<&[u8]>, out: &mut Buffered<'_, W>)
         requires countable { self.old.lines < 2 ^ 62 }
         requires can_write { CanWrite W.failed out.old }
-        ensures { AreAnswered W.taken W.failed self.old self.new out.old
+        ensures { AreAnswered W.taken W.failed faces.Lines self.old self.new out.old
             out.new (asked_in self.old (line_in (option_map (λ octets. octets.now) line.entry) ∷ [])) }
+    {
+        let reading = read_line(self.alloc, self.bssids.as_slice(), line);
+        self.answer(Face::Lines, reading, out);
+    }
+
+    /// Answers the next record. Fewer than 2^62 ended before it.
+    pub fn answer_record<W: Sink>(&mut self, octets: &[u8], out: &mut Buffered<'_, W>)
+        requires record { IsRecord octets.now }
+        requires countable { self.old.lines < 2 ^ 62 }
+        requires can_write { CanWrite W.failed out.old }
+        ensures { AreAnswered W.taken W.failed faces.Records self.old self.new out.old
+            out.new (records_ask (bssids_at self.old) (octets.now ∷ [])) }
+    {
+        let reading = read_record(self.alloc, self.bssids.as_slice(), octets);
+        self.answer(Face::Records, reading, out);
+    }
+
+    /// Answers what was read of the next line or record, in its face. Fewer than 2^62 ended before it.
+    pub fn answer<W: Sink>(&mut self, face: Face, reading: Reading, out: &mut Buffered<'_, W>)
+        requires countable { self.old.lines < 2 ^ 62 }
+        requires can_write { CanWrite W.failed out.old }
+        ensures { (said : Asked) → IsReading reading said → AreAnswered W.taken W.failed face self.old self.new
+            out.old out.new (said ∷ []) }
     {
         self.lines += 1;
         let number = self.lines;
-        let Some(octets) = line else {
-            put_line_fault(out, LineFault::TooMany, number);
-            return;
-        };
-        let bssids = self.bssids.as_slice();
-        answer_octets(
-            self.alloc,
-            bssids,
-            self.networks.as_mut_slice(),
-            octets,
-            number,
-            out,
-        );
+        answer_reading(face, self.networks.as_mut_slice(), reading, number, out);
     }
 
     /// Puts the table of each network, in order of place.
-    pub fn put_tables<W: Sink>(&self, out: &mut Buffered<'_, W>)
+    pub fn put_tables<W: Sink>(&self, face: Face, out: &mut Buffered<'_, W>)
         requires { CanWrite W.failed out.old }
-        ensures { Puts W.taken W.failed out.old out.new (tables_text self.now.networks) }
+        ensures { Puts W.taken W.failed out.old out.new (written_tables face self.now.networks) }
     {
-        put_tables(out, self.networks.as_slice());
+        put_tables(face, out, self.networks.as_slice());
     }
 }
 
@@ -131,38 +142,25 @@ fn open_networks(
     Ok(made)
 }
 
-/// Answers the line of a number, which is not too long.
-fn answer_octets<W: Sink>(
-    alloc: Global,
-    bssids: &[MacAddr],
+/// Answers what was read of the line or record of a number.
+fn answer_reading<W: Sink>(
+    face: Face,
     networks: &mut [Network],
-    line: &[u8],
+    reading: Reading,
     number: u64,
     out: &mut Buffered<'_, W>,
 )
-    requires addresses { bssids.now ≡ map bssid_of networks.old }
     requires countable { AllByRecursion (λ n. n.events < 2 ^ 62) networks.old }
     requires can_write { CanWrite W.failed out.old }
-    ensures { (lines : ℕ) → number ≡ lines + 1 → AreAnswered W.taken W.failed
+    ensures { (lines : ℕ) (said : Asked) → number ≡ lines + 1 → IsReading reading said → AreAnswered W.taken W.failed face
         (record { lines = lines; networks = networks.old }) (record { lines = number; networks = networks.new })
-        out.old out.new (asked_by (map bssid_of networks.old) (Octets line.now) ∷ []) }
+        out.old out.new (said ∷ []) }
 {
-    let content = without_spaces_at_end(line);
-    if asks_for_tables(content) {
-        put_tables(out, networks);
-        return;
+    match reading {
+        Reading::Nothing => {}
+        Reading::Event(event) => reply_all(face, networks, &event, number, out),
+        Reading::Tables => put_tables(face, out, networks),
+        Reading::Fault(fault) => put_fault(face, out, fault, number),
+        Reading::Unread => put_unread(face, out, number),
     }
-    match read_content(alloc, bssids, content) {
-        Ok(None) => {}
-        Ok(Some(said)) => reply_all(networks, &LineEvent::new(said), number, out),
-        Err(ReadFault::At(fault)) => put_line_fault(out, fault, number),
-        Err(ReadFault::NoMemory) => put_unread(out, number),
-    }
-}
-
-/// Whether a line less the spaces at its end is `I`.
-fn asks_for_tables(content: &[u8]) -> bool
-    ensures { result ≡ bytes_eq content.now (codes "I") }
-{
-    content == TABLES
 }

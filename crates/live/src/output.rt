@@ -102,7 +102,7 @@ pub fn put_refusal<W: Sink>(
 }
 
 /// The word for a refusal.
-fn refusal_word(why: NetworkRefusal) -> &'static [u8]
+pub fn refusal_word(why: NetworkRefusal) -> &'static [u8]
     ensures { result.now ≡ refusal_word why }
 {
     match why {
@@ -173,7 +173,7 @@ fn put_table<W: Sink>(out: &mut Buffered<'_, W>, network: &Network)
 }
 
 /// The counts of a network, after the events that it took.
-fn totals_of(network: &Network) -> Totals
+pub fn totals_of(network: &Network) -> Totals
     ensures { counts_in result ≡ counts_of network.now.events network.now.network }
 {
     Totals {

@@ -1,15 +1,19 @@
 //! The access point from its configuration's text to the end of its input.
 
-ghost use Rattle.std.specs.Prelude.{◌≡◌, ◌<◌, ◌+◌, ◌^◌, [], OnOk};
-ghost use Rattle.trace.specs.Endings.{failures_of};
-ghost use Rattle.trace.specs.Sinks.{MayFail};
-ghost use Rattle.live.specs.Run.{AnswersInput, RunsLive, live_ending, progress, streams};
-ghost use Rattle.live.specs.TextLines.{Octets};
+ghost use Rattle.std.specs.Prelude.{◌≡◌, ◌<◌, ◌+◌, ◌^◌, Ok, Err, OnOk};
+ghost use Rattle.std.specs.Io.KnownBytes.{Keeps};
+ghost use Rattle.trace.specs.Endings.{Ends, failures_of};
+ghost use Rattle.trace.specs.Sinks.{MayFail, report_ending};
+ghost use Rattle.live.specs.AnswerOctets.{count_record};
+ghost use Rattle.live.specs.Inputs.{face_of, nothing_begun};
+ghost use Rattle.live.specs.Run.{AnswersInput, Runs, RunsLive, RunsOctets, live_ending, progress, streams};
+ghost use Rattle.live.specs.Written.{written_count};
 
-use crate::engine::Live;
+use crate::engine::Engine;
+use crate::face::Face;
 use crate::fault::LiveFault;
 use std::alloc::Global;
-use trace::{Sink, Source, read_config, write_count};
+use trace::{ReportFault, Sink, Source, read_config, write_all, write_count};
 
 /// How many octets are read at a time.
 const PIECE_LEN: usize = 4096;
@@ -40,32 +44,102 @@ pub fn live<R: Source, W: Sink>(
         (streams (R.left input.new) (R.failed input.new) (R.reads input.new) (W.taken out.new) (W.failed out.new)) }
     ensures failures { W.failed out.new ≡ W.failed out.old + failures_of live_ending result }
 {
-    let config = read_config(alloc, config)?;
-    let count = config.networks.as_slice().len();
-    let mut live = Live::new(alloc, config)?;
-    write_count(alloc, count, out)?;
-    answer_input(&mut live, input, out)?;
-    live.end(out)?;
-    Ok(())
+    run(alloc, Face::Lines, config, input, out)
 }
 
-/// Answers the lines that end in what a source has left, those of a piece before the next is read.
-fn answer_input<R: Source, W: Sink>(
-    live: &mut Live,
+/// Runs the access point of a configuration in the face of records, as [`live`] runs it in the face of lines. It appends
+/// the record `O` of the number of its networks, and then, to each record that a source gives, the answer, in records; a
+/// piece of it is read only when the records that ended in the piece before are answered. At the source's end it appends
+/// `fault L2` for a record that is cut, of which nothing is taken, and the lines of each network's table in order of
+/// place.
+///
+/// It ends as [`live`] does, and each fault says the same, of records.
+pub fn live_octets<R: Source, W: Sink>(
+    alloc: Global,
+    config: &[u8],
     input: &mut R,
     out: &mut W,
 ) -> Result<(), LiveFault>
-    requires partial { live.old.partial ≡ Octets [] }
-    requires first { live.old.moment.lines ≡ 0 }
     requires input { MayFail (R.failed input.old) }
     requires out { MayFail (W.failed out.old) }
-    ensures answers { AnswersInput result
-        (progress live.old (streams (R.left input.old) (R.failed input.old) (R.reads input.old)
-        (W.taken out.old) (W.failed out.old)))
-        (progress live.new (streams (R.left input.new) (R.failed input.new) (R.reads input.new)
-        (W.taken out.new) (W.failed out.new))) }
+    ensures ends { RunsOctets result config.now
+        (streams (R.left input.old) (R.failed input.old) (R.reads input.old) (W.taken out.old) (W.failed out.old))
+        (streams (R.left input.new) (R.failed input.new) (R.reads input.new) (W.taken out.new) (W.failed out.new)) }
     ensures failures { W.failed out.new ≡ W.failed out.old + failures_of live_ending result }
-    ensures countable { OnOk result (live.new.moment.lines < 2 ^ 62) }
+{
+    run(alloc, Face::Records, config, input, out)
+}
+
+/// Runs the access point of a configuration in a face.
+fn run<R: Source, W: Sink>(
+    alloc: Global,
+    face: Face,
+    config: &[u8],
+    input: &mut R,
+    out: &mut W,
+) -> Result<(), LiveFault>
+    requires input { MayFail (R.failed input.old) }
+    requires out { MayFail (W.failed out.old) }
+    ensures ends { Runs face result config.now
+        (streams (R.left input.old) (R.failed input.old) (R.reads input.old) (W.taken out.old) (W.failed out.old))
+        (streams (R.left input.new) (R.failed input.new) (R.reads input.new) (W.taken out.new) (W.failed out.new)) }
+    ensures failures { W.failed out.new ≡ W.failed out.old + failures_of live_ending result }
+{
+    let config = read_config(alloc, config)?;
+    let count = config.networks.as_slice().len();
+    let mut engine = Engine::new(alloc, face, config)?;
+    write_open(alloc, face, count, out)?;
+    answer_input(&mut engine, input, out)?;
+    engine.end(out)?;
+    Ok(())
+}
+
+/// Writes how many networks are open.
+fn write_open<W: Sink>(
+    alloc: Global,
+    face: Face,
+    count: usize,
+    out: &mut W,
+) -> Result<(), ReportFault>
+    requires { MayFail (W.failed out.old) }
+    ensures ends { Ends report_ending result (Ok (written_count face count)) (W.taken out.old) (W.taken out.new) }
+    ensures memory { result ≡ Err ReportFault.NoMemory → Keeps (W.taken out.old) (W.taken out.new) }
+    ensures failures { W.failed out.new ≡ W.failed out.old + failures_of report_ending result }
+{
+    match face {
+        Face::Lines => write_count(alloc, count, out),
+        Face::Records => write_count_record(count, out),
+    }
+}
+
+/// Writes the record of how many networks are open.
+fn write_count_record<W: Sink>(count: usize, out: &mut W) -> Result<(), ReportFault>
+    requires { MayFail (W.failed out.old) }
+    ensures ends { Ends report_ending result (Ok (count_record count)) (W.taken out.old) (W.taken out.new) }
+    ensures memory { result ≡ Err ReportFault.NoMemory → Keeps (W.taken out.old) (W.taken out.new) }
+    ensures failures { W.failed out.new ≡ W.failed out.old + failures_of report_ending result }
+{
+    write_all(out, &[b'O', 0, 0, 0, 0, 0, (count % 256) as u8, 0, 0])?;
+    Ok(())
+}
+
+/// Answers what ends in what a source has left, of a piece before the next is read.
+fn answer_input<R: Source, W: Sink>(
+    engine: &mut Engine,
+    input: &mut R,
+    out: &mut W,
+) -> Result<(), LiveFault>
+    requires begun { engine.old.begun ≡ nothing_begun (face_of engine.old.begun) }
+    requires first { engine.old.networks.lines ≡ 0 }
+    requires input { MayFail (R.failed input.old) }
+    requires out { MayFail (W.failed out.old) }
+    ensures answers { AnswersInput (face_of engine.old.begun) result
+        (progress engine.old.networks engine.old.begun
+        (streams (R.left input.old) (R.failed input.old) (R.reads input.old) (W.taken out.old) (W.failed out.old)))
+        (progress engine.new.networks engine.new.begun
+        (streams (R.left input.new) (R.failed input.new) (R.reads input.new) (W.taken out.new) (W.failed out.new))) }
+    ensures failures { W.failed out.new ≡ W.failed out.old + failures_of live_ending result }
+    ensures countable { OnOk result (engine.new.networks.lines < 2 ^ 62) }
 {
     let mut piece = [0; PIECE_LEN];
     for _ in 0..MAX_READS {
@@ -75,7 +149,7 @@ fn answer_input<R: Source, W: Sink>(
         if count == 0 {
             return Ok(());
         }
-        live.feed(&piece[..count], out)?;
+        engine.feed(&piece[..count], out)?;
     }
     Err(LiveFault::Read)
 }

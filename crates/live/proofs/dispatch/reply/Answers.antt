@@ -1,6 +1,6 @@
 use Rattle.std.proofs.Common.{ap}
 use Rattle.std.specs.Prelude.{option_to_list}
-use Rattle.live.specs.AnswerText.{reply_text}
+use Rattle.live.specs.Written.{written_reply}
 use Rattle.live.specs.Moments.{Sends, Refuses}
 use Rattle.live.proofs.ReplySteps.{sends-may, refuses-may}
 use Rattle.trace.proofs.BufferSteps.{Puts-same}
@@ -15,9 +15,9 @@ returns-in-Ok g c =
       c.in-Ok.ensures.after,
       Puts-same
           (ap
-          (λ s. reply_text c.args.number s.network.bssid (Sends sent.air (option_to_list sent.wire)))
+          (λ s. written_reply c.args.face c.args.number s.network.bssid (Sends sent.air (option_to_list sent.wire)))
           c.setting.ensures.setting)
-          c.put_sent.ensures,
+          (c.put_sent.ensures c.args.number),
     )
 
 pub returns-in-Err : goal.returns-in-Err
@@ -27,6 +27,6 @@ returns-in-Err g c =
       refuses-may c.args.network.now c.args.event.now c.take.result why c.in-Err.is c.take.ensures.clock,
       c.in-Err.ensures.err,
       Puts-same
-          (ap (λ s. reply_text c.args.number s.network.bssid (Refuses why)) c.setting.ensures.setting)
+          (ap (λ s. written_reply c.args.face c.args.number s.network.bssid (Refuses why)) c.setting.ensures.setting)
           c.put_refusal.ensures,
     )

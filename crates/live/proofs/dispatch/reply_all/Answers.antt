@@ -6,11 +6,11 @@ use Rattle.live.proofs.DispatchSteps.{replies-none, replies-more, replies-all}
 use Rattle.live.proofs.dispatch.reply_all.Goals as goal
 
 pub loop-place-init : goal.loop-place-init
-loop-place-init g c = replies-none _ _ c.args.number _ c.args.networks.now _ c.requires.can_write
+loop-place-init g c = replies-none _ _ c.args.face c.args.number _ c.args.networks.now _ c.requires.can_write
 
 pub loop-place-preserved : goal.loop-place-preserved
 loop-place-preserved g c =
-    replies-more _ _ c.loop-place.place c.args.number _ c.args.networks.now c.loop-place.networks _ _ _
+    replies-more _ _ c.args.face c.loop-place.place c.args.number _ c.args.networks.now c.loop-place.networks _ _ _
     c.index-networks-place.result
     c.reply_at.new.network
     c.loop-place.invariant
@@ -18,11 +18,11 @@ loop-place-preserved g c =
     c.index-networks-place.is
     (subst
     (λ (n : NetworkState).
-    HasReplied g.W.Sink.taken g.W.Sink.failed c.loop-place.place c.args.number
+    HasReplied g.W.Sink.taken g.W.Sink.failed c.args.face c.loop-place.place c.args.number
     (line_as c.args.line.now.place c.args.line.now.event) n c.reply_at.new.network c.loop-place.out
     c.reply_at.new.out)
     (sym c.index-networks-place.is)
     c.reply_at.ensures)
 
 pub returns : goal.returns
-returns g c = replies-all _ _ c.loop-place.place _ _ c.args.networks.now _ _ _ c.loop-place.invariant (omega arith)
+returns g c = replies-all _ _ c.args.face c.loop-place.place _ _ c.args.networks.now _ _ _ c.loop-place.invariant (omega arith)

@@ -5,7 +5,7 @@ use Rattle.live.proofs.dispatch.reply_all.Given as goal
 
 abbrev pub invariant-loop-place : goal.invariant-loop-place
 invariant-loop-place g l =
-    ReplySoFar g.W.Sink.taken g.W.Sink.failed l.place l.number (line_as l.line.place l.line.event) l.initial.networks
+    ReplySoFar g.W.Sink.taken g.W.Sink.failed l.face l.place l.number (line_as l.line.place l.line.event) l.initial.networks
     l.networks
     l.initial.out
     l.out

@@ -16,7 +16,7 @@ returns-then-is_for g c =
     ap (λ (s : Setting). event_for c.args.place s.network.bssid said) (sym c.setting.ensures.setting)
     ∙ c.is_for.ensures
     ∙ ap (λ b. if b then Some e else None) c.if-is_for.true in
-    replied-one _ _ c.args.place c.args.number said c.args.network.now c.reply.new.network e r.0 _ _ one r.1 r.2 r.3
+    replied-one _ _ c.args.face c.args.place c.args.number said c.args.network.now c.reply.new.network e r.0 _ _ one r.1 r.2 r.3
 
 pub returns-else-is_for : goal.returns-else-is_for
 returns-else-is_for g c =
@@ -26,4 +26,4 @@ returns-else-is_for g c =
     ap (λ (s : Setting). event_for c.args.place s.network.bssid said) (sym c.setting.ensures.setting)
     ∙ c.is_for.ensures
     ∙ ap (λ b. if b then Some e else None) c.if-is_for.false in
-    replied-none _ _ c.args.place c.args.number said c.args.network.now _ c.requires.can_write none
+    replied-none _ _ c.args.face c.args.place c.args.number said c.args.network.now _ c.requires.can_write none

@@ -7,5 +7,5 @@ returns-clause-begin c = begins
 pub returns-clause-join : goal.returns-clause-join
 returns-clause-join c = joins
 
-pub returns-clause-text : goal.returns-clause-text
-returns-clause-text c = texts-join
+pub returns-clause-written : goal.returns-clause-written
+returns-clause-written c = texts-join

@@ -4,12 +4,14 @@ use Rattle.std.proofs.KnownBytes.{Consumes-trans, Consumes-kept}
 use Rattle.std.proofs.lemmas.List.{length-take-le}
 use Rattle.std.proofs.lemmas.Result.{err_from_is_err_and}
 use Rattle.std.specs.Io.KnownBytes.{Consumes}
+use Rattle.live.specs.Inputs.{face_of}
+use Rattle.live.proofs.InputSteps.{said-unfinished}
 use Rattle.live.proofs.RunSteps.{counted-more, input-none, input-more, input-cut}
 use Rattle.live.proofs.run.answer_input.Goals as goal
 
 pub loop-init : goal.loop-init
 loop-init g c = record {
-  so_far = input-none _ c.requires.partial c.requires.first;
+  so_far = input-none (face_of c.args.engine.now.begun) _ c.requires.begun c.requires.first;
   none_failed = refl;
   all_written = refl;
 }
@@ -19,6 +21,10 @@ feed-requires-clause-countable g c =
     let long = length-take-le c.in-Ok.count c.read_some.new.buffer c.in-Ok.ensures.prefix.0 in
     omega (arith, long, c.in-Ok.ensures.prefix.0, c.loop.invariant.so_far.lines)
 
+pub feed-requires-clause-unfinished : goal.feed-requires-clause-unfinished
+feed-requires-clause-unfinished g c =
+    let s = c.loop.invariant.so_far in said-unfinished (face_of c.args.engine.now.begun) _ s.input s.said _ s.is_said
+
 pub loop-preserved : goal.loop-preserved
 loop-preserved g c =
     let piece : List ℕ = take c.in-Ok.count c.read_some.new.buffer in
@@ -26,7 +32,7 @@ loop-preserved g c =
     let few : length piece ≤ 4096 = omega (arith, long, c.in-Ok.ensures.prefix.0) in
     record {
       so_far =
-          input-more c.loop.counter _ _ _ piece _ c.loop.invariant.so_far c.in-Ok.ensures.prefix.1
+          input-more (face_of c.args.engine.now.begun) c.loop.counter _ _ _ piece _ c.loop.invariant.so_far c.in-Ok.ensures.prefix.1
           c.in-Ok.ensures.reads few
           c.in_ok-feed.ensures.takes
           c.in_ok-feed.ensures.lines;
@@ -39,19 +45,20 @@ returns-in_default-clause-answers g c =
     let s = c.loop.invariant.so_far in
     let within : c.loop.counter + 1 ≤ 70368744177664 = omega (arith, c.loop-test.true) in
     record {
-      text = s.text;
+      input = s.input;
+      said = s.said;
       answers = s.answers;
       reads = record {
         taken =
             Consumes-kept (g.R.Source.left c.args.input.now) (g.R.Source.left c.loop.input)
-            (g.R.Source.left c.read_some.new.self) s.text s.took c.in_default.ensures.err;
+            (g.R.Source.left c.read_some.new.self) s.input s.took c.in_default.ensures.err;
         made = c.loop.counter + 1;
         within = within;
         counted = counted-more _ _ _ c.loop.counter s.counted c.in_default.ensures.reads;
         failed = inl (c.in_default.ensures.failures ∙ ap (λ n. n + 1) c.loop.invariant.none_failed);
       };
+      is_said = s.is_said;
       answered = s.answered;
-      partial = s.partial;
       written = s.written;
       stops = tt;
     }
@@ -69,21 +76,22 @@ returns-then-count-eq0-clause-answers g c =
     omega (arith, c.in-Ok.ensures.failures, c.loop.invariant.none_failed) in
     let within : c.loop.counter + 1 ≤ 70368744177664 = omega (arith, c.loop-test.true) in
     record {
-      text = s.text;
+      input = s.input;
+      said = s.said;
       answers = s.answers;
       reads = record {
         taken =
             subst
             (λ (t : List ℕ). Consumes first after t)
-            (append-nil s.text)
-            (Consumes-trans first before after s.text [] s.took took);
+            (append-nil s.input)
+            (Consumes-trans first before after s.input [] s.took took);
         made = c.loop.counter + 1;
         within = within;
         counted = counted-more _ _ _ c.loop.counter s.counted c.in-Ok.ensures.reads;
         failed = same;
       };
+      is_said = s.is_said;
       answered = s.answered;
-      partial = s.partial;
       written = (c.in-Ok.ensures.end none, s.written);
       stops = tt;
     }
@@ -99,7 +107,7 @@ returns-in_err-feed-clause-answers g c =
     let few : length piece ≤ 4096 = omega (arith, long, c.in-Ok.ensures.prefix.0) in
     let within : c.loop.counter + 1 ≤ 70368744177664 = omega (arith, c.loop-test.true) in
     rw (p.1, p.2)
-    (input-cut c.loop.counter _ _ _ piece _ s within c.in-Ok.ensures.prefix.1 c.in-Ok.ensures.reads same few
+    (input-cut (face_of c.args.engine.now.begun) c.loop.counter _ _ _ piece _ s within c.in-Ok.ensures.prefix.1 c.in-Ok.ensures.reads same few
     c.in_err-feed.ensures.takes)
 
 pub returns-clause-answers : goal.returns-clause-answers
@@ -108,7 +116,8 @@ returns-clause-answers g c =
     let all : c.loop.counter ≡ 70368744177664 = omega (arith, c.loop-test.false) in
     let within : c.loop.counter ≤ 70368744177664 = omega arith in
     record {
-      text = s.text;
+      input = s.input;
+      said = s.said;
       answers = s.answers;
       reads = record {
         taken = s.took;
@@ -117,8 +126,8 @@ returns-clause-answers g c =
         counted = s.counted;
         failed = inr (c.loop.invariant.none_failed, all);
       };
+      is_said = s.is_said;
       answered = s.answered;
-      partial = s.partial;
       written = s.written;
       stops = tt;
     }

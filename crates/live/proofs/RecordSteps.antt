@@ -1,0 +1,167 @@
+-- Records that end in a piece, one after the other.
+use Rattle.std.proofs.Common.{◌≡◌, ℕ, ◌+◌, ◌≤◌, List, [], ◌∷◌, ◌++◌, length, take, drop, take-append-drop, Option}
+use Rattle.std.proofs.Common.{refl, sym, ap, subst, ◌∙◌, arith, append_assoc, append-nil, length-append}
+use Rattle.std.proofs.lemmas.List.{map-append, nil_from_length}
+use Rattle.trace.specs.Buffers.{CanWrite}
+use Rattle.trace.specs.declared.report.buffer.Buffered.{Buffered}
+use Rattle.live.specs.Asked.{Asked, asked_in}
+use Rattle.live.specs.Moments.{Moment, bssids_at}
+use Rattle.live.specs.Output.{AnswersPiece, AnswersRecords, AreAnswered}
+use Rattle.live.specs.Records.{IsBegun, IsRecord, all_octets, record_asks, records_ask}
+use Rattle.live.specs.TextLines.{TextLine, partial_after, lines_in}
+use Rattle.live.specs.declared.begun.Begun.{Begun}
+use Rattle.live.specs.declared.begun.Begun.TheVariants.{Line, Record}
+use Rattle.live.specs.declared.face.Face.TheVariants.{Lines, Records}
+use Rattle.live.proofs.AnswerSteps.{answered-none, answered-then}
+use Rattle.live.proofs.MoreLines.{lines-said, bssids-answers}
+use Rattle.live.proofs.RecordLaws.{each-both, octets-both}
+
+-- a list in two parts
+pub parts-are : (n : ℕ) (xs front back : List ℕ) → front ≡ take n xs → back ≡ drop n xs → xs ≡ front ++ back
+parts-are n xs front back f b = rw (f, b) (sym (take-append-drop n xs))
+
+-- ---- one record
+
+pub records-none : {W : Type 0} (taken : W → Option (List ℕ)) (failed : W → ℕ) (m : Moment) (w : Buffered W)
+    (begun piece : List ℕ) → CanWrite failed w → IsBegun begun
+    → AnswersRecords taken failed m m w w begun begun piece piece
+records-none taken failed m w begun piece can is = record {
+  records = [];
+  each = tt;
+  all = refl;
+  is_begun = is;
+  answered = answered-none taken failed Records m w can;
+  few = omega arith;
+}
+
+-- it stands whole at the front of the piece
+pub records-front : {W : Type 0} (taken : W → Option (List ℕ)) (failed : W → ℕ) (m next : Moment) (old new : Buffered W)
+    (begun piece r rest : List ℕ) → begun ≡ [] → IsBegun begun → IsRecord r → 9 ≤ length r → piece ≡ r ++ rest
+    → AreAnswered taken failed Records m next old new (records_ask (bssids_at m) (r ∷ []))
+    → AnswersRecords taken failed m next old new begun begun piece rest
+records-front taken failed m next old new begun piece r rest none is whole long front a =
+    let one : next.lines ≡ m.lines + 1 = lines-said m (records_ask (bssids_at m) (r ∷ [])) a.answers next a.answered in
+    let lens : length piece ≡ length r + length rest = ap length front ∙ length-append r rest in
+    record {
+      records = r ∷ [];
+      each = (whole, tt);
+      all =
+          ap (λ (b : List ℕ). b ++ piece) none ∙ front
+          ∙ ap (λ (l : List ℕ). l ++ rest) (sym (append-nil r))
+          ∙ ap (λ (b : List ℕ). (r ++ []) ++ (b ++ rest)) (sym none);
+      is_begun = is;
+      answered = a;
+      few = omega (arith, one, lens, long);
+    }
+
+-- more came of it
+pub records-added : {W : Type 0} (taken : W → Option (List ℕ)) (failed : W → ℕ) (m : Moment) (w : Buffered W)
+    (begun more now piece rest : List ℕ) → CanWrite failed w → now ≡ begun ++ more → piece ≡ more ++ rest → IsBegun now
+    → AnswersRecords taken failed m m w w begun now piece rest
+records-added taken failed m w begun more now piece rest can grown front is =
+    let lens : length piece ≡ length more + length rest = ap length front ∙ length-append more rest in
+    record {
+      records = [];
+      each = tt;
+      all =
+          ap (λ (l : List ℕ). begun ++ l) front ∙ sym (append_assoc begun more rest)
+          ∙ ap (λ (l : List ℕ). l ++ rest) (sym grown);
+      is_begun = is;
+      answered = answered-none taken failed Records m w can;
+      few = omega (arith, lens);
+    }
+
+-- it is whole with what came
+pub records-whole : {W : Type 0} (taken : W → Option (List ℕ)) (failed : W → ℕ) (m next : Moment) (old new : Buffered W)
+    (begun more now none piece rest : List ℕ) → now ≡ begun ++ more → none ≡ [] → piece ≡ more ++ rest
+    → 1 ≤ length more → IsRecord now
+    → AreAnswered taken failed Records m next old new (records_ask (bssids_at m) (now ∷ []))
+    → AnswersRecords taken failed m next old new begun none piece rest
+records-whole taken failed m next old new begun more now none piece rest grown empty front some whole a =
+    let one : next.lines ≡ m.lines + 1 = lines-said m (records_ask (bssids_at m) (now ∷ [])) a.answers next a.answered in
+    let lens : length piece ≡ length more + length rest = ap length front ∙ length-append more rest in
+    record {
+      records = now ∷ [];
+      each = (whole, tt);
+      all =
+          ap (λ (l : List ℕ). begun ++ l) front ∙ sym (append_assoc begun more rest)
+          ∙ ap (λ (l : List ℕ). l ++ rest) (sym grown)
+          ∙ ap (λ (l : List ℕ). l ++ rest) (sym (append-nil now))
+          ∙ ap (λ (b : List ℕ). (now ++ []) ++ (b ++ rest)) (sym empty);
+      is_begun = subst IsBegun (sym empty) tt;
+      answered = a;
+      few = omega (arith, one, lens, some);
+    }
+
+-- ---- one after the other
+
+pub records-then : {W : Type 0} (taken : W → Option (List ℕ)) (failed : W → ℕ) (m between next : Moment)
+    (old mid new : Buffered W) (begun now then piece rest last : List ℕ)
+    → AnswersRecords taken failed m between old mid begun now piece rest
+    → AnswersRecords taken failed between next mid new now then rest last
+    → AnswersRecords taken failed m next old new begun then piece last
+records-then taken failed m between next old mid new begun now then piece rest last a b =
+    let first : List ℕ = all_octets a.records in
+    let second : List ℕ = all_octets b.records in
+    let same : bssids_at between ≡ bssids_at m =
+    bssids-answers m (records_ask (bssids_at m) a.records) a.answered.answers between a.answered.answered in
+    record {
+      records = a.records ++ b.records;
+      each = each-both a.records b.records a.each b.each;
+      all =
+          a.all ∙ ap (λ (l : List ℕ). first ++ l) b.all ∙ sym (append_assoc first second (then ++ last))
+          ∙ ap (λ (l : List ℕ). l ++ (then ++ last)) (sym (octets-both a.records b.records));
+      is_begun = b.is_begun;
+      answered =
+          subst (λ (said : List Asked). AreAnswered taken failed Records m next old new said)
+          (sym (map-append (record_asks (bssids_at m)) a.records b.records))
+          (answered-then taken failed Records m between next (records_ask (bssids_at m) a.records)
+          (records_ask (bssids_at m) b.records) old mid new a.answered
+          (subst (λ (bs : List (List ℕ)). AreAnswered taken failed Records between next mid new (records_ask bs b.records))
+          same b.answered));
+      few = omega (arith, a.few, b.few);
+    }
+
+-- nothing of the piece is left
+pub records-all : {W : Type 0} (taken : W → Option (List ℕ)) (failed : W → ℕ) (m next : Moment) (old new : Buffered W)
+    (begun now piece rest : List ℕ) → length rest ≡ 0 → AnswersRecords taken failed m next old new begun now piece rest
+    → AnswersRecords taken failed m next old new begun now piece []
+records-all taken failed m next old new begun now piece rest none a =
+    subst (λ (l : List ℕ). AnswersRecords taken failed m next old new begun now piece l) (nil_from_length rest none) a
+
+-- ---- in either face
+
+pub piece-lines : {W : Type 0} (taken : W → Option (List ℕ)) (failed : W → ℕ) (m next : Moment) (old new : Buffered W)
+    (begun begun' : Begun) (partial partial' : TextLine) (piece : List ℕ) → begun ≡ Line partial → begun' ≡ Line partial'
+    → partial' ≡ partial_after partial piece
+    → AreAnswered taken failed Lines m next old new (asked_in m (lines_in partial piece))
+    → AnswersPiece taken failed m next old new begun begun' piece
+piece-lines taken failed m next old new begun begun' partial partial' piece is is' after a =
+    subst (λ (b : Begun). AnswersPiece taken failed m next old new b begun' piece) (sym is)
+    (record {
+      said = asked_in m (lines_in partial piece);
+      is_said = (refl, is' ∙ ap (λ (p : TextLine). Line p) after);
+      answered = a;
+    })
+
+pub piece-records : {W : Type 0} (taken : W → Option (List ℕ)) (failed : W → ℕ) (m next : Moment) (old new : Buffered W)
+    (begun begun' : Begun) (partial partial' piece : List ℕ) → begun ≡ Record partial → begun' ≡ Record partial'
+    → AnswersRecords taken failed m next old new partial partial' piece []
+    → AnswersPiece taken failed m next old new begun begun' piece
+piece-records taken failed m next old new begun begun' partial partial' piece is is' a =
+    subst (λ (b : Begun). AnswersPiece taken failed m next old new b begun' piece) (sym is)
+    (record {
+      said = records_ask (bssids_at m) a.records;
+      is_said = record {
+        records = a.records;
+        rest = partial';
+        are = record {
+          all = a.all ∙ ap (λ (l : List ℕ). all_octets a.records ++ l) (append-nil partial');
+          each = a.each;
+          rest = a.is_begun;
+        };
+        ask = refl;
+        next_is = is';
+      };
+      answered = a.answered;
+    })

@@ -1,0 +1,8 @@
+use Rattle.live.proofs.RecordLaws.{records-one, records-more}
+use Rattle.live.proofs.laws.records_come_in_pieces.Goals as goal
+
+pub returns-clause-one : goal.returns-clause-one
+returns-clause-one c = records-one
+
+pub returns-clause-pieces : goal.returns-clause-pieces
+returns-clause-pieces c = records-more

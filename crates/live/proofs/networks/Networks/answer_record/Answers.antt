@@ -1,0 +1,17 @@
+use Rattle.std.proofs.Common.{◌≡◌, ◌∙◌, List, [], ◌∷◌, ℕ, ap, subst}
+use Rattle.live.specs.Moments.{bssids_at}
+use Rattle.live.specs.Output.{AreAnswered}
+use Rattle.live.specs.Records.{record_asks}
+use Rattle.live.specs.declared.face.Face.TheVariants.{Records}
+use Rattle.live.proofs.networks.Networks.answer_record.Goals as goal
+
+pub returns : goal.returns
+returns g c =
+    let same : c.as_slice.result.now ≡ bssids_at c.args.self.now =
+    c.as_slice.ensures.value ∙ c.self.invariant.addresses ∙ ap bssids_at c.self.view_is in
+    subst
+    (λ (bs : List (List ℕ)).
+    AreAnswered g.W.Sink.taken g.W.Sink.failed Records c.args.self.now c.answer.new.self c.args.out.now c.answer.new.out
+    (record_asks bs c.args.octets.now ∷ []))
+    same
+    (c.answer.ensures _ c.read_record-reading.ensures)

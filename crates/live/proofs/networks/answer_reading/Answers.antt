@@ -1,0 +1,53 @@
+use Rattle.std.proofs.Common.{refl, ap, subst, Some, None, Ok, List, ◌+◌}
+use Rattle.trace.proofs.BufferSteps.{Puts-nothing}
+use Rattle.network.specs.NetworkView.{NetworkState}
+use Rattle.live.specs.Answers.{Nothing, Replies, Tables, Unread}
+use Rattle.live.specs.Asked.{ForTables, Says}
+use Rattle.live.specs.Dispatch.{line_as}
+use Rattle.live.specs.Readings.{IsReading}
+use Rattle.live.specs.declared.reading.Reading.{Reading}
+use Rattle.live.proofs.AnswerSteps.{at, answered-reading, answered-fault, unread-after}
+use Rattle.live.proofs.networks.answer_reading.Goals as goal
+
+pub returns-in-Nothing : goal.returns-in-Nothing
+returns-in-Nothing g c lines said count is =
+    answered-reading _ _ c.args.face lines c.args.number c.args.networks.now _ said (Says (Ok None)) Nothing _ _ count
+    (subst (λ (r : Reading). IsReading r said) c.in-Nothing.is is)
+    refl
+    refl
+    (Puts-nothing _ c.requires.can_write)
+
+pub returns-in-Event : goal.returns-in-Event
+returns-in-Event g c lines said count is =
+    let e = c.in-Event.event in
+    let r = c.reply_all.ensures in
+    answered-reading _ _ c.args.face lines c.args.number c.args.networks.now _ said
+    (Says (Ok (Some (line_as e.place e.event)))) (Replies r.replies) _ _ count
+    (subst (λ (o : Reading). IsReading o said) c.in-Event.is is)
+    r.may
+    (ap (λ (ns : List NetworkState). at (lines + 1) ns) r.after)
+    r.puts
+
+pub returns-in-Tables : goal.returns-in-Tables
+returns-in-Tables g c lines said count is =
+    answered-reading _ _ c.args.face lines c.args.number c.args.networks.now _ said ForTables
+    (Tables c.args.networks.now) _ _ count
+    (subst (λ (r : Reading). IsReading r said) c.in-Tables.is is)
+    refl
+    refl
+    c.put_tables.ensures
+
+pub returns-in-Fault : goal.returns-in-Fault
+returns-in-Fault g c lines said count is =
+    answered-fault _ _ c.args.face lines c.args.number c.args.networks.now said c.in-Fault.fault _ _ count
+    (subst (λ (r : Reading). IsReading r said) c.in-Fault.is is)
+    c.put_fault.ensures
+
+pub returns-in-Unread : goal.returns-in-Unread
+returns-in-Unread g c lines said count is =
+    let u = subst (λ (r : Reading). IsReading r said) c.in-Unread.is is in
+    answered-reading _ _ c.args.face lines c.args.number c.args.networks.now _ said (Says u.said) Unread _ _ count
+    u.is
+    u.may
+    (unread-after (at lines c.args.networks.now) u.said)
+    c.put_unread.ensures

@@ -1,0 +1,74 @@
+-- What comes in, in either face, cut anywhere: what is said in it, and what has begun of the next line or record.
+use Rattle.std.specs.Prelude.{◌≡◌, ℕ, List, [], ◌++◌}
+use Rattle.live.specs.Asked.{Asked, asked_by_all}
+use Rattle.live.specs.Records.{AreRecords, IsBegun, records_ask, cut_record}
+use Rattle.live.specs.TextLines.{TextLine, Octets, ended_lines, lines_of_text, partial_after, last_line, lines_in}
+use Rattle.live.specs.declared.begun.Begun.{Begun}
+use Rattle.live.specs.declared.begun.Begun.TheVariants.{Line, Record}
+use Rattle.live.specs.declared.face.Face.{Face}
+use Rattle.live.specs.declared.face.Face.TheVariants.{Lines, Records}
+
+-- ---- pieces
+
+abbrev pub nothing_begun : Face → Begun
+nothing_begun Lines = Line (Octets [])
+nothing_begun Records = Record []
+
+abbrev pub face_of : Begun → Face
+face_of (Line partial) = Lines
+face_of (Record begun) = Records
+
+-- what has begun of a line, where one has
+abbrev pub line_begun : Begun → TextLine
+line_begun (Line partial) = partial
+line_begun (Record begun) = Octets begun
+
+-- less than a whole record has begun
+abbrev pub IsUnfinished : Begun → Type 0
+IsUnfinished (Line partial) = Unit {0}
+IsUnfinished (Record begun) = IsBegun begun
+
+-- what has begun and a piece are these records, and then this has begun
+pub record AreRecordsIn (bssids : List (List ℕ)) (begun piece : List ℕ) (said : List Asked) (next : Begun) : Type 0 where
+  pub records : List (List ℕ)
+  pub rest : List ℕ
+  pub are : AreRecords (begun ++ piece) records rest
+  pub ask : said ≡ records_ask bssids records
+  pub next_is : next ≡ Record rest
+
+-- What is said to networks with these addresses in a piece, after what had begun; and what has begun then.
+abbrev pub IsSaidIn : List (List ℕ) → Begun → List ℕ → List Asked → Begun → Type 0
+IsSaidIn bssids (Line partial) piece said next =
+    (said ≡ asked_by_all bssids (lines_in partial piece)) × (next ≡ Line (partial_after partial piece))
+IsSaidIn bssids (Record begun) piece said next = AreRecordsIn bssids begun piece said next
+
+-- what is said by the end of the input, after what had begun
+abbrev pub last_said : List (List ℕ) → Begun → List Asked
+last_said bssids (Line partial) = asked_by_all bssids (last_line partial)
+last_said bssids (Record begun) = cut_record begun
+
+-- ---- the whole input
+
+-- these octets are records that ask this, and then what has begun of one
+pub record AreRecordsOf (bssids : List (List ℕ)) (octets : List ℕ) (said : List Asked) : Type 0 where
+  pub records : List (List ℕ)
+  pub rest : List ℕ
+  pub are : AreRecords octets records rest
+  pub ask : said ≡ records_ask bssids records
+
+-- or that ask this with what the end of the input says of it
+pub record AreAllRecordsOf (bssids : List (List ℕ)) (octets : List ℕ) (said : List Asked) : Type 0 where
+  pub records : List (List ℕ)
+  pub rest : List ℕ
+  pub are : AreRecords octets records rest
+  pub ask : said ≡ records_ask bssids records ++ cut_record rest
+
+-- what is said in an input by the lines or records that have ended
+abbrev pub IsSaid : Face → List (List ℕ) → List ℕ → List Asked → Type 0
+IsSaid Lines bssids input said = said ≡ asked_by_all bssids (ended_lines input)
+IsSaid Records bssids input said = AreRecordsOf bssids input said
+
+-- and by all of them, where the input is at its end
+abbrev pub IsAllSaid : Face → List (List ℕ) → List ℕ → List Asked → Type 0
+IsAllSaid Lines bssids input said = said ≡ asked_by_all bssids (lines_of_text input)
+IsAllSaid Records bssids input said = AreAllRecordsOf bssids input said

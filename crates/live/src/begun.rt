@@ -1,0 +1,31 @@
+//! What has begun of what comes in.
+
+ghost use Rattle.std.specs.Prelude.{◌≡◌, IfOk};
+ghost use Rattle.live.specs.Inputs.{nothing_begun};
+
+use crate::face::Face;
+use crate::partial::PartialLine;
+use crate::record::PartialRecord;
+use mac_frame::NoMemory;
+use std::alloc::Global;
+
+/// What has begun of the next line or record, and so in which face the access point runs.
+#[derive(Drop)]
+pub enum Begun {
+    /// Of a line.
+    Line(PartialLine),
+    /// Of a record.
+    Record(PartialRecord),
+}
+
+impl Begun {
+    /// Nothing has begun. `NoMemory` where memory ran out.
+    pub fn new(alloc: Global, face: Face) -> Result<Begun, NoMemory>
+        ensures { IfOk result (λ begun. begun ≡ nothing_begun face) }
+    {
+        match face {
+            Face::Lines => Ok(Begun::Line(PartialLine::new(alloc)?)),
+            Face::Records => Ok(Begun::Record(PartialRecord::new(alloc)?)),
+        }
+    }
+}

@@ -1,0 +1,85 @@
+//! Records that come in pieces, and their answers.
+
+ghost use Rattle.std.specs.Prelude.{◌≡◌, ◌<◌, ◌≤◌, ◌+◌, ◌^◌, [], length};
+ghost use Rattle.trace.specs.Buffers.{CanWrite};
+ghost use Rattle.live.specs.Output.{AnswersRecords, AreAnswered};
+ghost use Rattle.live.specs.Records.{IsBegun, IsRecord, cut_record};
+ghost use Rattle.live.specs.declared.face.Face.TheVariants as faces;
+
+use crate::face::Face;
+use crate::networks::Networks;
+use crate::reading::Reading;
+use crate::record::{PartialRecord, first_record};
+use trace::{Buffered, LineFault, Sink};
+
+/// Answers the records that end in a piece.
+pub fn answer_records<W: Sink>(
+    networks: &mut Networks,
+    partial: &mut PartialRecord,
+    piece: &[u8],
+    out: &mut Buffered<'_, W>,
+)
+    requires begun { IsBegun partial.old }
+    requires countable { networks.old.lines + length piece.now < 2 ^ 62 }
+    requires can_write { CanWrite W.failed out.old }
+    ensures answers { AnswersRecords W.taken W.failed networks.old networks.new out.old out.new partial.old partial.new
+        piece.now [] }
+{
+    let mut rest = piece;
+    while !rest.is_empty() {
+        rest = answer_next(networks, partial, rest, out);
+    }
+}
+
+/// Answers the record at the front of a piece, without a copy, where nothing came of it before and all of it is there;
+/// else takes of the piece what the record lacks that has begun, and answers it where it is whole then. It gives what
+/// follows in the piece.
+fn answer_next<'a, W: Sink>(
+    networks: &mut Networks,
+    partial: &mut PartialRecord,
+    piece: &'a [u8],
+    out: &mut Buffered<'_, W>,
+) -> &'a [u8]
+    requires some { 0 < length piece.now }
+    requires begun { IsBegun partial.old }
+    requires countable { networks.old.lines < 2 ^ 62 }
+    requires can_write { CanWrite W.failed out.old }
+    ensures answers { AnswersRecords W.taken W.failed networks.old networks.new out.old out.new partial.old partial.new
+        piece.now result.now }
+    ensures shorter { length result.now < length piece.now }
+{
+    if partial.is_empty() {
+        if let Some((octets, rest)) = first_record(piece) {
+            networks.answer_record(octets, out);
+            return rest;
+        }
+    }
+    let (more, rest) = piece.split_at(partial.lacking().min(piece.len()));
+    partial.add(more);
+    if partial.is_whole() {
+        networks.answer_record(partial.as_slice(), out);
+        partial.begin();
+    }
+    rest
+}
+
+/// Answers that the last record is cut, if one has begun.
+pub fn answer_cut_record<W: Sink>(
+    networks: &mut Networks,
+    partial: &PartialRecord,
+    out: &mut Buffered<'_, W>,
+)
+    requires countable { networks.old.lines < 2 ^ 62 }
+    requires can_write { CanWrite W.failed out.old }
+    ensures { AreAnswered W.taken W.failed faces.Records networks.old networks.new out.old out.new
+        (cut_record partial.now) }
+{
+    if partial.is_empty() {
+        return;
+    }
+    networks.answer(
+        Face::Records,
+        Reading::Fault(LineFault::NotHexadecimal),
+        out,
+    );
+}
