@@ -49,7 +49,7 @@ fn tell(rt: &HostRuntime, fault: &Fault) -> u8 {
 
 /// Does what the words ask for. Files are opened in the order of the words, and a configuration is read whole, before
 /// anything is done with them, and so are the traces of `play`. The trace of `run` is read as it comes, and so are the
-/// lines of `live`.
+/// lines or records of `live`.
 /// `threads` starts the threads of `play`.
 fn run<T: Threads + Wait + Sync>(rt: &HostRuntime, threads: &T) -> Result<(), Fault> {
     let alloc = rt.alloc();
@@ -84,6 +84,13 @@ fn run<T: Threads + Wait + Sync>(rt: &HostRuntime, threads: &T) -> Result<(), Fa
             let config = read_file(rt, config)?;
             let mut source = Counted::new(rt.stdin());
             live::live(alloc, config.as_slice(), &mut source, &mut out).map_err(
+                |fault| Fault::of_live(alloc, fault, STANDARD_INPUT),
+            )
+        }
+        Task::LiveOctets { config } => {
+            let config = read_file(rt, config)?;
+            let mut source = Counted::new(rt.stdin());
+            live::live_octets(alloc, config.as_slice(), &mut source, &mut out).map_err(
                 |fault| Fault::of_live(alloc, fault, STANDARD_INPUT),
             )
         }

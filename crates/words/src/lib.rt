@@ -5,7 +5,7 @@
 #![tactic(auto)]
 
 use clap::error::ErrorKind;
-use clap::{Arg, ArgMatches, Command};
+use clap::{Arg, ArgAction, ArgMatches, Command};
 use std::alloc::{AllocError, Global};
 
 /// The subcommand that reads a configuration.
@@ -17,8 +17,11 @@ const RUN: &str = "run";
 /// The subcommand that plays several traces at once.
 const PLAY: &str = "play";
 
-/// The subcommand that answers lines as they come.
+/// The subcommand that answers lines or records as they come.
 const LIVE: &str = "live";
+
+/// The word that asks for records in place of lines.
+const OCTETS: &str = "octets";
 
 /// What stands for the name of a configuration's file.
 const CONFIG: &str = "CONFIG";
@@ -52,6 +55,11 @@ pub enum Task<'a> {
     },
     /// `live CONFIG`: answer the lines of standard input as they come, on the configuration of a file.
     Live {
+        /// The configuration's file.
+        config: &'a str,
+    },
+    /// `live --octets CONFIG`: answer the records of standard input as they come, on the configuration of a file.
+    LiveOctets {
         /// The configuration's file.
         config: &'a str,
     },
@@ -94,9 +102,15 @@ fn with_play<'a>(alloc: Global, root: Command<'a>) -> Result<Command<'a>, AllocE
     root.subcommand(with_traces(alloc, PLAY, file(alloc, TRACE).num_args(1..))?)
 }
 
-/// `live CONFIG`, after the subcommands that are there.
+/// `live CONFIG` and `live --octets CONFIG`, after the subcommands that are there.
 fn with_live<'a>(alloc: Global, root: Command<'a>) -> Result<Command<'a>, AllocError> {
-    root.subcommand(Command::new(alloc, LIVE).arg(file(alloc, CONFIG))?)
+    let octets = Arg::new(alloc, OCTETS)
+        .long(OCTETS)
+        .action(ArgAction::SetTrue);
+    let live = Command::new(alloc, LIVE)
+        .arg(octets)?
+        .arg(file(alloc, CONFIG))?;
+    root.subcommand(live)
 }
 
 /// A subcommand of a configuration and traces.
@@ -128,6 +142,7 @@ fn matched<'a>(alloc: Global, matches: &ArgMatches<'a>) -> Result<Option<Task<'a
         (CHECK, _) => Ok(Some(Task::Check { config })),
         (RUN, Some(trace)) => Ok(Some(Task::Run { config, trace })),
         (PLAY, _) => played(alloc, config, files.get_strs(TRACE)),
+        (LIVE, _) if files.get_flag(OCTETS) => Ok(Some(Task::LiveOctets { config })),
         (LIVE, _) => Ok(Some(Task::Live { config })),
         _ => Ok(None),
     }
