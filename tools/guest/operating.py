@@ -87,14 +87,14 @@ class Silence:
         for station in (self.gone, self.silent, self.dozing):
             station.joined()
             station.ping(self.host.address, 4).whole()
-            self.start.has_told(f"{station.hardware_address()} joins {GUESTS}: identifier ")
+            self.start.has_told(f"{station.hardware_address()} joins {GUESTS}: association identifier ")
 
     def out_of_reach(self) -> str:
         """It is taken out of the table; the record has its deauthentication, which the bridge gave."""
         address = self.gone.hardware_address()
         set_reach(self.gone, OUT_OF_REACH)
         begun = time.monotonic()
-        told = f"{address} is forgotten by {GUESTS}: it is silent since "
+        told = f"{address} was forgotten by {GUESTS}: silent for "
         wait_for("the station is forgotten", 60, lambda: told in self.start.told())
         seconds = time.monotonic() - begun
         wait_for("it isn't in the table", 10, lambda: not self.start.station(GUESTS, address))
@@ -142,7 +142,7 @@ class Silence:
         done = ask("kick", GUESTS, address)
         if done.returncode != 0 or address not in done.stdout:
             raise Failed(f"kick: status {done.returncode}: {done.stdout}{done.stderr}")
-        self.start.has_told(f"{address} is forgotten by {GUESTS}: it was kicked")
+        self.start.has_told(f"{address} was forgotten by {GUESTS}: kicked")
         wait_for("it was heard", 10, lambda: any(
             frame.is_management(DISASSOCIATION) and frame.receiver == address_of(address)
             for frame in (Frame(packet.frame) for packet in map(captured, self.start.observed.packets_so_far()) if packet)))

@@ -168,28 +168,26 @@ impl Operating {
 fn sentence(station: Address, bssid: Address, news: News) -> (Level, String) {
     match news {
         News::Joins { aid, listen } => {
-            (Level::Info, format!("{station} joins {bssid}: identifier {aid}, listen interval {listen}"))
+            (Level::Info, format!("{station} joins {bssid}: association identifier {aid}, listen interval {listen}"))
         }
         News::Leaves { reason } => (Level::Info, format!("{station} leaves {bssid}: reason {reason}")),
         News::DozesTooLong { beacons, listen } => (
             Level::Notice,
             format!(
-                "{station} of {bssid} dozes too long: units wait for it since {beacons} beacons, and its listen \
-                 interval is {listen}"
+                "{station} of {bssid} dozes too long: units have waited for {beacons} beacons, and its listen interval \
+                 is {listen}"
             ),
         ),
         News::Refused { status, is_association } => {
             let what = if is_association { "association" } else { "authentication" };
-            (Level::Notice, format!("{station} is refused by {bssid}: {what}, status {status}"))
+            (Level::Notice, format!("{station} was refused by {bssid}: {what}, status {status}"))
         }
-        News::SentAway { reason } => (Level::Info, format!("{station} is sent away by {bssid}: reason {reason}")),
+        News::SentAway { reason } => (Level::Info, format!("{station} was sent away by {bssid}: reason {reason}")),
         News::Forgotten(Forgotten::Silent(silence)) => {
             let seconds = silence / SECOND;
-            (Level::Info, format!("{station} is forgotten by {bssid}: it is silent since {seconds} seconds"))
+            (Level::Info, format!("{station} was forgotten by {bssid}: silent for {seconds} seconds"))
         }
-        News::Forgotten(Forgotten::Kicked) => {
-            (Level::Info, format!("{station} is forgotten by {bssid}: it was kicked"))
-        }
+        News::Forgotten(Forgotten::Kicked) => (Level::Info, format!("{station} was forgotten by {bssid}: kicked")),
     }
 }
 
@@ -278,18 +276,18 @@ mod tests {
     #[test]
     fn what_happened_is_a_sentence() {
         for (news, wanted) in [
-            (News::Joins { aid: 3, listen: 5 }, "joins 02:00:00:00:01:01: identifier 3, listen interval 5"),
+            (News::Joins { aid: 3, listen: 5 }, "joins 02:00:00:00:01:01: association identifier 3, listen interval 5"),
             (News::Leaves { reason: 3 }, "leaves 02:00:00:00:01:01: reason 3"),
             (
                 News::Refused { status: 17, is_association: true },
-                "is refused by 02:00:00:00:01:01: association, status 17",
+                "was refused by 02:00:00:00:01:01: association, status 17",
             ),
-            (News::SentAway { reason: 7 }, "is sent away by 02:00:00:00:01:01: reason 7"),
+            (News::SentAway { reason: 7 }, "was sent away by 02:00:00:00:01:01: reason 7"),
             (
                 News::Forgotten(Forgotten::Silent(61 * SECOND)),
-                "is forgotten by 02:00:00:00:01:01: it is silent since 61 seconds",
+                "was forgotten by 02:00:00:00:01:01: silent for 61 seconds",
             ),
-            (News::Forgotten(Forgotten::Kicked), "is forgotten by 02:00:00:00:01:01: it was kicked"),
+            (News::Forgotten(Forgotten::Kicked), "was forgotten by 02:00:00:00:01:01: kicked"),
         ] {
             assert_eq!(sentence(STATION, OURS, news).1, format!("02:aa:00:00:00:01 {wanted}"));
         }
