@@ -31,6 +31,8 @@ pub struct Program {
     output: ChildStdout,
     answers: Answers,
     piece: Vec<u8>,
+    /// Whether the last piece was all that there was: the next question need not be asked of the kernel.
+    was_last: bool,
     has_ended: bool,
 }
 
@@ -50,7 +52,8 @@ impl Program {
                     prepare(pipe)?;
                 }
                 let answers = Answers::new(face);
-                let program = Program { child, output, answers, piece: vec![0; PIECE_LEN], has_ended: false };
+                let piece = vec![0; PIECE_LEN];
+                let program = Program { child, output, answers, piece, was_last: false, has_ended: false };
                 Ok((program, Feeder::new(face, input, record)))
             }
             _ => Err(Fault::new(format!("{path}: it has no pipes"))),
@@ -62,11 +65,16 @@ impl Program {
         self.output.as_raw_fd()
     }
 
-    /// Reads what it wrote, a piece of it at most, and answers whether there was one.
+    /// Reads what it wrote, a piece of it at most, and answers whether there was one. After a piece that was all that
+    /// there was the answer is `false` once, whatever came since.
     pub fn read(&mut self) -> Result<bool, Fault> {
+        if std::mem::take(&mut self.was_last) {
+            return Ok(false);
+        }
         match self.output.read(&mut self.piece) {
             Ok(0) => self.has_ended = true,
             Ok(length) => {
+                self.was_last = length < self.piece.len();
                 self.answers.take(&self.piece[..length]);
                 return Ok(true);
             }
