@@ -3,8 +3,8 @@ use Rattle.std.proofs.Common.{◌≡◌, ℕ, List, [], ◌∷◌, ◌++◌, tak
 use Rattle.network.specs.Section.{section_of, sections_of_lines}
 use Rattle.ap_config.specs.declared.config.NetConfig.{NetConfig}
 use Rattle.events.specs.declared.event.Event.TheVariants as event
-use Rattle.ap_config.proofs.Samples.{bssid, station, network, setting, radio}
-use Rattle.network.proofs.Samples.{probe, probe_for_another}
+use Rattle.ap_config.specs.Samples.{bssid, station, network, setting, radio}
+use Rattle.network.specs.Samples.{probe, probe_for_another}
 use Rattle.events.specs.Lines.{heard, own_events}
 use Rattle.events.specs.declared.line.Line.TheVariants.{Air, Wire, Tick}
 

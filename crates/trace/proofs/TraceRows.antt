@@ -3,7 +3,7 @@ use Rattle.std.proofs.Common.{◌≡◌, ℕ, List, [], ◌∷◌, ◌++◌, Ok,
 use Rattle.std.specs.Prelude.{map, replicate}
 use Rattle.hex.proofs.OnLiterals.{hex_on_literals}
 use Rattle.ap_config.specs.declared.config.RadioConfig.{RadioConfig}
-use Rattle.ap_config.proofs.Samples.{network, radio}
+use Rattle.ap_config.specs.Samples.{network, radio}
 use Rattle.trace.specs.TraceText.{lines_of, lines_from}
 use Rattle.events.specs.declared.line.Line.TheVariants.{Air, Wire, Tick}
 use Rattle.trace.specs.declared.fault.TraceFault.{TraceFault}
