@@ -1,4 +1,3 @@
-pub mod AddressOrder
 pub mod Cells
 pub mod Addresses
 pub mod AddressTexts

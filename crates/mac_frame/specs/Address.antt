@@ -15,12 +15,6 @@ pub record IsAddress (address : List ℕ) : Type 0 where
 abbrev pub broadcast : List ℕ
 broadcast = 255 ∷ 255 ∷ 255 ∷ 255 ∷ 255 ∷ 255 ∷ []
 
--- its octets as the digits of one number, the first of them highest
-abbrev pub number_of : List ℕ → ℕ
-number_of address =
-    ((slice_index address 0 * 256 + slice_index address 1) * 256 + slice_index address 2) * 16777216
-    + ((slice_index address 3 * 256 + slice_index address 4) * 256 + slice_index address 5)
-
 -- bit 0 of the first octet is 1
 abbrev pub is_group : List ℕ → Bool
 is_group address = slice_index address 0 % 2 == 1

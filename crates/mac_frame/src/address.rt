@@ -2,18 +2,14 @@
 
 ghost use Rattle.std.specs.Prelude.{◌≡◌, ℕ, ◌+◌, ◌*◌, ◌<◌, ◌↔◌, List, length, IsTrue, Some, IfSome};
 ghost use Rattle.mac_frame.specs.Address.{IsAddress, broadcast, is_group, is_parted, octet_at, address_of};
-ghost use Rattle.mac_frame.specs.Address.{address_text, number_of, octet_text};
-ghost use Rattle.std.specs.Prelude.{refl};
-ghost use Rattle.std.specs.Cmp.Lexicographic.{slice_cmp, nat_list_cmp_total, texts_po, texts_ties};
-ghost use Rattle.std.specs.Ordering.{nat_cmp};
+ghost use Rattle.mac_frame.specs.Address.{address_text, octet_text};
 ghost use Rattle.hex.specs.Hex.{hex_digit_value};
 
-use std::cmp::Ordering;
 use std::fmt;
 use std::marker::Model;
 
 /// The address of a station, or of a network, its BSSID (9.2.4.3). Contracts see it as its six octets.
-#[derive(Clone, Copy, Debug, PartialEq, Eq, Hash)]
+#[derive(Clone, Copy, Debug, PartialEq, Eq, PartialOrd, Ord, Hash)]
 pub struct MacAddr {
     octets: [u8; 6],
 }
@@ -24,31 +20,6 @@ impl Model for MacAddr {
     ghost view = { λ a. a.octets };
 
     ghost inverse = { λ o. record { octets = o } };
-}
-
-/// The first octets that differ decide. Each address is compared as one number, and not octet by octet.
-impl Ord for MacAddr {
-    ghost cmp = { slice_cmp nat_cmp };
-
-    ghost total = { nat_list_cmp_total };
-
-    ghost matches_partial_cmp = { λ x y. refl };
-
-    ghost matches_eq = { texts_ties };
-
-    fn cmp(&self, other: &MacAddr) -> Ordering {
-        compare(*self, *other)
-    }
-}
-
-impl PartialOrd for MacAddr {
-    ghost partial_cmp = { λ x y. Some (slice_cmp nat_cmp x y) };
-
-    ghost laws = { texts_po };
-
-    fn partial_cmp(&self, other: &MacAddr) -> Option<Ordering> {
-        Some(compare(*self, *other))
-    }
 }
 
 impl MacAddr {
@@ -68,16 +39,6 @@ impl MacAddr {
         ensures address { IsAddress self }
     {
         self.octets
-    }
-
-    /// Its octets as the digits of one number.
-    fn number(self) -> u64
-        ensures { result ≡ number_of self }
-    {
-        let [a, b, c, d, e, f] = self.octets;
-        let high = (u64::from(a) * 256 + u64::from(b)) * 256 + u64::from(c);
-        let low = (u64::from(d) * 256 + u64::from(e)) * 256 + u64::from(f);
-        high * 16_777_216 + low
     }
 
     /// Whether it is a group address: bit 0 of its first octet is 1 (9.2.2).
@@ -112,15 +73,6 @@ impl MacAddr {
             octet_at(text, 5)?,
         ]))
     }
-}
-
-/// Compares two addresses by their octets, the first that differ.
-fn compare(one: MacAddr, other: MacAddr) -> Ordering
-    ensures { result ≡ slice_cmp nat_cmp one other }
-{
-    // The prover learns that each has six octets below 256 where they are asked for.
-    let _ = (one.octets(), other.octets());
-    one.number().cmp(&other.number())
 }
 
 /// Whether a text has the length of an address, with `:` between its pairs.
