@@ -4,7 +4,6 @@ use Rattle.std.specs.List.{AllZip}
 use Rattle.std.specs.declared.alloc.Global.{Global}
 use Rattle.std.specs.declared.vec.Vec.{Vec}
 use Rattle.ap_config.specs.declared.config.RadioConfig.{RadioConfig}
-use Rattle.ap_config.specs.declared.config.ConfigFault.{ConfigFault}
 use Rattle.events.specs.declared.line.Line.{Line}
 use Rattle.trace.specs.ConfigurationText.{configuration_of}
 use Rattle.trace.specs.Endings.{Gives, Ending, Refused, WriteFailed, OutOfMemory, Ends}

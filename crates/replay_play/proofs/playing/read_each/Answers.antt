@@ -1,4 +1,4 @@
-use Rattle.std.proofs.Common.{◌≡◌, ℕ, List, length, get_or, [], sym, subst, ◌∙◌}
+use Rattle.std.proofs.Common.{get_or, [], sym, subst, ◌∙◌}
 use Rattle.std.proofs.lemmas.Option.{get_or_from_slice_get}
 use Rattle.trace.specs.Endings.{Gives}
 use Rattle.trace.specs.Faults.{read_ending}

@@ -1,13 +1,11 @@
-use Rattle.std.proofs.Common.{◌≡◌, ℕ, List, true, length, map, Err, sym, subst, ap, ◌∙◌}
+use Rattle.std.proofs.Common.{◌≡◌, List, true, length, map, Err, sym, ap, ◌∙◌}
 use Rattle.std.proofs.lemmas.Bool.{true≢false}
 use Rattle.std.proofs.lemmas.List.{length-map}
 use Rattle.std.proofs.lemmas.Option.{none-some}
 use Rattle.std.proofs.lemmas.Result.{err_from_is_err_and}
-use Rattle.std.specs.Prelude.{vec_len}
 use Rattle.events.specs.declared.line.Line.{Line}
 use Rattle.workers.specs.Names.{callers_fit}
-use Rattle.workers.specs.Receipts.{AreGivers, histories_of}
-use Rattle.replay_play.specs.Playing.{ArePlayable, IsPlayOf}
+use Rattle.replay_play.specs.Playing.{ArePlayable}
 use Rattle.replay_play.proofs.PlayEnds.{lines-length, config_plays, traces_play, play_fails, report_plays, whole_plays, whole_of, played_is}
 use Rattle.replay_play.proofs.playing.report_play.Goals as goal
 

@@ -1,9 +1,7 @@
-use Rattle.std.proofs.Common.{◌∙◌, ap, Result, List, Err}
+use Rattle.std.proofs.Common.{◌∙◌, Err}
 use Rattle.std.proofs.lemmas.Result.{err_from_is_err_and}
-use Rattle.events.specs.declared.line.Line.{Line}
-use Rattle.trace.specs.declared.fault.TraceFault.{TraceFault}
 use Rattle.trace.proofs.EndingLemmas.{same_fault}
-use Rattle.trace.proofs.PieceSteps.{then_more, next-first_fault, next-says, more-fault, more-said, next-past}
+use Rattle.trace.proofs.PieceSteps.{next-first_fault, next-says, more-fault, more-said, next-past}
 use Rattle.trace.proofs.line_reader.LineReader.read_lines.Goals as goal
 
 pub returns-in_err-lines-clause-exact : goal.returns-in_err-lines-clause-exact

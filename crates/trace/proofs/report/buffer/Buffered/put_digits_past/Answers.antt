@@ -1,8 +1,7 @@
 -- The digits of the octets so far are followed by those of a prefix of the rest.
-use Rattle.std.proofs.Common.{[], ◌++◌, ◌∙◌, refl, sym, ap, append-nil}
-use Rattle.hex.specs.Hex.{encode_lower}
+use Rattle.std.proofs.Common.{[], ◌++◌, refl}
 use Rattle.trace.proofs.ReportDigits.{encode_lower-nil, encode_lower-append, prefix_and_suffix, digits_grow}
-use Rattle.trace.proofs.BufferSteps.{Puts-nothing, Puts-then, Puts-same}
+use Rattle.trace.proofs.BufferSteps.{Puts-nothing, Puts-then}
 use Rattle.trace.proofs.report.buffer.Buffered.put_digits_past.Goals as goal
 
 pub loop-rest-init : goal.loop-rest-init
