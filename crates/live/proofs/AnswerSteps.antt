@@ -12,10 +12,10 @@ use Rattle.trace.specs.declared.fault.LineFault.{LineFault}
 use Rattle.trace.specs.declared.report.buffer.Buffered.{Buffered}
 use Rattle.trace.proofs.BufferSteps.{Puts-then, Puts-nothing, Puts-same}
 use Rattle.trace.specs.declared.fault.LineFault.TheVariants.{NotHexadecimal}
-use Rattle.live.specs.Asked.{Asked, HasFault, ForTables, Says}
-use Rattle.live.specs.Answers.{Answer, MayAnswer, after_line_from, after_answer, Answers, Faulty, Replies, Unread}
-use Rattle.live.specs.Dispatch.{event_at, line_as}
-use Rattle.live.specs.Moments.{Moment, one_line_more, bssid_of, bssids_at, Reply, taken_if, after_if}
+use Rattle.live_answers.specs.Asked.{Asked, HasFault, ForTables, Says}
+use Rattle.live_answers.specs.Answers.{Answer, MayAnswer, after_line_from, after_answer, Answers, Faulty, Replies, Unread}
+use Rattle.live_answers.specs.Dispatch.{event_at, line_as}
+use Rattle.live_answers.specs.Moments.{Moment, one_line_more, bssid_of, bssids_at, Reply, taken_if, after_if}
 use Rattle.live.specs.Networks.{IsMoment, opened}
 use Rattle.live.specs.Output.{AreAnswered}
 use Rattle.live.specs.Readings.{IsReading}
@@ -23,8 +23,9 @@ use Rattle.live.specs.Written.{written_answer}
 use Rattle.live.specs.declared.reading.Reading.{Reading}
 use Rattle.live.specs.declared.reading.Reading.TheVariants as reading
 use Rattle.live.specs.declared.face.Face.{Face}
-use Rattle.live.proofs.IsolationLaws.{bssids-first}
-use Rattle.live.proofs.MoreLines.{joins, texts-join, bssids-answers}
+use Rattle.live_answers.proofs.IsolationLaws.{bssids-first}
+use Rattle.live_answers.proofs.MoreLines.{joins, bssids-answers}
+use Rattle.live.proofs.MoreWritten.{texts-join}
 
 -- ---- one after the other
 

@@ -10,9 +10,9 @@ use Rattle.trace.specs.declared.report.buffer.Buffered.{Buffered}
 use Rattle.trace.proofs.BufferSteps.{Puts-then, Puts-nothing, Puts-same}
 use Rattle.live.specs.Written.{written_reply, written_reply_if, written_replies}
 use Rattle.live.specs.declared.face.Face.{Face}
-use Rattle.live.specs.Answers.{MayReplyFrom, after_line_from}
-use Rattle.live.specs.Dispatch.{event_at}
-use Rattle.live.specs.Moments.{Reply, MayReply, MayReplyIf, taken_if, after_if, bssid_of}
+use Rattle.live_answers.specs.Answers.{MayReplyFrom, after_line_from}
+use Rattle.live_answers.specs.Dispatch.{event_at}
+use Rattle.live_answers.specs.Moments.{Reply, MayReply, MayReplyIf, taken_if, after_if, bssid_of}
 use Rattle.live.specs.Output.{HasReplied, HaveReplied}
 
 -- ---- one network more

@@ -1,20 +1,20 @@
 -- What is said in an input that comes in pieces, in either face.
 use Rattle.std.proofs.Common.{◌≡◌, ℕ, List, [], ◌++◌, Option, Result, refl, sym, ap, subst, ◌∙◌}
 use Rattle.std.proofs.lemmas.List.{map-append}
-use Rattle.live.specs.Asked.{Asked, asked_by, asked_by_all}
+use Rattle.live_answers.specs.Asked.{Asked, asked_by, asked_by_all}
 use Rattle.trace.specs.declared.sink.Failed.{Failed}
-use Rattle.live.specs.Answers.{Answers}
+use Rattle.live_answers.specs.Answers.{Answers}
 use Rattle.live.specs.LiveView.{Finishes, Takes, TakesEnd, TakesPiece, fed, running, state}
-use Rattle.live.specs.Moments.{Moment}
+use Rattle.live_answers.specs.Moments.{Moment}
 use Rattle.live.specs.Inputs.{line_begun, nothing_begun, face_of, IsUnfinished, IsSaidIn, last_said, IsSaid, IsAllSaid}
-use Rattle.live.specs.Records.{record_asks, records_ask, cut_record}
-use Rattle.live.specs.TextLines.{ended_lines, partial_in, lines_in, last_line}
+use Rattle.live_answers.specs.Records.{record_asks, records_ask, cut_record}
+use Rattle.live_answers.specs.TextLines.{ended_lines, partial_in, lines_in, last_line}
 use Rattle.live.specs.declared.begun.Begun.{Begun}
 use Rattle.live.specs.declared.begun.Begun.TheVariants.{Line, Record}
 use Rattle.live.specs.declared.face.Face.{Face}
 use Rattle.live.specs.declared.face.Face.TheVariants.{Lines, Records}
-use Rattle.live.proofs.PieceLines.{ended-more, partial-more, all-lines}
-use Rattle.live.proofs.RecordLaws.{records-more}
+use Rattle.live_answers.proofs.PieceLines.{ended-more, partial-more, all-lines}
+use Rattle.live_answers.proofs.RecordLaws.{records-more}
 
 -- ---- in the face of lines
 

@@ -1,10 +1,4 @@
-pub mod PieceLines
-pub mod OwnSteps
-pub mod OwnLines
-pub mod IsolationLaws
-pub mod MoreLines
-pub mod EnoughMemory
-pub mod Replayed
+pub mod MoreWritten
 pub mod Rows
 pub mod PartialSteps
 pub mod UnreadLines
@@ -12,7 +6,6 @@ pub mod ReplySteps
 pub mod DispatchSteps
 pub mod AnswerSteps
 pub mod FeedSteps
-pub mod RecordLaws
 pub mod RecordSteps
 pub mod ToldSteps
 pub mod InputSteps

@@ -4,17 +4,17 @@ use Rattle.std.proofs.Common.{refl, sym, ap, subst, ◌∙◌, arith, append_ass
 use Rattle.std.proofs.lemmas.List.{map-append, nil_from_length}
 use Rattle.trace.specs.Buffers.{CanWrite}
 use Rattle.trace.specs.declared.report.buffer.Buffered.{Buffered}
-use Rattle.live.specs.Asked.{Asked, asked_in}
-use Rattle.live.specs.Moments.{Moment, bssids_at}
+use Rattle.live_answers.specs.Asked.{Asked, asked_in}
+use Rattle.live_answers.specs.Moments.{Moment, bssids_at}
 use Rattle.live.specs.Output.{AnswersPiece, AnswersRecords, AreAnswered}
-use Rattle.live.specs.Records.{IsBegun, IsRecord, all_octets, record_asks, records_ask}
-use Rattle.live.specs.TextLines.{TextLine, partial_after, lines_in}
+use Rattle.live_answers.specs.Records.{IsBegun, IsRecord, all_octets, record_asks, records_ask}
+use Rattle.live_answers.specs.TextLines.{TextLine, partial_after, lines_in}
 use Rattle.live.specs.declared.begun.Begun.{Begun}
 use Rattle.live.specs.declared.begun.Begun.TheVariants.{Line, Record}
 use Rattle.live.specs.declared.face.Face.TheVariants.{Lines, Records}
 use Rattle.live.proofs.AnswerSteps.{answered-none, answered-then}
-use Rattle.live.proofs.MoreLines.{lines-said, bssids-answers}
-use Rattle.live.proofs.RecordLaws.{each-both, octets-both}
+use Rattle.live_answers.proofs.MoreLines.{lines-said, bssids-answers}
+use Rattle.live_answers.proofs.RecordLaws.{each-both, octets-both}
 
 -- a list in two parts
 pub parts-are : (n : ℕ) (xs front back : List ℕ) → front ≡ take n xs → back ≡ drop n xs → xs ≡ front ++ back

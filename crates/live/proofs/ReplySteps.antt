@@ -9,7 +9,7 @@ use Rattle.events.specs.declared.event.Event.TheVariants.{Air, Wire, Tick}
 use Rattle.network.specs.declared.network.NetworkRefusal.{NetworkRefusal}
 use Rattle.network.specs.declared.network.NetworkRefusal.TheVariants.{NoMemory, Clock}
 use Rattle.network.specs.declared.network.Sent.{Sent}
-use Rattle.live.specs.Moments.{Sends, Refuses, is_past_clock, sending, MayReply}
+use Rattle.live_answers.specs.Moments.{Sends, Refuses, is_past_clock, sending, MayReply}
 
 -- a beacon interval is to begin that the clock can't count
 abbrev pub IsPast : NetworkState → Event → Type 0

@@ -14,11 +14,11 @@ use Rattle.trace.specs.declared.read_fault.ReadFault.TheVariants as reads
 use Rattle.trace.specs.declared.report.ReportFault.{ReportFault}
 use Rattle.trace.specs.declared.report.ReportFault.TheVariants as reports
 use Rattle.trace.specs.declared.sink.Failed.{Failed}
-use Rattle.live.specs.Answers.{Answer, Answers, answers_of}
-use Rattle.live.specs.Asked.{Asked}
+use Rattle.live_answers.specs.Answers.{Answer, Answers, answers_of}
+use Rattle.live_answers.specs.Asked.{Asked}
 use Rattle.live.specs.Inputs.{IsAllSaid, IsSaidIn, face_of, last_said, nothing_begun}
 use Rattle.live.specs.LiveView.{Finishes, running}
-use Rattle.live.specs.Moments.{Moment, first_moment, bssids_at}
+use Rattle.live_answers.specs.Moments.{Moment, first_moment, bssids_at}
 use Rattle.live.specs.Run.{AnswersAll, AnswersInput, Runs, StopsInPiece, StopsReading, Texts, Progress, progress, live_ending, max_reads}
 use Rattle.live.specs.Written.{written_after, written_count, written_tables}
 use Rattle.live.specs.declared.begun.Begun.{Begun}
@@ -26,9 +26,10 @@ use Rattle.live.specs.declared.face.Face.{Face}
 use Rattle.live.specs.declared.face.Face.TheVariants.{Lines, Records}
 use Rattle.live.specs.declared.fault.LiveFault.{LiveFault}
 use Rattle.live.specs.declared.fault.LiveFault.TheVariants.{Config, NoMemory, Read, Write}
-use Rattle.live.proofs.EnoughMemory.{answers-may}
+use Rattle.live_answers.proofs.EnoughMemory.{answers-may}
 use Rattle.live.proofs.InputSteps.{said-none, said-all, said-ended, said-face}
-use Rattle.live.proofs.MoreLines.{bssids-answers, joins, texts-join}
+use Rattle.live_answers.proofs.MoreLines.{bssids-answers, joins}
+use Rattle.live.proofs.MoreWritten.{texts-join}
 use Rattle.live.proofs.RunSteps.{counted-none, prefix-after, prefix-longer}
 
 -- ---- before the first read

@@ -7,18 +7,19 @@ use Rattle.std.specs.Io.KnownBytes.{Appends, Consumes}
 use Rattle.trace.specs.Endings.{AppendsPrefix}
 use Rattle.trace.specs.Streams.{reads_after}
 use Rattle.trace.specs.declared.sink.Failed.{Failed}
-use Rattle.live.specs.Answers.{Answer, Answers}
-use Rattle.live.specs.Asked.{Asked}
+use Rattle.live_answers.specs.Answers.{Answer, Answers}
+use Rattle.live_answers.specs.Asked.{Asked}
 use Rattle.live.specs.Inputs.{IsSaidIn, face_of, nothing_begun}
 use Rattle.live.specs.LiveView.{Takes, running}
-use Rattle.live.specs.Moments.{Moment, bssids_at}
+use Rattle.live_answers.specs.Moments.{Moment, bssids_at}
 use Rattle.live.specs.Run.{AnswersInput, Progress, max_reads}
 use Rattle.live.specs.Written.{written_after}
 use Rattle.live.specs.declared.begun.Begun.{Begun}
 use Rattle.live.specs.declared.face.Face.{Face}
 use Rattle.live.specs.declared.fault.LiveFault.TheVariants.{Write}
 use Rattle.live.proofs.InputSteps.{said-none, said-more, said-ended, said-face}
-use Rattle.live.proofs.MoreLines.{bssids-answers, joins, texts-join}
+use Rattle.live_answers.proofs.MoreLines.{bssids-answers, joins}
+use Rattle.live.proofs.MoreWritten.{texts-join}
 
 -- ---- a prefix
 

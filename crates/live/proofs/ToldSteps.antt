@@ -10,7 +10,7 @@ use Rattle.ap_config.specs.declared.config.NetConfig.{NetConfig}
 use Rattle.trace.specs.Report.{network_line}
 use Rattle.trace.specs.Texts.{ended}
 use Rattle.live.specs.AnswerOctets.{record_header, record_of, told}
-use Rattle.live.specs.Records.{nobody}
+use Rattle.live_answers.specs.Records.{nobody}
 
 pub record-over : (kind : ℕ) (bssid octets : List ℕ) → 65535 < length octets → [] ≡ record_of kind bssid octets
 unfolding record_of

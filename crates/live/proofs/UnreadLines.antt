@@ -11,10 +11,10 @@ use Rattle.trace.specs.Faults.{◌>>=◌}
 use Rattle.trace.specs.TraceText.{max_octets, within_limit, octets_of, digits_of, place_with, place_named, is_skipped, first_word, after_first_word, without_spaces_at_start, content_of, said_by, takes_memory, without_spaces_at_end}
 use Rattle.trace.specs.declared.fault.LineFault.{LineFault}
 use Rattle.trace.specs.declared.fault.LineFault.TheVariants.{UnknownKind, NotHexadecimal, NoAddress, UnknownNetwork, TooMany}
-use Rattle.live.specs.Answers.{MayBeUnread}
-use Rattle.live.specs.Asked.{asked_by}
+use Rattle.live_answers.specs.Answers.{MayBeUnread}
+use Rattle.live_answers.specs.Asked.{asked_by}
 use Rattle.live.specs.Readings.{IsUnread}
-use Rattle.live.specs.TextLines.{Octets}
+use Rattle.live_answers.specs.TextLines.{Octets}
 
 -- its word is known
 abbrev IsKnown : {X : Type 0} → Result X LineFault → Type 0

@@ -6,9 +6,9 @@ use Rattle.network.specs.Network.{table_of, counts_of}
 use Rattle.network.specs.NetworkView.{NetworkState}
 use Rattle.trace.specs.Report.{network_line, counts_line, station_line}
 use Rattle.trace.specs.Texts.{ended}
-use Rattle.live.specs.AnswerText.{refusal_word}
-use Rattle.live.specs.Moments.{Reply, Sends, Refuses}
-use Rattle.live.specs.Records.{nobody}
+use Rattle.live_answers.specs.AnswerText.{refusal_word}
+use Rattle.live_answers.specs.Moments.{Reply, Sends, Refuses}
+use Rattle.live_answers.specs.Records.{nobody}
 
 -- what stands before the octets of a record: its kind, a BSSID, and how many they are, the low octet first
 abbrev pub record_header : ℕ → List ℕ → ℕ → List ℕ

@@ -1,8 +1,8 @@
 -- What comes in, in either face, cut anywhere: what is said in it, and what has begun of the next line or record.
 use Rattle.std.specs.Prelude.{◌≡◌, ℕ, List, [], ◌++◌}
-use Rattle.live.specs.Asked.{Asked, asked_by_all}
-use Rattle.live.specs.Records.{AreRecords, IsBegun, records_ask, cut_record}
-use Rattle.live.specs.TextLines.{TextLine, Octets, ended_lines, lines_of_text, partial_after, last_line, lines_in}
+use Rattle.live_answers.specs.Asked.{Asked, asked_by_all}
+use Rattle.live_answers.specs.Records.{AreRecords, IsBegun, records_ask, cut_record}
+use Rattle.live_answers.specs.TextLines.{TextLine, Octets, ended_lines, lines_of_text, partial_after, last_line, lines_in}
 use Rattle.live.specs.declared.begun.Begun.{Begun}
 use Rattle.live.specs.declared.begun.Begun.TheVariants.{Line, Record}
 use Rattle.live.specs.declared.face.Face.{Face}

@@ -1,15 +1,7 @@
-pub mod TextLines
 pub mod PartialLine
-pub mod Moments
-pub mod Dispatch
-pub mod Asked
-pub mod Answers
 pub mod Readings
-pub mod Records
-pub mod AnswerText
 pub mod AnswerOctets
 pub mod Written
-pub mod Own
 pub mod Output
 pub mod Networks
 pub mod Inputs

@@ -3,12 +3,12 @@ use Rattle.std.specs.Prelude.{◌≡◌, ℕ, List, ◌++◌, Option, Result, Ok
 use Rattle.trace.specs.Endings.{Ends}
 use Rattle.trace.specs.Sinks.{write_ending}
 use Rattle.trace.specs.declared.sink.Failed.{Failed}
-use Rattle.live.specs.AnswerText.{tables_text}
-use Rattle.live.specs.Answers.{Answer, Answers}
-use Rattle.live.specs.Asked.{Asked, asked_in}
+use Rattle.live_answers.specs.AnswerText.{tables_text}
+use Rattle.live_answers.specs.Answers.{Answer, Answers}
+use Rattle.live_answers.specs.Asked.{Asked, asked_in}
 use Rattle.live.specs.Inputs.{IsSaidIn, face_of, last_said}
-use Rattle.live.specs.Moments.{Moment, bssids_at}
-use Rattle.live.specs.TextLines.{TextLine, partial_after, last_line, lines_in}
+use Rattle.live_answers.specs.Moments.{Moment, bssids_at}
+use Rattle.live_answers.specs.TextLines.{TextLine, partial_after, last_line, lines_in}
 use Rattle.live.specs.Written.{text_after, written_after, written_tables}
 use Rattle.live.specs.declared.begun.Begun.{Begun}
 

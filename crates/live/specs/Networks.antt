@@ -3,7 +3,7 @@ use Rattle.std.specs.Prelude.{◌≡◌, ℕ, ◌≤◌, List}
 use Rattle.std.specs.List.{AllByRecursion}
 use Rattle.network.specs.NetworkView.{NetworkState, new_network}
 use Rattle.ap_config.specs.declared.config.NetConfig.{NetConfig}
-use Rattle.live.specs.Moments.{Moment, bssids_at}
+use Rattle.live_answers.specs.Moments.{Moment, bssids_at}
 
 -- a network that took no event
 abbrev pub opened : (channel interval : ℕ) → NetConfig → NetworkState

@@ -7,13 +7,13 @@ use Rattle.trace.specs.Buffers.{Puts}
 use Rattle.trace.specs.Report.{frame_line}
 use Rattle.trace.specs.declared.report.buffer.Buffered.{Buffered}
 use Rattle.live.specs.AnswerOctets.{record_of}
-use Rattle.live.specs.AnswerText.{frame_words}
-use Rattle.live.specs.Answers.{Answer, Answers, MayReplyFrom, after_line_from}
-use Rattle.live.specs.Dispatch.{event_at}
-use Rattle.live.specs.Moments.{Moment, Reply, MayReplyIf, taken_if, after_if, bssid_of, bssids_at}
-use Rattle.live.specs.Asked.{Asked}
+use Rattle.live_answers.specs.AnswerText.{frame_words}
+use Rattle.live_answers.specs.Answers.{Answer, Answers, MayReplyFrom, after_line_from}
+use Rattle.live_answers.specs.Dispatch.{event_at}
+use Rattle.live_answers.specs.Moments.{Moment, Reply, MayReplyIf, taken_if, after_if, bssid_of, bssids_at}
+use Rattle.live_answers.specs.Asked.{Asked}
 use Rattle.live.specs.Inputs.{IsSaidIn, face_of}
-use Rattle.live.specs.Records.{IsBegun, IsRecord, all_octets, records_ask}
+use Rattle.live_answers.specs.Records.{IsBegun, IsRecord, all_octets, records_ask}
 use Rattle.live.specs.Written.{written_reply_if, written_replies, written_after}
 use Rattle.live.specs.declared.begun.Begun.{Begun}
 use Rattle.live.specs.declared.face.Face.{Face}

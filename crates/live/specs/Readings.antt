@@ -2,9 +2,9 @@
 use Rattle.std.specs.Prelude.{◌≡◌, ◌⊎◌, Option, Some, None, Result, Ok, Err}
 use Rattle.events.specs.declared.line.Line.{Line}
 use Rattle.trace.specs.declared.fault.LineFault.{LineFault}
-use Rattle.live.specs.Answers.{MayBeUnread}
-use Rattle.live.specs.Asked.{Asked, HasFault, ForTables, Says}
-use Rattle.live.specs.Dispatch.{line_as}
+use Rattle.live_answers.specs.Answers.{MayBeUnread}
+use Rattle.live_answers.specs.Asked.{Asked, HasFault, ForTables, Says}
+use Rattle.live_answers.specs.Dispatch.{line_as}
 use Rattle.live.specs.declared.reading.Reading.{Reading}
 use Rattle.live.specs.declared.reading.Reading.TheVariants as reading
 

@@ -5,10 +5,10 @@ use Rattle.ap_config.specs.declared.config.RadioConfig.{RadioConfig}
 use Rattle.trace.specs.ConfigurationText.{configuration_of}
 use Rattle.trace.specs.Endings.{Ending, Refused, ReadFailed, WriteFailed, OutOfMemory, AppendsPrefix, ending_of}
 use Rattle.trace.specs.Streams.{Reads, SinkView, Streams}
-use Rattle.live.specs.Answers.{Answer, Answers}
-use Rattle.live.specs.Asked.{Asked}
+use Rattle.live_answers.specs.Answers.{Answer, Answers}
+use Rattle.live_answers.specs.Asked.{Asked}
 use Rattle.live.specs.Inputs.{IsSaid, IsAllSaid, IsSaidIn, nothing_begun}
-use Rattle.live.specs.Moments.{Moment, first_moment, bssids_at}
+use Rattle.live_answers.specs.Moments.{Moment, first_moment, bssids_at}
 use Rattle.live.specs.Written.{written_count, written_after, written_tables}
 use Rattle.live.specs.declared.begun.Begun.{Begun}
 use Rattle.live.specs.declared.face.Face.{Face}

@@ -5,11 +5,11 @@ use Rattle.trace.specs.Report.{count_line}
 use Rattle.trace.specs.Texts.{ended}
 use Rattle.trace.specs.TraceText.{code_of}
 use Rattle.live.specs.AnswerOctets.{count_record, record_fault, reply_octets, tables_octets, told}
-use Rattle.live.specs.AnswerText.{fault_words, reply_text, tables_text}
-use Rattle.live.specs.Answers.{Answer, Nothing, Replies, Tables, Faulty, Unread, answers_of}
-use Rattle.live.specs.Asked.{asked_in}
-use Rattle.live.specs.Moments.{Moment, bssids_at, Reply}
-use Rattle.live.specs.TextLines.{TextLine}
+use Rattle.live_answers.specs.AnswerText.{fault_words, reply_text, tables_text}
+use Rattle.live_answers.specs.Answers.{Answer, Nothing, Replies, Tables, Faulty, Unread, answers_of}
+use Rattle.live_answers.specs.Asked.{asked_in}
+use Rattle.live_answers.specs.Moments.{Moment, bssids_at, Reply}
+use Rattle.live_answers.specs.TextLines.{TextLine}
 use Rattle.live.specs.declared.face.Face.{Face}
 use Rattle.live.specs.declared.face.Face.TheVariants.{Lines, Records}
 

@@ -3,8 +3,8 @@
 ghost use Rattle.std.specs.Prelude.{◌≡◌, ◌<◌, ◌^◌, Some, None, if◌then◌else◌};
 ghost use Rattle.std.specs.List.{AllByRecursion};
 ghost use Rattle.trace.specs.Buffers.{CanWrite, Puts};
-ghost use Rattle.live.specs.Dispatch.{event_for, line_as};
-ghost use Rattle.live.specs.Moments.{Reply, MayReply, taken_if, after_if, bssid_of};
+ghost use Rattle.live_answers.specs.Dispatch.{event_for, line_as};
+ghost use Rattle.live_answers.specs.Moments.{Reply, MayReply, taken_if, after_if, bssid_of};
 ghost use Rattle.live.specs.Output.{HasReplied, HaveReplied};
 ghost use Rattle.live.specs.Written.{written_reply};
 

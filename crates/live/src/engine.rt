@@ -7,7 +7,7 @@ ghost use Rattle.trace.specs.Endings.{failures_of};
 ghost use Rattle.trace.specs.Sinks.{MayFail, write_ending};
 ghost use Rattle.live.specs.Inputs.{IsUnfinished, face_of, last_said, nothing_begun};
 ghost use Rattle.live.specs.LiveView.{Finishes, Takes, running};
-ghost use Rattle.live.specs.Moments.{bssids_at, first_moment};
+ghost use Rattle.live_answers.specs.Moments.{bssids_at, first_moment};
 ghost use Rattle.live.specs.Output.{AnswersPiece, AreAnswered};
 
 use crate::begun::Begun;

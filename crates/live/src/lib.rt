@@ -1,19 +1,18 @@
-//! The access point as it runs: each line is answered as it comes, and no history is kept (*profile*).
+//! The access point as it runs: each line or record is answered as it comes, and no history is kept (*profile*).
 //!
-//! [`Live`] is the access point as it runs. [`Live::feed`] takes a piece of a text, which may be cut anywhere, and
-//! promises that the sink has gained exactly the answers to the lines that end in it, or, where a write failed, a
-//! prefix of them; [`Live::end`] promises the same of the last line, and of the tables of the networks. [`live`] runs
-//! one over an input, from the octets of its configuration on: it promises that its output is `ok N`, these answers and
-//! these tables, and a prefix of that where a write failed. Where memory runs out after the first read, nothing ends:
-//! the answer to the line says so.
+//! It has two faces. In that of lines, frames come and go in digits, in that of records as octets, and all else is the
+//! same. [`live`] and [`live_octets`] run an access point over an input, from the octets of its configuration on: they
+//! promise that the output is the number of networks, the answers to all that is said in the input, in order, and the
+//! tables of the networks; and a prefix of that where a write failed. Where memory runs out after the first read,
+//! nothing ends: the answer says so.
 //!
-//! `specs/` says what the lines of a text are (`TextLines`), which event a line is to which network (`Dispatch`), what
-//! is answered to each and what becomes of the networks (`Answers`), in which words (`AnswerText`), and what of it is
-//! one network's own (`Own`). The crate promises of these definitions that no network reaches another ([`isolation`]),
-//! so that two inputs that give a network the same events give it the same frames and table ([`two_inputs`]); that the
-//! answers to more lines begin with those to fewer ([`more_lines`]); that a text has the same lines however it is cut
-//! ([`lines_come_in_pieces`]); that the answers are the ones of `live_text` where memory suffices ([`enough_memory`]);
-//! and that a trace is then answered as its report tells it, as far as a history would reach ([`as_replayed`]).
+//! [`Live`] is the access point in the face of lines. [`Live::feed`] takes a piece of a text, which may be cut anywhere,
+//! and promises that the sink has gained exactly the answers to the lines that end in it, or, where a write failed, a
+//! prefix of them; [`Live::end`] promises the same of the last line, and of the tables.
+//!
+//! What is answered is said by the definitions of the crate `live_answers`, whose laws hold of both faces: [`isolation`]
+//! and those beside it. `specs/` says what an input says in either face (`Inputs`), and how answers are written
+//! (`AnswerOctets`, `Written`). The answers to more that is said begin with those to the first of it ([`more_lines`]).
 //!
 //! Where the input comes from, and where the answers go, is left to the program.
 #![tactic(auto)]
@@ -37,9 +36,9 @@ mod run;
 mod written;
 
 pub use fault::LiveFault;
-pub use laws::{
-    as_replayed, enough_memory, isolation, lines_come_in_pieces, more_lines,
-    records_come_in_pieces, two_inputs,
+pub use laws::more_lines;
+pub use live_answers::{
+    as_replayed, enough_memory, isolation, lines_come_in_pieces, records_come_in_pieces, two_inputs,
 };
 pub use live_lines::Live;
 pub use run::{live, live_octets};

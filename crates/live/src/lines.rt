@@ -3,10 +3,10 @@
 ghost use Rattle.std.specs.Prelude.{◌≡◌, ◌<◌, ◌≤◌, ◌+◌, ◌^◌, ◌∷◌, [], length};
 ghost use Rattle.trace.specs.Buffers.{CanWrite};
 ghost use Rattle.trace.specs.Texts.{LacksLineFeed};
-ghost use Rattle.live.specs.Asked.{asked_in};
+ghost use Rattle.live_answers.specs.Asked.{asked_in};
 ghost use Rattle.live.specs.Output.{AreAnswered};
 ghost use Rattle.live.specs.PartialLine.{IsUnended, ended_with};
-ghost use Rattle.live.specs.TextLines.{Octets, partial_after, last_line, lines_in};
+ghost use Rattle.live_answers.specs.TextLines.{Octets, partial_after, last_line, lines_in};
 ghost use Rattle.live.specs.declared.face.Face.TheVariants as faces;
 
 use crate::networks::Networks;

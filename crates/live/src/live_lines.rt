@@ -5,8 +5,8 @@ ghost use Rattle.ap_config.specs.Configuration.{fault_of};
 ghost use Rattle.trace.specs.Endings.{failures_of};
 ghost use Rattle.trace.specs.Sinks.{MayFail, write_ending};
 ghost use Rattle.live.specs.LiveView.{TakesPiece, TakesEnd, fed};
-ghost use Rattle.live.specs.Moments.{first_moment};
-ghost use Rattle.live.specs.TextLines.{Octets};
+ghost use Rattle.live_answers.specs.Moments.{first_moment};
+ghost use Rattle.live_answers.specs.TextLines.{Octets};
 
 use crate::engine::Engine;
 use crate::face::Face;

@@ -4,13 +4,13 @@ ghost use Rattle.std.specs.Prelude.{◌≡◌, ◌+◌, ◌<◌, ◌^◌, ◌∷
 ghost use Rattle.std.specs.List.{AllByRecursion};
 ghost use Rattle.ap_config.specs.Configuration.{fault_of, network_fault, setting_fault};
 ghost use Rattle.trace.specs.Buffers.{CanWrite, Puts};
-ghost use Rattle.live.specs.Asked.{Asked, asked_in};
-ghost use Rattle.live.specs.Moments.{bssids_at, first_moment};
+ghost use Rattle.live_answers.specs.Asked.{Asked, asked_in};
+ghost use Rattle.live_answers.specs.Moments.{bssids_at, first_moment};
 ghost use Rattle.live.specs.Networks.{opened};
 ghost use Rattle.live.specs.Output.{AreAnswered};
 ghost use Rattle.live.specs.PartialLine.{line_in};
 ghost use Rattle.live.specs.Readings.{IsReading};
-ghost use Rattle.live.specs.Records.{IsRecord, records_ask};
+ghost use Rattle.live_answers.specs.Records.{IsRecord, records_ask};
 ghost use Rattle.live.specs.Written.{written_tables};
 ghost use Rattle.live.specs.declared.face.Face.TheVariants as faces;
 
@@ -35,7 +35,7 @@ pub struct Networks {
 }
 
 impl Model for Networks {
-    ghost use Rattle.live.specs.Moments.{Moment};
+    ghost use Rattle.live_answers.specs.Moments.{Moment};
     ghost use Rattle.live.specs.Networks.{IsMoment};
 
     ghost Value = { Moment };

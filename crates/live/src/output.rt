@@ -7,8 +7,8 @@ ghost use Rattle.trace.specs.Buffers.{CanWrite, Puts};
 ghost use Rattle.trace.specs.Report.{frame_line, station_line, counts_in};
 ghost use Rattle.trace.specs.Texts.{ended};
 ghost use Rattle.trace.specs.TraceText.{code_of};
-ghost use Rattle.live.specs.AnswerText.{fault_words, frame_words, refusal_word, reply_text, table_text, tables_text};
-ghost use Rattle.live.specs.Moments.{Refuses};
+ghost use Rattle.live_answers.specs.AnswerText.{fault_words, frame_words, refusal_word, reply_text, table_text, tables_text};
+ghost use Rattle.live_answers.specs.Moments.{Refuses};
 ghost use Rattle.live.specs.Output.{frames_text};
 
 use mac_frame::{MacAddr, Octets};

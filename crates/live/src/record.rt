@@ -1,7 +1,7 @@
 //! Records: where one ends, and what came of one that is not whole.
 
 ghost use Rattle.std.specs.Prelude.{◌≡◌, ◌↔◌, ◌+◌, ◌≤◌, ◌++◌, [], length, IfOk, IfSome, IsTrue};
-ghost use Rattle.live.specs.Records.{IsBegun, IsRecord, lacking, record_len};
+ghost use Rattle.live_answers.specs.Records.{IsBegun, IsRecord, lacking, record_len};
 
 use mac_frame::NoMemory;
 use std::alloc::Global;

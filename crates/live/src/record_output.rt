@@ -10,7 +10,7 @@ ghost use Rattle.trace.specs.Texts.{ended};
 ghost use Rattle.trace.specs.TraceText.{code_of};
 ghost use Rattle.live.specs.AnswerOctets.{record_header, record_of, told, record_fault, reply_octets, table_octets};
 ghost use Rattle.live.specs.AnswerOctets.{tables_octets};
-ghost use Rattle.live.specs.Moments.{Refuses};
+ghost use Rattle.live_answers.specs.Moments.{Refuses};
 ghost use Rattle.live.specs.Output.{frames_octets};
 
 use crate::output::{refusal_word, totals_of};

@@ -3,7 +3,7 @@
 ghost use Rattle.std.specs.Prelude.{◌≡◌, ◌<◌, ◌≤◌, ◌+◌, ◌^◌, [], length};
 ghost use Rattle.trace.specs.Buffers.{CanWrite};
 ghost use Rattle.live.specs.Output.{AnswersRecords, AreAnswered};
-ghost use Rattle.live.specs.Records.{IsBegun, IsRecord, cut_record};
+ghost use Rattle.live_answers.specs.Records.{IsBegun, IsRecord, cut_record};
 ghost use Rattle.live.specs.declared.face.Face.TheVariants as faces;
 
 use crate::face::Face;

@@ -3,7 +3,7 @@
 ghost use Rattle.std.specs.Prelude.{ℕ, ◌++◌, codes, decimal, option_to_list};
 ghost use Rattle.trace.specs.Buffers.{CanWrite, Puts};
 ghost use Rattle.trace.specs.TraceText.{code_of};
-ghost use Rattle.live.specs.Moments.{Refuses, Sends};
+ghost use Rattle.live_answers.specs.Moments.{Refuses, Sends};
 ghost use Rattle.live.specs.Written.{written_fault, written_reply, written_tables};
 
 use crate::face::Face;

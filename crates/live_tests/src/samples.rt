@@ -71,7 +71,8 @@ const OPEN: &[u8] = b"O\0\0\0\0\0\x01\0\0";
 const CUT: &[u8] = b"A\0\0\0\0\0\0\x05\0ab";
 
 /// What is written at the end.
-const END: &[u8] = b"N\0\0\0\0\0\0\x12\0fault L2 record 6\nN\0\0\0\0\0\0&\0network 02:00:00:00:00:01 ssid 6c6162\
+const END: &[u8] =
+    b"N\0\0\0\0\0\0\x12\0fault L2 record 6\nN\0\0\0\0\0\0&\0network 02:00:00:00:00:01 ssid 6c6162\
     \nN\0\0\0\0\0\0(\0events 2 clock 1 unread 0 lost 0 kept 0\nN\0\0\0\0\0\0\x04\0end\n";
 
 /// What comes in and what is written, in one of the two faces.

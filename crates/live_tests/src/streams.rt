@@ -58,7 +58,12 @@ impl Read for Looking<'_> {
             self.given.saturating_add(self.streams.most)
         };
         let end = end.min(self.streams.readable).min(self.sample.input.len());
-        let mut piece = self.sample.input.as_slice().get(self.given..end).unwrap_or(b"");
+        let mut piece = self
+            .sample
+            .input
+            .as_slice()
+            .get(self.given..end)
+            .unwrap_or(b"");
         let count = piece.read(buf)?;
         self.given = self.given.saturating_add(count);
         Ok(count)

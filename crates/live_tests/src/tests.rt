@@ -62,7 +62,15 @@ fn check_reader(rt: &impl Abort, alloc: Global, sample: &Sample) -> Result<(), F
     for (readable, octets) in sample.due.as_slice().iter().enumerate() {
         let streams = Streams { readable, ..WHOLE };
         let reads = 1 + usize::from(readable > 0);
-        check_run(rt, alloc, sample, streams, Err(LiveFault::Read), reads, *octets)?;
+        check_run(
+            rt,
+            alloc,
+            sample,
+            streams,
+            Err(LiveFault::Read),
+            reads,
+            *octets,
+        )?;
     }
     Ok(())
 }
@@ -73,7 +81,15 @@ fn check_writer(rt: &impl Abort, alloc: Global, sample: &Sample) -> Result<(), F
     for room in 0..sample.said.len() {
         let streams = Streams { room, ..WHOLE };
         let reads = usize::from(room >= sample.open) + usize::from(room >= at_end);
-        check_run(rt, alloc, sample, streams, Err(LiveFault::Write), reads, room)?;
+        check_run(
+            rt,
+            alloc,
+            sample,
+            streams,
+            Err(LiveFault::Write),
+            reads,
+            room,
+        )?;
     }
     let streams = Streams {
         room: sample.said.len(),

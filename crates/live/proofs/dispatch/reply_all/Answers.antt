@@ -1,6 +1,6 @@
 use Rattle.std.proofs.Common.{arith, sym, subst}
 use Rattle.network.specs.NetworkView.{NetworkState}
-use Rattle.live.specs.Dispatch.{line_as}
+use Rattle.live_answers.specs.Dispatch.{line_as}
 use Rattle.live.specs.Output.{HasReplied}
 use Rattle.live.proofs.DispatchSteps.{replies-none, replies-more, replies-all}
 use Rattle.live.proofs.dispatch.reply_all.Goals as goal

@@ -1,5 +1,5 @@
 -- The networks before the place have replied, and the others are as they were.
-use Rattle.live.specs.Dispatch.{line_as}
+use Rattle.live_answers.specs.Dispatch.{line_as}
 use Rattle.live.proofs.DispatchSteps.{ReplySoFar}
 use Rattle.live.proofs.dispatch.reply_all.Given as goal
 

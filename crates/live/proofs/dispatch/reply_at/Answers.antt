@@ -3,7 +3,7 @@ use Rattle.std.specs.Prelude.{if◌then◌else◌}
 use Rattle.events.specs.declared.event.Event.{Event}
 use Rattle.events.specs.declared.line.Line.{Line}
 use Rattle.ap_config.specs.declared.setting.Setting.{Setting}
-use Rattle.live.specs.Dispatch.{event_at, event_for, line_as}
+use Rattle.live_answers.specs.Dispatch.{event_at, event_for, line_as}
 use Rattle.live.proofs.DispatchSteps.{replied-none, replied-one}
 use Rattle.live.proofs.dispatch.reply_at.Goals as goal
 

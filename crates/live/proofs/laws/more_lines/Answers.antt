@@ -1,4 +1,5 @@
-use Rattle.live.proofs.MoreLines.{begins, joins, texts-join}
+use Rattle.live_answers.proofs.MoreLines.{begins, joins}
+use Rattle.live.proofs.MoreWritten.{texts-join}
 use Rattle.live.proofs.laws.more_lines.Goals as goal
 
 pub returns-clause-begin : goal.returns-clause-begin

@@ -1,8 +1,8 @@
 use Rattle.std.proofs.Common.{◌≡◌, ◌∙◌, List, [], ◌∷◌, ap, sym, subst}
-use Rattle.live.specs.Asked.{asked_in}
+use Rattle.live_answers.specs.Asked.{asked_in}
 use Rattle.live.specs.Output.{AreAnswered}
 use Rattle.live.specs.declared.face.Face.TheVariants.{Lines}
-use Rattle.live.specs.TextLines.{TextLine, Octets}
+use Rattle.live_answers.specs.TextLines.{TextLine, Octets}
 use Rattle.live.proofs.FeedSteps.{last-whole}
 use Rattle.live.proofs.lines.answer_last_line.Goals as goal
 

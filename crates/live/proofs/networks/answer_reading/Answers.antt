@@ -1,9 +1,9 @@
 use Rattle.std.proofs.Common.{refl, ap, subst, Some, None, Ok, List, ◌+◌}
 use Rattle.trace.proofs.BufferSteps.{Puts-nothing}
 use Rattle.network.specs.NetworkView.{NetworkState}
-use Rattle.live.specs.Answers.{Nothing, Replies, Tables, Unread}
-use Rattle.live.specs.Asked.{ForTables, Says}
-use Rattle.live.specs.Dispatch.{line_as}
+use Rattle.live_answers.specs.Answers.{Nothing, Replies, Tables, Unread}
+use Rattle.live_answers.specs.Asked.{ForTables, Says}
+use Rattle.live_answers.specs.Dispatch.{line_as}
 use Rattle.live.specs.Readings.{IsReading}
 use Rattle.live.specs.declared.reading.Reading.{Reading}
 use Rattle.live.proofs.AnswerSteps.{at, answered-reading, answered-fault, unread-after}

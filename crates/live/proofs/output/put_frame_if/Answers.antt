@@ -1,7 +1,7 @@
 use Rattle.std.proofs.Common.{ℕ, List, ap, sym, append-nil, ◌∙◌}
 use Rattle.std.specs.Prelude.{option_to_list, option_map}
 use Rattle.trace.specs.Report.{frame_line}
-use Rattle.live.specs.AnswerText.{frame_words}
+use Rattle.live_answers.specs.AnswerText.{frame_words}
 use Rattle.live.specs.Output.{frames_text}
 use Rattle.trace.proofs.BufferSteps.{Puts-same}
 use Rattle.live.proofs.output.put_frame_if.Goals as goal

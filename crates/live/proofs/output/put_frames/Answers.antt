@@ -1,7 +1,7 @@
 use Rattle.std.proofs.Common.{ap}
 use Rattle.trace.specs.Report.{frame_line}
 use Rattle.trace.proofs.BufferSteps.{Puts-nothing, Puts-item, Puts-items, Puts-same}
-use Rattle.live.specs.AnswerText.{frame_words}
+use Rattle.live_answers.specs.AnswerText.{frame_words}
 use Rattle.live.proofs.output.put_frames.Goals as goal
 
 pub loop-frame-init : goal.loop-frame-init

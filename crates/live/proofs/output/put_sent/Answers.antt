@@ -2,7 +2,7 @@ use Rattle.std.proofs.Common.{ℕ, List, ap, sym, ◌∙◌, codes}
 use Rattle.std.specs.Prelude.{option_to_list, option_map}
 use Rattle.std.proofs.lemmas.List.Concat.{flat_map-append}
 use Rattle.trace.specs.Report.{frame_line}
-use Rattle.live.specs.AnswerText.{frame_words}
+use Rattle.live_answers.specs.AnswerText.{frame_words}
 use Rattle.live.specs.Output.{frames_text}
 use Rattle.live.proofs.ReplySteps.{copied}
 use Rattle.trace.proofs.BufferSteps.{Puts-then, Puts-same}

@@ -1,5 +1,5 @@
 use Rattle.trace.proofs.BufferSteps.{Puts-nothing, Puts-item, Puts-items}
-use Rattle.live.specs.AnswerText.{table_text}
+use Rattle.live_answers.specs.AnswerText.{table_text}
 use Rattle.live.proofs.output.put_tables.Goals as goal
 
 pub loop-network-init : goal.loop-network-init

@@ -1,7 +1,7 @@
 -- The tables of the networks so far were put.
 use Rattle.std.proofs.Common.{take}
 use Rattle.trace.specs.Buffers.{Puts}
-use Rattle.live.specs.AnswerText.{tables_text}
+use Rattle.live_answers.specs.AnswerText.{tables_text}
 use Rattle.live.proofs.output.put_tables.Given as goal
 
 abbrev pub invariant-loop-network : goal.invariant-loop-network

@@ -2,7 +2,7 @@ use Rattle.std.proofs.Common.{◌≡◌, ◌∙◌, ◌<◌, ◌+◌, List, leng
 use Rattle.std.specs.List.{AllByRecursion}
 use Rattle.network.specs.NetworkView.{NetworkState}
 use Rattle.live.specs.Networks.{IsMoment}
-use Rattle.live.specs.Moments.{Moment}
+use Rattle.live_answers.specs.Moments.{Moment}
 use Rattle.live.proofs.AnswerSteps.{at, countable, answered-kept, given-back, moment-reading}
 use Rattle.live.proofs.networks.Networks.answer.Goals as goal
 

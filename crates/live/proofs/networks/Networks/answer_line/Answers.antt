@@ -1,7 +1,7 @@
 use Rattle.std.proofs.Common.{◌≡◌, ◌∙◌, List, [], ◌∷◌, ℕ, ap, subst}
 use Rattle.std.specs.Prelude.{option_map}
-use Rattle.live.specs.Asked.{asked_by}
-use Rattle.live.specs.Moments.{bssids_at}
+use Rattle.live_answers.specs.Asked.{asked_by}
+use Rattle.live_answers.specs.Moments.{bssids_at}
 use Rattle.live.specs.Output.{AreAnswered}
 use Rattle.live.specs.PartialLine.{line_in}
 use Rattle.live.specs.declared.face.Face.TheVariants.{Lines}

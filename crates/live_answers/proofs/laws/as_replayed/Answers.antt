@@ -1,5 +1,5 @@
-use Rattle.live.proofs.Replayed.{is-shown}
-use Rattle.live.proofs.laws.as_replayed.Goals as goal
+use Rattle.live_answers.proofs.Replayed.{is-shown}
+use Rattle.live_answers.proofs.laws.as_replayed.Goals as goal
 
 pub returns : goal.returns
 returns c =

@@ -7,7 +7,7 @@ use Rattle.network.specs.declared.network.NetworkRefusal.{NetworkRefusal}
 use Rattle.network.specs.declared.network.NetworkRefusal.TheVariants.{NoMemory, Clock}
 use Rattle.trace.specs.Report.{network_line, counts_line, station_line, frame_line}
 use Rattle.trace.specs.Texts.{ended}
-use Rattle.live.specs.Moments.{Reply, Sends, Refuses}
+use Rattle.live_answers.specs.Moments.{Reply, Sends, Refuses}
 
 -- ---- faults
 

@@ -33,15 +33,15 @@ use Rattle.trace.specs.TraceText.{max_lines, without_spaces_at_end, content_of, 
 use Rattle.trace.specs.declared.fault.LineFault.{LineFault}
 use Rattle.trace.specs.declared.fault.LineFault.TheVariants.{UnknownKind, TooMany}
 use Rattle.trace.specs.declared.fault.TraceFault.{TraceFault}
-use Rattle.live.specs.Asked.{Asked, Says, asks_for_tables, asked_by, asked_by_all, asked_in}
-use Rattle.live.specs.Answers.{Answer, Nothing, Replies, Tables, Faulty, Unread, MayAnswer, after_answer, Answers, HasMemory, IsUnrefused, AreUnrefused}
-use Rattle.live.specs.Dispatch.{event_for}
-use Rattle.live.specs.Moments.{Moment, first_moment, bssid_of, Reply, Sends, Refuses, is_past_clock, sending, MayReplyIf, taken_if}
-use Rattle.live.specs.Own.{event_in, reply_in, events_taken, events_at, alone_after, IsLikeTrace, IsShown, IsAlone}
-use Rattle.live.specs.TextLines.{max_line, line_with}
-use Rattle.live.proofs.OwnSteps.{AloneLaws, alone_after-none}
-use Rattle.live.proofs.OwnLines.{at-place, one-taken}
-use Rattle.live.proofs.IsolationLaws.{bssids-first, network-first, is-alone}
+use Rattle.live_answers.specs.Asked.{Asked, Says, asks_for_tables, asked_by, asked_by_all, asked_in}
+use Rattle.live_answers.specs.Answers.{Answer, Nothing, Replies, Tables, Faulty, Unread, MayAnswer, after_answer, Answers, HasMemory, IsUnrefused, AreUnrefused}
+use Rattle.live_answers.specs.Dispatch.{event_for}
+use Rattle.live_answers.specs.Moments.{Moment, first_moment, bssid_of, Reply, Sends, Refuses, is_past_clock, sending, MayReplyIf, taken_if}
+use Rattle.live_answers.specs.Own.{event_in, reply_in, events_taken, events_at, alone_after, IsLikeTrace, IsShown, IsAlone}
+use Rattle.live_answers.specs.TextLines.{max_line, line_with}
+use Rattle.live_answers.proofs.OwnSteps.{AloneLaws, alone_after-none}
+use Rattle.live_answers.proofs.OwnLines.{at-place, one-taken}
+use Rattle.live_answers.proofs.IsolationLaws.{bssids-first, network-first, is-alone}
 
 -- ---- which lines were read
 

@@ -1,7 +1,7 @@
 use Rattle.std.proofs.Common.{refl}
-use Rattle.live.specs.AnswerText.{table_text}
-use Rattle.live.proofs.IsolationLaws.{is-alone}
-use Rattle.live.proofs.laws.isolation.Goals as goal
+use Rattle.live_answers.specs.AnswerText.{table_text}
+use Rattle.live_answers.proofs.IsolationLaws.{is-alone}
+use Rattle.live_answers.proofs.laws.isolation.Goals as goal
 
 pub returns-clause-alone : goal.returns-clause-alone
 returns-clause-alone c =

@@ -14,11 +14,11 @@ use Rattle.events.specs.declared.event.Event.{Event}
 use Rattle.events.specs.declared.line.Line.{Line}
 use Rattle.events.specs.declared.section.Section.{Section}
 use Rattle.trace.specs.TraceText.{lines_of}
-use Rattle.live.specs.TextLines.{max_line, lines_of_text}
-use Rattle.live.specs.Dispatch.{event_for}
-use Rattle.live.specs.Moments.{Moment, first_moment, Reply, Sends, taken_if}
-use Rattle.live.specs.Asked.{Asked, Says, asked_in}
-use Rattle.live.specs.Answers.{Answer, Replies, Tables, Answers, AreUnrefused}
+use Rattle.live_answers.specs.TextLines.{max_line, lines_of_text}
+use Rattle.live_answers.specs.Dispatch.{event_for}
+use Rattle.live_answers.specs.Moments.{Moment, first_moment, Reply, Sends, taken_if}
+use Rattle.live_answers.specs.Asked.{Asked, Says, asked_in}
+use Rattle.live_answers.specs.Answers.{Answer, Replies, Tables, Answers, AreUnrefused}
 
 -- ---- its events
 

@@ -7,12 +7,12 @@ use Rattle.network.specs.NetworkView.{NetworkState}
 use Rattle.events.specs.declared.event.Event.{Event}
 use Rattle.events.specs.declared.line.Line.{Line}
 use Rattle.ap_config.specs.declared.setting.Setting.{Setting}
-use Rattle.live.specs.Asked.{Asked, HasFault, ForTables, Says}
-use Rattle.live.specs.Answers.{Answer, Replies, MayReplyFrom, after_line_from, MayAnswer, after_answer, Answers}
-use Rattle.live.specs.Dispatch.{event_at}
-use Rattle.live.specs.Moments.{Moment, bssid_of, bssids_at, Reply, MayReplyIf, taken_if, after_if}
-use Rattle.live.specs.Own.{event_in, reply_in, events_taken, air_in, wire_in, air_at, wire_at, alone_after}
-use Rattle.live.proofs.OwnSteps.{AloneLaws, MayHaveReplied, RepliesAlone, replies-alone, setting-if, taken-none}
+use Rattle.live_answers.specs.Asked.{Asked, HasFault, ForTables, Says}
+use Rattle.live_answers.specs.Answers.{Answer, Replies, MayReplyFrom, after_line_from, MayAnswer, after_answer, Answers}
+use Rattle.live_answers.specs.Dispatch.{event_at}
+use Rattle.live_answers.specs.Moments.{Moment, bssid_of, bssids_at, Reply, MayReplyIf, taken_if, after_if}
+use Rattle.live_answers.specs.Own.{event_in, reply_in, events_taken, air_in, wire_in, air_at, wire_at, alone_after}
+use Rattle.live_answers.proofs.OwnSteps.{AloneLaws, MayHaveReplied, RepliesAlone, replies-alone, setting-if, taken-none}
 
 -- ---- one line, from a place on
 

@@ -6,10 +6,10 @@ use Rattle.network.specs.NetworkView.{NetworkState}
 use Rattle.events.specs.declared.event.Event.{Event}
 use Rattle.events.specs.declared.line.Line.{Line}
 use Rattle.network.specs.declared.network.NetworkRefusal.TheVariants.{NoMemory, Clock}
-use Rattle.live.specs.Dispatch.{event_at}
-use Rattle.live.specs.Moments.{Moment, Reply, Sends, Refuses, is_past_clock, reply_of, MayReply, reply_if, MayReplyIf}
-use Rattle.live.specs.Asked.{Asked, HasFault, ForTables, Says}
-use Rattle.live.specs.Answers.{Answer, Replies, Unread, replies_from, MayReplyFrom, answer_of, MayAnswer, after_answer, Answers, answers_of, HasMemory, IsUnrefused, AreUnrefused}
+use Rattle.live_answers.specs.Dispatch.{event_at}
+use Rattle.live_answers.specs.Moments.{Moment, Reply, Sends, Refuses, is_past_clock, reply_of, MayReply, reply_if, MayReplyIf}
+use Rattle.live_answers.specs.Asked.{Asked, HasFault, ForTables, Says}
+use Rattle.live_answers.specs.Answers.{Answer, Replies, Unread, replies_from, MayReplyFrom, answer_of, MayAnswer, after_answer, Answers, answers_of, HasMemory, IsUnrefused, AreUnrefused}
 
 -- ---- what must be
 

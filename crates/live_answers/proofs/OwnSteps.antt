@@ -7,8 +7,8 @@ use Rattle.ap_config.specs.declared.setting.Setting.{Setting}
 use Rattle.network.specs.NetworkView.{NetworkState, unsent, sent_before, took_event}
 use Rattle.events.specs.declared.event.Event.{Event}
 use Rattle.network.specs.declared.network.NetworkRefusal.TheVariants.{Clock}
-use Rattle.live.specs.Moments.{Reply, Sends, Refuses, is_past_clock, sending, MayReply, MayReplyIf, taken_if, after_if}
-use Rattle.live.specs.Own.{air_in, wire_in, alone_after}
+use Rattle.live_answers.specs.Moments.{Reply, Sends, Refuses, is_past_clock, sending, MayReply, MayReplyIf, taken_if, after_if}
+use Rattle.live_answers.specs.Own.{air_in, wire_in, alone_after}
 
 -- ---- what is known of the network alone
 

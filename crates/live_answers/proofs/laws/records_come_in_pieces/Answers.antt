@@ -1,5 +1,5 @@
-use Rattle.live.proofs.RecordLaws.{records-one, records-more}
-use Rattle.live.proofs.laws.records_come_in_pieces.Goals as goal
+use Rattle.live_answers.proofs.RecordLaws.{records-one, records-more}
+use Rattle.live_answers.proofs.laws.records_come_in_pieces.Goals as goal
 
 pub returns-clause-one : goal.returns-clause-one
 returns-clause-one c = records-one

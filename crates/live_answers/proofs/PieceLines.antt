@@ -13,8 +13,8 @@ use Rattle.trace.proofs.PieceLines.{whole_lines_more, unfinished_line_more, whol
 use Rattle.trace.proofs.PieceSteps.{whole_lines_first, unfinished_line_first}
 use Rattle.trace.proofs.TextLemmas.{lacks_from_none}
 use Rattle.trace.proofs.TraceSteps.{last_part}
-use Rattle.live.specs.TextLines.{TooLong, max_line, at_most, line_with, lines_of_text, ended_lines}
-use Rattle.live.specs.TextLines.{partial_with, partial_in, with_first_too_long, lines_in, unless_ended, partial_after, last_line}
+use Rattle.live_answers.specs.TextLines.{TooLong, max_line, at_most, line_with, lines_of_text, ended_lines}
+use Rattle.live_answers.specs.TextLines.{partial_with, partial_in, with_first_too_long, lines_in, unless_ended, partial_after, last_line}
 
 -- ---- octets that are too many
 

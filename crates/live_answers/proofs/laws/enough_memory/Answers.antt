@@ -1,5 +1,5 @@
-use Rattle.live.proofs.EnoughMemory.{answers-only, answers-may}
-use Rattle.live.proofs.laws.enough_memory.Goals as goal
+use Rattle.live_answers.proofs.EnoughMemory.{answers-only, answers-may}
+use Rattle.live_answers.proofs.laws.enough_memory.Goals as goal
 
 pub returns-clause-only : goal.returns-clause-only
 returns-clause-only c = answers-only

@@ -6,7 +6,7 @@ use Rattle.events.specs.declared.event.Event.{Event}
 use Rattle.events.specs.declared.event.Event.TheVariants as event
 use Rattle.events.specs.declared.line.Line.{Line}
 use Rattle.events.specs.declared.line.Line.TheVariants as line
-use Rattle.live.specs.Moments.{bssid_of}
+use Rattle.live_answers.specs.Moments.{bssid_of}
 
 -- The event that a line is to the network with this place and this BSSID, at most one: a string on the air where it
 -- hears it by its Address 1, a frame on the wire where the line names its place, and every tick (profile).

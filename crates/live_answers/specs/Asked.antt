@@ -5,8 +5,8 @@ use Rattle.events.specs.declared.line.Line.{Line}
 use Rattle.trace.specs.TraceText.{without_spaces_at_end, said_by}
 use Rattle.trace.specs.declared.fault.LineFault.{LineFault}
 use Rattle.trace.specs.declared.fault.LineFault.TheVariants.{TooMany}
-use Rattle.live.specs.Moments.{Moment, bssids_at}
-use Rattle.live.specs.TextLines.{TextLine, Octets, TooLong}
+use Rattle.live_answers.specs.Moments.{Moment, bssids_at}
+use Rattle.live_answers.specs.TextLines.{TextLine, Octets, TooLong}
 
 -- A fault that is found without memory; a question for what the report says of each network but for its frames; or what
 -- a line of a trace says, with its first fault.

@@ -1,13 +1,11 @@
 -- The answers to what is said, and then to more.
 use Rattle.std.proofs.Common.{◌≡◌, ℕ, suc, ◌+◌, List, [], ◌∷◌, ◌++◌, length, Some, Ok}
-use Rattle.std.proofs.Common.{refl, sym, ap, subst, ◌∙◌, arith, append_assoc}
-use Rattle.live.specs.Moments.{Moment, bssids_at}
-use Rattle.live.specs.Asked.{Asked, Says}
-use Rattle.live.specs.Answers.{Answer, Replies}
-use Rattle.live.specs.Answers.{after_answer, Answers, Begins}
-use Rattle.live.specs.Written.{written_answer, written_answers, written_after}
-use Rattle.live.specs.declared.face.Face.{Face}
-use Rattle.live.proofs.OwnLines.{bssids-answer}
+use Rattle.std.proofs.Common.{refl, sym, ap, subst, ◌∙◌, arith}
+use Rattle.live_answers.specs.Moments.{Moment, bssids_at}
+use Rattle.live_answers.specs.Asked.{Asked, Says}
+use Rattle.live_answers.specs.Answers.{Answer, Replies}
+use Rattle.live_answers.specs.Answers.{after_answer, Answers, Begins}
+use Rattle.live_answers.proofs.OwnLines.{bssids-answer}
 
 pub begins : (m : Moment) (said more : List Asked) (answers : List Answer) (next : Moment)
     → Answers m (said ++ more) answers next → Begins m said more answers next
@@ -47,13 +45,13 @@ joins m said more answers next b =
     (sym b.all)
     (join-both m b.between next said more b.some b.others b.first b.later)
 
--- ---- what is written of them
+-- ---- how many
 
 lines-answer : (m : Moment) (asked : Asked) (answer : Answer) → (after_answer m asked answer).lines ≡ m.lines + 1
 lines-answer m (Says (Ok (Some line))) (Replies rs) = refl
 lines-answer m asked answer = refl
 
-lines-answers : (m : Moment) (said : List Asked) (answers : List Answer) (next : Moment)
+pub lines-answers : (m : Moment) (said : List Asked) (answers : List Answer) (next : Moment)
     → Answers m said answers next → next.lines ≡ m.lines + length answers
 lines-answers m [] [] next h = let same : next.lines ≡ m.lines = ap (λ (o : Moment). o.lines) h in omega arith
 lines-answers m [] (answer ∷ answers) next h = absurd h
@@ -86,31 +84,3 @@ bssids-answers m [] (answer ∷ answers) next h = absurd h
 bssids-answers m (asked ∷ said) [] next h = absurd h
 bssids-answers m (asked ∷ said) (answer ∷ answers) next h =
     bssids-answers (after_answer m asked answer) said answers next h.1 ∙ bssids-answer m asked answer
-
-texts-append : (face : Face) (bssids : List (List ℕ)) (number : ℕ) (some others : List Answer)
-    → written_answers face bssids number (some ++ others)
-    ≡ written_answers face bssids number some ++ written_answers face bssids (number + length some) others
-texts-append face bssids number [] others =
-    let same : number ≡ number + 0 = omega arith in ap (λ n. written_answers face bssids n others) same
-texts-append face bssids number (answer ∷ some) others =
-    let count : number + 1 + length some ≡ number + length (answer ∷ some) = omega arith in
-    ap (λ (t : List ℕ). written_answer face bssids number answer ++ t)
-    (texts-append face bssids (number + 1) some others
-    ∙ ap (λ n. written_answers face bssids (number + 1) some ++ written_answers face bssids n others) count)
-    ∙ sym
-    (append_assoc (written_answer face bssids number answer) (written_answers face bssids (number + 1) some)
-    (written_answers face bssids (number + length (answer ∷ some)) others))
-
-pub texts-join : (face : Face) (m between : Moment) (said : List Asked) (some others : List Answer)
-    → Answers m said some between
-    → written_after face m (some ++ others) ≡ written_after face m some ++ written_after face between others
-texts-join face m between said some others h =
-    let count : m.lines + 1 + length some ≡ between.lines + 1 =
-    omega (arith, lines-answers m said some between h) in
-    texts-append face (bssids_at m) (m.lines + 1) some others
-    ∙ ap
-    (λ n. written_after face m some ++ written_answers face (bssids_at m) n others)
-    count
-    ∙ ap
-    (λ (bs : List (List ℕ)). written_after face m some ++ written_answers face bs (between.lines + 1) others)
-    (sym (bssids-answers m said some between h))

@@ -6,7 +6,7 @@ use Rattle.std.specs.List.{AllByRecursion}
 use Rattle.std.proofs.lemmas.Bool.{ltb-true, ltb-false, le-ltb}
 use Rattle.std.proofs.lemmas.List.{append_cancel_left, get_or_append_left}
 use Rattle.std.proofs.lemmas.List.Concat.{flat_map-append}
-use Rattle.live.specs.Records.{record_len, IsRecord, IsBegun, lacking, all_octets, AreRecords}
+use Rattle.live_answers.specs.Records.{record_len, IsRecord, IsBegun, lacking, all_octets, AreRecords}
 
 -- ---- how long a record is
 

@@ -9,7 +9,7 @@ use Rattle.events.specs.declared.line.Line.{Line}
 use Rattle.events.specs.declared.line.Line.TheVariants.{Air, Wire, Tick}
 use Rattle.trace.specs.TraceText.{max_octets, place_with}
 use Rattle.trace.specs.declared.fault.LineFault.TheVariants.{UnknownKind, NotHexadecimal, UnknownNetwork, TooMany}
-use Rattle.live.specs.Asked.{Asked, HasFault, ForTables, Says}
+use Rattle.live_answers.specs.Asked.{Asked, HasFault, ForTables, Says}
 
 -- ---- which octets are records
 

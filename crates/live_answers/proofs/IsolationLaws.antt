@@ -9,12 +9,12 @@ use Rattle.ap_config.specs.Places.{network_at, setting_in, setting_at, no_networ
 use Rattle.ap_config.specs.declared.config.NetConfig.{NetConfig}
 use Rattle.ap_config.specs.declared.config.RadioConfig.{RadioConfig}
 use Rattle.events.specs.declared.event.Event.{Event}
-use Rattle.live.specs.Moments.{Moment, first_moment, bssid_of}
-use Rattle.live.specs.Asked.{Asked, HasFault, ForTables, Says}
-use Rattle.live.specs.Answers.{Answer, Tables, MayAnswer, after_answer, Answers}
-use Rattle.live.specs.Own.{events_at, air_at, wire_at, alone_after, IsAlone, AreAlike}
-use Rattle.live.proofs.OwnSteps.{AloneLaws, alone_after-none}
-use Rattle.live.proofs.OwnLines.{OwnAlone, own}
+use Rattle.live_answers.specs.Moments.{Moment, first_moment, bssid_of}
+use Rattle.live_answers.specs.Asked.{Asked, HasFault, ForTables, Says}
+use Rattle.live_answers.specs.Answers.{Answer, Tables, MayAnswer, after_answer, Answers}
+use Rattle.live_answers.specs.Own.{events_at, air_at, wire_at, alone_after, IsAlone, AreAlike}
+use Rattle.live_answers.proofs.OwnSteps.{AloneLaws, alone_after-none}
+use Rattle.live_answers.proofs.OwnLines.{OwnAlone, own}
 
 -- ---- before the first line
 

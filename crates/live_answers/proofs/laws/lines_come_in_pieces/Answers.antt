@@ -1,5 +1,5 @@
-use Rattle.live.proofs.PieceLines.{ended-more, partial-more, all-lines}
-use Rattle.live.proofs.laws.lines_come_in_pieces.Goals as goal
+use Rattle.live_answers.proofs.PieceLines.{ended-more, partial-more, all-lines}
+use Rattle.live_answers.proofs.laws.lines_come_in_pieces.Goals as goal
 
 pub returns-clause-ended : goal.returns-clause-ended
 returns-clause-ended c = ended-more

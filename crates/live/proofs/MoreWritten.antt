@@ -1,0 +1,36 @@
+-- What is written of answers, and then of others.
+use Rattle.std.proofs.Common.{◌≡◌, ℕ, ◌+◌, List, [], ◌∷◌, ◌++◌, length, sym, ap, ◌∙◌, arith, append_assoc}
+use Rattle.live_answers.specs.Asked.{Asked}
+use Rattle.live_answers.specs.Moments.{Moment, bssids_at}
+use Rattle.live_answers.specs.Answers.{Answer, Answers}
+use Rattle.live.specs.Written.{written_answer, written_answers, written_after}
+use Rattle.live.specs.declared.face.Face.{Face}
+use Rattle.live_answers.proofs.MoreLines.{lines-answers, bssids-answers}
+
+texts-append : (face : Face) (bssids : List (List ℕ)) (number : ℕ) (some others : List Answer)
+    → written_answers face bssids number (some ++ others)
+    ≡ written_answers face bssids number some ++ written_answers face bssids (number + length some) others
+texts-append face bssids number [] others =
+    let same : number ≡ number + 0 = omega arith in ap (λ n. written_answers face bssids n others) same
+texts-append face bssids number (answer ∷ some) others =
+    let count : number + 1 + length some ≡ number + length (answer ∷ some) = omega arith in
+    ap (λ (t : List ℕ). written_answer face bssids number answer ++ t)
+    (texts-append face bssids (number + 1) some others
+    ∙ ap (λ n. written_answers face bssids (number + 1) some ++ written_answers face bssids n others) count)
+    ∙ sym
+    (append_assoc (written_answer face bssids number answer) (written_answers face bssids (number + 1) some)
+    (written_answers face bssids (number + length (answer ∷ some)) others))
+
+pub texts-join : (face : Face) (m between : Moment) (said : List Asked) (some others : List Answer)
+    → Answers m said some between
+    → written_after face m (some ++ others) ≡ written_after face m some ++ written_after face between others
+texts-join face m between said some others h =
+    let count : m.lines + 1 + length some ≡ between.lines + 1 =
+    omega (arith, lines-answers m said some between h) in
+    texts-append face (bssids_at m) (m.lines + 1) some others
+    ∙ ap
+    (λ n. written_after face m some ++ written_answers face (bssids_at m) n others)
+    count
+    ∙ ap
+    (λ (bs : List (List ℕ)). written_after face m some ++ written_answers face bs (between.lines + 1) others)
+    (sym (bssids-answers m said some between h))

@@ -1,5 +1,0 @@
-use Rattle.live.proofs.IsolationLaws.{alike}
-use Rattle.live.proofs.laws.two_inputs.Goals as goal
-
-pub returns : goal.returns
-returns c = alike c.isolation.ensures.alone

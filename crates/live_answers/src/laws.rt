@@ -1,0 +1,90 @@
+//! What follows from the definitions, for whoever stands on them.
+
+ghost use Rattle.std.specs.Prelude.{◌≡◌, ◌<◌, ◌++◌, List, ℕ, length, codes, flat_map, Some, slice_get};
+ghost use Rattle.network.specs.Section.{sections_of_lines};
+ghost use Rattle.network.specs.Network.{alone, table_of, counts_of};
+ghost use Rattle.ap_config.specs.declared.config.RadioConfig.{RadioConfig};
+ghost use Rattle.ap_config.specs.declared.setting.Setting.{Setting};
+ghost use Rattle.events.specs.declared.event.Event.{Event};
+ghost use Rattle.events.specs.declared.line.Line.{Line};
+ghost use Rattle.events.specs.declared.section.Section.{Section};
+ghost use Rattle.trace.specs.Report.{network_line, counts_line, station_line};
+ghost use Rattle.trace.specs.Texts.{ended};
+ghost use Rattle.live_answers.specs.AnswerText.{table_text};
+ghost use Rattle.live_answers.specs.Answers.{Answer, Answers, answers_of, AreUnrefused};
+ghost use Rattle.live_answers.specs.Asked.{Asked};
+ghost use Rattle.live_answers.specs.Moments.{Moment, first_moment};
+ghost use Rattle.live_answers.specs.Own.{IsAlone, AreAlike, IsLikeTrace, IsShown, air_at, wire_at, alone_after};
+ghost use Rattle.live_answers.specs.TextLines.{lines_of_text, ended_lines, partial_in, lines_in, partial_after};
+ghost use Rattle.live_answers.specs.TextLines.{last_line};
+ghost use Rattle.live_answers.specs.Records.{AreRecords};
+
+use ap_config::checked_networks;
+use network::{one_step, reachable, steps_append};
+
+/// However a text is cut, the lines that end in its pieces, and the last line, are those of the whole text.
+pub fn lines_come_in_pieces()
+    ensures ended { (text piece : List ℕ)
+        → ended_lines (text ++ piece) ≡ ended_lines text ++ lines_in (partial_in text) piece }
+    ensures partial { (text piece : List ℕ) → partial_in (text ++ piece) ≡ partial_after (partial_in text) piece }
+    ensures last { (text : List ℕ) → lines_of_text text ≡ ended_lines text ++ last_line (partial_in text) }
+{}
+
+/// Octets are at most one list of records and what has begun of one; and however they are cut, the records that end in
+/// the pieces are those of the whole.
+pub fn records_come_in_pieces()
+    ensures one { (octets : List ℕ) (records others : List (List ℕ)) (begun rest : List ℕ)
+        → AreRecords octets records begun → AreRecords octets others rest → (records ≡ others) × (begun ≡ rest) }
+    ensures pieces { (octets piece : List ℕ) (records more : List (List ℕ)) (begun rest : List ℕ)
+        → AreRecords octets records begun → AreRecords (begun ++ piece) more rest
+        → AreRecords (octets ++ piece) (records ++ more) rest }
+{}
+
+/// No network reaches another, whatever is said, however it comes: what is answered of one, one answer after the other, is
+/// what it does alone with its own events, what it hears of what was read, less what it refused. So are the tables that
+/// are asked for, and those of the last moment.
+pub fn isolation()
+    ensures alone { (c : RadioConfig) (said : List Asked) (answers : List Answer) (next : Moment) (place : ℕ)
+        → place < length c.networks → Answers (first_moment c) said answers next
+        → IsAlone c place said answers next }
+    ensures shown { (s : Setting) (es : List Event) → table_text (alone_after s es)
+        ≡ network_line s.network ++ counts_line (length es) (counts_of (length es) (alone s es))
+        ++ flat_map station_line (table_of (alone s es)) ++ ended (codes "end") }
+{
+    one_step();
+    steps_append();
+}
+
+/// Of two inputs in which a network has the same configuration, channel, interval and events, its frames and its last
+/// table are the same, whatever the other networks are and whatever else is said.
+pub fn two_inputs()
+    ensures { (c d : RadioConfig) (said others : List Asked) (answers replies : List Answer) (next after : Moment)
+        (p q : ℕ) → AreAlike c d said others answers replies p q → Answers (first_moment c) said answers next
+        → Answers (first_moment d) others replies after
+        → (air_at p answers ≡ air_at q replies) × (wire_at p answers ≡ wire_at q replies)
+        × (slice_get next.networks p ≡ slice_get after.networks q) }
+{
+    isolation();
+}
+
+/// Where nothing is refused for memory, the answers are the ones of `answers_of`, and there are such.
+pub fn enough_memory()
+    ensures only { (m : Moment) (said : List Asked) (answers : List Answer) (next : Moment)
+        → Answers m said answers next → AreUnrefused answers → answers ≡ answers_of m said }
+    ensures some { (m : Moment) (said : List Asked)
+        → (next : Moment) × Answers m said (answers_of m said) next }
+{}
+
+/// Where a text is a trace, so that no line of it has a fault, is `I` or is one of more than 1,000,000, no line is too
+/// long, and nothing is refused for memory, a network that hears no more than its history may have is told as its
+/// report tells it: the same frames, table and counts.
+pub fn as_replayed()
+    ensures { (c : RadioConfig) (text : List ℕ) (said : List Line) (place : ℕ) (answers : List Answer)
+        (next : Moment) (section : Section) → IsLikeTrace c text said place answers next
+        → slice_get (sections_of_lines c said) place ≡ Some section → IsShown section place answers next }
+{
+    one_step();
+    steps_append();
+    reachable();
+    checked_networks();
+}
