@@ -2,7 +2,7 @@
 use Rattle.std.specs.Prelude.{◌⊎◌}
 use Rattle.std.proofs.Common.{inl, inr, ◌≡◌, ℕ, ◌+◌, ◌≤◌, ◌<◌, ◌^◌, List, [], ◌∷◌, ◌++◌, Option, Some, None, Result, Ok, Err, map, refl, sym, ap, subst, ◌∙◌, arith, append-nil, get_or, length, suc, zero, take, drop, take_at}
 use Rattle.std.specs.List.{AllByRecursion}
-use Rattle.network.specs.NetworkView.{NetworkState}
+use Rattle.network.specs.NetworkView.{NetworkState, new_network}
 use Rattle.ap_config.specs.declared.config.NetConfig.{NetConfig}
 use Rattle.ap_config.specs.declared.config.RadioConfig.{RadioConfig}
 use Rattle.events.specs.declared.event.Event.{Event}
@@ -16,7 +16,7 @@ use Rattle.live_answers.specs.Asked.{Asked, HasFault, ForTables, Says}
 use Rattle.live_answers.specs.Answers.{Answer, MayAnswer, after_line_from, after_answer, Answers, Faulty, Replies, Unread}
 use Rattle.live_answers.specs.Dispatch.{event_at, line_as}
 use Rattle.live_answers.specs.Moments.{Moment, one_line_more, bssid_of, bssids_at, Reply, taken_if, after_if}
-use Rattle.live.specs.Networks.{IsMoment, opened}
+use Rattle.live.specs.Networks.{IsMoment}
 use Rattle.live.specs.Output.{AreAnswered}
 use Rattle.live.specs.Readings.{IsReading}
 use Rattle.live.specs.Written.{written_answer}
@@ -123,6 +123,10 @@ pub countable-at : (ns : List NetworkState) (place : ℕ) (d : NetworkState) →
 countable-at [] place d within all = absurd (omega arith)
 countable-at (n ∷ ns) zero d within all = all.0
 countable-at (n ∷ ns) (suc place) d within all = countable-at ns place d (omega arith) all.1
+
+-- a network that took no event
+abbrev opened : (channel interval : ℕ) → NetConfig → NetworkState
+opened channel interval n = new_network (record { channel = channel; interval = interval; network = n })
 
 few-first : (channel interval : ℕ) (ns : List NetConfig) → AreFew 0 (map (opened channel interval) ns)
 few-first channel interval [] = tt

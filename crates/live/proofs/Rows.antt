@@ -11,7 +11,7 @@ use Rattle.ap_config.specs.declared.config.RadioConfig.{RadioConfig}
 use Rattle.events.specs.declared.event.Event.TheVariants.{Tick}
 use Rattle.events.specs.declared.line.Line.TheVariants as line
 use Rattle.network.specs.declared.network.NetworkRefusal.TheVariants.{NoMemory, Clock}
-use Rattle.ap_config.proofs.Samples.{network, radio, setting}
+use Rattle.ap_config.specs.Samples.{network, radio, setting}
 use Rattle.trace.specs.Report.{network_line, counts_line, station_line, frame_line}
 use Rattle.trace.specs.declared.fault.LineFault.TheVariants.{UnknownKind, UnknownNetwork}
 use Rattle.live_answers.specs.TextLines.{Octets, TooLong, line_with, lines_of_text, partial_in, lines_in, partial_after, last_line}

@@ -1,12 +1,11 @@
 //! The networks of a configuration, which answer one line or record after another.
 
-ghost use Rattle.std.specs.Prelude.{◌≡◌, ◌+◌, ◌<◌, ◌^◌, ◌∷◌, [], ℕ, None, IfOk, map, option_map};
+ghost use Rattle.std.specs.Prelude.{◌≡◌, ◌+◌, ◌<◌, ◌^◌, ◌∷◌, [], ℕ, None, IfOk, option_map};
 ghost use Rattle.std.specs.List.{AllByRecursion};
-ghost use Rattle.ap_config.specs.Configuration.{fault_of, network_fault, setting_fault};
+ghost use Rattle.ap_config.specs.Configuration.{fault_of};
 ghost use Rattle.trace.specs.Buffers.{CanWrite, Puts};
 ghost use Rattle.live_answers.specs.Asked.{Asked, asked_in};
 ghost use Rattle.live_answers.specs.Moments.{bssids_at, first_moment};
-ghost use Rattle.live.specs.Networks.{opened};
 ghost use Rattle.live.specs.Output.{AreAnswered};
 ghost use Rattle.live.specs.PartialLine.{line_in};
 ghost use Rattle.live.specs.Readings.{IsReading};
@@ -18,9 +17,9 @@ use crate::dispatch::reply_all;
 use crate::face::Face;
 use crate::reading::{Reading, read_line, read_record};
 use crate::written::{put_fault, put_tables, put_unread};
-use ap_config::{NetConfig, RadioConfig, Setting, checked_networks};
-use mac_frame::{List, MacAddr, NoMemory};
-use network::Network;
+use ap_config::{RadioConfig, checked_networks};
+use mac_frame::{MacAddr, NoMemory};
+use network::{Network, open_networks};
 use std::alloc::Global;
 use std::marker::Model;
 use trace::{Buffered, Sink, bssids_of};
@@ -62,7 +61,7 @@ impl Networks {
         Ok(Networks {
             alloc,
             bssids,
-            networks: open_networks(alloc, channel, interval, networks)?,
+            networks: open_networks::<Network>(alloc, channel, interval, networks)?,
             lines: 0,
         })
     }
@@ -117,29 +116,6 @@ impl Networks {
     {
         put_tables(face, out, self.networks.as_slice());
     }
-}
-
-/// A network of each configuration, in order of place, which took no event.
-fn open_networks(
-    alloc: Global,
-    channel: u8,
-    interval: u16,
-    networks: List<NetConfig>,
-) -> Result<Vec<Network>, NoMemory>
-    requires setting { setting_fault channel interval ≡ None }
-    requires networks { AllByRecursion (λ n. network_fault n ≡ None) networks }
-    ensures { IfOk result (λ made. made.items ≡ map (opened channel interval) networks) }
-{
-    let mut made = Vec::new(alloc);
-    for network in networks.into_vec() {
-        let setting = Setting {
-            channel,
-            interval,
-            network,
-        };
-        made.push(Network::new(alloc, setting))?;
-    }
-    Ok(made)
 }
 
 /// Answers what was read of the line or record of a number.

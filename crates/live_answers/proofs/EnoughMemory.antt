@@ -81,3 +81,34 @@ answers-may m [] = (m, refl)
 answers-may m (asked ∷ said) =
     let on = answers-may (after_answer m asked (answer_of m asked)) said in
     (on.0, (answer-may m asked, on.1))
+
+-- ---- and that nothing is refused in it
+
+reply-has-memory : (n : NetworkState) (e : Event) → HasMemory (reply_of n e)
+reply-has-memory n e = by (is_past_clock n e) refl
+  where
+    by : (b : Bool) → is_past_clock n e ≡ b → HasMemory (reply_of n e)
+    by true is = rw is tt
+    by false is = rw is tt
+
+reply-if-has-memory : (n : NetworkState) (event : Option Event) → IfSome (reply_if n event) HasMemory
+reply-if-has-memory n None = tt
+reply-if-has-memory n (Some e) = reply-has-memory n e
+
+line-has-memory : (place : ℕ) (ns : List NetworkState) (line : Line)
+    → AllByRecursion (λ reply. IfSome reply HasMemory) (replies_from place ns line)
+line-has-memory place [] line = tt
+line-has-memory place (n ∷ ns) line =
+    (reply-if-has-memory n (event_at place n line), line-has-memory (place + 1) ns line)
+
+answer-unrefused : (m : Moment) (asked : Asked) → IsUnrefused (answer_of m asked)
+answer-unrefused m (HasFault fault) = tt
+answer-unrefused m ForTables = tt
+answer-unrefused m (Says (Ok None)) = tt
+answer-unrefused m (Says (Ok (Some line))) = line-has-memory 0 m.networks line
+answer-unrefused m (Says (Err fault)) = tt
+
+pub answers-unrefused : (m : Moment) (said : List Asked) → AreUnrefused (answers_of m said)
+answers-unrefused m [] = tt
+answers-unrefused m (asked ∷ said) =
+    (answer-unrefused m asked, answers-unrefused (after_answer m asked (answer_of m asked)) said)

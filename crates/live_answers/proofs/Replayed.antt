@@ -27,7 +27,6 @@ use Rattle.events.specs.declared.line.Line.TheVariants as line
 use Rattle.network.specs.declared.network.NetworkRefusal.TheVariants.{NoMemory, Clock}
 use Rattle.events.specs.declared.section.Section.{Section}
 use Rattle.ap_config.specs.declared.setting.Setting.{Setting}
-use Rattle.ap_config.proofs.Checked.{numbers_bounded}
 use Rattle.trace.specs.Faults.{◌>>=◌}
 use Rattle.trace.specs.TraceText.{max_lines, without_spaces_at_end, content_of, said_by, line_of, lines_from, at_line, bssids_of}
 use Rattle.trace.specs.declared.fault.LineFault.{LineFault}
@@ -277,16 +276,19 @@ shown c place said answers next es section alone_there are is =
       counts = sym (ap (λ (t : Section). t.counts) is);
     }
 
-pub is-shown : AloneLaws → Reachable → CheckedNetworks → (c : RadioConfig) (text : List ℕ) (said : List Line)
+abbrev pub CheckedEvents : Type 0
+CheckedEvents = (n : NetConfig) → network_fault n ≡ None → n.max_events ≤ 1000000
+
+pub is-shown : AloneLaws → Reachable → CheckedNetworks → CheckedEvents → (c : RadioConfig) (text : List ℕ) (said : List Line)
     (place : ℕ) (answers : List Answer) (next : Moment) (section : Section)
     → IsLikeTrace c text said place answers next → slice_get (sections_of_lines c said) place ≡ Some section
     → IsShown section place answers next
-is-shown laws reach checked c text said place answers next section h e =
+is-shown laws reach checked events-checked c text said place answers next section h e =
     let s : Setting = setting_at c place in
     let hs : List Event = heard place (network_at c place).bssid said in
     let sound : network_fault s.network ≡ None = network-sound c.networks place h.there (checked c h.sound) in
     let most : length hs ≤ (network_at c place).max_events = h.events in
-    let bounded : (network_at c place).max_events ≤ 1000000 = (numbers_bounded s.network sound).events in
+    let bounded : (network_at c place).max_events ≤ 1000000 = events-checked s.network sound in
     let few : length {A = Event} [] + length hs < 4294967295 = omega arith in
     let begins : slice_get (first_moment c).networks place ≡ Some (alone_after s []) =
     network-first c place h.there ∙ ap (λ (n : NetworkState). Some n) (sym (alone_after-none laws s)) in

@@ -19,7 +19,7 @@ ghost use Rattle.live_answers.specs.TextLines.{lines_of_text, ended_lines, parti
 ghost use Rattle.live_answers.specs.TextLines.{last_line};
 ghost use Rattle.live_answers.specs.Records.{AreRecords};
 
-use ap_config::checked_networks;
+use ap_config::{checked_networks, checked_numbers};
 use network::{one_step, reachable, steps_append};
 
 /// However a text is cut, the lines that end in its pieces, and the last line, are those of the whole text.
@@ -67,12 +67,14 @@ pub fn two_inputs()
     isolation();
 }
 
-/// Where nothing is refused for memory, the answers are the ones of `answers_of`, and there are such.
+/// Where nothing is refused for memory, the answers are the ones of `answers_of`; these may be given to whatever is said,
+/// and nothing is refused in them.
 pub fn enough_memory()
     ensures only { (m : Moment) (said : List Asked) (answers : List Answer) (next : Moment)
         → Answers m said answers next → AreUnrefused answers → answers ≡ answers_of m said }
     ensures some { (m : Moment) (said : List Asked)
         → (next : Moment) × Answers m said (answers_of m said) next }
+    ensures unrefused { (m : Moment) (said : List Asked) → AreUnrefused (answers_of m said) }
 {}
 
 /// Where a text is a trace, so that no line of it has a fault, is `I` or is one of more than 1,000,000, no line is too
@@ -87,4 +89,5 @@ pub fn as_replayed()
     steps_append();
     reachable();
     checked_networks();
+    checked_numbers();
 }

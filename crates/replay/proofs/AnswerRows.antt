@@ -4,7 +4,13 @@ use Rattle.std.specs.Fmt.{digits}
 use Rattle.hex.specs.Hex.{encode_with}
 use Rattle.network.specs.Network.{alone}
 use Rattle.events.specs.declared.section.Section.{Section}
-use Rattle.network.proofs.NetworkRows.{the_section_of_one_probe, the_section_of_a_probe_for_another, the_section_of_a_short_history}
+use Rattle.events.specs.declared.event.Event.TheVariants.{Air}
+use Rattle.network.specs.Samples.{probe, probe_for_another, network_of_one_event}
+use Rattle.network.specs.Samples.{section_of_one_probe, section_of_a_probe_for_another, section_of_a_short_history}
+use Rattle.network.specs.Section.{section_of}
+use Rattle.ap_config.specs.Samples.{setting}
+use Rattle.beacon.specs.ProbeResponse.{timestamp, fixed_fields, network_elements}
+use Rattle.elements.specs.Elements.{elements_of, elements_within}
 use Rattle.ap_config.specs.Configuration.{of_radio}
 use Rattle.trace.specs.Report.{report_text, section_text, network_line, counts_line, frame_line}
 use Rattle.replay.specs.Answer.{answer_of}
@@ -35,6 +41,23 @@ report_of_one_answer =
 -- the answer of one section
 abbrev reported : Section → Result (List ℕ) TextFault
 reported s = Ok (report_text (s ∷ []))
+
+-- ---- the sections
+
+the_section_of_one_probe : section_of setting (Air probe ∷ []) ≡ section_of_one_probe
+unfolding alone timestamp fixed_fields network_elements elements_of elements_within
+the_section_of_one_probe = refl
+
+the_section_of_a_short_history :
+    section_of (record setting { network = network_of_one_event }) (Air probe ∷ []) ≡ section_of_a_short_history
+unfolding alone timestamp fixed_fields network_elements elements_of elements_within
+the_section_of_a_short_history = refl
+
+the_section_of_a_probe_for_another : section_of setting (Air probe_for_another ∷ []) ≡ section_of_a_probe_for_another
+unfolding alone elements_of elements_within
+the_section_of_a_probe_for_another = refl
+
+-- ---- the answers
 
 one_probe_is_answered : answer_of sample probe_line ≡ Ok report_of_one_answer
 unfolding answer_of configuration_on_literals section_text network_line counts_line frame_line digits encode_with

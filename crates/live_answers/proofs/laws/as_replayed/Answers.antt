@@ -5,4 +5,4 @@ pub returns : goal.returns
 returns c =
     is-shown
     (record { first = c.one_step.ensures.first; next = c.one_step.ensures.next; append = c.steps_append.ensures })
-    c.reachable.ensures c.checked_networks.ensures.networks
+    c.reachable.ensures c.checked_networks.ensures.networks c.checked_numbers.ensures.events
