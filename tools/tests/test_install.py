@@ -160,6 +160,8 @@ class Completion(ToolTest):
             self.assertNotIn("trace", self.completed(f"apctl {word} ", "my.toml", "other.toml"), word)
         for typed in ("run my.toml ", "play my.toml ", "play my.toml a.trace "):
             self.completed(f"apctl {typed}", "a.trace", "b.trace")
+        self.completed("apctl live --o", "apctl live --octets ")
+        self.assertNotIn("trace", self.completed("apctl live --octets ", "my.toml", "other.toml"))
         for typed in ("check my.toml ", "live my.toml ", "run my.toml a.trace "):
             self.assertNotIn("b.trace", self.completed(f"apctl {typed}", BELL), typed)
 
