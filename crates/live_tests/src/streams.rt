@@ -1,17 +1,17 @@
 //! A reader and a writer that fail where they are told to, and what becomes of a run over them.
 
-use crate::samples::Sample;
+use crate::samples::TEXT;
 use fixtures::texts::CONFIGURATION;
-use live::{LiveFault, live, live_octets};
+use live::{LiveFault, live};
 use std::alloc::Global;
 use std::cell::Cell;
 use std::io::{self, ErrorKind, Read, Write};
 use trace::{Counted, Sink, Source};
 
-/// More octets, and more lines, than any sample here has.
+/// More octets, and more lines, than any text here has.
 pub(crate) const MANY: usize = 1 << 32;
 
-/// How a sample is read, and how its answers are written.
+/// How [`TEXT`] is read, and how its answers are written.
 #[derive(Clone, Copy)]
 pub(crate) struct Streams {
     /// Where the first piece ends.
@@ -32,11 +32,11 @@ pub(crate) const WHOLE: Streams = Streams {
     room: MANY,
 };
 
-/// A reader of a sample that looks, at each read, at how many octets the writer has taken.
+/// A reader of [`TEXT`] that looks, at each read, at how many octets the writer has taken.
 #[derive(Drop)]
 struct Looking<'a> {
     streams: Streams,
-    sample: &'a Sample,
+    due: &'a [usize],
     taken: &'a Cell<usize>,
     given: usize,
     reads: usize,
@@ -46,7 +46,7 @@ struct Looking<'a> {
 impl Read for Looking<'_> {
     fn read(&mut self, buf: &mut [u8]) -> io::Result<usize> {
         self.reads = self.reads.saturating_add(1);
-        if self.sample.due.as_slice().get(self.given).copied() != Some(self.taken.get()) {
+        if self.due.get(self.given).copied() != Some(self.taken.get()) {
             self.untimely = self.untimely.saturating_add(1);
         }
         if self.given == self.streams.readable {
@@ -57,20 +57,15 @@ impl Read for Looking<'_> {
         } else {
             self.given.saturating_add(self.streams.most)
         };
-        let end = end.min(self.streams.readable).min(self.sample.input.len());
-        let mut piece = self
-            .sample
-            .input
-            .as_slice()
-            .get(self.given..end)
-            .unwrap_or(b"");
+        let end = end.min(self.streams.readable).min(TEXT.len());
+        let mut piece = TEXT.as_bytes().get(self.given..end).unwrap_or(b"");
         let count = piece.read(buf)?;
         self.given = self.given.saturating_add(count);
         Ok(count)
     }
 }
 
-/// A writer that has room for a number of octets, and shows how many it has taken.
+/// A writer that has room for so many octets, and shows how many it has taken.
 #[derive(Drop)]
 pub(crate) struct Shown<'a> {
     pub(crate) octets: Vec<u8>,
@@ -103,12 +98,12 @@ pub(crate) struct Outcome {
     pub(crate) written: Vec<u8>,
 }
 
-/// Answers a sample over these streams.
-pub(crate) fn run(alloc: Global, sample: &Sample, streams: Streams) -> Outcome {
+/// Answers [`TEXT`] over these streams, where so many octets are due after each number of octets that were read.
+pub(crate) fn run(alloc: Global, due: &[usize], streams: Streams) -> Outcome {
     let taken = Cell::new(0);
     let mut source = Counted::new(Looking {
         streams,
-        sample,
+        due,
         taken: &taken,
         given: 0,
         reads: 0,
@@ -119,12 +114,7 @@ pub(crate) fn run(alloc: Global, sample: &Sample, streams: Streams) -> Outcome {
         room: streams.room,
         taken: &taken,
     });
-    let config = CONFIGURATION.as_bytes();
-    let answer = if sample.octets {
-        live_octets(alloc, config, &mut source, &mut out)
-    } else {
-        live(alloc, config, &mut source, &mut out)
-    };
+    let answer = live(alloc, CONFIGURATION.as_bytes(), &mut source, &mut out);
     let failed_reads = source.failures();
     let failed_writes = out.failures();
     let reader = source.into_inner();

@@ -1,4 +1,4 @@
-use crate::samples::{OK, SAID, Sample, TEXT, lines, records};
+use crate::samples::{OK, SAID, TEXT, due_lengths};
 use crate::streams::{MANY, Shown, Streams, WHOLE, run};
 use fixtures::texts::CONFIGURATION;
 use live::{Live, LiveFault};
@@ -8,18 +8,19 @@ use std::process::Abort;
 use std::test::Fail;
 use trace::{Counted, Sink, read_config};
 
-/// Answers a sample over these streams. The run must end so, after this many reads, with this many octets written of
-/// what is to be said; at each read all that was due must have been written.
+/// Answers the lines over these streams. The run must end so, after so many reads, with so many octets written of what
+/// is to be said; at each read all that was due must have been written.
 fn check_run(
     rt: &impl Abort,
     alloc: Global,
-    sample: &Sample,
     streams: Streams,
     answer: Result<(), LiveFault>,
     reads: usize,
     octets: usize,
 ) -> Result<(), Fail> {
-    let run = run(alloc, sample, streams);
+    let due = due_lengths(alloc)?;
+    let said = SAID.concat(alloc)?;
+    let run = run(alloc, due.as_slice(), streams);
     let failed_reads = u64::from(answer == Err(LiveFault::Read));
     let failed_writes = u64::from(answer == Err(LiveFault::Write));
     assert_eq!(rt;
@@ -32,96 +33,63 @@ fn check_run(
         ),
         (answer, failed_reads, failed_writes, reads, 0)
     );
-    assert!(rt; Some(run.written.as_slice()) == sample.said.as_slice().get(..octets));
+    assert!(rt; Some(run.written.as_slice()) == said.as_bytes().get(..octets));
     Ok(())
 }
 
 /// Two pieces, cut at each place, and then pieces of each length.
-fn check_pieces(rt: &impl Abort, alloc: Global, sample: &Sample) -> Result<(), Fail> {
-    let len = sample.input.len();
-    for place in 1..=len {
+#[test]
+fn nothing_is_held_back_however_the_text_is_cut(rt: HostRuntime) -> Result<(), Fail> {
+    let alloc = rt.alloc();
+    let said = SAID.concat(alloc)?;
+    for place in 1..=TEXT.len() {
         let streams = Streams {
             cut: place,
             ..WHOLE
         };
-        let reads = 2 + usize::from(place < len);
-        check_run(rt, alloc, sample, streams, Ok(()), reads, sample.said.len())?;
+        let reads = 2 + usize::from(place < TEXT.len());
+        check_run(&rt, alloc, streams, Ok(()), reads, said.len())?;
         let streams = Streams {
             cut: 0,
             most: place,
             ..WHOLE
         };
-        let reads = len.div_ceil(place) + 1;
-        check_run(rt, alloc, sample, streams, Ok(()), reads, sample.said.len())?;
+        let reads = TEXT.len().div_ceil(place) + 1;
+        check_run(&rt, alloc, streams, Ok(()), reads, said.len())?;
     }
     Ok(())
 }
 
 /// A reader that fails at once finds the count of networks written.
-fn check_reader(rt: &impl Abort, alloc: Global, sample: &Sample) -> Result<(), Fail> {
-    for (readable, octets) in sample.due.as_slice().iter().enumerate() {
+#[test]
+fn failing_reader(rt: HostRuntime) -> Result<(), Fail> {
+    let alloc = rt.alloc();
+    let due = due_lengths(alloc)?;
+    for (readable, octets) in due.as_slice().iter().enumerate() {
         let streams = Streams { readable, ..WHOLE };
         let reads = 1 + usize::from(readable > 0);
-        check_run(
-            rt,
-            alloc,
-            sample,
-            streams,
-            Err(LiveFault::Read),
-            reads,
-            *octets,
-        )?;
+        check_run(&rt, alloc, streams, Err(LiveFault::Read), reads, *octets)?;
     }
     Ok(())
 }
 
 /// No read comes after a write that failed.
-fn check_writer(rt: &impl Abort, alloc: Global, sample: &Sample) -> Result<(), Fail> {
-    let at_end = sample.due.as_slice().last().copied().ok_or("no length")?;
-    for room in 0..sample.said.len() {
-        let streams = Streams { room, ..WHOLE };
-        let reads = usize::from(room >= sample.open) + usize::from(room >= at_end);
-        check_run(
-            rt,
-            alloc,
-            sample,
-            streams,
-            Err(LiveFault::Write),
-            reads,
-            room,
-        )?;
-    }
-    let streams = Streams {
-        room: sample.said.len(),
-        ..WHOLE
-    };
-    check_run(rt, alloc, sample, streams, Ok(()), 2, sample.said.len())
-}
-
-#[test]
-fn nothing_is_held_back_however_the_text_is_cut(rt: HostRuntime) -> Result<(), Fail> {
-    let alloc = rt.alloc();
-    check_pieces(&rt, alloc, &lines(alloc)?)
-}
-
-#[test]
-fn nothing_is_held_back_however_records_are_cut(rt: HostRuntime) -> Result<(), Fail> {
-    let alloc = rt.alloc();
-    check_pieces(&rt, alloc, &records(alloc)?)
-}
-
-#[test]
-fn failing_reader(rt: HostRuntime) -> Result<(), Fail> {
-    let alloc = rt.alloc();
-    check_reader(&rt, alloc, &lines(alloc)?)?;
-    check_reader(&rt, alloc, &records(alloc)?)
-}
-
 #[test]
 fn failing_writer(rt: HostRuntime) -> Result<(), Fail> {
     let alloc = rt.alloc();
-    check_writer(&rt, alloc, &lines(alloc)?)?;
-    check_writer(&rt, alloc, &records(alloc)?)
+    let due = due_lengths(alloc)?;
+    let said = SAID.concat(alloc)?;
+    let at_end = due.as_slice().last().copied().ok_or("no length")?;
+    for room in 0..said.len() {
+        let streams = Streams { room, ..WHOLE };
+        let reads = usize::from(room >= OK.len()) + usize::from(room >= at_end);
+        check_run(&rt, alloc, streams, Err(LiveFault::Write), reads, room)?;
+    }
+    let streams = Streams {
+        room: said.len(),
+        ..WHOLE
+    };
+    check_run(&rt, alloc, streams, Ok(()), 2, said.len())
 }
 
 /// Whether a line that is fed is taken.
@@ -134,8 +102,7 @@ fn is_fed(live: &mut Live, line: &str, out: &mut Counted<Shown<'_>>) -> bool {
 
 /// What is written in the end, after lines that were fed one by one, of which each was answered at once.
 fn fed_line_by_line(rt: &impl Abort, alloc: Global) -> Result<Vec<u8>, Fail> {
-    let sample = lines(alloc)?;
-    let due = sample.due.as_slice();
+    let due = due_lengths(alloc)?;
     let taken = Cell::new(OK.len());
     let mut out = Counted::new(Shown {
         octets: OK.as_bytes().to_vec(alloc)?,
