@@ -100,14 +100,15 @@ bridge: ## builds the bridge of tools/live, by Debian's cargo
 	@tools/bridge/build
 
 # Tests tools/live beside the gate: first the parts of its bridge and its own, then, in a guest, unmodified Linux
-# stations that join the networks of the built program, and at last the same on an air that loses frames, with hostapd
-# beside it. Takes root and Debian's packages debootstrap, e2fsprogs, qemu-system-x86 and python3, and those of `make
+# stations that join the networks of the built program, the same as a service of systemd, and at last on an air that
+# loses frames, with hostapd beside it. Takes root and Debian's packages debootstrap, e2fsprogs, qemu-system-x86 and python3, and those of `make
 # bridge`. Each run in the guest ends with 'N passed, M failed'.
 test-live: apctl ## tests the bridge with real stations in a guest; takes root
 	@tools/bridge/build test
 	@tools/guest/air/build test
 	@tools/test live
 	@tools/test-live
+	@tools/test-live service
 	@tools/test-live air
 
 # Draws the example of three networks, the picture of README.md, and those of docs/EXAMPLES.md.
