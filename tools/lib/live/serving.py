@@ -16,7 +16,6 @@ from live.telling import ERROR, WARNING, tell
 
 TOOLS = os.path.dirname(os.path.dirname(os.path.dirname(os.path.realpath(__file__))))
 STATUS_PROGRAM = os.path.join(TOOLS, "status")
-NOBODY = "nobody"
 
 
 class AccessPoint:
@@ -114,13 +113,13 @@ class AccessPoint:
         self.open()
 
     def serve_page(self) -> None:
-        """Starts the page that shows what is going on, as a user who may do nothing else."""
+        """Starts the page that shows what is going on, which goes on as a user who may do nothing else."""
         if self.wanted.status is not None:
             words = [STATUS_PROGRAM, str(self.wanted.status), asking.socket_path(self.wanted.phy)]
             try:
-                self.page = subprocess.Popen(words, stdin=subprocess.DEVNULL, stdout=subprocess.DEVNULL, user=NOBODY,
-                                             group=asking.ASKING_GROUP, extra_groups=[], start_new_session=True)
-            except (OSError, LookupError) as fault:
+                self.page = subprocess.Popen(words, stdin=subprocess.DEVNULL, stdout=subprocess.DEVNULL,
+                                             start_new_session=True)
+            except OSError as fault:
                 raise Fault(f"{STATUS_PROGRAM}: {fault}") from None
             self.stack.callback(self.end_page, self.page)
 
