@@ -728,15 +728,13 @@ class Running(WithFiles):
         self.assertEqual(self.read("asked"), "open\n")
         self.assertIn("all stays as it is: it doesn't begin", self.told.getvalue())
 
-    @unittest.skipUnless(os.geteuid() == 0, "only root starts a program as another user")
     def test_page(self):
-        """The page is another user's, is told where to ask, and is ended; where it ends by itself that is told."""
-        os.chmod(self.folder, 0o777)
-        page = self.write("page", f"#!/bin/sh\nid -un > {self.folder}/page-words; echo $* >> {self.folder}/page-words\n"
+        """The page is told where to ask, and is ended; where it ends by itself that is told."""
+        page = self.write("page", f"#!/bin/sh\necho $* > {self.folder}/page-words\n"
                                   "sleep 60 & trap 'kill $!; exit 0' TERM; wait\n", 0o755)
         with mock.patch.object(serving, "STATUS_PROGRAM", page):
             self.run_bridge(self.end, port=9617)
-        self.assertEqual(self.read("page-words"), f"nobody\n9617 {self.folder}/phy0.sock\n")
+        self.assertEqual(self.read("page-words"), f"9617 {self.folder}/phy0.sock\n")
         self.assertIn(" --alive ", self.read("words"))
         self.write("page", "#!/bin/sh\nexit 3\n", 0o755)
         does = SENDS + "; [ $request = open ] && (sleep 0.3; echo alive)"

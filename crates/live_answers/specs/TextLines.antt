@@ -12,7 +12,7 @@ pub data TextLine : Type 0 where
   Octets : List ℕ → TextLine
   TooLong : TextLine
 
--- these octets, unless there are more than so many
+-- these octets, unless there are more than the limit
 abbrev pub at_most : ℕ → List ℕ → TextLine
 at_most most octets = if nat_lt most (length octets) then TooLong else Octets octets
 
