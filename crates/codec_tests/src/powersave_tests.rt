@@ -178,14 +178,10 @@ fn told(rt: &impl Abort, keep: &Keep, whom: Whom) -> Result<Option<u32>, Fail> {
 fn each_for_whom_units_are_kept_is_told_with_its_oldest(rt: HostRuntime) -> Result<(), Fail> {
     let mut keep = Keep::new(rt.alloc(), 9);
     assert_eq!(rt; keep.oldest_of_each()?.len(), 0);
-    for (whom, at) in [
-        (Whom::Group, 2),
-        (station(2), 3),
-        (station(1), 4),
-        (station(2), 5),
-    ] {
-        keep.put(whom, unit(rt.alloc(), at))?;
-    }
+    keep.put(Whom::Group, unit(rt.alloc(), 2))?;
+    keep.put(station(2), unit(rt.alloc(), 3))?;
+    keep.put(station(1), unit(rt.alloc(), 4))?;
+    keep.put(station(2), unit(rt.alloc(), 5))?;
     assert_eq!(rt; keep.oldest_of_each()?.len(), 3);
     assert_eq!(rt; told(&rt, &keep, Whom::Group)?, Some(2));
     assert_eq!(rt; told(&rt, &keep, station(2))?, Some(3));
