@@ -267,7 +267,7 @@ class Picture:
         """One network in a strip: the height of the middle of each of its rows."""
         rows, without_news, left_out = self.rows_of(lane, place, strip)
         self.canvas.text(MARGIN, self.y + 12, lane.name, TEXT, weight="bold")
-        more = [f"{without_news} stations without news"] * (without_news > 0)
+        more = [f"{without_news} station{'s' * (without_news > 1)} without news"] * (without_news > 0)
         more += [f"{left_out} stations not shown"] * (left_out > 0)
         more = ", ".join(more or ["nothing here"] * (not rows))
         if more:
