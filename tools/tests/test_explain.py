@@ -41,6 +41,8 @@ WORDS = [
     (["--", "my.toml", "my.trace"], "fault words", ["is no first word", "run my.toml TRACE"]),
     (["check", "-v"], "fault words", ["begins with `-`", "check -- -v"]),
     (["play", "my.toml"], "fault words", ["TRACE is missing"]),
+    (["live", "--octets"], "fault words", ["CONFIG is missing", "live --octets CONFIG"]),
+    (["live", "--octet", "my.toml"], "fault words", ["no option but `--octets`", "live -- --octet my.toml"]),
     (["--", "explode"], "fault words", ["no word `explode`"]),
     (["check", b"\xff.toml"], "fault words", ["isn't UTF-8"]),
 ]
@@ -210,6 +212,19 @@ class Mistakes(ToolTest):
                               input=given, cwd=self.folder, check=False)
         self.assertEqual(done.stderr, "", words)
         return done.returncode, done.stdout
+
+    @needs_program
+    def test_octets(self):
+        """A configuration is explained in the face of records as in that of lines; what is answered there isn't."""
+        self.folder_with_files()
+        self.write("bad.toml", b"channel = 6\n")
+        for words in (["live", "--octets", "bad.toml"], ["live", "bad.toml", "--octets"]):
+            status, found = self.run_tool(*words)
+            self.assertEqual(status, 1)
+            self.assertIn("the key `version` is missing", found)
+        self.assertEqual(self.run_tool("live", "--octets", "my.toml"),
+                         (0, "the program ended well\nwhat it answered in records isn't looked at: without `--octets` it "
+                             "is\n"))
 
     @needs_program
     def test_words_and_files(self):

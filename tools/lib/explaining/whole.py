@@ -23,6 +23,7 @@ class Texts:
     traces: list[Source | None] = field(default_factory=list)
     is_joined: bool = False
     has_separator: bool = True
+    is_octets: bool = False
 
 
 def split_joined(octets: bytes) -> tuple[bytes, bytes | None, int]:
@@ -48,13 +49,16 @@ def texts_of(given_words: list[str], given: bytes | None, name: str = STANDARD_I
     if given_words[0] not in words.SUBCOMMANDS:
         return texts
     names = list(given_words[1:])
+    texts.is_octets = given_words[0] == "live" and words.OCTETS in names[:names.index("--") if "--" in names else None]
+    if texts.is_octets:
+        names.remove(words.OCTETS)
     if "--" in names:
         names.remove("--")
     read = [source_of(file) for file in names]
     texts.config = read[0] if read else None
     texts.traces = read[1:]
     if given_words[0] == "live":
-        texts.traces = [Source(name, given or b"")]
+        texts.traces = [] if texts.is_octets else [Source(name, given or b"")]
     return texts
 
 
@@ -114,6 +118,8 @@ def of_good_run(texts: Texts, answer: Answer) -> list[str]:
     output = answer.output.decode("utf-8", "replace")
     if texts.words[:1] == ["check"]:
         return [output.strip()]
+    if texts.is_octets:
+        return ["the program ended well", "what it answered in records isn't looked at: without `--octets` it is"]
     if texts.words[:1] == ["live"]:
         return of_live(texts, output)
     return ["the program ended well", *of_findings(odd_in(texts, output))]

@@ -8,7 +8,9 @@ from explaining.source import Finding, quoted
 
 SUBCOMMANDS = {"check": "check CONFIG", "run": "run CONFIG TRACE", "play": "play CONFIG TRACE...",
                "live": "live CONFIG"}
-FORMS = "check CONFIG, run CONFIG TRACE, play CONFIG TRACE... and live CONFIG; without words it reads standard input"
+FORMS = ("check CONFIG, run CONFIG TRACE, play CONFIG TRACE..., live CONFIG and live --octets CONFIG; without words it "
+         "reads standard input")
+OCTETS = "--octets"
 MOST_TRACES = 64
 
 
@@ -55,10 +57,13 @@ def utf8_of(word: str) -> bytes | None:
 def of_subcommand(first: str, rest: list[str]) -> Finding:
     """One of the program's words, with others that don't fit it."""
     form = SUBCOMMANDS[first]
+    if first == "live" and rest[:1] == [OCTETS]:
+        form, rest = f"live {OCTETS} CONFIG", rest[1:]
     dashed = next((word for word in rest if word.startswith("-") and word not in ("-", "--")), None)
     if dashed and "--" not in rest:
         more = " ".join(rest)
-        return Finding(f"{quoted(dashed)} begins with `-`, and `{first}` has no options", None,
+        options = f"no option but `{OCTETS}` before CONFIG" if first == "live" else "no options"
+        return Finding(f"{quoted(dashed)} begins with `-`, and `{first}` has {options}", None,
                        f"for a file of this name write `{first} -- {more}`")
     least = {"check": 1, "run": 2, "play": 2, "live": 1}[first]
     count = len([word for word in rest if word != "--"])
