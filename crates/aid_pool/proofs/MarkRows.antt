@@ -1,4 +1,5 @@
--- Which marks the words of a pool have, at the edges of a word (IEEE Std 802.11-2016, 9.4.1.8: the numbers from 1 to 2007).
+-- Which marks the words of a pool have, at the edges of a word (IEEE Std 802.11-2016, 9.4.1.8: the numbers from 1 to
+-- 2007).
 use Rattle.std.proofs.Common.{◌≡◌, ◌^◌, ◌-◌, true, false, [], ◌∷◌, ◌++◌, replicate, refl}
 use Rattle.aid_pool.specs.Marks.{has_mark, has_clear_mark}
 

@@ -1,4 +1,5 @@
--- What the radio's pass has once the networks' passes were taken in, and that nothing remains once as many left as were there.
+-- What the radio's pass has once the networks' passes were taken in, and that nothing remains once as many left as were
+-- there.
 use Rattle.std.proofs.Common.{◌≡◌, ℕ, zero, suc, ◌+◌, ◌<◌, ◌≤◌, List, [], ◌∷◌, ◌++◌, length, map, drop, get_or, Option, Some, None, refl, sym, ap, subst, ◌∙◌, inl, inr, arith}
 use Rattle.std.specs.Prelude.{All, IsSome}
 use Rattle.std.specs.List.{AllByRecursion, range_with_len}

@@ -36,8 +36,8 @@ impl Model for AirQueue {
 }
 
 impl AirQueue {
-    /// An empty queue of a capacity in frames, 1 to [`MAX_QUEUE`], with a pass for each of this number of networks, 1 to
-    /// [`MAX_NETWORKS`], in order of place, and the radio's pass (*profile*). Nothing was pushed and nothing left.
+    /// An empty queue of a capacity in frames, 1 to [`MAX_QUEUE`], with a pass for each of this number of networks, 1
+    /// to [`MAX_NETWORKS`], in order of place, and the radio's pass (*profile*). Nothing was pushed and nothing left.
     /// `NoMemory` where memory ran out.
     pub fn open(
         alloc: Global,

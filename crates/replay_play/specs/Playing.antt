@@ -46,10 +46,10 @@ pub record IsFirstFault (c : RadioConfig) (traces : List (List ℕ)) (source : �
 
 -- ---- what is played
 
--- What an access point of this configuration ended with that was fed by sources of these lines: each section is that of the
--- network alone, with as many events at most as it may take; what left of a network is all that it sent, and nothing
--- else left; each event was given by one source; and what a source gave a network are the first of those events that
--- the network hears of the source's lines, all of them where the network is not full.
+-- What an access point of this configuration ended with that was fed by sources of these lines: each section is that of
+-- the network alone, with as many events at most as it may take; what left of a network is all that it sent, and
+-- nothing else left; each event was given by one source; and what a source gave a network are the first of those events
+-- that the network hears of the source's lines, all of them where the network is not full.
 pub record IsPlayOf (c : RadioConfig) (sources : List (List Line)) (end : Finished) : Type 0 where
   pub networks : length end.sections ≡ length c.networks
   pub sections : AreSections c end.sections

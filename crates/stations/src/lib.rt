@@ -1,8 +1,8 @@
 //! The stations that a network knows, with the units that it keeps for them (IEEE Std 802.11-2016, 11.2.3 and 11.3).
 //!
 //! Two types to know first: [`Stations`] is the table, each station with its [`StationState`], and a [`Roster`] is that
-//! table tied together with the units that are kept and with the bits of the beacon's TIM: it promises that these are exactly
-//! the association identifiers of the stations that units are kept for, so that no beacon walks over the table.
+//! table tied together with the units that are kept and with the bits of the beacon's TIM: it promises that these are
+//! exactly the association identifiers of the stations that units are kept for, so that no beacon walks over the table.
 //!
 //! What is answered to a station is left to the crates above.
 #![tactic(auto)]

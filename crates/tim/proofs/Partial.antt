@@ -93,8 +93,8 @@ from_first_pair-is passed (suc o ∷ octets) = (0, omega arith, IsFromPair-here 
 
 -- ---- both
 
--- Of the octets of a bitmap, these are sent from a place on: the last of them isn't 0, nor are the first two both, or the
--- bitmap has none but zeros. Any other octet is 0.
+-- Of the octets of a bitmap, these are sent from a place on: the last of them isn't 0, nor are the first two both, or
+-- the bitmap has none but zeros. Any other octet is 0.
 pub record IsPartial (bitmap : List ℕ) (half : ℕ) (octets : List ℕ) : Type 0 where
   pub some : 1 ≤ length octets
   pub within : 2 * half + length octets ≤ length bitmap

@@ -43,8 +43,8 @@ pub record AppendsPrefix (old new : Option (List ℕ)) (text : List ℕ) : Type 
   pub taken : Appends old new written
 
 -- What the sink took of a call that ends so and is to write a text, unless a fault refuses it. Where it ended well, the
--- whole text and nothing else; where a fault refused it or a read failed, nothing; where a write failed, a prefix of the
--- text; and where memory ran out, a prefix of it or, where there is none, nothing.
+-- whole text and nothing else; where a fault refused it or a read failed, nothing; where a write failed, a prefix of
+-- the text; and where memory ran out, a prefix of it or, where there is none, nothing.
 abbrev pub EndsSo : {F : Type 0} → Ending F → Result (List ℕ) F → Option (List ℕ) → Option (List ℕ) → Type 0
 EndsSo Well answer old new = IsOkAnd answer (λ text. Appends old new text)
 EndsSo (Refused fault) answer old new = (answer ≡ Err fault) × Keeps old new

@@ -39,8 +39,8 @@ pub fn bssids_of(alloc: Global, networks: &[NetConfig]) -> Result<Vec<MacAddr>, 
 ///
 /// A line with a fault gives the first, in this order: a first word that is none of these, also an empty one, or
 /// something after `T` (`L1`); a second word of `W` that is missing or no address (`L3`), or an address that no network
-/// has (`L4`); an odd number of digits, or another character (`L2`); more than 4096 octets (`L5`). `NoMemory` where memory
-/// ran out, which only a line of the words `A` and `W` takes.
+/// has (`L4`); an odd number of digits, or another character (`L2`); more than 4096 octets (`L5`). `NoMemory` where
+/// memory ran out, which only a line of the words `A` and `W` takes.
 pub fn read_line(
     alloc: Global,
     bssids: &[MacAddr],

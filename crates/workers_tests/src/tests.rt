@@ -56,8 +56,8 @@ fn network(alloc: Global, last: u8, max_events: u32) -> Result<NetConfig, NoMemo
     })
 }
 
-/// The configuration of a radio whose queue holds this number of frames, with a network for each of these numbers of events
-/// that they take.
+/// The configuration of a radio whose queue holds this number of frames, with a network for each of these numbers of
+/// events that they take.
 fn radio(alloc: Global, queue: u16, max_events: &[u32]) -> Result<RadioConfig, NoMemory> {
     let mut networks = Vec::new(alloc);
     for (last, most) in (1..=u8::MAX).zip(max_events) {

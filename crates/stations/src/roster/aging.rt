@@ -13,8 +13,8 @@ use powersave::{Oldest, Whom, parts_stay};
 use tim::Bitmap;
 
 impl Roster {
-    /// Where units age, those for whom units are kept, with the clock at which the oldest of them came. `NoMemory` where
-    /// memory ran out.
+    /// Where units age, those for whom units are kept, with the clock at which the oldest of them came. `NoMemory`
+    /// where memory ran out.
     pub(crate) fn oldest_if(&self, ages: bool) -> Result<Option<Vec<Oldest>>, NoMemory>
         ensures { IfOk result (λ oldest.
             AgesBy ages (option_map (λ v. v.items) oldest) self.now.kept.entries) }
@@ -45,10 +45,10 @@ impl Roster {
         }
     }
 
-    /// Takes out each unit that is too old at this clock, which counts the beacon intervals that began: more began since
-    /// it came than the listen interval of the station that it is kept for (IEEE Std 802.11-2016, 9.4.1.6). Answers how
-    /// many units these were. `oldest` tells those for whom units are kept: the units of one are only looked for where
-    /// the oldest of them is too old. It takes no memory.
+    /// Takes out each unit that is too old at this clock, which counts the beacon intervals that began: more began
+    /// since it came than the listen interval of the station that it is kept for (IEEE Std 802.11-2016, 9.4.1.6).
+    /// Answers how many units these were. `oldest` tells those for whom units are kept: the units of one are only
+    /// looked for where the oldest of them is too old. It takes no memory.
     fn age(&mut self, oldest: &[Oldest], clock: u32) -> u32
         requires oldest { AreOldest oldest.now self.old.kept.entries }
         requires came { CameBy clock self.old.kept.entries }
@@ -113,8 +113,8 @@ impl Roster {
         dropped
     }
 
-    /// The association identifiers of the stations that units are kept for once they have aged at this clock. `NoMemory`
-    /// where memory ran out.
+    /// The association identifiers of the stations that units are kept for once they have aged at this clock.
+    /// `NoMemory` where memory ran out.
     pub fn traffic_after_aging(&self, clock: u32) -> Result<Bitmap, NoMemory>
         requires { CameBy clock self.now.kept.entries }
         ensures { IfOk result (λ bits. AreWaitedFor bits self.now.stations.table

@@ -312,8 +312,8 @@ pub(super) fn make_all<N: ApName, R: Wait + Abort>(
     Ok(())
 }
 
-/// Whether the first network sent these frames, and these left; and whether it took these numbers of events, counted these
-/// beacon intervals, and left these events unread. No unit was lost, and none is kept.
+/// Whether the first network sent these frames, and these left; and whether it took these numbers of events, counted
+/// these beacon intervals, and left these events unread. No unit was lost, and none is kept.
 fn are_sent(alloc: Global, end: &Finished, sent: &[&str], counts: [u32; 3]) -> Result<bool, Fail> {
     let section = section_at(&end.sections, 0)?;
     let [events, clock, unread] = counts;

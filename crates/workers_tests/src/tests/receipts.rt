@@ -267,8 +267,8 @@ const ROWS: [Row; 19] = [
     },
 ];
 
-/// Its one caller gives this number of ticks, and the stranger, if there is one, one more. Answers the stranger, or else the
-/// caller. Of the frames one is queued then.
+/// Its one caller gives this number of ticks, and the stranger, if there is one, one more. Answers the stranger, or
+/// else the caller. Of the frames one is queued then.
 fn tell<N: ApName, R: Wait>(
     rt: &R,
     ap: &Ap<N>,
