@@ -1,14 +1,14 @@
 -- Units in order of arrival: one more in its place, and what a test leaves of them.
-use Rattle.std.proofs.Common.{◌≡◌, ℕ, ◌<◌, ◌≤◌, Bool, true, false, cond, ltb, List, [], ◌∷◌, ◌++◌, filter, refl, sym, ap, ◌∙◌, arith}
-use Rattle.std.proofs.lemmas.Bool.{ltb-true, ltb-false, lt-ltb, le-ltb}
+use Rattle.std.proofs.Common.{◌≡◌, ℕ, ◌<◌, ◌≤◌, ◌⊎◌, inl, inr, Bool, true, false, cond, ltb, List, [], ◌∷◌, ◌++◌, filter, refl, sym, ap, ◌∙◌, arith}
+use Rattle.std.specs.List.{AllByRecursion}
+use Rattle.std.proofs.lemmas.Bool.{ltb-true, ltb-false, lt-ltb, le-ltb, cases_lt}
 use Rattle.powersave.specs.Keep.{without_first}
-use Rattle.powersave.specs.Queues.{Arrival, put_in_order}
+use Rattle.powersave.specs.Queues.{Arrival, put_in_order, IsRising}
 
 -- ---- bounds of the numbers
 
 abbrev pub AllAbove : ℕ → List Arrival → Type 0
-AllAbove n [] = Unit {0}
-AllAbove n (b ∷ bs) = (n < b.0) × AllAbove n bs
+AllAbove n bs = AllByRecursion (λ b. n < b.0) bs
 
 abbrev pub AllFrom : ℕ → List Arrival → Type 0
 AllFrom n [] = Unit {0}
@@ -77,6 +77,81 @@ put_before_last a last (b ∷ bs) lt = placed (ltb a.0 b.0) (put_before_last a l
     placed true later = refl
     placed false later = ap (λ es. b ∷ es) later
 
+-- ---- numbers that differ
+
+abbrev pub Differ : ℕ → ℕ → Type 0
+Differ m n = (m < n) ⊎ (n < m)
+
+-- what holds of all that are in order once one was put
+put-each : (P : Arrival → Type 0) (a : Arrival) (bs : List Arrival) → AllByRecursion P (put_in_order a bs) → P a × AllByRecursion P bs
+put-each P a [] each = (each.0, tt)
+put-each P a (b ∷ bs) each = placed (ltb a.0 b.0) each (put-each P a bs)
+  where
+    placed : (c : Bool) → AllByRecursion P (cond c (a ∷ b ∷ bs) (b ∷ put_in_order a bs)) → (AllByRecursion P (put_in_order a bs) → P a × AllByRecursion P bs) → P a × AllByRecursion P (b ∷ bs)
+    placed true all later = (all.0, all.1)
+    placed false all later = let rest = later all.1 in (rest.0, (all.0, rest.1))
+
+above-differ : (n : ℕ) (bs : List Arrival) → AllAbove n bs → AllByRecursion (λ b. Differ n b.0) bs
+above-differ n [] above = tt
+above-differ n (b ∷ bs) above = (inl above.0, above-differ n bs above.1)
+
+-- where the numbers rise once one was put, that one's differs from the others, which rise
+pub IsRising-before_put : (a : Arrival) (bs : List Arrival) → IsRising (put_in_order a bs) → AllByRecursion (λ b. Differ a.0 b.0) bs × IsRising bs
+IsRising-before_put a [] rising = (tt, tt)
+IsRising-before_put a (b ∷ bs) rising = placed (ltb a.0 b.0) rising (IsRising-before_put a bs)
+  where
+    placed : (c : Bool) → IsRising (cond c (a ∷ b ∷ bs) (b ∷ put_in_order a bs)) → (IsRising (put_in_order a bs) → AllByRecursion (λ x. Differ a.0 x.0) bs × IsRising bs) → AllByRecursion (λ x. Differ a.0 x.0) (b ∷ bs) × IsRising (b ∷ bs)
+    placed true all later = (above-differ a.0 (b ∷ bs) all.0, all.1)
+    placed false all later =
+        let above = put-each (λ x. b.0 < x.0) a bs all.0 in
+        let rest = later all.1 in
+        ((inr above.0, rest.0), (above.1, rest.1))
+
+put_here : (a b : Arrival) (bs : List Arrival) → a.0 < b.0 → put_in_order a (b ∷ bs) ≡ a ∷ b ∷ bs
+put_here a b bs lt = ap (λ c. cond c (a ∷ b ∷ bs) (b ∷ put_in_order a bs)) (lt-ltb a.0 b.0 lt)
+
+put_later : (a b : Arrival) (bs : List Arrival) → b.0 ≤ a.0 → put_in_order a (b ∷ bs) ≡ b ∷ put_in_order a bs
+put_later a b bs le = ap (λ c. cond c (a ∷ b ∷ bs) (b ∷ put_in_order a bs)) (le-ltb a.0 b.0 le)
+
+put-put_lower : (a b : Arrival) (xs : List Arrival) → a.0 < b.0 → put_in_order a (put_in_order b xs) ≡ put_in_order b (put_in_order a xs)
+put-put_lower a b [] lt = put_here a b [] lt ∙ sym (put_later b a [] (omega (arith, lt)))
+put-put_lower a b (x ∷ xs) lt =
+    elim (cases_lt b.0 x.0) [
+      | inl first ↦
+          ap (put_in_order a) (put_here b x xs first)
+          ∙ put_here a b (x ∷ xs) lt
+          ∙ sym (ap (put_in_order b) (put_here a x xs (omega (arith, lt, first))) ∙ put_later b a (x ∷ xs) (omega (arith, lt)) ∙ ap (λ es. a ∷ es) (put_here b x xs first))
+      | inr after ↦
+          elim (cases_lt a.0 x.0) [
+            | inl before ↦
+                ap (put_in_order a) (put_later b x xs after)
+                ∙ put_here a x (put_in_order b xs) before
+                ∙ sym (ap (put_in_order b) (put_here a x xs before) ∙ put_later b a (x ∷ xs) (omega (arith, lt)) ∙ ap (λ es. a ∷ es) (put_later b x xs after))
+            | inr both ↦
+                ap (put_in_order a) (put_later b x xs after)
+                ∙ put_later a x (put_in_order b xs) both
+                ∙ ap (λ es. x ∷ es) (put-put_lower a b xs lt)
+                ∙ sym (ap (put_in_order b) (put_later a x xs both) ∙ put_later b x (put_in_order a xs) after)
+          ]
+    ]
+
+-- two whose numbers differ may be put in either order
+pub put-put : (a b : Arrival) (xs : List Arrival) → Differ a.0 b.0 → put_in_order a (put_in_order b xs) ≡ put_in_order b (put_in_order a xs)
+put-put a b xs (inl lt) = put-put_lower a b xs lt
+put-put a b xs (inr gt) = sym (put-put_lower b a xs gt)
+
+pub differ_before_put : (n : ℕ) (a : Arrival) (bs : List Arrival) → AllByRecursion (λ b. Differ n b.0) (put_in_order a bs) → Differ n a.0 × AllByRecursion (λ b. Differ n b.0) bs
+differ_before_put n a bs each = put-each (λ b. Differ n b.0) a bs each
+
+-- one more that came after all
+pub IsRising-last : (last : Arrival) (bs : List Arrival) → AllBelow last.0 bs → IsRising bs → IsRising (bs ++ last ∷ [])
+IsRising-last last [] below rising = (tt, tt)
+IsRising-last last (b ∷ bs) below rising = (above bs rising.0, IsRising-last last bs below.1 rising.1)
+  where
+    above : (cs : List Arrival) → AllAbove b.0 cs → AllAbove b.0 (cs ++ last ∷ [])
+    above [] all = (below.0, tt)
+    above (c ∷ cs) all = (all.0, above cs all.1)
+
 -- ---- what a test leaves
 
 module _ (p : Arrival → Bool) where
@@ -95,6 +170,22 @@ module _ (p : Arrival → Bool) where
       tested : (d : Bool) → AllAbove n (without_first p bs) → AllAbove n (cond d bs (b ∷ without_first p bs))
       tested true later = above.1
       tested false later = (above.0, later)
+
+  pub IsRising-filter : (bs : List Arrival) → IsRising bs → IsRising (filter p bs)
+  IsRising-filter [] rising = tt
+  IsRising-filter (b ∷ bs) rising = tested (p b) (IsRising-filter bs rising.1)
+    where
+      tested : (d : Bool) → IsRising (filter p bs) → IsRising (cond d (b ∷ filter p bs) (filter p bs))
+      tested true later = (AllAbove-filter b.0 bs rising.0, later)
+      tested false later = later
+
+  pub IsRising-without_first : (bs : List Arrival) → IsRising bs → IsRising (without_first p bs)
+  IsRising-without_first [] rising = tt
+  IsRising-without_first (b ∷ bs) rising = tested (p b) (IsRising-without_first bs rising.1)
+    where
+      tested : (d : Bool) → IsRising (without_first p bs) → IsRising (cond d bs (b ∷ without_first p bs))
+      tested true later = rising.1
+      tested false later = (AllAbove-without_first b.0 bs rising.0, later)
 
   -- one that fails
   pub filter-put_failing : (a : Arrival) (bs : List Arrival) → p a ≡ false → filter p (put_in_order a bs) ≡ filter p bs

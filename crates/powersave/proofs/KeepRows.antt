@@ -1,5 +1,5 @@
 -- What the definitions say of some lists.
-use Rattle.std.proofs.Common.{◌≡◌, [], ◌∷◌, length, map, filter, true, false, Some, None, refl}
+use Rattle.std.proofs.Common.{◌≡◌, [], ◌∷◌, length, map, filter, Some, None, refl}
 use Rattle.std.specs.List.{slice_get}
 use Rattle.powersave.specs.declared.unit.Whom.TheVariants.{One, Group}
 use Rattle.powersave.specs.Keep.{units_for, without_oldest, without_all, without_older, is_older, oldest_at, first_clock, room_beside}

@@ -1,4 +1,5 @@
 pub mod Arrivals
+pub mod Swaps
 pub mod Merges
 pub mod Parts
 pub mod QueueSteps

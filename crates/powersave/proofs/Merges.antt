@@ -1,20 +1,19 @@
--- A queue among the units of others, and all queues: what is left for one, what is left without it, and what comes last.
+-- A queue among the units of others, and all queues: what is left for one, what is left without it, what comes last,
+-- and that the last queue may as well be the first.
 use Rattle.std.proofs.Common.{◌≡◌, ℕ, ◌<◌, Bool, true, false, not, cond, List, [], ◌∷◌, ◌++◌, map, filter, drop, Some, refl, sym, ap, ◌∙◌, subst}
 use Rattle.std.specs.List.{AllByRecursion}
 use Rattle.std.specs.Map.{lookup, set_value, remove_entry}
-use Rattle.std.specs.BTreeMap.{insert_entry, is_at}
-use Rattle.std.specs.declared.cmp.Ordering.{Ordering}
-use Rattle.std.specs.declared.cmp.Ordering.TheVariants.{Less, Equal, Greater}
-use Rattle.std.specs.Ordering.{is_eq, match_ordering}
 use Rattle.std.specs.Option.{option_map, unwrap_or}
 use Rattle.std.proofs.lemmas.Map.{NonePasses}
 use Rattle.std.proofs.lemmas.Option.{none-some, same_Some}
+use Rattle.indexmap.specs.IndexMap.{swap_remove_entry}
 use Rattle.powersave.specs.declared.unit.Whom.{Whom}
 use Rattle.powersave.specs.declared.unit.Unit.{Unit as Msdu}
 use Rattle.powersave.specs.declared.queues.Arrived.{Arrived}
 use Rattle.powersave.specs.Keep.{without_first}
-use Rattle.powersave.specs.Queues.{Queue, Queues, Arrival, arrival_for, put_in_order, merged, arrivals, IsNumbered, AreNumbered}
-use Rattle.powersave.proofs.Arrivals.{AllAbove, AllBelow, IsInOrder, AllBelow-put, IsInOrder-put, put_last, put_before_last, filter-put_failing, filter-put_earliest, without_first-put_earliest, filter-put, without_first-put, without_first-none}
+use Rattle.powersave.specs.Queues.{Queue, Queues, Arrival, arrival_for, put_in_order, merged, arrivals, IsNumbered, AreNumbered, IsRising}
+use Rattle.powersave.proofs.Swaps.{swap_removed}
+use Rattle.powersave.proofs.Arrivals.{AllAbove, AllBelow, IsInOrder, Differ, put-put, differ_before_put, IsRising-before_put, IsRising-filter, AllBelow-put, IsInOrder-put, put_last, put_before_last, filter-put_failing, filter-put_earliest, without_first-put_earliest, filter-put, without_first-put, without_first-none}
 
 -- whether a unit is for one that passes a test
 abbrev pub passes : (Whom → Bool) → Arrival → Bool
@@ -55,6 +54,29 @@ merged-before_last k [] last others numbered = refl
 merged-before_last k (a ∷ queue) last others numbered =
     ap (put_in_order (arrival_for k a)) (merged-before_last k queue last others numbered.2)
     ∙ put_before_last (arrival_for k a) last (merged k queue others) numbered.0
+
+-- ---- two queues
+
+IsRising-before_merged : (k : Whom) (queue : List Arrived) (others : List Arrival) → IsRising (merged k queue others) → IsRising others
+IsRising-before_merged k [] others rising = rising
+IsRising-before_merged k (a ∷ queue) others rising =
+    IsRising-before_merged k queue others (IsRising-before_put (arrival_for k a) (merged k queue others) rising).1
+
+put-merged : (a : Arrival) (k : Whom) (queue : List Arrived) (others : List Arrival) → AllByRecursion (λ b. Differ a.0 b.0) (merged k queue others) → put_in_order a (merged k queue others) ≡ merged k queue (put_in_order a others)
+put-merged a k [] others apart = refl
+put-merged a k (b ∷ queue) others apart =
+    let each = differ_before_put a.0 (arrival_for k b) (merged k queue others) apart in
+    put-put a (arrival_for k b) (merged k queue others) each.0
+    ∙ ap (put_in_order (arrival_for k b)) (put-merged a k queue others each.1)
+
+-- those of two queues may come in either order
+merged-merged : (k l : Whom) (ks ls : List Arrived) (others : List Arrival) → IsRising (merged k ks (merged l ls others)) → merged k ks (merged l ls others) ≡ merged l ls (merged k ks others)
+merged-merged k l [] ls others rising = refl
+merged-merged k l (a ∷ ks) ls others rising =
+    let before = IsRising-before_put (arrival_for k a) (merged k ks (merged l ls others)) rising in
+    let swapped = merged-merged k l ks ls others before.1 in
+    ap (put_in_order (arrival_for k a)) swapped
+    ∙ put-merged (arrival_for k a) l ls (merged k ks others) (subst (λ bs. AllByRecursion (λ b. Differ a.number b.0) bs) swapped before.0)
 
 module _ (t : Whom → Bool) where
   -- the queue of one that fails
@@ -100,29 +122,25 @@ pub IsInOrder-arrivals : (queues : Queues) → IsInOrder (arrivals queues)
 IsInOrder-arrivals [] = tt
 IsInOrder-arrivals (q ∷ queues) = IsInOrder-merged q.0 q.1.items (arrivals queues) (IsInOrder-arrivals queues)
 
--- an empty queue, wherever it stands, has no part in the list
-pub arrivals-insert_empty : (cmp : Whom → Whom → Ordering) (whom : Whom) (w : Queue) (queues : Queues) → NonePasses (is_at (cmp whom)) queues → w.items ≡ [] → arrivals (insert_entry cmp queues whom w) ≡ arrivals queues
-arrivals-insert_empty cmp whom w [] none empty = ap (λ queue. merged whom queue []) empty
-arrivals-insert_empty cmp whom w (e ∷ es) none empty = placed (cmp whom e.0) none.0 (arrivals-insert_empty cmp whom w es none.1 empty)
-  where
-    placed : (o : Ordering) → is_eq o ≡ false → arrivals (insert_entry cmp es whom w) ≡ arrivals es → arrivals (match_ordering o ((whom, w) ∷ e ∷ es) ((e.0, w) ∷ es) (e ∷ insert_entry cmp es whom w)) ≡ arrivals (e ∷ es)
-    placed Less other later = ap (λ queue. merged whom queue (arrivals (e ∷ es))) empty
-    placed Equal other later = absurd (cc other)
-    placed Greater other later = ap (merged e.0 e.1.items) later
+-- an empty queue has no part in the list
+pub arrivals-add_empty : (whom : Whom) (w : Queue) (queues : Queues) → w.items ≡ [] → arrivals (queues ++ (whom, w) ∷ []) ≡ arrivals queues
+arrivals-add_empty whom w [] empty = ap (λ queue. merged whom queue []) empty
+arrivals-add_empty whom w (e ∷ es) empty = ap (merged e.0 e.1.items) (arrivals-add_empty whom w es empty)
 
--- a queue of one unit, which came after all, wherever it stands
-pub arrivals-insert_one : (cmp : Whom → Whom → Ordering) (whom : Whom) (last : Arrived) (w : Queue) (queues : Queues) → NonePasses (is_at (cmp whom)) queues → w.items ≡ last ∷ [] → AreNumbered last.number queues → arrivals (insert_entry cmp queues whom w) ≡ arrivals queues ++ arrival_for whom last ∷ []
-arrivals-insert_one cmp whom last w [] none one numbered = ap (λ queue. merged whom queue []) one
-arrivals-insert_one cmp whom last w (e ∷ es) none one numbered = placed (cmp whom e.0) none.0 (arrivals-insert_one cmp whom last w es none.1 one numbered.1)
-  where
-    placed : (o : Ordering) → is_eq o ≡ false → arrivals (insert_entry cmp es whom w) ≡ arrivals es ++ arrival_for whom last ∷ [] → arrivals (match_ordering o ((whom, w) ∷ e ∷ es) ((e.0, w) ∷ es) (e ∷ insert_entry cmp es whom w)) ≡ arrivals (e ∷ es) ++ arrival_for whom last ∷ []
-    placed Less other later =
-        ap (λ queue. merged whom queue (arrivals (e ∷ es))) one
-        ∙ put_last (arrival_for whom last) (arrivals (e ∷ es)) (AllBelow-arrivals last.number (e ∷ es) numbered)
-    placed Equal other later = absurd (cc other)
-    placed Greater other later =
-        ap (merged e.0 e.1.items) later
-        ∙ merged-before_last e.0 e.1.items (arrival_for whom last) (arrivals es) numbered.0
+-- a queue of one unit, which came after all
+pub arrivals-add_one : (whom : Whom) (last : Arrived) (w : Queue) (queues : Queues) → w.items ≡ last ∷ [] → AreNumbered last.number queues → arrivals (queues ++ (whom, w) ∷ []) ≡ arrivals queues ++ arrival_for whom last ∷ []
+arrivals-add_one whom last w [] one numbered = ap (λ queue. merged whom queue []) one
+arrivals-add_one whom last w (e ∷ es) one numbered =
+    ap (merged e.0 e.1.items) (arrivals-add_one whom last w es one numbered.1)
+    ∙ merged-before_last e.0 e.1.items (arrival_for whom last) (arrivals es) numbered.0
+
+-- the last queue may as well be the first
+arrivals-last : (l : Whom × Queue) (queues : Queues) → IsRising (arrivals (queues ++ l ∷ [])) → arrivals (l ∷ queues) ≡ arrivals (queues ++ l ∷ [])
+arrivals-last l [] rising = refl
+arrivals-last l (e ∷ es) rising =
+    let rest = arrivals-last l es (IsRising-before_merged e.0 e.1.items (arrivals (es ++ l ∷ [])) rising) in
+    sym (merged-merged e.0 l.0 e.1.items l.1.items (arrivals es) (subst (λ bs. IsRising (merged e.0 e.1.items bs)) (sym rest) rising))
+    ∙ ap (merged e.0 e.1.items) rest
 
 module _ (t : Whom → Bool) where
   -- where one passes, no later one does
@@ -179,6 +197,18 @@ module _ (t : Whom → Bool) where
       tested false other later =
           ap (merged e.0 e.1.items) later
           ∙ sym (filter-merged_passing others e.0 e.1.items (arrivals es) (ap not other) (IsInOrder-arrivals es))
+
+  -- the same, where the last queue takes its place
+  pub arrivals-swap_remove : (queues : Queues) → IsOnce queues → IsRising (arrivals queues) → arrivals (swap_remove_entry t queues) ≡ filter (passes others) (arrivals queues)
+  arrivals-swap_remove queues once rising =
+      let gone = arrivals-remove queues once in
+      swap_removed t (λ es fs. IsRising (arrivals fs) → arrivals es ≡ arrivals fs)
+      (λ es risen. refl)
+      arrivals-last
+      (λ e es fs later risen. ap (merged e.0 e.1.items) (later (IsRising-before_merged e.0 e.1.items (arrivals fs) risen)))
+      queues
+      (subst IsRising (sym gone) (IsRising-filter (passes others) (arrivals queues) rising))
+      ∙ gone
 
   -- a queue whose units stay
   pub arrivals-set_same : (queues : Queues) (q w : Queue) → lookup t queues ≡ Some q → w.items ≡ q.items → arrivals (set_value t queues w) ≡ arrivals queues

@@ -1,16 +1,18 @@
 -- The oldest unit for each: the first of its queue.
 use Rattle.std.proofs.Common.{◌≡◌, ℕ, Bool, true, false, cond, List, [], ◌∷◌, ◌++◌, map, Option, Some, None, refl, sym, ap, ◌∙◌}
-use Rattle.std.specs.Map.{lookup}
+use Rattle.std.specs.List.{IsDistinct}
+use Rattle.std.specs.Map.{keys_of, lookup}
 use Rattle.std.specs.Option.{option_map, unwrap_or}
 use Rattle.std.proofs.lemmas.Map.{NonePasses}
+use Rattle.std.proofs.lemmas.Map.Keys.{IsDistinct-head, IsDistinct-tail}
 use Rattle.powersave.specs.declared.unit.Whom.{Whom}
 use Rattle.powersave.specs.declared.unit.Oldest.{Oldest}
-use Rattle.powersave.specs.declared.unit.Unit.{Unit as Msdu}
 use Rattle.powersave.specs.declared.queues.Arrived.{Arrived}
-use Rattle.powersave.specs.Keep.{units_for, oldest_at, first_clock, AreOldest}
+use Rattle.powersave.specs.Keep.{oldest_at, first_clock, AreOldest, AreToldOnce}
 use Rattle.powersave.specs.Queues.{Queue, Queues, is_whom, queue_for, oldest_of, oldest_in, entries_in, AreSound}
 use Rattle.powersave.proofs.Merges.{IsOnce}
-use Rattle.powersave.proofs.QueueSteps.{once, units_for-entries_in}
+use Rattle.powersave.proofs.Parts.{is_same-refl}
+use Rattle.powersave.proofs.QueueSteps.{none_named, once, units_for-entries_in}
 
 abbrev clock_of : List Arrived → Option ℕ
 clock_of queue = first_clock (map (λ a. a.unit) queue)
@@ -47,3 +49,13 @@ pub all-told : (next : ℕ) (queues : Queues) → AreSound next queues → AreOl
 all-told next queues sound whom =
     told whom queues (once whom queues sound.one_each)
     ∙ sym (ap first_clock (units_for-entries_in next whom queues sound))
+
+-- each queue is told once at most
+pub told-once : (queues : Queues) → IsDistinct is_whom (keys_of queues) → AreToldOnce (oldest_in queues)
+told-once [] apart = tt
+told-once (q ∷ queues) apart = by q.1.items (told-once queues (IsDistinct-tail is_whom q.0 (keys_of queues) apart))
+  where
+    by : (queue : List Arrived) → AreToldOnce (oldest_in queues) → AreToldOnce (oldest_of q.0 queue ++ oldest_in queues)
+    by [] rest = rest
+    by (a ∷ queue) rest =
+        (none-told q.0 queues (none_named q.0 q.0 queues (is_same-refl q.0) (IsDistinct-head is_whom q.0 (keys_of queues) apart)), rest)

@@ -2,23 +2,21 @@
 use Rattle.std.proofs.Common.{◌≡◌, ℕ, ◌+◌, ◌-◌, ◌<◌, ◌≤◌, Bool, true, false, not, cond, List, [], ◌∷◌, ◌++◌, length, map, filter, drop, Option, Some, None, refl, sym, ap, ◌∙◌, subst, arith}
 use Rattle.std.specs.List.{AllByRecursion, IsDistinct, slice_get}
 use Rattle.std.specs.Map.{keys_of, lookup, set_value, remove_entry}
-use Rattle.std.specs.BTreeMap.{insert_entry, is_at}
-use Rattle.std.specs.declared.cmp.Ordering.{Ordering}
-use Rattle.std.specs.declared.cmp.Ordering.TheVariants.{Less, Equal, Greater}
-use Rattle.std.specs.Ordering.{match_ordering}
 use Rattle.std.specs.Option.{option_map, unwrap_or, IsSomeAnd}
-use Rattle.std.proofs.lemmas.Bool.{false_from_ne_true, true≢false}
 use Rattle.std.proofs.lemmas.List.{length-map, length_push, map-append}
 use Rattle.std.proofs.lemmas.Map.{NonePasses, keys-set_value}
 use Rattle.std.proofs.lemmas.Map.Keys.{IsDistinct-head, IsDistinct-tail}
 use Rattle.std.proofs.lemmas.Option.{none-some, same_Some, slice_get-map}
+use Rattle.indexmap.specs.IndexMap.{swap_remove_entry}
 use Rattle.powersave.specs.declared.unit.Whom.{Whom}
 use Rattle.powersave.specs.declared.unit.Unit.{Unit as Msdu}
 use Rattle.powersave.specs.declared.queues.Arrived.{Arrived}
 use Rattle.powersave.specs.Keep.{Entry, is_same, is_for, units_for, without_first, room_beside}
-use Rattle.powersave.specs.Queues.{Queue, Queues, Arrival, is_whom, queue_for, unit_at, arrival_for, arrivals, entries_in, IsNumbered, AreNumbered, AreSound, AreKept, HasRoom, Pops, Removes, MakesRoom, Pushes}
+use Rattle.powersave.specs.Queues.{Queue, Queues, Arrival, is_whom, queue_for, unit_at, arrival_for, arrivals, entries_in, IsNumbered, AreNumbered, IsRising, AreSound, AreKept, HasRoom, Pops, Removes, MakesRoom, Pushes}
 use Rattle.powersave.proofs.Parts.{msdu, same_whom, without_oldest_none, length-without_oldest, length-without_all}
-use Rattle.powersave.proofs.Merges.{passes, unit_of, IsOnce, units-arrivals, arrivals-pop, arrivals-remove, arrivals-set_same, arrivals-push, arrivals-insert_empty, arrivals-insert_one}
+use Rattle.powersave.proofs.Arrivals.{IsRising-filter, IsRising-without_first, IsRising-last}
+use Rattle.powersave.proofs.Swaps.{swap_removed}
+use Rattle.powersave.proofs.Merges.{passes, others, unit_of, IsOnce, AllBelow-arrivals, units-arrivals, arrivals-pop, arrivals-swap_remove, arrivals-set_same, arrivals-push, arrivals-add_empty, arrivals-add_one}
 
 -- ---- the units of one
 
@@ -46,7 +44,7 @@ units-entries : (bs : List Arrival) → map msdu (map entry_of bs) ≡ map unit_
 units-entries [] = refl
 units-entries (b ∷ bs) = ap (λ us. unit_of b ∷ us) (units-entries bs)
 
-none_named : (whom k : Whom) (queues : Queues) → is_whom whom k ≡ true → AllByRecursion (λ y. is_whom k y ≡ false) (keys_of queues) → NonePasses (is_whom whom) queues
+pub none_named : (whom k : Whom) (queues : Queues) → is_whom whom k ≡ true → AllByRecursion (λ y. is_whom k y ≡ false) (keys_of queues) → NonePasses (is_whom whom) queues
 none_named whom k [] here apart = tt
 none_named whom k (e ∷ es) here apart = (subst (λ w. is_whom w e.0 ≡ false) (same_whom k whom here) apart.0, none_named whom k es here apart.1)
 
@@ -84,14 +82,13 @@ AreNumbered-later : (next : ℕ) (queues : Queues) → AreNumbered next queues �
 AreNumbered-later next [] numbered = tt
 AreNumbered-later next (e ∷ es) numbered = (IsNumbered-later next e.1.items numbered.0, AreNumbered-later next es numbered.1)
 
-AreNumbered-insert : (next : ℕ) (cmp : Whom → Whom → Ordering) (whom : Whom) (w : Queue) (queues : Queues) → IsNumbered next w.items → AreNumbered next queues → AreNumbered next (insert_entry cmp queues whom w)
-AreNumbered-insert next cmp whom w [] here numbered = (here, tt)
-AreNumbered-insert next cmp whom w (e ∷ es) here numbered = placed (cmp whom e.0) (AreNumbered-insert next cmp whom w es here numbered.1)
-  where
-    placed : (o : Ordering) → AreNumbered next (insert_entry cmp es whom w) → AreNumbered next (match_ordering o ((whom, w) ∷ e ∷ es) ((e.0, w) ∷ es) (e ∷ insert_entry cmp es whom w))
-    placed Less later = (here, numbered)
-    placed Equal later = (here, numbered.1)
-    placed Greater later = (numbered.0, later)
+AreNumbered-add : (next : ℕ) (whom : Whom) (w : Queue) (queues : Queues) → IsNumbered next w.items → AreNumbered next queues → AreNumbered next (queues ++ (whom, w) ∷ [])
+AreNumbered-add next whom w [] here numbered = (here, tt)
+AreNumbered-add next whom w (e ∷ es) here numbered = (numbered.0, AreNumbered-add next whom w es here numbered.1)
+
+AreNumbered-last : (next : ℕ) (l : Whom × Queue) (queues : Queues) → AreNumbered next (queues ++ l ∷ []) → AreNumbered next (l ∷ queues)
+AreNumbered-last next l [] numbered = numbered
+AreNumbered-last next l (e ∷ es) numbered = let rest = AreNumbered-last next l es numbered.1 in (rest.0, (numbered.0, rest.1))
 
 module _ (t : Whom → Bool) (next : ℕ) where
   AreNumbered-set_value : (queues : Queues) (w : Queue) → AreNumbered next queues → IsNumbered next w.items → AreNumbered next (set_value t queues w)
@@ -109,6 +106,14 @@ module _ (t : Whom → Bool) (next : ℕ) where
       tested : (d : Bool) → AreNumbered next (remove_entry t es) → AreNumbered next (cond d es (e ∷ remove_entry t es))
       tested true later = numbered.1
       tested false later = (numbered.0, later)
+
+  AreNumbered-swap_remove : (queues : Queues) → AreNumbered next queues → AreNumbered next (swap_remove_entry t queues)
+  AreNumbered-swap_remove queues numbered =
+      swap_removed t (λ es fs. AreNumbered next fs → AreNumbered next es)
+      (λ es all. all)
+      (AreNumbered-last next)
+      (λ e es fs later all. (all.0, later all.1))
+      queues (AreNumbered-remove queues numbered)
 
   IsNumbered-found : (queues : Queues) (q : Queue) → AreNumbered next queues → lookup t queues ≡ Some q → IsNumbered next q.items
   IsNumbered-found [] q numbered found = absurd (none-some q found)
@@ -135,11 +140,6 @@ module _ (u : Whom → Bool) where
   replaced true e w old keeps space = keeps space
   replaced false e w old keeps space = space
 
-  -- one queue more, which has room
-  added : (g : Bool) (w : Queue) (old : Option Queue) → HasSpace w → IsSomeAnd old HasSpace → IsSomeAnd (cond g (Some w) old) HasSpace
-  added true w old here space = here
-  added false w old here space = space
-
   HasSpace-set_value : (t : Whom → Bool) (queues : Queues) (q w : Queue) → lookup t queues ≡ Some q → (HasSpace q → HasSpace w) → IsSomeAnd (lookup u queues) HasSpace → IsSomeAnd (lookup u (set_value t queues w)) HasSpace
   HasSpace-set_value t [] q w found keeps space = space
   HasSpace-set_value t (e ∷ es) q w found keeps space = tested (t e.0) found (λ f. HasSpace-set_value t es q w f keeps)
@@ -148,14 +148,9 @@ module _ (u : Whom → Bool) where
       tested true f later = replaced (u e.0) e.1 w (lookup u es) (λ s. keeps (subst HasSpace (same_Some e.1 q f) s)) space
       tested false f later = still (u e.0) e.1 (lookup u es) (lookup u (set_value t es w)) space (later f)
 
-  HasSpace-insert : (cmp : Whom → Whom → Ordering) (whom : Whom) (w : Queue) (queues : Queues) → HasSpace w → IsSomeAnd (lookup u queues) HasSpace → IsSomeAnd (lookup u (insert_entry cmp queues whom w)) HasSpace
-  HasSpace-insert cmp whom w [] here space = absurd space
-  HasSpace-insert cmp whom w (e ∷ es) here space = placed (cmp whom e.0) (HasSpace-insert cmp whom w es here)
-    where
-      placed : (o : Ordering) → (IsSomeAnd (lookup u es) HasSpace → IsSomeAnd (lookup u (insert_entry cmp es whom w)) HasSpace) → IsSomeAnd (lookup u (match_ordering o ((whom, w) ∷ e ∷ es) ((e.0, w) ∷ es) (e ∷ insert_entry cmp es whom w))) HasSpace
-      placed Less later = added (u whom) w (lookup u (e ∷ es)) here space
-      placed Equal later = replaced (u e.0) e.1 w (lookup u es) (λ s. here) space
-      placed Greater later = still (u e.0) e.1 (lookup u es) (lookup u (insert_entry cmp es whom w)) space later
+  HasSpace-add : (whom : Whom) (w : Queue) (queues : Queues) → IsSomeAnd (lookup u queues) HasSpace → IsSomeAnd (lookup u (queues ++ (whom, w) ∷ [])) HasSpace
+  HasSpace-add whom w [] space = absurd space
+  HasSpace-add whom w (e ∷ es) space = still (u e.0) e.1 (lookup u es) (lookup u (es ++ (whom, w) ∷ [])) space (HasSpace-add whom w es)
 
 -- a changed queue is found where it stood
 lookup-set : (t : Whom → Bool) (queues : Queues) (q w : Queue) → lookup t queues ≡ Some q → lookup t (set_value t queues w) ≡ Some w
@@ -168,14 +163,6 @@ lookup-set t (e ∷ es) q w found = tested (t e.0) refl found (lookup-set t es q
 
 pub lookup-set_here : (whom : Whom) (queues : Queues) (q w : Queue) → lookup (is_whom whom) queues ≡ Some q → lookup (is_whom whom) (set_value (is_whom whom) queues w) ≡ Some w
 lookup-set_here whom queues q w found = lookup-set (is_whom whom) queues q w found
-
-lookup-remove_other : (t u : Whom → Bool) → ((k : Whom) → t k ≡ true → u k ≡ false) → (queues : Queues) → lookup u (remove_entry t queues) ≡ lookup u queues
-lookup-remove_other t u apart [] = refl
-lookup-remove_other t u apart (e ∷ es) = tested (t e.0) refl (lookup-remove_other t u apart es)
-  where
-    tested : (d : Bool) → t e.0 ≡ d → lookup u (remove_entry t es) ≡ lookup u es → lookup u (cond d es (e ∷ remove_entry t es)) ≡ cond (u e.0) (Some e.1) (lookup u es)
-    tested true here later = sym (ap (λ f. cond f (Some e.1) (lookup u es)) (apart e.0 here))
-    tested false other later = ap (λ found. cond (u e.0) (Some e.1) found) later
 
 -- what room there is stays where every queue's does
 HasRoom-kept : (old new : Queues) → ((whom : Whom) → IsSomeAnd (lookup (is_whom whom) old) HasSpace → IsSomeAnd (lookup (is_whom whom) new) HasSpace) → (reserved : Option Whom) → HasRoom reserved old → HasRoom reserved new
@@ -190,12 +177,6 @@ HasRoom-beside whom old new keeps (Some other) room = tested (is_same other whom
     tested : (d : Bool) → is_same other whom ≡ d → HasRoom (cond d None (Some other)) new
     tested true same = tt
     tested false apart = keeps other apart room
-
--- one that is the same as this is not the same as another
-apart_from : (whom other k : Whom) → is_same other whom ≡ false → is_whom whom k ≡ true → is_whom other k ≡ false
-apart_from whom other k apart here =
-    let moved : is_same k other ≡ true → is_same other whom ≡ true = λ there. subst (λ w. is_same w whom ≡ true) (same_whom k other there) here in
-    false_from_ne_true (is_same k other) (λ there. true≢false (sym (moved there) ∙ apart))
 
 -- ---- what the calls do
 
@@ -219,22 +200,26 @@ first_unit next whom queues queue is sound = ap (λ ns. unit_at ns 0) (sym is) �
 
 module _ (whom : Whom) (old new : Queues) where
   -- the keys stay, and the queue for one has other units
-  sound_after_set : (next : ℕ) (w : Queue) → new ≡ set_value (is_whom whom) old w → AreSound next old → IsNumbered next w.items → AreSound next new
-  sound_after_set next w is sound numbered = subst (AreSound next) (sym is) (record {
-    one_each = subst (IsDistinct is_whom) (sym (keys-set_value (is_whom whom) old w)) sound.one_each;
-    numbered = AreNumbered-set_value (is_whom whom) next old w sound.numbered numbered;
-  })
+  sound_after_set : (next : ℕ) (w : Queue) → new ≡ set_value (is_whom whom) old w → AreSound next old → IsNumbered next w.items → IsRising (arrivals new) → AreSound next new
+  sound_after_set next w is sound numbered apart = record {
+    one_each = subst (λ es. IsDistinct is_whom (keys_of es)) (sym is) (subst (IsDistinct is_whom) (sym (keys-set_value (is_whom whom) old w)) sound.one_each);
+    numbered = subst (AreNumbered next) (sym is) (AreNumbered-set_value (is_whom whom) next old w sound.numbered numbered);
+    apart = apart;
+  }
 
   pub pops : (q w : Queue) (taken : Option Msdu) → lookup (is_whom whom) old ≡ Some q → new ≡ set_value (is_whom whom) old w → w.items ≡ drop 1 q.items → (HasSpace q → HasSpace w) → taken ≡ unit_at q.items 0 → Pops whom old taken new
-  pops q w taken found is left keeps first = record {
-    unit = λ next sound. first ∙ first_unit next whom old q.items (queue_found whom old q found) sound;
-    rest = λ next sound.
-        ap entries_in is
-        ∙ ap (map entry_of) (arrivals-pop (is_whom whom) next old q w sound.numbered (once whom old sound.one_each) found left)
-        ∙ sym (without_first-map entry_of (is_for whom) (arrivals old));
-    sound = λ next sound. sound_after_set next w is sound (subst (IsNumbered next) (sym left) (IsNumbered-drop next q.items (IsNumbered-found (is_whom whom) next old q sound.numbered found)));
-    room = HasRoom-beside whom old new (λ other apart room. subst (λ (es : Queues). IsSomeAnd (lookup (is_whom other) es) HasSpace) (sym is) (HasSpace-set_value (is_whom other) (is_whom whom) old q w found keeps room));
-  }
+  pops q w taken found is left keeps first =
+      let gone : (next : ℕ) → AreSound next old → arrivals new ≡ without_first (passes (is_whom whom)) (arrivals old) =
+      λ next sound. ap arrivals is ∙ arrivals-pop (is_whom whom) next old q w sound.numbered (once whom old sound.one_each) found left in
+      record {
+        unit = λ next sound. first ∙ first_unit next whom old q.items (queue_found whom old q found) sound;
+        rest = λ next sound. ap (map entry_of) (gone next sound) ∙ sym (without_first-map entry_of (is_for whom) (arrivals old));
+        sound = λ next sound.
+            sound_after_set next w is sound
+            (subst (IsNumbered next) (sym left) (IsNumbered-drop next q.items (IsNumbered-found (is_whom whom) next old q sound.numbered found)))
+            (subst IsRising (sym (gone next sound)) (IsRising-without_first (passes (is_whom whom)) (arrivals old) sound.apart));
+        room = HasRoom-beside whom old new (λ other apart room. subst (λ (es : Queues). IsSomeAnd (lookup (is_whom other) es) HasSpace) (sym is) (HasSpace-set_value (is_whom other) (is_whom whom) old q w found keeps room));
+      }
 
   pub pops_none : (taken : Option Msdu) → lookup (is_whom whom) old ≡ None → new ≡ old → taken ≡ None → Pops whom old taken new
   pops_none taken missing is none = record {
@@ -244,64 +229,76 @@ module _ (whom : Whom) (old new : Queues) where
     room = HasRoom-beside whom old new (λ other apart room. subst (λ (es : Queues). IsSomeAnd (lookup (is_whom other) es) HasSpace) (sym is) room);
   }
 
-  pub removes : (removed : ℕ) → new ≡ remove_entry (is_whom whom) old → IsDistinct is_whom (keys_of new) → removed ≡ length (queue_for whom old) → Removes whom old removed new
-  removes removed is one_each all = record {
-    count = λ next sound. all ∙ count-units next whom old sound;
-    rest = λ next sound.
-        ap entries_in is
-        ∙ ap (map entry_of) (arrivals-remove (is_whom whom) old (once whom old sound.one_each))
-        ∙ sym (filter-map entry_of (λ entry. not (is_for whom entry)) (arrivals old));
-    sound = λ next sound. record {
-      one_each = one_each;
-      numbered = subst (AreNumbered next) (sym is) (AreNumbered-remove (is_whom whom) next old sound.numbered);
-    };
-    room = HasRoom-beside whom old new (λ other apart room.
-        subst (λ o. IsSomeAnd o HasSpace)
-        (sym (ap (lookup (is_whom other)) is ∙ lookup-remove_other (is_whom whom) (is_whom other) (λ k here. apart_from whom other k apart here) old))
-        room);
-  }
+  pub removes : (removed : ℕ) → new ≡ swap_remove_entry (is_whom whom) old → IsDistinct is_whom (keys_of new) → ((other : Whom) → is_whom whom other ≡ false → lookup (is_whom other) new ≡ lookup (is_whom other) old) → removed ≡ length (queue_for whom old) → Removes whom old removed new
+  removes removed is one_each stays all =
+      let gone : (next : ℕ) → AreSound next old → arrivals new ≡ filter (passes (others (is_whom whom))) (arrivals old) =
+      λ next sound. ap arrivals is ∙ arrivals-swap_remove (is_whom whom) old (once whom old sound.one_each) sound.apart in
+      record {
+        count = λ next sound. all ∙ count-units next whom old sound;
+        rest = λ next sound. ap (map entry_of) (gone next sound) ∙ sym (filter-map entry_of (λ entry. not (is_for whom entry)) (arrivals old));
+        sound = λ next sound. record {
+          one_each = one_each;
+          numbered = subst (AreNumbered next) (sym is) (AreNumbered-swap_remove (is_whom whom) next old sound.numbered);
+          apart = subst IsRising (sym (gone next sound)) (IsRising-filter (passes (others (is_whom whom))) (arrivals old) sound.apart);
+        };
+        room = HasRoom-beside whom old new (λ other apart room. subst (λ o. IsSomeAnd o HasSpace) (sym (stays other apart)) room);
+      }
+
+  -- a unit with the next number comes last
+  rising_after : (arrived : Arrived) → arrivals new ≡ arrivals old ++ arrival_for whom arrived ∷ [] → AreSound arrived.number old → IsRising (arrivals new)
+  rising_after arrived more sound =
+      subst IsRising (sym more) (IsRising-last (arrival_for whom arrived) (arrivals old) (AllBelow-arrivals arrived.number old sound.numbered) sound.apart)
 
   pub pushes : (q w : Queue) (arrived : Arrived) → lookup (is_whom whom) old ≡ Some q → new ≡ set_value (is_whom whom) old w → w.items ≡ q.items ++ arrived ∷ [] → AreSound arrived.number old → Pushes whom arrived old new
-  pushes q w arrived found is more sound = record {
-    units =
-        ap entries_in is
-        ∙ ap (map entry_of) (arrivals-push (is_whom whom) whom (λ k here. same_whom k whom here) arrived old q w sound.numbered found more)
-        ∙ map-append entry_of (arrivals old) (arrival_for whom arrived ∷ []);
-    sound = sound_after_set (arrived.number + 1) w is
-        (record { one_each = sound.one_each; numbered = AreNumbered-later arrived.number old sound.numbered })
-        (subst (IsNumbered (arrived.number + 1)) (sym more) (IsNumbered-push q.items arrived (IsNumbered-found (is_whom whom) arrived.number old q sound.numbered found)));
-  }
+  pushes q w arrived found is more sound =
+      let came : arrivals new ≡ arrivals old ++ arrival_for whom arrived ∷ [] =
+      ap arrivals is ∙ arrivals-push (is_whom whom) whom (λ k here. same_whom k whom here) arrived old q w sound.numbered found more in
+      record {
+        units = ap (map entry_of) came ∙ map-append entry_of (arrivals old) (arrival_for whom arrived ∷ []);
+        sound = sound_after_set (arrived.number + 1) w is
+            (record { one_each = sound.one_each; numbered = AreNumbered-later arrived.number old sound.numbered; apart = sound.apart })
+            (subst (IsNumbered (arrived.number + 1)) (sym more) (IsNumbered-push q.items arrived (IsNumbered-found (is_whom whom) arrived.number old q sound.numbered found)))
+            (rising_after arrived came sound);
+      }
 
-  pub pushes_new : (cmp : Whom → Whom → Ordering) (w : Queue) (arrived : Arrived) → NonePasses (is_at (cmp whom)) old → new ≡ insert_entry cmp old whom w → IsDistinct is_whom (keys_of new) → w.items ≡ arrived ∷ [] → AreSound arrived.number old → Pushes whom arrived old new
-  pushes_new cmp w arrived none is one_each one sound = record {
-    units =
-        ap entries_in is
-        ∙ ap (map entry_of) (arrivals-insert_one cmp whom arrived w old none one sound.numbered)
-        ∙ map-append entry_of (arrivals old) (arrival_for whom arrived ∷ []);
-    sound = record {
-      one_each = one_each;
-      numbered =
-          subst (AreNumbered (arrived.number + 1)) (sym is)
-          (AreNumbered-insert (arrived.number + 1) cmp whom w old (subst (IsNumbered (arrived.number + 1)) (sym one) (omega arith, tt, tt)) (AreNumbered-later arrived.number old sound.numbered));
-    };
-  }
+  pub pushes_new : (w : Queue) (arrived : Arrived) → new ≡ old ++ (whom, w) ∷ [] → IsDistinct is_whom (keys_of new) → w.items ≡ arrived ∷ [] → AreSound arrived.number old → Pushes whom arrived old new
+  pushes_new w arrived is one_each one sound =
+      let came : arrivals new ≡ arrivals old ++ arrival_for whom arrived ∷ [] = ap arrivals is ∙ arrivals-add_one whom arrived w old one sound.numbered in
+      record {
+        units = ap (map entry_of) came ∙ map-append entry_of (arrivals old) (arrival_for whom arrived ∷ []);
+        sound = record {
+          one_each = one_each;
+          numbered =
+              subst (AreNumbered (arrived.number + 1)) (sym is)
+              (AreNumbered-add (arrived.number + 1) whom w old (subst (IsNumbered (arrived.number + 1)) (sym one) (omega arith, tt, tt)) (AreNumbered-later arrived.number old sound.numbered));
+          apart = rising_after arrived came sound;
+        };
+      }
 
   pub makes_room_in : (q w : Queue) → lookup (is_whom whom) old ≡ Some q → new ≡ set_value (is_whom whom) old w → w.items ≡ q.items → (HasSpace q → HasSpace w) → MakesRoom old new
-  makes_room_in q w found is same keeps = record {
-    units = ap entries_in is ∙ ap (map entry_of) (arrivals-set_same (is_whom whom) old q w found same);
-    sound = λ next sound. sound_after_set next w is sound (subst (IsNumbered next) (sym same) (IsNumbered-found (is_whom whom) next old q sound.numbered found));
-    room = HasRoom-kept old new (λ other room. subst (λ (es : Queues). IsSomeAnd (lookup (is_whom other) es) HasSpace) (sym is) (HasSpace-set_value (is_whom other) (is_whom whom) old q w found keeps room));
-  }
+  makes_room_in q w found is same keeps =
+      let stay : arrivals new ≡ arrivals old = ap arrivals is ∙ arrivals-set_same (is_whom whom) old q w found same in
+      record {
+        units = ap (map entry_of) stay;
+        sound = λ next sound.
+            sound_after_set next w is sound
+            (subst (IsNumbered next) (sym same) (IsNumbered-found (is_whom whom) next old q sound.numbered found))
+            (subst IsRising (sym stay) sound.apart);
+        room = HasRoom-kept old new (λ other room. subst (λ (es : Queues). IsSomeAnd (lookup (is_whom other) es) HasSpace) (sym is) (HasSpace-set_value (is_whom other) (is_whom whom) old q w found keeps room));
+      }
 
-  pub makes_room_new : (cmp : Whom → Whom → Ordering) (w : Queue) → NonePasses (is_at (cmp whom)) old → new ≡ insert_entry cmp old whom w → IsDistinct is_whom (keys_of new) → w.items ≡ [] → HasSpace w → MakesRoom old new
-  makes_room_new cmp w none is one_each empty here = record {
-    units = ap entries_in is ∙ ap (map entry_of) (arrivals-insert_empty cmp whom w old none empty);
-    sound = λ next sound. record {
-      one_each = one_each;
-      numbered = subst (AreNumbered next) (sym is) (AreNumbered-insert next cmp whom w old (subst (IsNumbered next) (sym empty) tt) sound.numbered);
-    };
-    room = HasRoom-kept old new (λ other room. subst (λ (es : Queues). IsSomeAnd (lookup (is_whom other) es) HasSpace) (sym is) (HasSpace-insert (is_whom other) cmp whom w old here room));
-  }
+  pub makes_room_new : (w : Queue) → new ≡ old ++ (whom, w) ∷ [] → IsDistinct is_whom (keys_of new) → w.items ≡ [] → MakesRoom old new
+  makes_room_new w is one_each empty =
+      let stay : arrivals new ≡ arrivals old = ap arrivals is ∙ arrivals-add_empty whom w old empty in
+      record {
+        units = ap (map entry_of) stay;
+        sound = λ next sound. record {
+          one_each = one_each;
+          numbered = subst (AreNumbered next) (sym is) (AreNumbered-add next whom w old (subst (IsNumbered next) (sym empty) tt) sound.numbered);
+          apart = subst IsRising (sym stay) sound.apart;
+        };
+        room = HasRoom-kept old new (λ other room. subst (λ (es : Queues). IsSomeAnd (lookup (is_whom other) es) HasSpace) (sym is) (HasSpace-add (is_whom other) whom w old room));
+      }
 
   pub makes_room_same : new ≡ old → MakesRoom old new
   makes_room_same is = record {
@@ -317,7 +314,7 @@ unfolding IsDistinct
 no_queues = tt
 
 pub kept_new : (quota : ℕ) (queues : Queues) → queues ≡ [] → AreKept quota 0 0 None queues
-kept_new quota queues none = subst (AreKept quota 0 0 None) (sym none) (record { sound = record { one_each = no_queues; numbered = tt }; counted = refl; within = omega arith; room = tt })
+kept_new quota queues none = subst (AreKept quota 0 0 None) (sym none) (record { sound = record { one_each = no_queues; numbered = tt; apart = tt }; counted = refl; within = omega arith; room = tt })
 
 module _ (quota len next : ℕ) (reserved : Option Whom) (old new : Queues) (kept : AreKept quota len next reserved old) where
   pub kept_same : MakesRoom old new → AreKept quota len next reserved new

@@ -1,6 +1,6 @@
 -- The units that a network keeps for stations that doze (IEEE Std 802.11-2016, 11.2.3): one list, of which a part is
 -- for each.
-use Rattle.std.specs.Prelude.{ℕ, ◌≡◌, ◌<◌, ◌≤◌, nat_lt, Bool, true, false, not, ◌&&◌, ◌||◌, List, [], ◌∷◌, ◌++◌, length}
+use Rattle.std.specs.Prelude.{ℕ, ◌≡◌, ◌≤◌, nat_lt, Bool, true, false, not, ◌&&◌, List, [], ◌∷◌, ◌++◌}
 use Rattle.std.specs.Prelude.{map, filter, Option, Some, None, if◌then◌else◌}
 use Rattle.std.specs.List.{AllByRecursion}
 use Rattle.std.specs.Str.{bytes_eq}
@@ -87,6 +87,11 @@ first_clock (u ∷ us) = Some u.at
 -- all for whom units are kept, with the clock of the oldest of them
 abbrev pub AreOldest : List Oldest → List Entry → Type 0
 AreOldest oldest entries = (whom : Whom) → oldest_at whom oldest ≡ first_clock (units_for whom entries)
+
+-- no two of such a list are for one
+abbrev pub AreToldOnce : List Oldest → Type 0
+AreToldOnce [] = Unit {0}
+AreToldOnce (o ∷ os) = (oldest_at o.whom os ≡ None) × AreToldOnce os
 
 -- ---- the first unit for one as a Data frame (9.3.2.1)
 

@@ -1,5 +1,5 @@
 -- The queues of the units that are kept, one for each for whom units are kept, and the one list that they make.
-use Rattle.std.specs.Prelude.{ℕ, ◌≡◌, ◌+◌, ◌<◌, ◌≤◌, ◌++◌, Bool, List, [], ◌∷◌, length, map, filter, nat_lt}
+use Rattle.std.specs.Prelude.{ℕ, ◌≡◌, ◌+◌, ◌<◌, ◌≤◌, ◌++◌, Bool, List, [], ◌∷◌, length, map, nat_lt}
 use Rattle.std.specs.Prelude.{Option, Some, None}
 use Rattle.std.specs.Prelude.{unwrap_or, if◌then◌else◌}
 use Rattle.std.specs.List.{AllByRecursion, IsDistinct, slice_get}
@@ -81,10 +81,16 @@ IsNumbered next (a ∷ queue) =
 abbrev pub AreNumbered : ℕ → Queues → Type 0
 AreNumbered next queues = AllByRecursion (λ q. IsNumbered next q.1.items) queues
 
--- no two are for one
+-- the numbers rise, so that no two units have the same
+abbrev pub IsRising : List Arrival → Type 0
+IsRising [] = Unit {0}
+IsRising (a ∷ bs) = AllByRecursion (λ b. a.0 < b.0) bs × IsRising bs
+
+-- no two are for one, and no two units have the same number, be it in one queue or in two
 pub record AreSound (next : ℕ) (queues : Queues) : Type 0 where
   pub one_each : IsDistinct is_whom (keys_of queues)
   pub numbered : AreNumbered next queues
+  pub apart : IsRising (arrivals queues)
 
 -- the one for whom room is reserved, if for any, has a queue with room for one unit more
 abbrev pub HasRoom : Option Whom → Queues → Type 0

@@ -6,7 +6,7 @@ ghost use Rattle.std.specs.Option.{option_copied};
 ghost use Rattle.powersave.specs.declared.unit.Whom.{Whom};
 ghost use Rattle.powersave.specs.declared.unit.Unit.{Unit as Msdu};
 ghost use Rattle.powersave.specs.Keep.{Entry, units_for, without_oldest, without_all, room_beside, first_frame};
-ghost use Rattle.powersave.specs.Keep.{is_older, without_older, first_is_older, CameInOrder, AreOldest};
+ghost use Rattle.powersave.specs.Keep.{is_older, without_older, first_is_older, CameInOrder, AreOldest, AreToldOnce};
 
 use crate::queues::{Arrived, Queues};
 use crate::unit::{Oldest, Unit, Whom};
@@ -217,7 +217,8 @@ impl Keep {
     /// Each for whom units are kept, once, with the clock at which the oldest of them came. `NoMemory` where memory ran
     /// out.
     pub fn oldest_of_each(&self) -> Result<Vec<Oldest>, NoMemory>
-        ensures { IfOk result (λ oldest. AreOldest oldest.items self.now.entries) }
+        ensures each { IfOk result (λ oldest. AreOldest oldest.items self.now.entries) }
+        ensures once { IfOk result (λ oldest. AreToldOnce oldest.items) }
     {
         self.queues.oldest_of_each()
     }

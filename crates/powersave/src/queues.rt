@@ -8,9 +8,10 @@ ghost use Rattle.powersave.specs.Queues.{queue_for, unit_at, oldest_in, HasRoom,
 ghost use Rattle.powersave.specs.Queues.{Pops, Sends, Removes, MakesRoom, Pushes};
 
 use crate::unit::{Oldest, Unit, Whom};
+use indexmap::IndexMap;
 use mac_frame::{HEADER_LEN, MacAddr, NoMemory, Octets, write_msdu};
 use std::alloc::Global;
-use std::collections::{BTreeMap, VecDeque};
+use std::collections::VecDeque;
 
 /// A unit, and the number of its arrival: how many were put before it.
 #[derive(Debug, Drop)]
@@ -19,12 +20,12 @@ pub(crate) struct Arrived {
     pub(crate) unit: Unit,
 }
 
-/// The queues, each in order of arrival. One that has become empty stays until it is removed, so that a unit put into
-/// it needs no new queue.
+/// The queues, each in order of arrival, found by a hash of whom each is for. One that has become empty stays until it
+/// is removed, so that a unit put into it needs no new queue.
 #[derive(Debug, Drop)]
 pub(crate) struct Queues {
     alloc: Global,
-    map: BTreeMap<Whom, VecDeque<Arrived>>,
+    map: IndexMap<Whom, VecDeque<Arrived>>,
 }
 
 impl Queues {
@@ -34,7 +35,7 @@ impl Queues {
     {
         Queues {
             alloc,
-            map: BTreeMap::new(alloc),
+            map: IndexMap::new(alloc),
         }
     }
 
@@ -105,11 +106,12 @@ impl Queues {
         Ok(Some((frame, follows)))
     }
 
-    /// Removes the queue for `whom`, and gives the number of its units.
+    /// Removes the queue for `whom`, and gives the number of its units. The last queue takes its place, and the others
+    /// stay where they are.
     pub(crate) fn remove(&mut self, whom: &Whom) -> usize
         ensures { Removes whom.now self.old.map.entries result self.new.map.entries }
     {
-        match self.map.remove(whom) {
+        match self.map.swap_remove(whom) {
             Some(queue) => queue.len(),
             None => 0,
         }

@@ -3,7 +3,7 @@
 use mac_frame::{MacAddr, Octets};
 
 /// For whom a unit is kept.
-#[derive(Clone, Copy, Debug, PartialEq, Eq, PartialOrd, Ord)]
+#[derive(Clone, Copy, Debug, PartialEq, Eq, PartialOrd, Ord, Hash)]
 pub enum Whom {
     /// For the station with this address.
     One(MacAddr),

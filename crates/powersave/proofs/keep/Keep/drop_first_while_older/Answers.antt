@@ -1,5 +1,5 @@
-use Rattle.std.proofs.Common.{◌≡◌, ◌+◌, ℕ, List, length, sym, ap, ◌∙◌, subst, arith}
-use Rattle.powersave.specs.Keep.{Entry, Kept, units_for, without_oldest, without_older, room_beside, first_is_older, CameInOrder}
+use Rattle.std.proofs.Common.{◌≡◌, List, length, sym, ap, ◌∙◌, subst, arith}
+use Rattle.powersave.specs.Keep.{Entry, Kept, units_for, without_oldest, without_older, room_beside, CameInOrder}
 use Rattle.powersave.proofs.Older.{older_count, older-few, one-less, in-order_later, none-left}
 use Rattle.powersave.proofs.keep.Keep.drop_first_while_older.Goals as goal
 

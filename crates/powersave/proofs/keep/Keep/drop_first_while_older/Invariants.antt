@@ -1,4 +1,4 @@
-use Rattle.std.proofs.Common.{◌≡◌, ◌+◌, length}
+use Rattle.std.proofs.Common.{◌≡◌, ◌+◌}
 use Rattle.powersave.specs.Keep.{units_for, without_older, CameInOrder}
 use Rattle.powersave.proofs.Older.{older_count}
 use Rattle.powersave.proofs.keep.Keep.drop_first_while_older.Given as goal

@@ -1,11 +1,11 @@
 use Rattle.std.proofs.Common.{◌<◌, sym, ap, ◌∙◌, subst, arith}
-use Rattle.std.specs.BTreeMap.{insert_entry, is_at}
 use Rattle.std.specs.Map.{lookup, set_value}
 use Rattle.std.specs.Option.{IsSomeAnd}
-use Rattle.std.proofs.lemmas.Map.{none_passes_from_lookup}
+use Rattle.indexmap.specs.IndexMap.{insert_entry}
+use Rattle.indexmap.proofs.CallerLemmas.{insert_entry-new}
 use Rattle.powersave.specs.Queues.{is_whom}
 use Rattle.powersave.proofs.QueueSteps.{HasSpace, lookup-set_here, makes_room_in, makes_room_new}
-use Rattle.powersave.proofs.Whoms.{whom_cmp, is_at_whom, found_in, one_each}
+use Rattle.powersave.proofs.Whoms.{whom_eq, is_at_whom, found_in, one_each}
 use Rattle.powersave.proofs.queues.Queues.make_room.Goals as goal
 
 pub returns-in_err-reserve-clause-units : goal.returns-in_err-reserve-clause-units
@@ -60,9 +60,9 @@ returns-clause-units c =
     let map = c.args.self.now.map in
     let new = c.insert.new.self in
     let queue = c.in_ok-queue.queue in
-    makes_room_new whom map.entries new.entries whom_cmp queue
-    (none_passes_from_lookup (is_at (whom_cmp whom)) map.entries (sym c.in_default.ensures.value))
-    (c.in_ok-insert.ensures.entries ∙ ap (λ m. insert_entry whom_cmp m.entries whom queue) c.get_mut.follows.holds-at-none)
-    (one_each new c.in_ok-insert.ensures.ordered)
+    makes_room_new whom map.entries new.entries queue
+    (c.in_ok-insert.ensures.entries
+    ∙ ap (λ m. insert_entry whom_eq m.entries whom queue) c.get_mut.follows.holds-at-none
+    ∙ insert_entry-new whom_eq map whom queue (sym c.in_default.ensures.value))
+    (one_each new c.in_ok-insert.ensures.unique)
     c.in_ok-queue.ensures.items
-    (let len = c.in_ok-queue.ensures.len in let capacity = c.in_ok-queue.ensures.capacity in omega arith)

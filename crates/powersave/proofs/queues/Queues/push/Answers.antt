@@ -1,10 +1,10 @@
 use Rattle.std.proofs.Common.{[], ◌∷◌, ◌++◌, Result, Ok, Err, OnErr, sym, ap, ◌∙◌, subst, arith}
-use Rattle.std.specs.BTreeMap.{insert_entry, is_at}
 use Rattle.std.specs.Map.{set_value}
 use Rattle.std.specs.Option.{IsSomeAnd}
-use Rattle.std.proofs.lemmas.Map.{none_passes_from_lookup}
+use Rattle.indexmap.specs.IndexMap.{insert_entry}
+use Rattle.indexmap.proofs.CallerLemmas.{insert_entry-new}
 use Rattle.powersave.proofs.QueueSteps.{HasSpace, makes_room_in, pushes, pushes_new}
-use Rattle.powersave.proofs.Whoms.{whom_cmp, is_at_whom, found_in, missing_in, one_each}
+use Rattle.powersave.proofs.Whoms.{whom_eq, is_at_whom, found_in, missing_in, one_each}
 use Rattle.powersave.proofs.queues.Queues.push.Goals as goal
 
 on_err : {A E P : Type 0} (result : Result A E) → P → OnErr result P
@@ -58,9 +58,10 @@ returns-clause-ok c =
     let map = c.args.self.now.map in
     let new = c.insert.new.self in
     let queue = c.push_back_reserved.new.self in
-    pushes_new whom map.entries new.entries whom_cmp queue c.args.arrived
-    (none_passes_from_lookup (is_at (whom_cmp whom)) map.entries (sym c.in_default.ensures.value))
-    (c.in_ok-insert.ensures.entries ∙ ap (λ m. insert_entry whom_cmp m.entries whom queue) c.get_mut.follows.holds-at-none)
-    (one_each new c.in_ok-insert.ensures.ordered)
+    pushes_new whom map.entries new.entries queue c.args.arrived
+    (c.in_ok-insert.ensures.entries
+    ∙ ap (λ m. insert_entry whom_eq m.entries whom queue) c.get_mut.follows.holds-at-none
+    ∙ insert_entry-new whom_eq map whom queue (sym c.in_default.ensures.value))
+    (one_each new c.in_ok-insert.ensures.unique)
     (c.push_back_reserved.ensures.items ∙ ap (λ xs. xs ++ c.args.arrived ∷ []) c.in_ok-fresh.ensures.items)
     c.requires.sound
