@@ -51,9 +51,9 @@ pub record FirstSetting : Type 0 where
   pub max_known : ℕ
   pub quota : ℕ
 
--- the stations that it knows, in order of first authentication; the units that it keeps, in order of arrival; the beacon
--- intervals that began; the sequence number of its next frame; what it lost, and what was no request; and every frame
--- that it ever sent on the air and on the wire
+-- the stations that it knows, in order of first authentication; the units that it keeps, in order of arrival; the
+-- beacon intervals that began; the sequence number of its next frame; what it lost, and what was no request; and every
+-- frame that it ever sent on the air and on the wire
 pub record FirstNetwork : Type 0 where
   pub stations : List (List ℕ × StationState)
   pub kept : List (Whom × DataUnit)
@@ -351,8 +351,8 @@ serve s (Msdu from doze to body) n = forward s (unit n.clock to from body) (set_
 serve s (Null from doze) n = set_power_mode s from doze n
 serve s (Poll from aid) n = answer_poll s from aid n
 
--- What is sent in place of an answer (11.3.3), with its reason (9.4.1.7): a frame of Class 2 is taken from a station that
--- is authenticated, associated or not, and one of Class 3 from a station that is associated.
+-- What is sent in place of an answer (11.3.3), with its reason (9.4.1.7): a frame of Class 2 is taken from a station
+-- that is authenticated, associated or not, and one of Class 3 from a station that is associated.
 abbrev pub notice_2 : Option StationState → Option Notice
 notice_2 None = Some (Deauthenticate 6)
 notice_2 (Some state) = None
