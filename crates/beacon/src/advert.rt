@@ -5,14 +5,13 @@ ghost use Rattle.std.specs.Prelude.{◌≡◌, ◌++◌, ◌≤◌, length, take
 ghost use Rattle.beacon.specs.Advert.{announced, timestamp, fixed_fields, network_elements};
 
 use elements::{DSSS_PARAMETER_SET, SSID, write_element, write_supported_rates};
-use mac_frame::{CAPABILITY, HEADER_LEN, MacAddr, NoMemory, Octets};
+use mac_frame::{CAPABILITY, MacAddr, NoMemory, Octets};
 
 /// The microseconds of a time unit (3.1).
 const TIME_UNIT: u64 = 1024;
 
-/// The octets of a probe response without the SSID and the rates: the header, fixed fields of 12, the DSSS Parameter
-/// Set of 3, and the first two octets of three elements (9.3.3.11). A beacon has a TIM beside them.
-pub(crate) const FIXED_LEN: usize = HEADER_LEN + 12 + 3 + 3 * 2;
+/// How many octets the fields before the elements have.
+pub(crate) const FIXED_FIELDS_LEN: usize = 12;
 
 /// A network at one moment, as its beacons and probe responses announce it.
 #[derive(Clone, Copy, Debug)]
@@ -33,17 +32,16 @@ pub struct Advert<'a> {
     pub seq: u16,
 }
 
-/// Appends the fields before the elements: Timestamp, Beacon Interval and Capability Information. After `NoMemory` some
-/// may follow what was there.
+/// The fields before the elements: Timestamp, Beacon Interval and Capability Information.
 #[tactic(auto, unfolding(crate::specs::Advert::fixed_fields))]
 #[inline(always)]
-pub(crate) fn append_fixed_fields(out: &mut Octets, advert: &Advert<'_>) -> Result<(), NoMemory>
-    ensures ok { OnOk result (out.new ≡ out.old ++ fixed_fields (announced advert.now)) }
-    ensures err { OnErr result (take (length out.old) out.new ≡ out.old) }
+pub(crate) fn fixed_fields(advert: &Advert<'_>) -> [u8; FIXED_FIELDS_LEN]
+    ensures { result ≡ fixed_fields (announced advert.now) }
 {
-    out.append(&timestamp(advert.clock, advert.interval))?;
-    out.append(&advert.interval.to_le_bytes())?;
-    out.append(&CAPABILITY.to_le_bytes())
+    let [a, b, c, d, e, f, g, h] = timestamp(advert.clock, advert.interval);
+    let [low, high] = advert.interval.to_le_bytes();
+    let [first, second] = CAPABILITY.to_le_bytes();
+    [a, b, c, d, e, f, g, h, low, high, first, second]
 }
 
 /// Timestamp (9.4.1.10): the beginning of the beacon interval, in microseconds (*profile*).

@@ -5,10 +5,14 @@ ghost use Rattle.std.specs.FinSet as set;
 ghost use Rattle.beacon.specs.Advert.{announced};
 ghost use Rattle.beacon.specs.Beacon.{beacon, beacon_body, beacon_tim, dtim_count, traffic_indicator};
 
-use crate::advert::{Advert, FIXED_LEN, append_fixed_fields, append_network_elements};
+use crate::advert::{Advert, FIXED_FIELDS_LEN, append_network_elements, fixed_fields};
 use elements::write_extended_rates;
-use mac_frame::{BEACON, MacAddr, NoMemory, Octets, write_mgmt};
+use mac_frame::{BEACON, HEADER_LEN, MacAddr, NoMemory, Octets, write_mgmt};
 use tim::{Bitmap, write_tim};
+
+/// The octets of a beacon without its SSID, its rates and its TIM: the header, the fixed fields, the DSSS Parameter Set
+/// of 3, and the first two octets of three elements (9.3.3.3).
+const FIXED_LEN: usize = HEADER_LEN + FIXED_FIELDS_LEN + 3 + 3 * 2;
 
 /// The octets of a TIM with one octet of the virtual bitmap, the fewest that it has (9.4.2.6).
 const LEAST_TIM_LEN: usize = 6;
@@ -58,7 +62,7 @@ fn append_body(
         ≡ out.old ++ beacon_body (announced advert.now) period group (set.contains bits.now)) }
     ensures err { OnErr result (take (length out.old) out.new ≡ out.old) }
 {
-    append_fixed_fields(out, advert)?;
+    out.append(&fixed_fields(advert))?;
     append_network_elements(out, advert)?;
     append_tim(out, advert.clock, period, group, bits)?;
     write_extended_rates(out, advert.rates)

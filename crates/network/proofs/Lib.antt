@@ -13,4 +13,3 @@ pub mod SentFrames
 pub mod UnitDelivery
 pub mod UnitRows
 pub mod UnitSamples
-pub mod Samples

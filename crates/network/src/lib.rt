@@ -11,6 +11,7 @@
 //! Several networks, when frames leave, and where events come from, are left to the crates above.
 #![tactic(auto)]
 
+mod announced_setting;
 mod answer;
 mod bss;
 mod laws;

@@ -3,7 +3,8 @@
 ghost use Rattle.std.specs.Prelude.{◌≡◌, ◌+◌, ◌*◌, ◌<◌, ◌≤◌, ◌^◌, ◌&&◌, nat_lt, ℕ, true, ◌↔◌, None, Some, Err, IfSome};
 ghost use Rattle.std.specs.Prelude.{IfOk, OnOk, OnErr, length, slice_get, option_to_list};
 ghost use Rattle.ap_config.specs.Configuration.{setting_fault, network_fault};
-ghost use Rattle.network.specs.Network.{step, table_of, age_units};
+ghost use Rattle.beacon.specs.ProbeResponse.{response_elements};
+ghost use Rattle.network.specs.Network.{step, table_of, age_units, announced_at};
 ghost use Rattle.network.specs.NetworkView.{new_network, took_event, replied, carried_out, MayFollow};
 ghost use Rattle.network.specs.Sound.{IsSoundNetwork};
 ghost use Rattle.network.specs.Replies.{no_reply, done, serving, before_reply, after_reply};
@@ -13,9 +14,11 @@ ghost use Rattle.network.specs.declared.network.NetworkRefusal.TheVariants as re
 ghost use Rattle.powersave.specs.Keep.{units_for};
 ghost use Rattle.powersave.specs.declared.unit.Whom.TheVariants as whoms;
 
+use crate::announced_setting::AnnouncedSetting;
 use crate::reply::{Frames, Reply, SEQUENCE_NUMBERS};
 use crate::shown::row_of;
 use ap_config::{Setting, checked_numbers};
+use beacon::ResponseElements;
 use events::{Event, StationRow};
 use mac_frame::{MacAddr, NoMemory, Octets};
 use powersave::{Keep, Whom};
@@ -57,7 +60,7 @@ pub struct Sent {
 #[derive(Drop)]
 pub struct Network {
     alloc: Global,
-    setting: Setting,
+    setting: AnnouncedSetting,
     roster: Roster,
     events: u64,
     clock: u32,
@@ -97,7 +100,7 @@ impl Network {
         Network {
             alloc,
             roster: Roster::new(alloc, setting.network.max_stations, setting.network.quota),
-            setting,
+            setting: AnnouncedSetting::new(setting),
             events: 0,
             clock: 0,
             sequence: 0,
@@ -111,7 +114,14 @@ impl Network {
         ensures setting { result.now ≡ self.now.setting }
         ensures sound { network_fault result.now.network ≡ None }
     {
-        &self.setting
+        self.setting.get()
+    }
+
+    /// The elements of its probe responses, the same at each clock (IEEE Std 802.11-2016, 9.3.3.11).
+    pub(crate) fn response_elements(&self) -> &ResponseElements
+        ensures { (clock : ℕ) → result.now ≡ response_elements (announced_at self.now.setting clock) }
+    {
+        self.setting.response_elements()
     }
 
     /// How many events it took.
@@ -271,7 +281,7 @@ impl Network {
         ensures few { IfOk result (λ sent. length sent.air ≤ 1) }
         ensures err { OnErr result (self.new ≡ self.old) }
     {
-        let bssid = self.setting.network.bssid;
+        let bssid = self.setting.get().network.bssid;
         let sent = self.roster.send_oldest(from, bssid, self.sequence)?;
         self.events += 1;
         let Some(frame) = sent else {
@@ -298,7 +308,7 @@ impl Network {
     {
         // the quota is counted by 32 bits
         checked_numbers();
-        let ages = units_age(reply.clock, self.setting.network.aging);
+        let ages = units_age(reply.clock, self.setting.get().network.aging);
         let aged = self
             .roster
             .carry_out(reply.change, reply.keeping, ages, self.clock)?;
@@ -364,7 +374,7 @@ impl Network {
     pub(crate) fn into_setting(self) -> Setting
         ensures { result ≡ self.setting }
     {
-        self.setting
+        self.setting.into_inner()
     }
 }
 

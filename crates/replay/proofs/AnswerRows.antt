@@ -5,9 +5,8 @@ use Rattle.hex.specs.Hex.{encode_with}
 use Rattle.network.specs.Network.{alone}
 use Rattle.events.specs.declared.section.Section.{Section}
 use Rattle.events.specs.declared.event.Event.TheVariants.{Air}
-use Rattle.network.specs.Samples.{probe, probe_for_another, network_of_one_event}
-use Rattle.network.specs.Samples.{section_of_one_probe, section_of_a_probe_for_another, section_of_a_short_history}
-use Rattle.network.specs.Section.{section_of}
+use Rattle.network.proofs.NetworkRows.{the_section_of_one_probe, the_section_of_a_short_history}
+use Rattle.network.proofs.NetworkRows.{the_section_of_a_probe_for_another}
 use Rattle.ap_config.specs.Samples.{setting}
 use Rattle.beacon.specs.ProbeResponse.{timestamp, fixed_fields, network_elements}
 use Rattle.elements.specs.Elements.{elements_of, elements_within}
@@ -41,21 +40,6 @@ report_of_one_answer =
 -- the answer of one section
 abbrev reported : Section → Result (List ℕ) TextFault
 reported s = Ok (report_text (s ∷ []))
-
--- ---- the sections
-
-the_section_of_one_probe : section_of setting (Air probe ∷ []) ≡ section_of_one_probe
-unfolding alone timestamp fixed_fields network_elements elements_of elements_within
-the_section_of_one_probe = refl
-
-the_section_of_a_short_history :
-    section_of (record setting { network = network_of_one_event }) (Air probe ∷ []) ≡ section_of_a_short_history
-unfolding alone timestamp fixed_fields network_elements elements_of elements_within
-the_section_of_a_short_history = refl
-
-the_section_of_a_probe_for_another : section_of setting (Air probe_for_another ∷ []) ≡ section_of_a_probe_for_another
-unfolding alone elements_of elements_within
-the_section_of_a_probe_for_another = refl
 
 -- ---- the answers
 

@@ -7,7 +7,7 @@ ghost use Rattle.network.specs.Replies.{no_reply, after_reply, IsFitting};
 use crate::network::Network;
 use crate::reply::Reply;
 use crate::shown::announcement;
-use beacon::write_probe_response;
+use beacon::write_response_with;
 use mac_frame::{MacAddr, NoMemory, Octets};
 
 impl Network {
@@ -31,7 +31,7 @@ impl Network {
         }
         let mut frame = Octets::new(self.alloc());
         let advert = announcement(setting, self.clock(), reply.sequence);
-        write_probe_response(&mut frame, &advert, from)?;
+        write_response_with(&mut frame, &advert, self.response_elements(), from)?;
         reply.send(frame)
     }
 }

@@ -74,7 +74,8 @@ invariant_of-self-2 c =
     let n : NetworkState = record { setting = c.self.inside.setting; events = c.self.inside.events; network = network_with c.self.inside.roster c.self.inside.clock c.self.inside.sequence c.self.inside.lost c.self.inside.unread } in
     let follows = subst (λ (k : NetworkState). MayFollow k None r) (sym c.self.view_is) c.requires.follows in
     let told = c.in_ok-aged.ensures in
-    let is = ended n r c.carry_out.new.self c.units_age-ages.result c.from.result c.from-2.result c.from-3.result c.units_age-ages.ensures (ap (λ (k : StationTable). k.table) told.stations) told.entries (c.from.ensures ∙ told.count) c.from-2.ensures c.from-3.ensures in
+    let ages : c.units_age-ages.result ≡ (nat_lt 0 r.clock && n.setting.network.aging) = c.units_age-ages.ensures ∙ ap (λ (s : Setting). nat_lt 0 r.clock && s.network.aging) c.get.ensures in
+    let is = ended n r c.carry_out.new.self c.units_age-ages.result c.from.result c.from-2.result c.from-3.result ages (ap (λ (k : StationTable). k.table) told.stations) told.entries (c.from.ensures ∙ told.count) c.from-2.ensures c.from-3.ensures in
     record {
       accepted = c.self.invariant.accepted;
       sound = subst (IsSoundNetwork n.setting (n.events + 1) (2 * (n.events + 1))) (sym is) follows.sound;
@@ -89,5 +90,6 @@ returns-clause-after c =
     let r : Reply = c.args.reply in
     let n : NetworkState = record { setting = c.self.inside.setting; events = c.self.inside.events; network = network_with c.self.inside.roster c.self.inside.clock c.self.inside.sequence c.self.inside.lost c.self.inside.unread } in
     let told = c.in_ok-aged.ensures in
-    let is = ended n r c.carry_out.new.self c.units_age-ages.result c.from.result c.from-2.result c.from-3.result c.units_age-ages.ensures (ap (λ (k : StationTable). k.table) told.stations) told.entries (c.from.ensures ∙ told.count) c.from-2.ensures c.from-3.ensures in
+    let ages : c.units_age-ages.result ≡ (nat_lt 0 r.clock && n.setting.network.aging) = c.units_age-ages.ensures ∙ ap (λ (s : Setting). nat_lt 0 r.clock && s.network.aging) c.get.ensures in
+    let is = ended n r c.carry_out.new.self c.units_age-ages.result c.from.result c.from-2.result c.from-3.result ages (ap (λ (k : StationTable). k.table) told.stations) told.entries (c.from.ensures ∙ told.count) c.from-2.ensures c.from-3.ensures in
     ap (λ (m : Network). record n { events = n.events + 1; network = m }) is ∙ ap (carried_out None r) c.self.view_is

@@ -9,7 +9,7 @@ pub new-requires-clause-few : goal.new-requires-clause-few
 new-requires-clause-few c = c.checked_numbers.ensures.stations c.args.setting.network c.requires.network
 
 pub invariant_of-result : goal.invariant_of-result
-invariant_of-result c = rw c.new.ensures (record {
+invariant_of-result c = rw (c.new.ensures, c.new-2.ensures) (record {
   accepted = c.requires.network;
   sound = empty-sound c.args.setting;
   most = refl;
