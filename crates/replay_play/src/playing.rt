@@ -18,15 +18,7 @@ use std::sync::Wait;
 use std::thread;
 use std::thread::Threads;
 use trace::{ReadFault, Sink, TraceTextFault, read_config, read_trace};
-use workers::{Gate, MAX_CALLERS, Played, play_lent};
-
-/// A gate that holds no source back.
-#[derive(Clone, Copy)]
-struct Open;
-
-impl Gate for Open {
-    fn before(&self, _source: u32, _line: u32) {}
-}
+use workers::{MAX_CALLERS, Played, play_lent};
 
 /// Reads a configuration and 1 to 64 traces, plays the traces at once, each as a source with a thread of its own, and
 /// appends the report of all networks to what `out` has taken ([`workers::play`]). For each network by itself it is
@@ -69,7 +61,7 @@ pub fn report_play<R: Threads + Wait + Sync, W: Sink>(
         return Err(PlayTextFault::Sources);
     }
     let sources = read_traces(rt, alloc, &config, traces)?;
-    let played = play_lent(rt, alloc, config, sources.as_slice(), &Open)?;
+    let played = play_lent(rt, alloc, config, sources.as_slice())?;
     write_in_threads(rt, alloc, played.sections.as_slice(), out)?;
     Ok((sources, played))
 }

@@ -32,7 +32,7 @@ use Rattle.workers.specs.declared.playing.PlayFault.{PlayFault}
 use Rattle.workers.specs.declared.playing.PlayFault.TheVariants as faults
 use Rattle.workers.specs.declared.outcome.Outcome.TheVariants.{NotHeard, Took, Full, NoMemory}
 
--- ---- the answers to one line more
+-- ---- the answers to lines after others
 
 zip-append : {A B : Type 0} (R : A → B → Type 0) (xs more : List A) (ys rest : List B) → AllZip R xs ys → AllZip R more rest → AllZip R (xs ++ more) (ys ++ rest)
 zip-append R [] more [] rest h k = k
@@ -43,11 +43,11 @@ zip-append R (x ∷ xs) more (y ∷ ys) rest h k = (h.0, zip-append R xs more ys
 pub answers-none : (config : RadioConfig) → AreAnswers config [] []
 answers-none config place within = tt
 
-pub answers-more : (config : RadioConfig) (lines : List Line) (line : Line) (entries added : List Entry) → AreAnswers config lines entries → AreAnswers config (line ∷ []) added → AreAnswers config (lines ++ line ∷ []) (entries ++ added)
-answers-more config lines line entries added old new place within =
+pub answers-more : (config : RadioConfig) (lines more : List Line) (entries added : List Entry) → AreAnswers config lines entries → AreAnswers config more added → AreAnswers config (lines ++ more) (entries ++ added)
+answers-more config lines more entries added old new place within =
     subst (λ (x : List Event × List Entry). AllZip Answers x.0 x.1)
-    (λ k. (sym (flat_map-append (λ (l : Line). heard_at config l place) lines (line ∷ [])) k, sym (filter-append (is_from place) entries added) k))
-    (zip-append Answers (events_at config place lines) (events_at config place (line ∷ [])) (filter (is_from place) entries) (filter (is_from place) added) (old place within) (new place within))
+    (λ k. (sym (flat_map-append (λ (l : Line). heard_at config l place) lines more) k, sym (filter-append (is_from place) entries added) k))
+    (zip-append Answers (events_at config place lines) (events_at config place more) (filter (is_from place) entries) (filter (is_from place) added) (old place within) (new place within))
 
 -- ---- the answers to one line
 

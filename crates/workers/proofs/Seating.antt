@@ -9,7 +9,7 @@ use Rattle.network.specs.declared.bss.Refusal.{Refusal}
 use Rattle.ap_config.specs.declared.config.RadioConfig.{RadioConfig}
 use Rattle.events.specs.declared.event.Event.{Event}
 use Rattle.ap_config.specs.declared.setting.Setting.{Setting}
-use Rattle.workers.specs.Seats.{IsSeated, IsNetworkOf, AnswersEvent, AddsEvent}
+use Rattle.workers.specs.Seats.{IsSeated, IsNetworkOf, AnswersEvent}
 use Rattle.workers.specs.declared.outcome.Outcome.{Outcome}
 use Rattle.workers.specs.declared.outcome.Outcome.TheVariants.{NotHeard, Took, Full, NoMemory}
 
@@ -43,10 +43,3 @@ network-seated config queue b p h = record {
   bounded = h.bounded;
   waiting = (p.pushed, h.sent);
 }
-
--- an event was offered, and then frames went on
-pub event-added : (event : Event) (old mid new : BssView) (outcome : Outcome) → AnswersEvent event old mid outcome → new.history ≡ mid.history → AddsEvent event old new outcome
-event-added event old mid new NotHeard answer same = answer
-event-added event old mid new (Took number) answer same = (answer.0, same ∙ answer.1)
-event-added event old mid new Full answer same = (answer.0, same ∙ ap (λ (b : BssView). b.history) answer.1)
-event-added event old mid new NoMemory answer same = (answer.0, same ∙ ap (λ (b : BssView). b.history) answer.1)

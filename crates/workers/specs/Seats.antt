@@ -59,10 +59,3 @@ HandsFrame old new Nothing =
     (old.network.waiting ≡ []) × (new.network.waiting ≡ []) × (new.pass.pushed ≡ old.pass.pushed)
 HandsFrame old new QueueFull =
     (old.network.waiting ≢ []) × (new.network.waiting ≡ old.network.waiting) × (new.pass.pushed ≡ old.pass.pushed)
-
--- an event was offered to it, and frames went on afterwards
-abbrev pub AddsEvent : Event → BssView → BssView → Outcome → Type 0
-AddsEvent event old new NotHeard = ⊥
-AddsEvent event old new (Took number) = (number ≡ length old.history) × (new.history ≡ old.history ++ event ∷ [])
-AddsEvent event old new Full = (length old.history ≡ old.setting.network.max_events) × (new.history ≡ old.history)
-AddsEvent event old new NoMemory = (length old.history ≢ old.setting.network.max_events) × (new.history ≡ old.history)

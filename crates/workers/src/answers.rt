@@ -1,9 +1,8 @@
 //! What a source is answered to its lines, by their numbers: the events are those of the lines, which the source keeps.
 
-ghost use Rattle.std.specs.Prelude.{◌≡◌, ◌+◌, ◌<◌, ◌≤◌, ◌++◌, vec_len, vec_capacity};
-ghost use Rattle.workers.specs.Answers.{answer_of};
+ghost use Rattle.std.specs.Prelude.{◌≡◌, ◌<◌, ◌≤◌};
 
-use events::Line;
+use events::{Event, Line};
 
 /// What a network made of an event that it heard and did not refuse since memory ran out.
 #[derive(Clone, Copy, Debug, PartialEq, Eq)]
@@ -32,14 +31,36 @@ pub(crate) struct Answered<'a> {
     pub(crate) answers: Vec<Answer>,
 }
 
-/// Keeps what the network at a place made of a line, if it heard it. There is room for it.
-pub(crate) fn keep(answers: &mut Vec<Answer>, line: usize, place: usize, made: Option<Made>)
-    requires { vec_len answers.old < vec_capacity answers.old }
-    ensures items { answers.new.items ≡ answers.old.items ++ answer_of line place made }
-    ensures len { vec_len answers.new ≤ vec_len answers.old + 1 }
-    ensures capacity { vec_capacity answers.new ≡ vec_capacity answers.old }
-{
-    if let Some(made) = made {
-        answers.push_reserved(Answer { line, place, made });
+/// Lines of a source that are given together: those with the numbers from the first on, below the end.
+#[derive(Clone, Copy, Debug)]
+pub(crate) struct Span {
+    pub(crate) first: usize,
+    pub(crate) end: usize,
+}
+
+impl Span {
+    /// Those of a source with this number of lines from a first one on, `most` of them at most, but one at least.
+    pub(crate) fn from(first: usize, most: usize, lines: usize) -> Span
+        requires { first < lines }
+        ensures first { result.first ≡ first }
+        ensures some { first < result.end }
+        ensures within { result.end ≤ lines }
+    {
+        let end = first.saturating_add(most.max(1)).min(lines);
+        Span { first, end }
     }
+
+    /// How many lines there are.
+    pub(crate) fn len(self) -> usize {
+        self.end.saturating_sub(self.first)
+    }
+}
+
+/// What a network hears of a line of a source.
+#[derive(Debug, Drop)]
+pub(crate) struct Heard {
+    /// The line's number in its source, from 0.
+    pub(crate) line: usize,
+    /// The event that it is to the network.
+    pub(crate) event: Event,
 }

@@ -1,16 +1,18 @@
 //! An access point whose networks run at the same time (*profile*).
 
-ghost use Rattle.std.specs.Prelude.{◌≡◌, ◌≢◌, ◌+◌, ◌<◌, ◌≤◌, ◌++◌, ◌∷◌, [], length, map, IfOk, OnErr, MatchBool};
+ghost use Rattle.std.specs.Prelude.{◌≡◌, ◌≢◌, ◌+◌, ◌<◌, ◌≤◌, ◌++◌, ◌∷◌, [], length, map, IfOk, OnOk, OnErr, MatchBool};
 ghost use Rattle.std.specs.Prelude.{vec_len, vec_capacity};
 ghost use Rattle.std.specs.Fn.{FnOnceTakesAt, FnOnceReturnsAt};
 ghost use Rattle.network.specs.BssView.{BssView};
 ghost use Rattle.events.specs.declared.event.Event.{Event};
 ghost use Rattle.events.specs.declared.line.Line.TheVariants as line;
 ghost use Rattle.events.specs.declared.air_item.AirItem.{AirItem};
+ghost use Rattle.workers.specs.Answers.{AddsAnswers};
 ghost use Rattle.workers.specs.Copies.{copies_at, AreCopies, HaveNetworks, AreOf, AreOffered};
 ghost use Rattle.workers.specs.Giving.{AreHeard, AddsEntries, line_of, event_of, entry_of};
 ghost use Rattle.workers.specs.Seats.{IsNetworkOf};
 
+use crate::answers::{Answer, Heard};
 use crate::caller::{Caller, Entry};
 use crate::copies::Copies;
 use crate::given::Given;
@@ -213,19 +215,25 @@ impl<N: ApName> Ap<N> {
         outcome
     }
 
-    /// Offers the event to the network at a place, and hands its frames on.
-    pub(crate) fn take_and_hand<R: Wait>(
+    /// Offers the network at a place what it heard, under one lock, keeps what it made of it, for which there is room,
+    /// and hands its frames on. `NoMemory` where memory ran out.
+    pub(crate) fn take_each<R: Wait>(
         &self,
         rt: &R,
         place: usize,
-        event: Event,
-    ) -> (Outcome, Handing)
-        requires { place < length N.config.networks }
+        heard: Vec<Heard>,
+        answers: &mut Vec<Answer>,
+    ) -> Result<Handing, NoMemory>
+        requires place { place < length N.config.networks }
+        requires room { vec_len answers.old + vec_len heard ≤ vec_capacity answers.old }
+        ensures { OnOk result (AddsAnswers place heard.items answers.old.items answers.new.items) }
     {
         let mut seat = self.sit(rt, place);
-        let (outcome, handing) = seat.take_and_hand(rt, &self.queue, event);
+        let took = seat.take_each(place, heard, answers);
+        let handing = seat.hand_all(rt, &self.queue);
         self.tell(place, handing.waits);
-        (outcome, handing)
+        took?;
+        Ok(handing)
     }
 
     /// Hands frames of the network at a place to the air queue, the first that waits first, until none waits or the
@@ -236,10 +244,17 @@ impl<N: ApName> Ap<N> {
         if !self.may_wait(place) {
             return 0;
         }
+        self.hand(rt, place).count
+    }
+
+    /// Hands frames of the network at a place to the air queue, until none waits or the queue is full.
+    pub(crate) fn hand<R: Wait>(&self, rt: &R, place: usize) -> Handing
+        requires { place < length N.config.networks }
+    {
         let mut seat = self.sit(rt, place);
         let handing = seat.hand_all(rt, &self.queue);
         self.tell(place, handing.waits);
-        handing.count
+        handing
     }
 
     /// The network at a place, under its lock. Who holds it does so for one event, so it is tried some times before a

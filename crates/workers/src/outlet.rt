@@ -1,5 +1,7 @@
 //! How frames leave while sources give their lines.
 
+ghost use Rattle.std.specs.Prelude.{◌<◌, length};
+
 use crate::ap::Ap;
 use crate::name::ApName;
 use crate::seat::Handing;
@@ -7,31 +9,8 @@ use crate::transmitter::Transmitter;
 use mac_frame::NoMemory;
 use std::sync::{Mutex, Wait};
 
-/// What one source handed to the air queue since it last let frames leave.
-#[derive(Clone, Copy, Debug)]
-pub(crate) struct Backlog {
-    handed: u32,
-    found_full: bool,
-}
-
-impl Backlog {
-    /// Nothing.
-    pub(crate) fn new() -> Backlog {
-        Backlog {
-            handed: 0,
-            found_full: false,
-        }
-    }
-
-    /// Counts frames that went to the queue.
-    pub(crate) fn add(&mut self, handing: Handing) {
-        self.handed = self.handed.saturating_add(handing.count);
-        self.found_full |= handing.waits;
-    }
-}
-
-/// The transmitter of sources that give lines at the same time. Whoever handed enough frames, or found the queue full,
-/// lets frames leave, unless another source does so just then: no thread waits for one that only lets frames leave. No
+/// The transmitter of sources that give lines at the same time. Whoever handed enough frames lets frames leave, unless
+/// another source does so just then; whoever found the queue full waits for that one, since its own frames wait. No
 /// contract tells of it, since nothing depends on when frames leave.
 #[derive(Drop)]
 pub(crate) struct Outlet<N: ApName> {
@@ -50,22 +29,29 @@ impl<N: ApName> Outlet<N> {
         }
     }
 
-    /// Lets frames leave where the backlog is large enough, at most as many as the queue holds.
-    pub(crate) fn relieve<R: Wait>(
+    /// Lets frames leave, unless another source does so just then.
+    fn try_leave<R: Wait>(&self, rt: &R, ap: &Ap<N>) -> Result<(), NoMemory> {
+        match self.transmitter.try_lock() {
+            Some(mut transmitter) => self.leave_by(rt, ap, &mut transmitter),
+            None => Ok(()),
+        }
+    }
+
+    /// Lets frames leave, after another source that does so just then.
+    fn leave<R: Wait>(&self, rt: &R, ap: &Ap<N>) -> Result<(), NoMemory> {
+        let mut transmitter = self.transmitter.lock(rt);
+        self.leave_by(rt, ap, &mut transmitter)
+    }
+
+    /// Lets frames leave, at most as many as the queue holds.
+    fn leave_by<R: Wait>(
         &self,
         rt: &R,
         ap: &Ap<N>,
-        backlog: &mut Backlog,
+        transmitter: &mut Transmitter<N>,
     ) -> Result<(), NoMemory> {
-        if backlog.handed < self.enough && !backlog.found_full {
-            return Ok(());
-        }
-        *backlog = Backlog::new();
-        let Some(mut transmitter) = self.transmitter.try_lock() else {
-            return Ok(());
-        };
         for _ in 0..self.capacity {
-            if !ap.leave(rt, &mut transmitter)? {
+            if !ap.leave(rt, transmitter)? {
                 break;
             }
         }
@@ -75,6 +61,56 @@ impl<N: ApName> Outlet<N> {
     /// The transmitter.
     pub(crate) fn into_transmitter(self) -> Transmitter<N> {
         self.transmitter.into_inner()
+    }
+}
+
+/// By what one source lets frames leave: an outlet, with how many frames the source handed to the air queue since.
+#[derive(Drop)]
+pub(crate) struct Relief<'o, N: ApName> {
+    outlet: &'o Outlet<N>,
+    handed: u32,
+}
+
+impl<'o, N: ApName> Relief<'o, N> {
+    /// That of a source that handed nothing.
+    pub(crate) fn new(outlet: &'o Outlet<N>) -> Relief<'o, N> {
+        Relief { outlet, handed: 0 }
+    }
+
+    /// Counts the frames of the network at a place that were handed on, and lets frames leave where they are enough.
+    /// Where some wait, since the queue was full, frames leave and those are handed on until none waits.
+    pub(crate) fn relieve<R: Wait>(
+        &mut self,
+        rt: &R,
+        ap: &Ap<N>,
+        place: usize,
+        handing: Handing,
+    ) -> Result<(), NoMemory>
+        requires { place < length N.config.networks }
+    {
+        self.handed = self.handed.saturating_add(handing.count);
+        if handing.waits {
+            self.handed = 0;
+            return self.hand_rest(rt, ap, place);
+        }
+        if self.handed < self.outlet.enough {
+            return Ok(());
+        }
+        self.handed = 0;
+        self.outlet.try_leave(rt, ap)
+    }
+
+    /// Lets frames leave, and hands on those that wait of the network at a place, by turns, until none waits.
+    fn hand_rest<R: Wait>(&self, rt: &R, ap: &Ap<N>, place: usize) -> Result<(), NoMemory>
+        requires { place < length N.config.networks }
+    {
+        for _ in 0..u32::MAX {
+            self.outlet.leave(rt, ap)?;
+            if !ap.hand(rt, place).waits {
+                break;
+            }
+        }
+        Ok(())
     }
 }
 

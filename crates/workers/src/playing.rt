@@ -99,6 +99,17 @@ impl<F: Drop> From<SpawnError<F>> for PlayFault {
     }
 }
 
+/// How many lines a source gives together where no gate is asked before each.
+const BATCH: usize = 64;
+
+/// A gate that holds no source back.
+#[derive(Clone, Copy)]
+struct Open;
+
+impl Gate for Open {
+    fn before(&self, _source: u32, _line: u32) {}
+}
+
 /// What sources were played to (*profile*).
 #[derive(Debug, Drop)]
 pub struct Played {
@@ -149,14 +160,14 @@ pub fn play<G: Gate + Sync, R: Threads + Wait + Sync>(
     play_of::<Brand, G, R>(rt, alloc, parts, sources.as_slice(), gate)
 }
 
-/// Does what [`play`] does, of sources that are lent, and answers the sections and who gave each event. The frames that
-/// left are moved into the sections, so there is no list of them.
-pub fn play_lent<G: Gate + Sync, R: Threads + Wait + Sync>(
+/// Does what [`play`] does, of sources that are lent, and answers the sections and who gave each event. No gate is asked:
+/// a source gives up to 64 of its lines together, to one network after the other. The frames that left are moved into
+/// the sections, so there is no list of them.
+pub fn play_lent<R: Threads + Wait + Sync>(
     rt: &R,
     alloc: Global,
     config: RadioConfig,
     sources: &[Vec<Line>],
-    gate: &G,
 ) -> Result<Played, PlayFault>
     ensures config { (fault : ConfigFault) → (result ≡ Err (PlayFault.Config fault)) ↔ (fault_of config ≡ Some fault) }
     ensures sources { (result ≡ Err PlayFault.Sources) ↔
@@ -176,7 +187,7 @@ pub fn play_lent<G: Gate + Sync, R: Threads + Wait + Sync>(
         config,
         u32::try_from(sources.len()).unwrap_or(u32::MAX),
     )?;
-    play_lent_of::<Brand, G, R>(rt, alloc, parts, sources, gate)
+    play_lent_of::<Brand, R>(rt, alloc, parts, sources)
 }
 
 /// What [`play`] does of the parts of an access point.
@@ -202,7 +213,7 @@ fn play_of<N: ApName + Send + Sync, G: Gate + Sync, R: Threads + Wait + Sync>(
         networks,
         mut left,
         givers,
-    } = drain_sources::<N, G, R>(rt, alloc, parts, sources, gate)?;
+    } = drain_sources::<N, G, R>(rt, alloc, parts, sources, gate, 1)?;
     let sections = end_networks::<N>(alloc, networks, &mut left)?;
     Ok(Finished {
         sections: List::from_vec(sections),
@@ -212,12 +223,11 @@ fn play_of<N: ApName + Send + Sync, G: Gate + Sync, R: Threads + Wait + Sync>(
 }
 
 /// What [`play_lent`] does of the parts of an access point.
-fn play_lent_of<N: ApName + Send + Sync, G: Gate + Sync, R: Threads + Wait + Sync>(
+fn play_lent_of<N: ApName + Send + Sync, R: Threads + Wait + Sync>(
     rt: &R,
     alloc: Global,
     parts: Parts,
     sources: &[Vec<Line>],
-    gate: &G,
 ) -> Result<Played, PlayFault>
     requires named { AreNamed N.config N.queue parts }
     requires sound { fault_of N.config ≡ None }
@@ -233,7 +243,7 @@ fn play_lent_of<N: ApName + Send + Sync, G: Gate + Sync, R: Threads + Wait + Syn
         networks,
         left,
         givers,
-    } = drain_sources::<N, G, R>(rt, alloc, parts, sources, gate)?;
+    } = drain_sources::<N, Open, R>(rt, alloc, parts, sources, &Open, BATCH)?;
     let sections = section_networks::<N>(alloc, networks, left)?;
     Ok(Played {
         sections: List::from_vec(sections),
@@ -241,13 +251,15 @@ fn play_lent_of<N: ApName + Send + Sync, G: Gate + Sync, R: Threads + Wait + Syn
     })
 }
 
-/// Runs the sources into the access point of these parts, and ends it but for the sections.
+/// Runs the sources into the access point of these parts, `most` lines of each at a time, and ends it but for the
+/// sections.
 fn drain_sources<N: ApName + Send + Sync, G: Gate + Sync, R: Threads + Wait + Sync>(
     rt: &R,
     alloc: Global,
     parts: Parts,
     sources: &[Vec<Line>],
     gate: &G,
+    most: usize,
 ) -> Result<Drained, PlayFault>
     requires named { AreNamed N.config N.queue parts }
     ensures err { IfErr result IsLater }
@@ -262,6 +274,7 @@ fn drain_sources<N: ApName + Send + Sync, G: Gate + Sync, R: Threads + Wait + Sy
         transmitter,
         sources,
         gate,
+        most,
         capacity,
     )?;
     Ok(ap.drain(rt, answered.as_slice(), transmitter)?)

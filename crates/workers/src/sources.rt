@@ -4,11 +4,11 @@ ghost use Rattle.std.specs.Prelude.{◌≡◌, IfOk, IfErr, map};
 ghost use Rattle.workers.specs.Answers.{entries_by, entries_of_all};
 ghost use Rattle.workers.specs.Playing.{AreAnswered, AreAnswers, IsLater};
 
-use crate::answers::{Answer, Answered};
+use crate::answers::{Answer, Answered, Span};
 use crate::ap::Ap;
 use crate::gate::Gate;
 use crate::name::ApName;
-use crate::outlet::{Backlog, Outlet};
+use crate::outlet::{Outlet, Relief};
 use crate::playing::PlayFault;
 use crate::transmitter::Transmitter;
 use events::Line;
@@ -47,6 +47,7 @@ pub(crate) fn run_sources<'a, N: ApName + Send + Sync, G: Gate + Sync, R: Thread
     transmitter: Transmitter<N>,
     sources: &'a [Vec<Line>],
     gate: &G,
+    most: usize,
     capacity: u16,
 ) -> Result<(Vec<Answered<'a>>, Transmitter<N>), PlayFault>
     ensures err { IfErr result IsLater }
@@ -54,7 +55,7 @@ pub(crate) fn run_sources<'a, N: ApName + Send + Sync, G: Gate + Sync, R: Thread
         AreAnswered N.config (map (λ s. s.items) sources.now) (entries_of_all r.0.items)) }
 {
     let outlet = Outlet::new(transmitter, capacity, sources.len());
-    let answered = give_sources(rt, alloc, ap, sources, gate, &outlet)?;
+    let answered = give_sources(rt, alloc, ap, sources, gate, most, &outlet)?;
     Ok((answered, outlet.into_transmitter()))
 }
 
@@ -65,6 +66,7 @@ fn give_sources<'a, N: ApName + Send + Sync, G: Gate + Sync, R: Threads + Wait +
     ap: &Ap<N>,
     sources: &'a [Vec<Line>],
     gate: &G,
+    most: usize,
     outlet: &Outlet<N>,
 ) -> Result<Vec<Answered<'a>>, PlayFault>
     ensures err { IfErr result IsLater }
@@ -79,7 +81,7 @@ fn give_sources<'a, N: ApName + Send + Sync, G: Gate + Sync, R: Threads + Wait +
                 × IfOk result (λ answered.
                 AreAnswered N.config (map (λ s. s.items) sources.entry.now) (entries_of_all answered.items)) }
         {
-            let threads = start_sources(rt, alloc, scope, ap, sources, gate, outlet)?;
+            let threads = start_sources(rt, alloc, scope, ap, sources, gate, most, outlet)?;
             Ok(join_sources(rt, alloc, sources, threads)?)
         },
     )
@@ -100,6 +102,7 @@ fn start_sources<
     ap: &'e Ap<N>,
     sources: &'a [Vec<Line>],
     gate: &'e G,
+    most: usize,
     outlet: &'e Outlet<N>,
 ) -> Result<Vec<Started<'a, N>>, PlayFault>
     ensures err { IfErr result IsLater }
@@ -109,7 +112,7 @@ fn start_sources<
     for (source, lines) in sources.iter().enumerate() {
         let number = u32::try_from(source).unwrap_or(u32::MAX);
         let lines = lines.as_slice();
-        threads.push(start_source(rt, alloc, scope, ap, gate, number, lines, outlet)?)?;
+        threads.push(start_source(rt, alloc, scope, ap, gate, most, number, lines, outlet)?)?;
     }
     Ok(threads)
 }
@@ -128,6 +131,7 @@ fn start_source<
     scope: &Scope<'s, &'e ()>,
     ap: &'e Ap<N>,
     gate: &'e G,
+    most: usize,
     source: u32,
     lines: &'a [Line],
     outlet: &'e Outlet<N>,
@@ -144,7 +148,7 @@ fn start_source<
         move || -> Result<Vec<Answer>, NoMemory>
             ensures { IfOk result (λ answers.
                 AreAnswers N.config lines.entry.now (entries_by lines.entry.now answers.items)) }
-        { play_lines(rt, alloc, ap, gate, source, lines, outlet) },
+        { play_lines(rt, alloc, ap, gate, most, source, lines, outlet) },
     )?;
     Ok(Started { lines, handle })
 }
@@ -181,12 +185,13 @@ fn join_source<'a, N: ApName, R: Threads>(
     Ok(Answered { lines, answers })
 }
 
-/// Gives the lines of a source, one after the other, each when the gate lets it, and pumps each network after each.
+/// Gives the lines of a source, `most` at a time, each time when the gate lets it, and pumps each network afterwards.
 fn play_lines<N: ApName, G: Gate, R: Wait>(
     rt: &R,
     alloc: Global,
     ap: &Ap<N>,
     gate: &G,
+    most: usize,
     source: u32,
     lines: &[Line],
     outlet: &Outlet<N>,
@@ -194,14 +199,23 @@ fn play_lines<N: ApName, G: Gate, R: Wait>(
     ensures { IfOk result (λ answers. AreAnswers N.config lines.now (entries_by lines.now answers.items)) }
 {
     let mut answers = Vec::with_capacity(alloc, lines.len())?;
-    let mut backlog = Backlog::new();
-    for line in 0..lines.len() {
-        gate.before(source, number_of(line));
-        ap.hear(rt, lines, line, &mut answers, &mut backlog)?;
-        outlet.relieve(rt, ap, &mut backlog)?;
+    let mut relief = Relief::new(outlet);
+    let place = first_place(source, ap.networks());
+    let mut first = 0;
+    while first < lines.len() {
+        gate.before(source, number_of(first));
+        let span = Span::from(first, most, lines.len());
+        ap.hear(rt, lines, span, place, &mut answers, &mut relief)?;
         pump_all(rt, ap);
+        first = span.end;
     }
     Ok(answers)
+}
+
+/// The place of the network that a source gives its lines to first. Sources begin apart, since they would wait for each
+/// other if they went from network to network together.
+fn first_place(source: u32, networks: usize) -> usize {
+    source as usize % networks.max(1)
 }
 
 /// The number of a line at a place, from 1, as the gate is told it.
