@@ -17,7 +17,7 @@ use Rattle.live_answers.specs.Answers.{Answer, MayAnswer, after_line_from, after
 use Rattle.live_answers.specs.Dispatch.{event_at, line_as}
 use Rattle.live_answers.specs.Moments.{Moment, one_line_more, bssid_of, bssids_at, Reply, taken_if, after_if}
 use Rattle.live.specs.Networks.{IsMoment}
-use Rattle.live.specs.Output.{AreAnswered}
+use Rattle.live.specs.Output.{AreAnswered, through, watch}
 use Rattle.live.specs.Readings.{IsReading}
 use Rattle.live.specs.Written.{written_answer}
 use Rattle.live.specs.declared.reading.Reading.{Reading}
@@ -33,7 +33,7 @@ pub answered-one : {W : Type 0} (taken : W → Option (List ℕ)) (failed : W �
     (answer : Answer) (old new : Buffered W) → said ≡ asked → MayAnswer m asked answer
     → next ≡ after_answer m asked answer
     → Puts taken failed old new (written_answer face (bssids_at m) (m.lines + 1) answer)
-    → AreAnswered taken failed face m next old new (said ∷ [])
+    → AreAnswered (through face (watch taken failed) old new) m next (said ∷ [])
 answered-one taken failed face m next said asked answer old new is may after puts = record {
   answers = answer ∷ [];
   answered =
@@ -47,13 +47,13 @@ answered-one taken failed face m next said asked answer old new is may after put
 -- ---- several
 
 pub answered-none : {W : Type 0} (taken : W → Option (List ℕ)) (failed : W → ℕ) (face : Face) (m : Moment) (w : Buffered W)
-    → CanWrite failed w → AreAnswered taken failed face m m w w []
+    → CanWrite failed w → AreAnswered (through face (watch taken failed) w w) m m []
 answered-none taken failed face m w can = record { answers = []; answered = refl; puts = Puts-nothing w can }
 
 pub answered-then : {W : Type 0} (taken : W → Option (List ℕ)) (failed : W → ℕ) (face : Face) (m between next : Moment)
     (said more : List Asked) (old mid new : Buffered W)
-    → AreAnswered taken failed face m between old mid said → AreAnswered taken failed face between next mid new more
-    → AreAnswered taken failed face m next old new (said ++ more)
+    → AreAnswered (through face (watch taken failed) old mid) m between said → AreAnswered (through face (watch taken failed) mid new) between next more
+    → AreAnswered (through face (watch taken failed) old new) m next (said ++ more)
 answered-then taken failed face m between next said more old mid new a b = record {
   answers = a.answers ++ b.answers;
   answered =
@@ -106,7 +106,7 @@ few-answers m (asked ∷ said) (answer ∷ answers) next h few =
 
 pub moment-answered : {W : Type 0} (taken : W → Option (List ℕ)) (failed : W → ℕ) (face : Face) (bssids : List (List ℕ))
     (m next : Moment) (said : List Asked) (old new : Buffered W) → IsMoment bssids m
-    → AreAnswered taken failed face m next old new said → IsMoment bssids next
+    → AreAnswered (through face (watch taken failed) old new) m next said → IsMoment bssids next
 moment-answered taken failed face bssids m next said old new h a = record {
   addresses = h.addresses ∙ sym (bssids-answers m said a.answers next a.answered);
   few = few-answers m said a.answers next a.answered h.few;
@@ -150,7 +150,7 @@ pub answered-reading : {W : Type 0} (taken : W → Option (List ℕ)) (failed : 
     → number ≡ lines + 1 → said ≡ asked → MayAnswer (at lines ns) asked answer
     → at (lines + 1) next ≡ after_answer (at lines ns) asked answer
     → Puts taken failed old new (written_answer face (map bssid_of ns) number answer)
-    → AreAnswered taken failed face (at lines ns) (at number next) old new (said ∷ [])
+    → AreAnswered (through face (watch taken failed) old new) (at lines ns) (at number next) (said ∷ [])
 answered-reading taken failed face lines number ns next said asked answer old new count is may after puts =
     answered-one taken failed face (at lines ns) (at number next) said asked answer old new is may
     (ap (λ (k : ℕ). at k next) count ∙ after)
@@ -160,7 +160,7 @@ pub answered-fault : {W : Type 0} (taken : W → Option (List ℕ)) (failed : W 
     (ns : List NetworkState) (said : Asked) (fault : LineFault) (old new : Buffered W) → number ≡ lines + 1
     → (said ≡ HasFault fault) ⊎ (said ≡ Says (Err fault))
     → Puts taken failed old new (written_answer face (map bssid_of ns) number (Faulty fault))
-    → AreAnswered taken failed face (at lines ns) (at number ns) old new (said ∷ [])
+    → AreAnswered (through face (watch taken failed) old new) (at lines ns) (at number ns) (said ∷ [])
 answered-fault taken failed face lines number ns said fault old new count (inl is) puts =
     answered-reading taken failed face lines number ns ns said (HasFault fault) (Faulty fault) old new count is refl refl puts
 answered-fault taken failed face lines number ns said fault old new count (inr is) puts =
@@ -176,7 +176,7 @@ said-for reading.Unread = (Says (Err NotHexadecimal), record { said = Err NotHex
 
 pub moment-reading : {W : Type 0} (taken : W → Option (List ℕ)) (failed : W → ℕ) (face : Face) (reading : Reading)
     (bssids : List (List ℕ)) (m next : Moment) (old new : Buffered W) → IsMoment bssids m
-    → ((said : Asked) → IsReading reading said → AreAnswered taken failed face m next old new (said ∷ []))
+    → ((said : Asked) → IsReading reading said → AreAnswered (through face (watch taken failed) old new) m next (said ∷ []))
     → IsMoment bssids next
 moment-reading taken failed face reading bssids m next old new h all =
     let some = said-for reading in
@@ -192,14 +192,14 @@ unread-after m (Err fault) = refl
 pub answered-kept : {W : Type 0} (taken : W → Option (List ℕ)) (failed : W → ℕ) (face : Face) (lines : ℕ)
     (ns lent lent' now : List NetworkState) (m : Moment) (said : Asked) (old new : Buffered W)
     → at lines ns ≡ m → lent ≡ ns → now ≡ lent'
-    → AreAnswered taken failed face (at lines lent) (at (lines + 1) lent') old new (said ∷ [])
-    → AreAnswered taken failed face m (at (lines + 1) now) old new (said ∷ [])
+    → AreAnswered (through face (watch taken failed) old new) (at lines lent) (at (lines + 1) lent') (said ∷ [])
+    → AreAnswered (through face (watch taken failed) old new) m (at (lines + 1) now) (said ∷ [])
 answered-kept taken failed face lines ns lent lent' now m said old new view before after answered =
     subst
-    (λ (o : Moment). AreAnswered taken failed face o (at (lines + 1) now) old new (said ∷ []))
+    (λ (o : Moment). AreAnswered (through face (watch taken failed) old new) o (at (lines + 1) now) (said ∷ []))
     (ap (at lines) before ∙ view)
     (subst
-    (λ (ms : List NetworkState). AreAnswered taken failed face (at lines lent) (at (lines + 1) ms) old new (said ∷ []))
+    (λ (ms : List NetworkState). AreAnswered (through face (watch taken failed) old new) (at lines lent) (at (lines + 1) ms) (said ∷ []))
     (sym after)
     answered)
 

@@ -13,7 +13,7 @@ use Rattle.live.specs.declared.face.Face.{Face}
 use Rattle.live_answers.specs.Answers.{MayReplyFrom, after_line_from}
 use Rattle.live_answers.specs.Dispatch.{event_at}
 use Rattle.live_answers.specs.Moments.{Reply, MayReply, MayReplyIf, taken_if, after_if, bssid_of}
-use Rattle.live.specs.Output.{HasReplied, HaveReplied}
+use Rattle.live.specs.Output.{HasReplied, HaveReplied, through, watch, numbered, placed}
 
 -- ---- one network more
 
@@ -67,7 +67,7 @@ length-after place (m ∷ ns) said (r ∷ rs) = ap suc (length-after (place + 1)
 pub record ReplySoFar {W : Type 0} (taken : W → Option (List ℕ)) (failed : W → ℕ) (face : Face) (place number : ℕ) (said : Line)
     (ns now : List NetworkState) (old new : Buffered W) : Type 0 where
   pub done : List NetworkState
-  pub replied : HaveReplied taken failed face number said (take place ns) done old new
+  pub replied : HaveReplied (through face (watch taken failed) old new) (numbered number said) (take place ns) done
   pub rest : now ≡ done ++ drop place ns
   pub within : place ≤ length ns
 
@@ -102,7 +102,7 @@ replies-none taken failed face number said ns w can = record {
 pub replies-more : {W : Type 0} (taken : W → Option (List ℕ)) (failed : W → ℕ) (face : Face) (place number : ℕ) (said : Line)
     (ns now : List NetworkState) (old mid new : Buffered W) (n next : NetworkState)
     → ReplySoFar taken failed face place number said ns now old mid → place < length ns → n ≡ get_or now place n
-    → HasReplied taken failed face place number said n next mid new
+    → HasReplied (through face (watch taken failed) mid new) (numbered number said) (placed place n) next
     → ReplySoFar taken failed face (place + 1) number said ns (set now place next) old new
 replies-more taken failed face place number said ns now old mid new n next s within there h = record {
   done = s.done ++ next ∷ [];
@@ -147,19 +147,19 @@ replies-more taken failed face place number said ns now old mid new n next s wit
 
 pub replies-all : {W : Type 0} (taken : W → Option (List ℕ)) (failed : W → ℕ) (face : Face) (place number : ℕ) (said : Line)
     (ns now : List NetworkState) (old new : Buffered W) → ReplySoFar taken failed face place number said ns now old new
-    → length ns ≤ place → HaveReplied taken failed face number said ns now old new
+    → length ns ≤ place → HaveReplied (through face (watch taken failed) old new) (numbered number said) ns now
 replies-all taken failed face place number said ns now old new s all =
     let whole : take place ns ≡ ns = take_all place ns all in
     let same : now ≡ s.done =
     s.rest ∙ ap (λ (ms : List NetworkState). s.done ++ ms) (drop_all place ns all) ∙ append-nil s.done in
-    subst (λ (ms : List NetworkState). HaveReplied taken failed face number said ns ms old new) (sym same)
-    (subst (λ (ms : List NetworkState). HaveReplied taken failed face number said ms s.done old new) whole s.replied)
+    subst (λ (ms : List NetworkState). HaveReplied (through face (watch taken failed) old new) (numbered number said) ns ms) (sym same)
+    (subst (λ (ms : List NetworkState). HaveReplied (through face (watch taken failed) old new) (numbered number said) ms s.done) whole s.replied)
 
 -- ---- one network
 
 pub replied-none : {W : Type 0} (taken : W → Option (List ℕ)) (failed : W → ℕ) (face : Face) (place number : ℕ) (said : Line)
     (n : NetworkState) (w : Buffered W) → CanWrite failed w → event_at place n said ≡ None
-    → HasReplied taken failed face place number said n n w w
+    → HasReplied (through face (watch taken failed) w w) (numbered number said) (placed place n) n
 replied-none taken failed face place number said n w can none = record {
   reply = None;
   may = subst (λ (o : Option Event). MayReplyIf n o None) (sym none) refl;
@@ -171,7 +171,7 @@ pub replied-one : {W : Type 0} (taken : W → Option (List ℕ)) (failed : W →
     (n next : NetworkState) (e : Event) (reply : Reply) (old new : Buffered W)
     → event_at place n said ≡ Some e → MayReply n e reply → next ≡ after_if n (taken_if (Some e) (Some reply))
     → Puts taken failed old new (written_reply face number (bssid_of n) reply)
-    → HasReplied taken failed face place number said n next old new
+    → HasReplied (through face (watch taken failed) old new) (numbered number said) (placed place n) next
 replied-one taken failed face place number said n next e reply old new one may after puts = record {
   reply = Some reply;
   may = subst (λ (o : Option Event). MayReplyIf n o (Some reply)) (sym one) may;

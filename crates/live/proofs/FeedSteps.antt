@@ -11,7 +11,7 @@ use Rattle.trace.specs.Texts.{is_line_feed, LacksLineFeed}
 use Rattle.trace.specs.Buffers.{CanWrite}
 use Rattle.trace.specs.declared.report.buffer.Buffered.{Buffered}
 use Rattle.trace.proofs.TextLemmas.{prefix_lacks}
-use Rattle.live.specs.Output.{AreAnswered}
+use Rattle.live.specs.Output.{AreAnswered, through, watch}
 use Rattle.live.specs.PartialLine.{ended_with, whole_with, IsUnended}
 use Rattle.live_answers.specs.Asked.{Asked, asked_by, asked_in, asked_by_all}
 use Rattle.live_answers.specs.Answers.{Answer, Answers}
@@ -55,7 +55,7 @@ line-lacks piece n is = prefix_lacks piece n (position-Some is_line_feed piece n
 pub record FeedSoFar {W : Type 0} (taken : W → Option (List ℕ)) (failed : W → ℕ) (m now : Moment) (old new : Buffered W)
     (partial partial' : TextLine) (piece rest : List ℕ) : Type 0 where
   pub lines : List TextLine
-  pub answered : AreAnswered taken failed Lines m now old new (asked_in m lines)
+  pub answered : AreAnswered (through Lines (watch taken failed) old new) m now (asked_in m lines)
   pub all : lines_in partial piece ≡ lines ++ lines_in partial' rest
   pub next : partial_after partial piece ≡ partial_after partial' rest
   pub few : now.lines + length rest ≤ m.lines + length piece
@@ -81,7 +81,7 @@ pub feed-more : {W : Type 0} (taken : W → Option (List ℕ)) (failed : W → �
     (partial partial' line : TextLine) (piece rest : List ℕ) (n : ℕ)
     → FeedSoFar taken failed m now old mid partial partial' piece rest → IsUnended partial'
     → position is_line_feed rest ≡ Some n → line ≡ ended_with partial' (take n rest)
-    → AreAnswered taken failed Lines now next mid new (asked_in now (line ∷ []))
+    → AreAnswered (through Lines (watch taken failed) mid new) now next (asked_in now (line ∷ []))
     → FeedSoFar taken failed m next old new partial (Octets []) piece (drop (n + 1) rest)
 feed-more taken failed m now next old mid new partial partial' line piece rest n s lacks is same a =
     let count : next.lines ≡ now.lines + 1 = lines-said now (asked_in now (line ∷ [])) a.answers next a.answered in
@@ -91,10 +91,10 @@ feed-more taken failed m now next old mid new partial partial' line piece rest n
     record {
       lines = s.lines ++ line ∷ [];
       answered =
-          subst (λ (said : List Asked). AreAnswered taken failed Lines m next old new said)
+          subst (λ (said : List Asked). AreAnswered (through Lines (watch taken failed) old new) m next said)
           (sym (map-append (asked_by (bssids_at m)) s.lines (line ∷ [])))
           (answered-then taken failed Lines m now next (asked_in m s.lines) (asked_in m (line ∷ [])) old mid new s.answered
-          (subst (λ (said : List Asked). AreAnswered taken failed Lines now next mid new said)
+          (subst (λ (said : List Asked). AreAnswered (through Lines (watch taken failed) mid new) now next said)
           (asked-later m now (asked_in m s.lines) s.answered.answers (line ∷ []) s.answered.answered) a));
       all =
           s.all
@@ -109,11 +109,11 @@ feed-more taken failed m now next old mid new partial partial' line piece rest n
 pub feed-all : {W : Type 0} (taken : W → Option (List ℕ)) (failed : W → ℕ) (m now : Moment) (old new : Buffered W)
     (partial partial' : TextLine) (piece rest : List ℕ)
     → FeedSoFar taken failed m now old new partial partial' piece rest → IsUnended partial' → LacksLineFeed rest
-    → AreAnswered taken failed Lines m now old new (asked_in m (lines_in partial piece))
+    → AreAnswered (through Lines (watch taken failed) old new) m now (asked_in m (lines_in partial piece))
 feed-all taken failed m now old new partial partial' piece rest s lacks none =
     let all : lines_in partial piece ≡ s.lines =
     s.all ∙ ap (λ (ls : List TextLine). s.lines ++ ls) (no-line partial' rest lacks none) ∙ append-nil s.lines in
-    subst (λ (ls : List TextLine). AreAnswered taken failed Lines m now old new (asked_in m ls)) (sym all) s.answered
+    subst (λ (ls : List TextLine). AreAnswered (through Lines (watch taken failed) old new) m now (asked_in m ls)) (sym all) s.answered
 
 -- ---- the last line
 

@@ -6,7 +6,7 @@ use Rattle.trace.specs.declared.sink.Failed.{Failed}
 use Rattle.live_answers.specs.Answers.{Answers}
 use Rattle.live.specs.LiveView.{Finishes, Takes, TakesEnd, TakesPiece, fed, running, state}
 use Rattle.live_answers.specs.Moments.{Moment}
-use Rattle.live.specs.Inputs.{line_begun, nothing_begun, face_of, IsUnfinished, IsSaidIn, last_said, IsSaid, IsAllSaid}
+use Rattle.live.specs.Inputs.{line_begun, nothing_begun, face_of, IsUnfinished, IsSaidIn, last_said, IsSaid, IsAllSaid, saying}
 use Rattle.live_answers.specs.Records.{record_asks, records_ask, cut_record}
 use Rattle.live_answers.specs.TextLines.{ended_lines, partial_in, lines_in, last_line}
 use Rattle.live.specs.declared.begun.Begun.{Begun}
@@ -47,7 +47,7 @@ lines-finish r m (Record begun) old new is t = absurd cc
 
 -- ---- in either face
 
-pub said-none : (face : Face) (bssids : List (List ℕ)) → IsSaidIn bssids (nothing_begun face) [] [] (nothing_begun face)
+pub said-none : (face : Face) (bssids : List (List ℕ)) → IsSaidIn bssids (nothing_begun face) [] (saying [] (nothing_begun face))
 said-none Lines bssids = (refl, refl)
 said-none Records bssids = record {
   records = [];
@@ -58,10 +58,10 @@ said-none Records bssids = record {
 }
 
 pub said-more : (face : Face) (bssids : List (List ℕ)) (input piece : List ℕ) (some more : List Asked) (mid next : Begun)
-    → IsSaidIn bssids (nothing_begun face) input some mid → IsSaidIn bssids mid piece more next
-    → IsSaidIn bssids (nothing_begun face) (input ++ piece) (some ++ more) next
+    → IsSaidIn bssids (nothing_begun face) input (saying some mid) → IsSaidIn bssids mid piece (saying more next)
+    → IsSaidIn bssids (nothing_begun face) (input ++ piece) (saying (some ++ more) next)
 said-more Lines bssids input piece some more mid next h k =
-    let on = subst (λ (b : Begun). IsSaidIn bssids b piece more next) h.1 k in (
+    let on = subst (λ (b : Begun). IsSaidIn bssids b piece (saying more next)) h.1 k in (
       ap (λ (s : List Asked). s ++ more) h.0
           ∙ ap (λ (s : List Asked). asked_by_all bssids (ended_lines input) ++ s) on.0
           ∙ sym (map-append (asked_by bssids) (ended_lines input) (lines_in (partial_in input) piece))
@@ -69,7 +69,7 @@ said-more Lines bssids input piece some more mid next h k =
       on.1 ∙ ap (λ p. Line p) (sym (partial-more input piece)),
     )
 said-more Records bssids input piece some more mid next h k =
-    let on = subst (λ (b : Begun). IsSaidIn bssids b piece more next) h.next_is k in
+    let on = subst (λ (b : Begun). IsSaidIn bssids b piece (saying more next)) h.next_is k in
     record {
       records = h.records ++ on.records;
       rest = on.rest;
@@ -82,13 +82,13 @@ said-more Records bssids input piece some more mid next h k =
     }
 
 pub said-ended : (face : Face) (bssids : List (List ℕ)) (input : List ℕ) (said : List Asked) (begun : Begun)
-    → IsSaidIn bssids (nothing_begun face) input said begun → IsSaid face bssids input said
+    → IsSaidIn bssids (nothing_begun face) input (saying said begun) → IsSaid face bssids input said
 said-ended Lines bssids input said begun h = h.0
 said-ended Records bssids input said begun h =
     record { records = h.records; rest = h.rest; are = h.are; ask = h.ask }
 
 pub said-all : (face : Face) (bssids : List (List ℕ)) (input : List ℕ) (said : List Asked) (begun : Begun)
-    → IsSaidIn bssids (nothing_begun face) input said begun
+    → IsSaidIn bssids (nothing_begun face) input (saying said begun)
     → IsAllSaid face bssids input (said ++ last_said bssids begun)
 said-all Lines bssids input said begun h =
     ap (λ (b : Begun). said ++ last_said bssids b) h.1
@@ -105,11 +105,11 @@ said-all Records bssids input said begun h = record {
 }
 
 pub said-unfinished : (face : Face) (bssids : List (List ℕ)) (input : List ℕ) (said : List Asked) (begun : Begun)
-    → IsSaidIn bssids (nothing_begun face) input said begun → IsUnfinished begun
+    → IsSaidIn bssids (nothing_begun face) input (saying said begun) → IsUnfinished begun
 said-unfinished Lines bssids input said begun h = subst IsUnfinished (sym h.1) tt
 said-unfinished Records bssids input said begun h = subst IsUnfinished (sym h.next_is) h.are.rest
 
 pub said-face : (face : Face) (bssids : List (List ℕ)) (input : List ℕ) (said : List Asked) (begun : Begun)
-    → IsSaidIn bssids (nothing_begun face) input said begun → face_of begun ≡ face
+    → IsSaidIn bssids (nothing_begun face) input (saying said begun) → face_of begun ≡ face
 said-face Lines bssids input said begun h = ap face_of h.1
 said-face Records bssids input said begun h = ap face_of h.next_is

@@ -6,7 +6,8 @@ use Rattle.trace.specs.Buffers.{CanWrite}
 use Rattle.trace.specs.declared.report.buffer.Buffered.{Buffered}
 use Rattle.live_answers.specs.Asked.{Asked, asked_in}
 use Rattle.live_answers.specs.Moments.{Moment, bssids_at}
-use Rattle.live.specs.Output.{AnswersPiece, AnswersRecords, AreAnswered}
+use Rattle.live.specs.Inputs.{face_of}
+use Rattle.live.specs.Output.{AnswersPiece, AnswersRecords, AreAnswered, through, watch, reached, waiting}
 use Rattle.live_answers.specs.Records.{IsBegun, IsRecord, all_octets, record_asks, records_ask}
 use Rattle.live_answers.specs.TextLines.{TextLine, partial_after, lines_in}
 use Rattle.live.specs.declared.begun.Begun.{Begun}
@@ -24,7 +25,7 @@ parts-are n xs front back f b = rw (f, b) (sym (take-append-drop n xs))
 
 pub records-none : {W : Type 0} (taken : W → Option (List ℕ)) (failed : W → ℕ) (m : Moment) (w : Buffered W)
     (begun piece : List ℕ) → CanWrite failed w → IsBegun begun
-    → AnswersRecords taken failed m m w w begun begun piece piece
+    → AnswersRecords (through Records (watch taken failed) w w) (waiting m begun piece) (waiting m begun piece)
 records-none taken failed m w begun piece can is = record {
   records = [];
   each = tt;
@@ -37,8 +38,8 @@ records-none taken failed m w begun piece can is = record {
 -- it stands whole at the front of the piece
 pub records-front : {W : Type 0} (taken : W → Option (List ℕ)) (failed : W → ℕ) (m next : Moment) (old new : Buffered W)
     (begun piece r rest : List ℕ) → begun ≡ [] → IsBegun begun → IsRecord r → 9 ≤ length r → piece ≡ r ++ rest
-    → AreAnswered taken failed Records m next old new (records_ask (bssids_at m) (r ∷ []))
-    → AnswersRecords taken failed m next old new begun begun piece rest
+    → AreAnswered (through Records (watch taken failed) old new) m next (records_ask (bssids_at m) (r ∷ []))
+    → AnswersRecords (through Records (watch taken failed) old new) (waiting m begun piece) (waiting next begun rest)
 records-front taken failed m next old new begun piece r rest none is whole long front a =
     let one : next.lines ≡ m.lines + 1 = lines-said m (records_ask (bssids_at m) (r ∷ [])) a.answers next a.answered in
     let lens : length piece ≡ length r + length rest = ap length front ∙ length-append r rest in
@@ -57,7 +58,7 @@ records-front taken failed m next old new begun piece r rest none is whole long 
 -- more came of it
 pub records-added : {W : Type 0} (taken : W → Option (List ℕ)) (failed : W → ℕ) (m : Moment) (w : Buffered W)
     (begun more now piece rest : List ℕ) → CanWrite failed w → now ≡ begun ++ more → piece ≡ more ++ rest → IsBegun now
-    → AnswersRecords taken failed m m w w begun now piece rest
+    → AnswersRecords (through Records (watch taken failed) w w) (waiting m begun piece) (waiting m now rest)
 records-added taken failed m w begun more now piece rest can grown front is =
     let lens : length piece ≡ length more + length rest = ap length front ∙ length-append more rest in
     record {
@@ -75,8 +76,8 @@ records-added taken failed m w begun more now piece rest can grown front is =
 pub records-whole : {W : Type 0} (taken : W → Option (List ℕ)) (failed : W → ℕ) (m next : Moment) (old new : Buffered W)
     (begun more now none piece rest : List ℕ) → now ≡ begun ++ more → none ≡ [] → piece ≡ more ++ rest
     → 1 ≤ length more → IsRecord now
-    → AreAnswered taken failed Records m next old new (records_ask (bssids_at m) (now ∷ []))
-    → AnswersRecords taken failed m next old new begun none piece rest
+    → AreAnswered (through Records (watch taken failed) old new) m next (records_ask (bssids_at m) (now ∷ []))
+    → AnswersRecords (through Records (watch taken failed) old new) (waiting m begun piece) (waiting next none rest)
 records-whole taken failed m next old new begun more now none piece rest grown empty front some whole a =
     let one : next.lines ≡ m.lines + 1 = lines-said m (records_ask (bssids_at m) (now ∷ [])) a.answers next a.answered in
     let lens : length piece ≡ length more + length rest = ap length front ∙ length-append more rest in
@@ -97,9 +98,9 @@ records-whole taken failed m next old new begun more now none piece rest grown e
 
 pub records-then : {W : Type 0} (taken : W → Option (List ℕ)) (failed : W → ℕ) (m between next : Moment)
     (old mid new : Buffered W) (begun now then piece rest last : List ℕ)
-    → AnswersRecords taken failed m between old mid begun now piece rest
-    → AnswersRecords taken failed between next mid new now then rest last
-    → AnswersRecords taken failed m next old new begun then piece last
+    → AnswersRecords (through Records (watch taken failed) old mid) (waiting m begun piece) (waiting between now rest)
+    → AnswersRecords (through Records (watch taken failed) mid new) (waiting between now rest) (waiting next then last)
+    → AnswersRecords (through Records (watch taken failed) old new) (waiting m begun piece) (waiting next then last)
 records-then taken failed m between next old mid new begun now then piece rest last a b =
     let first : List ℕ = all_octets a.records in
     let second : List ℕ = all_octets b.records in
@@ -113,31 +114,31 @@ records-then taken failed m between next old mid new begun now then piece rest l
           ∙ ap (λ (l : List ℕ). l ++ (then ++ last)) (sym (octets-both a.records b.records));
       is_begun = b.is_begun;
       answered =
-          subst (λ (said : List Asked). AreAnswered taken failed Records m next old new said)
+          subst (λ (said : List Asked). AreAnswered (through Records (watch taken failed) old new) m next said)
           (sym (map-append (record_asks (bssids_at m)) a.records b.records))
           (answered-then taken failed Records m between next (records_ask (bssids_at m) a.records)
           (records_ask (bssids_at m) b.records) old mid new a.answered
-          (subst (λ (bs : List (List ℕ)). AreAnswered taken failed Records between next mid new (records_ask bs b.records))
+          (subst (λ (bs : List (List ℕ)). AreAnswered (through Records (watch taken failed) mid new) between next (records_ask bs b.records))
           same b.answered));
       few = omega (arith, a.few, b.few);
     }
 
 -- nothing of the piece is left
 pub records-all : {W : Type 0} (taken : W → Option (List ℕ)) (failed : W → ℕ) (m next : Moment) (old new : Buffered W)
-    (begun now piece rest : List ℕ) → length rest ≡ 0 → AnswersRecords taken failed m next old new begun now piece rest
-    → AnswersRecords taken failed m next old new begun now piece []
+    (begun now piece rest : List ℕ) → length rest ≡ 0 → AnswersRecords (through Records (watch taken failed) old new) (waiting m begun piece) (waiting next now rest)
+    → AnswersRecords (through Records (watch taken failed) old new) (waiting m begun piece) (waiting next now [])
 records-all taken failed m next old new begun now piece rest none a =
-    subst (λ (l : List ℕ). AnswersRecords taken failed m next old new begun now piece l) (nil_from_length rest none) a
+    subst (λ (l : List ℕ). AnswersRecords (through Records (watch taken failed) old new) (waiting m begun piece) (waiting next now l)) (nil_from_length rest none) a
 
 -- ---- in either face
 
 pub piece-lines : {W : Type 0} (taken : W → Option (List ℕ)) (failed : W → ℕ) (m next : Moment) (old new : Buffered W)
     (begun begun' : Begun) (partial partial' : TextLine) (piece : List ℕ) → begun ≡ Line partial → begun' ≡ Line partial'
     → partial' ≡ partial_after partial piece
-    → AreAnswered taken failed Lines m next old new (asked_in m (lines_in partial piece))
-    → AnswersPiece taken failed m next old new begun begun' piece
+    → AreAnswered (through Lines (watch taken failed) old new) m next (asked_in m (lines_in partial piece))
+    → AnswersPiece (through (face_of begun) (watch taken failed) old new) (reached m begun) (reached next begun') piece
 piece-lines taken failed m next old new begun begun' partial partial' piece is is' after a =
-    subst (λ (b : Begun). AnswersPiece taken failed m next old new b begun' piece) (sym is)
+    subst (λ (b : Begun). AnswersPiece (through (face_of b) (watch taken failed) old new) (reached m b) (reached next begun') piece) (sym is)
     (record {
       said = asked_in m (lines_in partial piece);
       is_said = (refl, is' ∙ ap (λ (p : TextLine). Line p) after);
@@ -146,10 +147,10 @@ piece-lines taken failed m next old new begun begun' partial partial' piece is i
 
 pub piece-records : {W : Type 0} (taken : W → Option (List ℕ)) (failed : W → ℕ) (m next : Moment) (old new : Buffered W)
     (begun begun' : Begun) (partial partial' piece : List ℕ) → begun ≡ Record partial → begun' ≡ Record partial'
-    → AnswersRecords taken failed m next old new partial partial' piece []
-    → AnswersPiece taken failed m next old new begun begun' piece
+    → AnswersRecords (through Records (watch taken failed) old new) (waiting m partial piece) (waiting next partial' [])
+    → AnswersPiece (through (face_of begun) (watch taken failed) old new) (reached m begun) (reached next begun') piece
 piece-records taken failed m next old new begun begun' partial partial' piece is is' a =
-    subst (λ (b : Begun). AnswersPiece taken failed m next old new b begun' piece) (sym is)
+    subst (λ (b : Begun). AnswersPiece (through (face_of b) (watch taken failed) old new) (reached m b) (reached next begun') piece) (sym is)
     (record {
       said = records_ask (bssids_at m) a.records;
       is_said = record {

@@ -16,10 +16,11 @@ use Rattle.trace.specs.declared.report.ReportFault.TheVariants as reports
 use Rattle.trace.specs.declared.sink.Failed.{Failed}
 use Rattle.live_answers.specs.Answers.{Answer, Answers, answers_of}
 use Rattle.live_answers.specs.Asked.{Asked}
-use Rattle.live.specs.Inputs.{IsAllSaid, IsSaidIn, face_of, last_said, nothing_begun}
+use Rattle.live.specs.Inputs.{IsAllSaid, IsSaidIn, face_of, last_said, nothing_begun, saying}
 use Rattle.live.specs.LiveView.{Finishes, running}
 use Rattle.live_answers.specs.Moments.{Moment, first_moment, bssids_at}
-use Rattle.live.specs.Run.{AnswersAll, AnswersInput, Runs, StopsInPiece, StopsReading, Texts, Progress, progress, live_ending, max_reads}
+use Rattle.live.specs.Run.{AnswersAll, AnswersInput, Runs, StopsInPiece, StopsReading, Texts, Progress, progress, live_ending, setup}
+use Rattle.live.specs.Run.{max_reads, setup}
 use Rattle.live.specs.Written.{written_after, written_count, written_tables}
 use Rattle.live.specs.declared.begun.Begun.{Begun}
 use Rattle.live.specs.declared.face.Face.{Face}
@@ -34,8 +35,8 @@ use Rattle.live.proofs.RunSteps.{counted-none, prefix-after, prefix-longer}
 
 -- ---- before the first read
 
-abbrev texts : List ℕ → List ℕ → Texts
-texts config input = record { config = config; input = input }
+abbrev texts : Face → List ℕ → List ℕ → Texts
+texts face config input = record { setup = setup face config; input = input }
 
 abbrev both : SourceView → SinkView → Streams
 both source sink = record { source = source; sink = sink }
@@ -51,7 +52,7 @@ none-read source ending failed = record {
 }
 
 pub memory-runs : (face : Face) (ct : List ℕ) (source : SourceView) (old new : SinkView) → Keeps old.taken new.taken
-    → Runs face (Err NoMemory) ct (both source old) (both source new)
+    → Runs (setup face ct) (Err NoMemory) (both source old) (both source new)
 memory-runs face ct source old new kept = record {
   input = [];
   reads = none-read source OutOfMemory refl;
@@ -60,7 +61,7 @@ memory-runs face ct source old new kept = record {
 
 pub config-runs : (face : Face) (e : ReadFault ConfigFault) (ct : List ℕ) (source : SourceView) (sink : SinkView)
     → IsFaultOf (configuration_of ct) (read_ending e)
-    → Runs face (Err (read_as Config NoMemory e)) ct (both source sink) (both source sink)
+    → Runs (setup face ct) (Err (read_as Config NoMemory e)) (both source sink) (both source sink)
 config-runs face (reads.At fault) ct source sink h = record {
   input = [];
   reads = none-read source (Refused (Config fault)) refl;
@@ -81,7 +82,7 @@ whole face c answers last =
 
 said-whole : (face : Face) (c : RadioConfig) (ct input : List ℕ) (said : List Asked) (answers : List Answer) (last : Moment)
     → configuration_of ct ≡ Ok c → IsAllSaid face (bssids_at (first_moment c)) input said
-    → Answers (first_moment c) said answers last → AnswersAll face (texts ct input) (whole face c answers last)
+    → Answers (first_moment c) said answers last → AnswersAll (texts face ct input) (whole face c answers last)
 said-whole face c ct input said answers last is all answered = record {
   config = c;
   said = said;
@@ -96,9 +97,9 @@ said-whole face c ct input said answers last is all answered = record {
 -- what was said as far as it had ended, and then what the end says
 all-answered : (face : Face) (c : RadioConfig) (ct input : List ℕ) (between last : Moment) (begun : Begun)
     (said : List Asked) (some more : List Answer) → configuration_of ct ≡ Ok c
-    → IsSaidIn (bssids_at (first_moment c)) (nothing_begun face) input said begun
+    → IsSaidIn (bssids_at (first_moment c)) (nothing_begun face) input (saying said begun)
     → Answers (first_moment c) said some between → Answers between (last_said (bssids_at between) begun) more last
-    → AnswersAll face (texts ct input) (whole face c (some ++ more) last)
+    → AnswersAll (texts face ct input) (whole face c (some ++ more) last)
 all-answered face c ct input between last begun said some more is are first later =
     let m : Moment = first_moment c in
     let end : List Asked = last_said (bssids_at m) begun in
@@ -143,7 +144,7 @@ pub count-runs : (face : Face) (e : ReportFault) (c : RadioConfig) (ct : List �
     (old new : SinkView) → configuration_of ct ≡ Ok c
     → Ends {A = Unit} report_ending (Err e) (Ok (written_count face (length c.networks))) old.taken new.taken
     → (bad e ≡ bad reports.NoMemory → Keeps old.taken new.taken)
-    → Runs face (Err (report_as Write NoMemory e)) ct (both source old) (both source new)
+    → Runs (setup face ct) (Err (report_as Write NoMemory e)) (both source old) (both source new)
 count-runs face reports.NoMemory c ct source old new is part kept = memory-runs face ct source old new (kept refl)
 count-runs face reports.Write c ct source old new is part kept =
     let m : Moment = first_moment c in
@@ -171,9 +172,9 @@ count-failures reports.NoMemory failed = refl
 count-failures reports.Write failed = refl
 
 -- all was written before that is to be written of what had ended before
-stops-reading : (face : Face) (c : RadioConfig) (ct input : List ℕ) (old mid new : SinkView) → configuration_of ct ≡ Ok c
-    → Appends old.taken mid.taken (written_count face (length c.networks))
-    → StopsInPiece face (first_moment c) input mid new → StopsReading face (texts ct input) old new
+stops-reading : (face : Face) (c : RadioConfig) (ct input : List ℕ) (old : SinkView) (mid : Streams) (new : Progress)
+    → configuration_of ct ≡ Ok c → Appends old.taken mid.sink.taken (written_count face (length c.networks))
+    → StopsInPiece face input (first face c mid) new → StopsReading (texts face ct input) old new.streams.sink
 stops-reading face c ct input old mid new is count s =
     let said : List ℕ = written_count face (length c.networks) ++ written_after face (first_moment c) s.answers in
     record {
@@ -194,10 +195,10 @@ stops-reading face c ct input old mid new is count s =
       };
       rest = s.rest;
       grown =
-          subst (Appends old.taken new.taken)
+          subst (Appends old.taken new.streams.sink.taken)
           (sym
           (append_assoc (written_count face (length c.networks)) (written_after face (first_moment c) s.answers) s.rest))
-          (Appends-trans old.taken mid.taken new.taken (written_count face (length c.networks))
+          (Appends-trans old.taken mid.sink.taken new.streams.sink.taken (written_count face (length c.networks))
           (written_after face (first_moment c) s.answers ++ s.rest) count s.written);
     }
 
@@ -207,7 +208,7 @@ pub input-runs : (face : Face) (e : LiveFault) (c : RadioConfig) (ct : List ℕ)
     (moment : Moment) (begun : Begun) → configuration_of ct ≡ Ok c
     → Appends old.taken mid.sink.taken (written_count face (length c.networks))
     → AnswersInput face (Err e) (first face c mid) (progress moment begun new)
-    → Runs face (Err e) ct (both mid.source old) new
+    → Runs (setup face ct) (Err e) (both mid.source old) new
 input-runs face Read c ct old mid new moment begun is count s = record {
   input = s.input;
   reads = s.reads;
@@ -246,7 +247,7 @@ input-runs face Write c ct old mid new moment begun is count s =
             (written_after face moment more ++ written_tables face rest.0.networks)
             (prefix-after (written_count face (length c.networks)) (written_after face (first_moment c) s.answers) count
             s.written));
-        stops = inr (stops-reading face c ct s.input old mid.sink new.sink is count s.stops);
+        stops = inr (stops-reading face c ct s.input old mid (progress moment begun new) is count (s.stops refl));
       };
     }
 input-runs face NoMemory c ct old mid new moment begun is count s = absurd s.written
@@ -274,7 +275,7 @@ pub end-runs : (face : Face) (e : Failed) (u : Unit {0}) (c : RadioConfig) (ct :
     → Appends old.taken mid.sink.taken (written_count face (length c.networks))
     → AnswersInput face (Ok u) (first face c mid) (progress moment begun read)
     → Finishes (Err e) (running moment begun read.sink.taken) new.taken
-    → Runs face (Err Write) ct (both mid.source old) (both read.source new)
+    → Runs (setup face ct) (Err Write) (both mid.source old) (both read.source new)
 end-runs face e u c ct old mid read new moment begun is count s finished =
     let same : face_of begun ≡ face = said-face face (bssids_at (first_moment c)) s.input s.said begun s.is_said in
     let t = end-in face (Err e) moment begun read.sink.taken new.taken same finished in
@@ -302,7 +303,7 @@ end-runs face e u c ct old mid read new moment begun is count s finished =
             part);
         stops =
             inr
-            (stops-reading face c ct s.input old mid.sink new is count
+            (stops-reading face c ct s.input old mid (progress moment begun (both read.source new)) is count
             (record {
               before = s.input;
               piece = [];
@@ -326,7 +327,7 @@ pub whole-runs : (face : Face) (u v w : Unit {0}) (c : RadioConfig) (ct : List �
     → Appends old.taken mid.sink.taken (written_count face (length c.networks))
     → AnswersInput face (Ok u) (first face c mid) (progress moment begun read)
     → Finishes (Ok v) (running moment begun read.sink.taken) new.taken
-    → Runs face (Ok w) ct (both mid.source old) (both read.source new)
+    → Runs (setup face ct) (Ok w) (both mid.source old) (both read.source new)
 whole-runs face u v w c ct old mid read new moment begun is count s finished =
     let same : face_of begun ≡ face = said-face face (bssids_at (first_moment c)) s.input s.said begun s.is_said in
     let t = end-in face (Ok v) moment begun read.sink.taken new.taken same finished in

@@ -9,7 +9,7 @@ use Rattle.trace.specs.Streams.{reads_after}
 use Rattle.trace.specs.declared.sink.Failed.{Failed}
 use Rattle.live_answers.specs.Answers.{Answer, Answers}
 use Rattle.live_answers.specs.Asked.{Asked}
-use Rattle.live.specs.Inputs.{IsSaidIn, face_of, nothing_begun}
+use Rattle.live.specs.Inputs.{IsSaidIn, face_of, nothing_begun, saying}
 use Rattle.live.specs.LiveView.{Takes, running}
 use Rattle.live_answers.specs.Moments.{Moment, bssids_at}
 use Rattle.live.specs.Run.{AnswersInput, Progress, max_reads}
@@ -68,7 +68,7 @@ pub record InputSoFar (face : Face) (count : ℕ) (old new : Progress) : Type 0 
   pub answers : List Answer
   pub took : Consumes old.streams.source.left new.streams.source.left input
   pub counted : new.streams.source.reads ≡ reads_after old.streams.source.reads count
-  pub is_said : IsSaidIn (bssids_at old.moment) (nothing_begun face) input said new.begun
+  pub is_said : IsSaidIn (bssids_at old.moment) (nothing_begun face) input (saying said new.begun)
   pub answered : Answers old.moment said answers new.moment
   pub written : Appends old.streams.sink.taken new.streams.sink.taken (written_after face old.moment answers)
   pub lines : new.moment.lines ≤ 4096 * count
@@ -82,7 +82,7 @@ input-none face old begun first = record {
   took = Consumes-nil old.streams.source.left;
   counted = counted-none old.streams.source.reads;
   is_said =
-      subst (λ (b : Begun). IsSaidIn (bssids_at old.moment) (nothing_begun face) [] [] b) (sym begun)
+      subst (λ (b : Begun). IsSaidIn (bssids_at old.moment) (nothing_begun face) [] (saying [] b)) (sym begun)
       (said-none face (bssids_at old.moment));
   answered = refl;
   written = Appends-nil old.streams.sink.taken;
@@ -98,12 +98,12 @@ piece-more m between next said more some others first later =
 
 -- it is said to the same networks
 piece-said : (face : Face) (m between : Moment) (input piece : List ℕ) (said more : List Asked) (some : List Answer)
-    (mid next : Begun) → Answers m said some between → IsSaidIn (bssids_at m) (nothing_begun face) input said mid
-    → IsSaidIn (bssids_at between) mid piece more next
-    → IsSaidIn (bssids_at m) (nothing_begun face) (input ++ piece) (said ++ more) next
+    (mid next : Begun) → Answers m said some between → IsSaidIn (bssids_at m) (nothing_begun face) input (saying said mid)
+    → IsSaidIn (bssids_at between) mid piece (saying more next)
+    → IsSaidIn (bssids_at m) (nothing_begun face) (input ++ piece) (saying (said ++ more) next)
 piece-said face m between input piece said more some mid next h is k =
     said-more face (bssids_at m) input piece said more mid next is
-    (subst (λ (bs : List (List ℕ)). IsSaidIn bs mid piece more next) (bssids-answers m said some between h) k)
+    (subst (λ (bs : List (List ℕ)). IsSaidIn bs mid piece (saying more next)) (bssids-answers m said some between h) k)
 
 pub input-more : (face : Face) (count : ℕ) (old mid new : Progress) (piece : List ℕ) (u : Unit {0})
     → InputSoFar face count old mid → Consumes mid.streams.source.left new.streams.source.left piece
@@ -174,7 +174,7 @@ input-cut face count old mid new piece e s within took one same short t =
           subst (AppendsPrefix old.streams.sink.taken new.streams.sink.taken)
           (sym (texts-join face old.moment mid.moment s.said s.answers t.answers s.answered))
           (prefix-after (written_after face old.moment s.answers) (written_after face mid.moment t.answers) s.written part);
-      stops = record {
+      stops = λ _. record {
         before = s.input;
         piece = piece;
         read = refl;

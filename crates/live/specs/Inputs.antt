@@ -28,19 +28,27 @@ abbrev pub IsUnfinished : Begun → Type 0
 IsUnfinished (Line partial) = Unit {0}
 IsUnfinished (Record begun) = IsBegun begun
 
--- what has begun and a piece are these records, and then this has begun
-pub record AreRecordsIn (bssids : List (List ℕ)) (begun piece : List ℕ) (said : List Asked) (next : Begun) : Type 0 where
+-- what is said in a piece, and what has begun after it
+pub record Saying : Type 0 where
+  pub said : List Asked
+  pub next : Begun
+
+abbrev pub saying : List Asked → Begun → Saying
+saying said next = record { said = said; next = next }
+
+-- what had begun and a piece are records that say this
+pub record AreRecordsIn (bssids : List (List ℕ)) (begun piece : List ℕ) (s : Saying) : Type 0 where
   pub records : List (List ℕ)
   pub rest : List ℕ
   pub are : AreRecords (begun ++ piece) records rest
-  pub ask : said ≡ records_ask bssids records
-  pub next_is : next ≡ Record rest
+  pub ask : s.said ≡ records_ask bssids records
+  pub next_is : s.next ≡ Record rest
 
--- What is said to networks with these addresses in a piece, after what had begun; and what has begun then.
-abbrev pub IsSaidIn : List (List ℕ) → Begun → List ℕ → List Asked → Begun → Type 0
-IsSaidIn bssids (Line partial) piece said next =
-    (said ≡ asked_by_all bssids (lines_in partial piece)) × (next ≡ Line (partial_after partial piece))
-IsSaidIn bssids (Record begun) piece said next = AreRecordsIn bssids begun piece said next
+-- what is said to networks with these addresses in a piece, after what had begun
+abbrev pub IsSaidIn : List (List ℕ) → Begun → List ℕ → Saying → Type 0
+IsSaidIn bssids (Line partial) piece s =
+    (s.said ≡ asked_by_all bssids (lines_in partial piece)) × (s.next ≡ Line (partial_after partial piece))
+IsSaidIn bssids (Record begun) piece s = AreRecordsIn bssids begun piece s
 
 -- what is said by the end of the input, after what had begun
 abbrev pub last_said : List (List ℕ) → Begun → List Asked

@@ -6,7 +6,7 @@ use Rattle.trace.specs.declared.sink.Failed.{Failed}
 use Rattle.live_answers.specs.AnswerText.{tables_text}
 use Rattle.live_answers.specs.Answers.{Answer, Answers}
 use Rattle.live_answers.specs.Asked.{Asked, asked_in}
-use Rattle.live.specs.Inputs.{IsSaidIn, face_of, last_said}
+use Rattle.live.specs.Inputs.{IsSaidIn, face_of, last_said, saying}
 use Rattle.live_answers.specs.Moments.{Moment, bssids_at}
 use Rattle.live_answers.specs.TextLines.{TextLine, partial_after, last_line, lines_in}
 use Rattle.live.specs.Written.{text_after, written_after, written_tables}
@@ -32,7 +32,8 @@ fed live taken = record { live = live; taken = taken }
 -- failed, a prefix of them.
 pub record TakesPiece (result : Result Unit Failed) (piece : List ℕ) (old new : Fed) : Type 0 where
   pub answers : List Answer
-  pub answered : Answers old.live.moment (asked_in old.live.moment (lines_in old.live.partial piece)) answers new.live.moment
+  pub answered :
+      Answers old.live.moment (asked_in old.live.moment (lines_in old.live.partial piece)) answers new.live.moment
   pub partial : new.live.partial ≡ partial_after old.live.partial piece
   pub written : Ends write_ending result (Ok (text_after old.live.moment answers)) old.taken new.taken
 
@@ -56,12 +57,12 @@ pub record Running : Type 0 where
 abbrev pub running : Moment → Begun → Option (List ℕ) → Running
 running moment begun taken = record { moment = moment; begun = begun; taken = taken }
 
--- It took a piece: what is said in it is answered, and the sink has gained the answers; or, where a write failed, a prefix
--- of them.
+-- It took a piece: what is said in it is answered, and the sink has gained the answers; or, where a write failed, a
+-- prefix of them.
 pub record Takes (result : Result Unit Failed) (piece : List ℕ) (old new : Running) : Type 0 where
   pub said : List Asked
   pub answers : List Answer
-  pub is_said : IsSaidIn (bssids_at old.moment) old.begun piece said new.begun
+  pub is_said : IsSaidIn (bssids_at old.moment) old.begun piece (saying said new.begun)
   pub answered : Answers old.moment said answers new.moment
   pub written : Ends write_ending result (Ok (written_after (face_of old.begun) old.moment answers)) old.taken new.taken
 

@@ -12,12 +12,13 @@ use Rattle.live_answers.specs.Answers.{Answer, Answers, MayReplyFrom, after_line
 use Rattle.live_answers.specs.Dispatch.{event_at}
 use Rattle.live_answers.specs.Moments.{Moment, Reply, MayReplyIf, taken_if, after_if, bssid_of, bssids_at}
 use Rattle.live_answers.specs.Asked.{Asked}
-use Rattle.live.specs.Inputs.{IsSaidIn, face_of}
+use Rattle.live.specs.Inputs.{IsSaidIn, saying}
 use Rattle.live_answers.specs.Records.{IsBegun, IsRecord, all_octets, records_ask}
 use Rattle.live.specs.Written.{written_reply_if, written_replies, written_after}
 use Rattle.live.specs.declared.begun.Begun.{Begun}
 use Rattle.live.specs.declared.face.Face.{Face}
-use Rattle.live.specs.declared.face.Face.TheVariants.{Records}
+
+-- ---- frames
 
 -- a line for each frame, after a word that says where it went and the address of its network
 abbrev pub frames_text : List ℕ → List ℕ → List (List ℕ) → List ℕ
@@ -27,43 +28,98 @@ frames_text word bssid frames = flat_map (frame_line (frame_words word bssid)) f
 abbrev pub frames_octets : ℕ → List ℕ → List (List ℕ) → List ℕ
 frames_octets kind bssid frames = flat_map (record_of kind bssid) frames
 
--- The network at a place took the line or record of a number or refused it, if it is an event to it, and its reply was put.
-pub record HasReplied {W : Type 0} (taken : W → Option (List ℕ)) (failed : W → ℕ) (face : Face) (place number : ℕ) (line : Line)
-    (n next : NetworkState) (old new : Buffered W) : Type 0 where
+-- ---- a call that puts what it answers
+
+-- how a sink is seen: what it has taken, where that is known, and how often it failed
+pub record Watch (W : Type 0) : Type 0 where
+  pub taken : W → Option (List ℕ)
+  pub failed : W → ℕ
+
+abbrev pub watch : {W : Type 0} → (W → Option (List ℕ)) → (W → ℕ) → Watch W
+watch taken failed = record { taken = taken; failed = failed }
+
+-- the face in which a call answers, and the buffer, before it and after it, through which its answers go to a sink
+pub record Through (W : Type 0) : Type 0 where
+  pub face : Face
+  pub sink : Watch W
+  pub old : Buffered W
+  pub new : Buffered W
+
+abbrev pub through : {W : Type 0} → Face → Watch W → Buffered W → Buffered W → Through W
+through face sink old new = record { face = face; sink = sink; old = old; new = new }
+
+-- the call puts this
+abbrev pub PutsThrough : {W : Type 0} → Through W → List ℕ → Type 0
+PutsThrough o text = Puts o.sink.taken o.sink.failed o.old o.new text
+
+-- ---- one line or record
+
+-- what the line or record of a number says
+pub record Numbered : Type 0 where
+  pub number : ℕ
+  pub line : Line
+
+abbrev pub numbered : ℕ → Line → Numbered
+numbered number line = record { number = number; line = line }
+
+-- the network at a place
+pub record Placed : Type 0 where
+  pub place : ℕ
+  pub network : NetworkState
+
+abbrev pub placed : ℕ → NetworkState → Placed
+placed place network = record { place = place; network = network }
+
+-- The network at a place took the line or record or refused it, if it is an event to it, and its reply was put.
+pub record HasReplied {W : Type 0} (o : Through W) (said : Numbered) (n : Placed) (next : NetworkState) : Type 0 where
   pub reply : Option Reply
-  pub may : MayReplyIf n (event_at place n line) reply
-  pub after : next ≡ after_if n (taken_if (event_at place n line) reply)
-  pub puts : Puts taken failed old new (written_reply_if face number (bssid_of n) reply)
+  pub may : MayReplyIf n.network (event_at n.place n.network said.line) reply
+  pub after : next ≡ after_if n.network (taken_if (event_at n.place n.network said.line) reply)
+  pub puts : PutsThrough o (written_reply_if o.face said.number (bssid_of n.network) reply)
 
 -- All networks did so, and their replies were put in order of place.
-pub record HaveReplied {W : Type 0} (taken : W → Option (List ℕ)) (failed : W → ℕ) (face : Face) (number : ℕ) (line : Line)
-    (ns next : List NetworkState) (old new : Buffered W) : Type 0 where
+pub record HaveReplied {W : Type 0} (o : Through W) (said : Numbered) (ns next : List NetworkState) : Type 0 where
   pub replies : List (Option Reply)
-  pub may : MayReplyFrom 0 ns line replies
-  pub after : next ≡ after_line_from 0 ns line replies
-  pub puts : Puts taken failed old new (written_replies face number (map bssid_of ns) replies)
+  pub may : MayReplyFrom 0 ns said.line replies
+  pub after : next ≡ after_line_from 0 ns said.line replies
+  pub puts : PutsThrough o (written_replies o.face said.number (map bssid_of ns) replies)
+
+-- ---- all that is said
 
 -- This was answered, from one moment to another, and the answers were put.
-pub record AreAnswered {W : Type 0} (taken : W → Option (List ℕ)) (failed : W → ℕ) (face : Face) (m next : Moment)
-    (old new : Buffered W) (said : List Asked) : Type 0 where
+pub record AreAnswered {W : Type 0} (o : Through W) (m next : Moment) (said : List Asked) : Type 0 where
   pub answers : List Answer
   pub answered : Answers m said answers next
-  pub puts : Puts taken failed old new (written_after face m answers)
+  pub puts : PutsThrough o (written_after o.face m answers)
 
--- What is said in a piece was answered, after what had begun, in the face of that.
-pub record AnswersPiece {W : Type 0} (taken : W → Option (List ℕ)) (failed : W → ℕ) (m next : Moment)
-    (old new : Buffered W) (begun begun' : Begun) (piece : List ℕ) : Type 0 where
+-- the moment after what has ended, and what has begun of the next line or record
+pub record Reached : Type 0 where
+  pub moment : Moment
+  pub begun : Begun
+
+abbrev pub reached : Moment → Begun → Reached
+reached moment begun = record { moment = moment; begun = begun }
+
+-- What is said in a piece was answered, after what had begun.
+pub record AnswersPiece {W : Type 0} (o : Through W) (old new : Reached) (piece : List ℕ) : Type 0 where
   pub said : List Asked
-  pub is_said : IsSaidIn (bssids_at m) begun piece said begun'
-  pub answered : AreAnswered taken failed (face_of begun) m next old new said
+  pub is_said : IsSaidIn (bssids_at old.moment) old.begun piece (saying said new.begun)
+  pub answered : AreAnswered o old.moment new.moment said
 
--- What has begun of a record and a piece were answered as far as they are records; what has begun then and the rest of the
--- piece are left.
-pub record AnswersRecords {W : Type 0} (taken : W → Option (List ℕ)) (failed : W → ℕ) (m next : Moment)
-    (old new : Buffered W) (begun begun' piece rest : List ℕ) : Type 0 where
+-- the moment after the records that have ended, what has begun of the next, and the rest of a piece
+pub record Waiting : Type 0 where
+  pub moment : Moment
+  pub begun : List ℕ
+  pub rest : List ℕ
+
+abbrev pub waiting : Moment → List ℕ → List ℕ → Waiting
+waiting moment begun rest = record { moment = moment; begun = begun; rest = rest }
+
+-- What had begun of a record and the rest of a piece were answered as far as they are records, and the others are left.
+pub record AnswersRecords {W : Type 0} (o : Through W) (old new : Waiting) : Type 0 where
   pub records : List (List ℕ)
   pub each : AllByRecursion IsRecord records
-  pub all : begun ++ piece ≡ all_octets records ++ (begun' ++ rest)
-  pub is_begun : IsBegun begun'
-  pub answered : AreAnswered taken failed Records m next old new (records_ask (bssids_at m) records)
-  pub few : next.lines + length rest ≤ m.lines + length piece
+  pub all : old.begun ++ old.rest ≡ all_octets records ++ (new.begun ++ new.rest)
+  pub is_begun : IsBegun new.begun
+  pub answered : AreAnswered o old.moment new.moment (records_ask (bssids_at old.moment) records)
+  pub few : new.moment.lines + length new.rest ≤ old.moment.lines + length old.rest

@@ -5,7 +5,7 @@ ghost use Rattle.std.specs.List.{AllByRecursion};
 ghost use Rattle.trace.specs.Buffers.{CanWrite, Puts};
 ghost use Rattle.live_answers.specs.Dispatch.{event_for, line_as};
 ghost use Rattle.live_answers.specs.Moments.{Reply, MayReply, taken_if, after_if, bssid_of};
-ghost use Rattle.live.specs.Output.{HasReplied, HaveReplied};
+ghost use Rattle.live.specs.Output.{HasReplied, HaveReplied, through, watch, numbered, placed};
 ghost use Rattle.live.specs.Written.{written_reply};
 
 use crate::face::Face;
@@ -69,8 +69,8 @@ pub fn reply_all<W: Sink>(
 )
     requires countable { AllByRecursion (λ n. n.events < 2 ^ 62) networks.old }
     requires can_write { CanWrite W.failed out.old }
-    ensures { HaveReplied W.taken W.failed face number (line_as line.now.place line.now.event)
-        networks.old networks.new out.old out.new }
+    ensures { HaveReplied (through face (watch W.taken W.failed) out.old out.new)
+        (numbered number (line_as line.now.place line.now.event)) networks.old networks.new }
 {
     for place in 0..networks.len() {
         reply_at(face, &mut networks[place], line, place, number, out);
@@ -88,8 +88,8 @@ fn reply_at<W: Sink>(
 )
     requires countable { network.old.events < 2 ^ 62 }
     requires can_write { CanWrite W.failed out.old }
-    ensures { HasReplied W.taken W.failed face place number (line_as line.now.place line.now.event)
-        network.old network.new out.old out.new }
+    ensures { HasReplied (through face (watch W.taken W.failed) out.old out.new)
+        (numbered number (line_as line.now.place line.now.event)) (placed place network.old) network.new }
 {
     let bssid = network.setting().network.bssid;
     if line.is_for(place, bssid) {

@@ -8,7 +8,7 @@ ghost use Rattle.trace.specs.Sinks.{MayFail, write_ending};
 ghost use Rattle.live.specs.Inputs.{IsUnfinished, face_of, last_said, nothing_begun};
 ghost use Rattle.live.specs.LiveView.{Finishes, Takes, running};
 ghost use Rattle.live_answers.specs.Moments.{bssids_at, first_moment};
-ghost use Rattle.live.specs.Output.{AnswersPiece, AreAnswered};
+ghost use Rattle.live.specs.Output.{AnswersPiece, AreAnswered, through, watch, reached};
 
 use crate::begun::Begun;
 use crate::face::Face;
@@ -46,8 +46,9 @@ impl Engine {
         })
     }
 
-    /// Takes the next piece, where fewer than 2^62 lines or records can have ended, and has the sink take the answers to
-    /// what ends in it. `Failed` comes exactly where a write of the sink failed, which has then taken a prefix of them.
+    /// Takes the next piece, where fewer than 2^62 lines or records can have ended, and has the sink take the answers
+    /// to what ends in it. `Failed` comes exactly where a write of the sink failed, which has then taken a prefix of
+    /// them.
     pub fn feed<W: Sink>(&mut self, piece: &[u8], out: &mut W) -> Result<(), Failed>
         requires unfinished { IsUnfinished self.old.begun }
         requires countable { self.old.networks.lines + length piece.now < 2 ^ 62 }
@@ -143,8 +144,8 @@ fn answer_piece<W: Sink>(
     requires unfinished { IsUnfinished begun.old }
     requires countable { networks.old.lines + length piece.now < 2 ^ 62 }
     requires can_write { CanWrite W.failed out.old }
-    ensures answers { AnswersPiece W.taken W.failed networks.old networks.new out.old out.new begun.old begun.new
-        piece.now }
+    ensures answers { AnswersPiece (through (face_of begun.old) (watch W.taken W.failed) out.old out.new)
+        (reached networks.old begun.old) (reached networks.new begun.new) piece.now }
     ensures lines { networks.new.lines ≤ networks.old.lines + length piece.now }
 {
     match begun {
@@ -157,8 +158,8 @@ fn answer_piece<W: Sink>(
 fn answer_last<W: Sink>(networks: &mut Networks, begun: &Begun, out: &mut Buffered<'_, W>)
     requires countable { networks.old.lines < 2 ^ 62 }
     requires can_write { CanWrite W.failed out.old }
-    ensures { AreAnswered W.taken W.failed (face_of begun.now) networks.old networks.new out.old out.new
-        (last_said (bssids_at networks.old) begun.now) }
+    ensures { AreAnswered (through (face_of begun.now) (watch W.taken W.failed) out.old out.new)
+        networks.old networks.new (last_said (bssids_at networks.old) begun.now) }
 {
     match begun {
         Begun::Line(partial) => answer_last_line(networks, partial, out),

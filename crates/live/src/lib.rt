@@ -6,13 +6,14 @@
 //! tables of the networks; and a prefix of that where a write failed. Where memory runs out after the first read,
 //! nothing ends: the answer says so.
 //!
-//! [`Live`] is the access point in the face of lines. [`Live::feed`] takes a piece of a text, which may be cut anywhere,
-//! and promises that the sink has gained exactly the answers to the lines that end in it, or, where a write failed, a
-//! prefix of them; [`Live::end`] promises the same of the last line, and of the tables.
+//! [`Live`] is the access point in the face of lines. [`Live::feed`] takes a piece of a text, which may be cut
+//! anywhere, and promises that the sink has gained exactly the answers to the lines that end in it, or, where a write
+//! failed, a prefix of them; [`Live::end`] promises the same of the last line, and of the tables.
 //!
-//! What is answered is said by the definitions of the crate `live_answers`, whose laws hold of both faces: [`isolation`]
-//! and those beside it. `specs/` says what an input says in either face (`Inputs`), and how answers are written
-//! (`AnswerOctets`, `Written`). The answers to more that is said begin with those to the first of it ([`more_lines`]).
+//! What is answered is said by the definitions of the crate `live_answers`, whose laws hold of both faces:
+//! [`isolation`] and those beside it. `specs/` says what an input says in either face (`Inputs`), and how answers are
+//! written (`AnswerOctets`, `Written`). The answers to more that is said begin with those to the first of it
+//! ([`more_lines`]).
 //!
 //! Where the input comes from, and where the answers go, is left to the program.
 #![tactic(auto)]

@@ -4,7 +4,7 @@ ghost use Rattle.std.specs.Prelude.{◌≡◌, ◌<◌, ◌≤◌, ◌+◌, ◌^
 ghost use Rattle.trace.specs.Buffers.{CanWrite};
 ghost use Rattle.trace.specs.Texts.{LacksLineFeed};
 ghost use Rattle.live_answers.specs.Asked.{asked_in};
-ghost use Rattle.live.specs.Output.{AreAnswered};
+ghost use Rattle.live.specs.Output.{AreAnswered, through, watch};
 ghost use Rattle.live.specs.PartialLine.{IsUnended, ended_with};
 ghost use Rattle.live_answers.specs.TextLines.{Octets, partial_after, last_line, lines_in};
 ghost use Rattle.live.specs.declared.face.Face.TheVariants as faces;
@@ -22,8 +22,8 @@ pub fn answer_lines<W: Sink>(
 )
     requires countable { networks.old.lines + length piece.now < 2 ^ 62 }
     requires can_write { CanWrite W.failed out.old }
-    ensures answered { AreAnswered W.taken W.failed faces.Lines networks.old networks.new out.old out.new
-        (asked_in networks.old (lines_in partial.old piece.now)) }
+    ensures answered { AreAnswered (through faces.Lines (watch W.taken W.failed) out.old out.new)
+        networks.old networks.new (asked_in networks.old (lines_in partial.old piece.now)) }
     ensures partial { partial.new ≡ partial_after partial.old piece.now }
     ensures lines { networks.new.lines ≤ networks.old.lines + length piece.now }
 {
@@ -45,8 +45,8 @@ fn answer_ended<W: Sink>(
     requires lacks { LacksLineFeed octets.now }
     requires countable { networks.old.lines < 2 ^ 62 }
     requires can_write { CanWrite W.failed out.old }
-    ensures answered { AreAnswered W.taken W.failed faces.Lines networks.old networks.new out.old out.new
-        (asked_in networks.old (ended_with partial.old octets.now ∷ [])) }
+    ensures answered { AreAnswered (through faces.Lines (watch W.taken W.failed) out.old out.new)
+        networks.old networks.new (asked_in networks.old (ended_with partial.old octets.now ∷ [])) }
     ensures unended { IsUnended partial.old }
     ensures partial { partial.new ≡ Octets [] }
 {
@@ -67,8 +67,8 @@ pub fn answer_last_line<W: Sink>(
 )
     requires countable { networks.old.lines < 2 ^ 62 }
     requires can_write { CanWrite W.failed out.old }
-    ensures { AreAnswered W.taken W.failed faces.Lines networks.old networks.new out.old out.new
-        (asked_in networks.old (last_line partial.now)) }
+    ensures { AreAnswered (through faces.Lines (watch W.taken W.failed) out.old out.new)
+        networks.old networks.new (asked_in networks.old (last_line partial.now)) }
 {
     if partial.is_empty() {
         return;

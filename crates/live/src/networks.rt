@@ -6,7 +6,7 @@ ghost use Rattle.ap_config.specs.Configuration.{fault_of};
 ghost use Rattle.trace.specs.Buffers.{CanWrite, Puts};
 ghost use Rattle.live_answers.specs.Asked.{Asked, asked_in};
 ghost use Rattle.live_answers.specs.Moments.{bssids_at, first_moment};
-ghost use Rattle.live.specs.Output.{AreAnswered};
+ghost use Rattle.live.specs.Output.{AreAnswered, through, watch};
 ghost use Rattle.live.specs.PartialLine.{line_in};
 ghost use Rattle.live.specs.Readings.{IsReading};
 ghost use Rattle.live_answers.specs.Records.{IsRecord, records_ask};
@@ -78,8 +78,8 @@ impl Networks {
     pub fn answer_line<W: Sink>(&mut self, line: Option<&[u8]>, out: &mut Buffered<'_, W>)
         requires countable { self.old.lines < 2 ^ 62 }
         requires can_write { CanWrite W.failed out.old }
-        ensures { AreAnswered W.taken W.failed faces.Lines self.old self.new out.old
-            out.new (asked_in self.old (line_in (option_map (λ octets. octets.now) line.entry) ∷ [])) }
+        ensures { AreAnswered (through faces.Lines (watch W.taken W.failed) out.old out.new)
+            self.old self.new (asked_in self.old (line_in (option_map (λ octets. octets.now) line.entry) ∷ [])) }
     {
         let reading = read_line(self.alloc, self.bssids.as_slice(), line);
         self.answer(Face::Lines, reading, out);
@@ -90,8 +90,8 @@ impl Networks {
         requires record { IsRecord octets.now }
         requires countable { self.old.lines < 2 ^ 62 }
         requires can_write { CanWrite W.failed out.old }
-        ensures { AreAnswered W.taken W.failed faces.Records self.old self.new out.old
-            out.new (records_ask (bssids_at self.old) (octets.now ∷ [])) }
+        ensures { AreAnswered (through faces.Records (watch W.taken W.failed) out.old out.new)
+            self.old self.new (records_ask (bssids_at self.old) (octets.now ∷ [])) }
     {
         let reading = read_record(self.alloc, self.bssids.as_slice(), octets);
         self.answer(Face::Records, reading, out);
@@ -101,8 +101,8 @@ impl Networks {
     pub fn answer<W: Sink>(&mut self, face: Face, reading: Reading, out: &mut Buffered<'_, W>)
         requires countable { self.old.lines < 2 ^ 62 }
         requires can_write { CanWrite W.failed out.old }
-        ensures { (said : Asked) → IsReading reading said → AreAnswered W.taken W.failed face self.old self.new
-            out.old out.new (said ∷ []) }
+        ensures { (said : Asked) → IsReading reading said
+            → AreAnswered (through face (watch W.taken W.failed) out.old out.new) self.old self.new (said ∷ []) }
     {
         self.lines += 1;
         let number = self.lines;
@@ -128,9 +128,10 @@ fn answer_reading<W: Sink>(
 )
     requires countable { AllByRecursion (λ n. n.events < 2 ^ 62) networks.old }
     requires can_write { CanWrite W.failed out.old }
-    ensures { (lines : ℕ) (said : Asked) → number ≡ lines + 1 → IsReading reading said → AreAnswered W.taken W.failed face
+    ensures { (lines : ℕ) (said : Asked) → number ≡ lines + 1 → IsReading reading said
+        → AreAnswered (through face (watch W.taken W.failed) out.old out.new)
         (record { lines = lines; networks = networks.old }) (record { lines = number; networks = networks.new })
-        out.old out.new (said ∷ []) }
+        (said ∷ []) }
 {
     match reading {
         Reading::Nothing => {}

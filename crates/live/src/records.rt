@@ -2,7 +2,7 @@
 
 ghost use Rattle.std.specs.Prelude.{◌≡◌, ◌<◌, ◌≤◌, ◌+◌, ◌^◌, [], length};
 ghost use Rattle.trace.specs.Buffers.{CanWrite};
-ghost use Rattle.live.specs.Output.{AnswersRecords, AreAnswered};
+ghost use Rattle.live.specs.Output.{AnswersRecords, AreAnswered, through, watch, waiting};
 ghost use Rattle.live_answers.specs.Records.{IsBegun, IsRecord, cut_record};
 ghost use Rattle.live.specs.declared.face.Face.TheVariants as faces;
 
@@ -22,8 +22,8 @@ pub fn answer_records<W: Sink>(
     requires begun { IsBegun partial.old }
     requires countable { networks.old.lines + length piece.now < 2 ^ 62 }
     requires can_write { CanWrite W.failed out.old }
-    ensures answers { AnswersRecords W.taken W.failed networks.old networks.new out.old out.new partial.old partial.new
-        piece.now [] }
+    ensures answers { AnswersRecords (through faces.Records (watch W.taken W.failed) out.old out.new)
+        (waiting networks.old partial.old piece.now) (waiting networks.new partial.new []) }
 {
     let mut rest = piece;
     while !rest.is_empty() {
@@ -44,8 +44,8 @@ fn answer_next<'a, W: Sink>(
     requires begun { IsBegun partial.old }
     requires countable { networks.old.lines < 2 ^ 62 }
     requires can_write { CanWrite W.failed out.old }
-    ensures answers { AnswersRecords W.taken W.failed networks.old networks.new out.old out.new partial.old partial.new
-        piece.now result.now }
+    ensures answers { AnswersRecords (through faces.Records (watch W.taken W.failed) out.old out.new)
+        (waiting networks.old partial.old piece.now) (waiting networks.new partial.new result.now) }
     ensures shorter { length result.now < length piece.now }
 {
     if partial.is_empty() {
@@ -71,8 +71,8 @@ pub fn answer_cut_record<W: Sink>(
 )
     requires countable { networks.old.lines < 2 ^ 62 }
     requires can_write { CanWrite W.failed out.old }
-    ensures { AreAnswered W.taken W.failed faces.Records networks.old networks.new out.old out.new
-        (cut_record partial.now) }
+    ensures { AreAnswered (through faces.Records (watch W.taken W.failed) out.old out.new)
+        networks.old networks.new (cut_record partial.now) }
 {
     if partial.is_empty() {
         return;

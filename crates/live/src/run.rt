@@ -6,7 +6,7 @@ ghost use Rattle.trace.specs.Endings.{Ends, failures_of};
 ghost use Rattle.trace.specs.Sinks.{MayFail, report_ending};
 ghost use Rattle.live.specs.AnswerOctets.{count_record};
 ghost use Rattle.live.specs.Inputs.{face_of, nothing_begun};
-ghost use Rattle.live.specs.Run.{AnswersInput, Runs, RunsLive, RunsOctets, live_ending, progress, streams};
+ghost use Rattle.live.specs.Run.{AnswersInput, Runs, RunsLive, RunsOctets, live_ending, progress, seen, setup, streams};
 ghost use Rattle.live.specs.Written.{written_count};
 
 use crate::engine::Engine;
@@ -40,18 +40,20 @@ pub fn live<R: Source, W: Sink>(
     requires input { MayFail (R.failed input.old) }
     requires out { MayFail (W.failed out.old) }
     ensures ends { RunsLive result config.now
-        (streams (R.left input.old) (R.failed input.old) (R.reads input.old) (W.taken out.old) (W.failed out.old))
-        (streams (R.left input.new) (R.failed input.new) (R.reads input.new) (W.taken out.new) (W.failed out.new)) }
+        (streams (seen (R.left input.old) (R.failed input.old) (R.reads input.old))
+        (W.taken out.old) (W.failed out.old))
+        (streams (seen (R.left input.new) (R.failed input.new) (R.reads input.new))
+        (W.taken out.new) (W.failed out.new)) }
     ensures failures { W.failed out.new ≡ W.failed out.old + failures_of live_ending result }
 {
     run(alloc, Face::Lines, config, input, out)
 }
 
-/// Runs the access point of a configuration in the face of records, as [`live`] runs it in the face of lines. It appends
-/// the record `O` of the number of its networks, and then, to each record that a source gives, the answer, in records; a
-/// piece of it is read only when the records that ended in the piece before are answered. At the source's end it appends
-/// `fault L2` for a record that is cut, of which nothing is taken, and the lines of each network's table in order of
-/// place.
+/// Runs the access point of a configuration in the face of records, as [`live`] runs it in the face of lines. It
+/// appends the record `O` of the number of its networks, and then, to each record that a source gives, the answer, in
+/// records; a piece of it is read only when the records that ended in the piece before are answered. At the source's
+/// end it appends `fault L2` for a record that is cut, of which nothing is taken, and the lines of each network's table
+/// in order of place.
 ///
 /// It ends as [`live`] does, and each fault says the same, of records.
 pub fn live_octets<R: Source, W: Sink>(
@@ -63,8 +65,10 @@ pub fn live_octets<R: Source, W: Sink>(
     requires input { MayFail (R.failed input.old) }
     requires out { MayFail (W.failed out.old) }
     ensures ends { RunsOctets result config.now
-        (streams (R.left input.old) (R.failed input.old) (R.reads input.old) (W.taken out.old) (W.failed out.old))
-        (streams (R.left input.new) (R.failed input.new) (R.reads input.new) (W.taken out.new) (W.failed out.new)) }
+        (streams (seen (R.left input.old) (R.failed input.old) (R.reads input.old))
+        (W.taken out.old) (W.failed out.old))
+        (streams (seen (R.left input.new) (R.failed input.new) (R.reads input.new))
+        (W.taken out.new) (W.failed out.new)) }
     ensures failures { W.failed out.new ≡ W.failed out.old + failures_of live_ending result }
 {
     run(alloc, Face::Records, config, input, out)
@@ -80,9 +84,11 @@ fn run<R: Source, W: Sink>(
 ) -> Result<(), LiveFault>
     requires input { MayFail (R.failed input.old) }
     requires out { MayFail (W.failed out.old) }
-    ensures ends { Runs face result config.now
-        (streams (R.left input.old) (R.failed input.old) (R.reads input.old) (W.taken out.old) (W.failed out.old))
-        (streams (R.left input.new) (R.failed input.new) (R.reads input.new) (W.taken out.new) (W.failed out.new)) }
+    ensures ends { Runs (setup face config.now) result
+        (streams (seen (R.left input.old) (R.failed input.old) (R.reads input.old))
+        (W.taken out.old) (W.failed out.old))
+        (streams (seen (R.left input.new) (R.failed input.new) (R.reads input.new))
+        (W.taken out.new) (W.failed out.new)) }
     ensures failures { W.failed out.new ≡ W.failed out.old + failures_of live_ending result }
 {
     let config = read_config(alloc, config)?;
@@ -135,9 +141,11 @@ fn answer_input<R: Source, W: Sink>(
     requires out { MayFail (W.failed out.old) }
     ensures answers { AnswersInput (face_of engine.old.begun) result
         (progress engine.old.networks engine.old.begun
-        (streams (R.left input.old) (R.failed input.old) (R.reads input.old) (W.taken out.old) (W.failed out.old)))
+        (streams (seen (R.left input.old) (R.failed input.old) (R.reads input.old))
+        (W.taken out.old) (W.failed out.old)))
         (progress engine.new.networks engine.new.begun
-        (streams (R.left input.new) (R.failed input.new) (R.reads input.new) (W.taken out.new) (W.failed out.new))) }
+        (streams (seen (R.left input.new) (R.failed input.new) (R.reads input.new))
+        (W.taken out.new) (W.failed out.new))) }
     ensures failures { W.failed out.new ≡ W.failed out.old + failures_of live_ending result }
     ensures countable { OnOk result (engine.new.networks.lines < 2 ^ 62) }
 {

@@ -12,7 +12,7 @@ use Rattle.events.specs.declared.event.Event.{Event}
 use Rattle.live_answers.specs.Moments.{Moment, first_moment, bssid_of}
 use Rattle.live_answers.specs.Asked.{Asked, HasFault, ForTables, Says}
 use Rattle.live_answers.specs.Answers.{Answer, Tables, MayAnswer, after_answer, Answers}
-use Rattle.live_answers.specs.Own.{events_at, air_at, wire_at, alone_after, IsAlone, AreAlike}
+use Rattle.live_answers.specs.Own.{events_at, air_at, wire_at, alone_after, course, IsAlone, AreAlike}
 use Rattle.live_answers.proofs.OwnSteps.{AloneLaws, alone_after-none}
 use Rattle.live_answers.proofs.OwnLines.{OwnAlone, own}
 
@@ -72,7 +72,7 @@ tables-at m next (asked ∷ said) (answer ∷ answers) (suc k) networks h e =
 -- ---- the law
 
 pub is-alone : AloneLaws → (c : RadioConfig) (said : List Asked) (answers : List Answer) (next : Moment) (place : ℕ)
-    → place < length c.networks → Answers (first_moment c) said answers next → IsAlone c place said answers next
+    → place < length c.networks → Answers (first_moment c) said answers next → IsAlone (course c said answers) place next
 is-alone laws c said answers next place within h =
     let s : Setting = setting_at c place in
     let all = own-alone laws c said answers next place within h in
@@ -98,10 +98,10 @@ setting-alike c d p q channel interval network =
 abbrev pub Isolated : Type 0
 Isolated =
     (c : RadioConfig) (said : List Asked) (answers : List Answer) (next : Moment) (place : ℕ)
-    → place < length c.networks → Answers (first_moment c) said answers next → IsAlone c place said answers next
+    → place < length c.networks → Answers (first_moment c) said answers next → IsAlone (course c said answers) place next
 
 pub alike : Isolated → (c d : RadioConfig) (said others : List Asked) (answers replies : List Answer)
-    (next after : Moment) (p q : ℕ) → AreAlike c d said others answers replies p q
+    (next after : Moment) (p q : ℕ) → AreAlike (course c said answers) p (course d others replies) q
     → Answers (first_moment c) said answers next → Answers (first_moment d) others replies after
     → (air_at p answers ≡ air_at q replies) × (wire_at p answers ≡ wire_at q replies)
     × (slice_get next.networks p ≡ slice_get after.networks q)

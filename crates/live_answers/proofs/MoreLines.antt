@@ -4,11 +4,11 @@ use Rattle.std.proofs.Common.{refl, sym, ap, subst, ◌∙◌, arith}
 use Rattle.live_answers.specs.Moments.{Moment, bssids_at}
 use Rattle.live_answers.specs.Asked.{Asked, Says}
 use Rattle.live_answers.specs.Answers.{Answer, Replies}
-use Rattle.live_answers.specs.Answers.{after_answer, Answers, Begins}
+use Rattle.live_answers.specs.Answers.{after_answer, Answers, Begins, in_two}
 use Rattle.live_answers.proofs.OwnLines.{bssids-answer}
 
 pub begins : (m : Moment) (said more : List Asked) (answers : List Answer) (next : Moment)
-    → Answers m (said ++ more) answers next → Begins m said more answers next
+    → Answers m (said ++ more) answers next → Begins m (in_two said more) answers next
 begins m [] more answers next h = record {
   some = [];
   others = answers;
@@ -38,7 +38,7 @@ join-both m between next (asked ∷ said) more (answer ∷ some) others h k =
     (h.0, join-both (after_answer m asked answer) between next said more some others h.1 k)
 
 pub joins : (m : Moment) (said more : List Asked) (answers : List Answer) (next : Moment)
-    → Begins m said more answers next → Answers m (said ++ more) answers next
+    → Begins m (in_two said more) answers next → Answers m (said ++ more) answers next
 joins m said more answers next b =
     subst
     (λ (all : List Answer). Answers m (said ++ more) all next)

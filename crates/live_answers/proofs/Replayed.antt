@@ -36,7 +36,7 @@ use Rattle.live_answers.specs.Asked.{Asked, Says, asks_for_tables, asked_by, ask
 use Rattle.live_answers.specs.Answers.{Answer, Nothing, Replies, Tables, Faulty, Unread, MayAnswer, after_answer, Answers, HasMemory, IsUnrefused, AreUnrefused}
 use Rattle.live_answers.specs.Dispatch.{event_for}
 use Rattle.live_answers.specs.Moments.{Moment, first_moment, bssid_of, Reply, Sends, Refuses, is_past_clock, sending, MayReplyIf, taken_if}
-use Rattle.live_answers.specs.Own.{event_in, reply_in, events_taken, events_at, alone_after, IsLikeTrace, IsShown, IsAlone}
+use Rattle.live_answers.specs.Own.{event_in, reply_in, events_taken, events_at, alone_after, course, trace_of, IsLikeTrace, IsShown, IsAlone}
 use Rattle.live_answers.specs.TextLines.{max_line, line_with}
 use Rattle.live_answers.proofs.OwnSteps.{AloneLaws, alone_after-none}
 use Rattle.live_answers.proofs.OwnLines.{at-place, one-taken}
@@ -262,7 +262,7 @@ abbrev pub CheckedNetworks : Type 0
 CheckedNetworks = (c : RadioConfig) → fault_of c ≡ None → AllByRecursion (λ n. network_fault n ≡ None) c.networks
 
 shown : (c : RadioConfig) (place : ℕ) (said : List Asked) (answers : List Answer) (next : Moment) (es : List Event)
-    (section : Section) → IsAlone c place said answers next → events_at c place said answers ≡ es
+    (section : Section) → IsAlone (course c said answers) place next → events_at c place said answers ≡ es
     → section ≡ section_of (setting_at c place) es → IsShown section place answers next
 shown c place said answers next es section alone_there are is =
     let s : Setting = setting_at c place in
@@ -281,7 +281,7 @@ CheckedEvents = (n : NetConfig) → network_fault n ≡ None → n.max_events �
 
 pub is-shown : AloneLaws → Reachable → CheckedNetworks → CheckedEvents → (c : RadioConfig) (text : List ℕ) (said : List Line)
     (place : ℕ) (answers : List Answer) (next : Moment) (section : Section)
-    → IsLikeTrace c text said place answers next → slice_get (sections_of_lines c said) place ≡ Some section
+    → IsLikeTrace (trace_of c text said) place answers next → slice_get (sections_of_lines c said) place ≡ Some section
     → IsShown section place answers next
 is-shown laws reach checked events-checked c text said place answers next section h e =
     let s : Setting = setting_at c place in

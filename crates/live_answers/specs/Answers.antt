@@ -109,11 +109,19 @@ AreUnrefused answers = AllByRecursion IsUnrefused answers
 
 -- ---- more that is said
 
--- the answers to some and then to more: those to the first, which lead to a moment, and then those to the rest
-pub record Begins (m : Moment) (said more : List Asked) (answers : List Answer) (next : Moment) : Type 0 where
+-- what is said first, and what is said then
+pub record InTwo : Type 0 where
+  pub said : List Asked
+  pub more : List Asked
+
+abbrev pub in_two : List Asked → List Asked → InTwo
+in_two said more = record { said = said; more = more }
+
+-- the answers to both: those to the first, which lead to a moment, and then those to the rest
+pub record Begins (m : Moment) (parts : InTwo) (answers : List Answer) (next : Moment) : Type 0 where
   pub some : List Answer
   pub others : List Answer
   pub between : Moment
   pub all : answers ≡ some ++ others
-  pub first : Answers m said some between
-  pub later : Answers between more others next
+  pub first : Answers m parts.said some between
+  pub later : Answers between parts.more others next

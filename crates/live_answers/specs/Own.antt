@@ -65,29 +65,44 @@ wire_at place answers = flat_map (λ answer. wire_in (reply_in place answer)) an
 abbrev pub alone_after : Setting → List Event → NetworkState
 alone_after s es = record { setting = s; events = length es; network = unsent (alone s es) }
 
--- What was written of the network at a place, and what is known of it in the end, is what it does alone with its own
--- events: its frames, its table at each `I`, with its events so far, and its table at the last moment.
-pub record IsAlone (c : RadioConfig) (place : ℕ) (said : List Asked) (answers : List Answer) (next : Moment) :
-    Type 0 where
-  pub air : air_at place answers ≡ (alone (setting_at c place) (events_at c place said answers)).air
-  pub wire : wire_at place answers ≡ (alone (setting_at c place) (events_at c place said answers)).wire
-  pub last : slice_get next.networks place ≡ Some (alone_after (setting_at c place) (events_at c place said answers))
+-- all that was said and answered to the networks of a configuration, from the first moment on
+pub record Course : Type 0 where
+  pub config : RadioConfig
+  pub said : List Asked
+  pub answers : List Answer
+
+abbrev pub course : RadioConfig → List Asked → List Answer → Course
+course config said answers = record { config = config; said = said; answers = answers }
+
+-- the network at a place of its configuration, alone after its own events in it
+abbrev pub alone_in : Course → ℕ → NetworkState
+alone_in x place = alone_after (setting_at x.config place) (events_at x.config place x.said x.answers)
+
+-- its first answers alone, and what was said to them
+abbrev pub first_of : ℕ → Course → Course
+first_of k x = course x.config (take k x.said) (take k x.answers)
+
+-- What was written of the network at a place, its table at each `I` and at the last moment are what it does alone with
+-- its own events so far.
+pub record IsAlone (x : Course) (place : ℕ) (next : Moment) : Type 0 where
+  pub air : air_at place x.answers ≡ (alone (setting_at x.config place) (events_at x.config place x.said x.answers)).air
+  pub wire : wire_at place x.answers
+      ≡ (alone (setting_at x.config place) (events_at x.config place x.said x.answers)).wire
+  pub last : slice_get next.networks place ≡ Some (alone_in x place)
   pub asked :
       (k : ℕ) (networks : List NetworkState)
-      → slice_get answers k ≡ Some (Tables networks)
-      → slice_get networks place
-      ≡ Some (alone_after (setting_at c place) (events_at c place (take k said) (take k answers)))
+      → slice_get x.answers k ≡ Some (Tables networks)
+      → slice_get networks place ≡ Some (alone_in (first_of k x) place)
 
--- The network at place p of one configuration and that at place q of another have the same configuration, channel and
--- interval, and the same events. The other networks, their events and all else that is said may differ.
-pub record AreAlike (c d : RadioConfig) (said others : List Asked) (answers replies : List Answer) (p q : ℕ) :
-    Type 0 where
-  pub here : p < length c.networks
-  pub there : q < length d.networks
-  pub channel : c.channel ≡ d.channel
-  pub interval : c.interval ≡ d.interval
-  pub network : network_at c p ≡ network_at d q
-  pub events : events_at c p said answers ≡ events_at d q others replies
+-- The networks at place p of one configuration and at place q of another have the same configuration, channel, interval
+-- and events, whatever else is said.
+pub record AreAlike (x : Course) (p : ℕ) (y : Course) (q : ℕ) : Type 0 where
+  pub here : p < length x.config.networks
+  pub there : q < length y.config.networks
+  pub channel : x.config.channel ≡ y.config.channel
+  pub interval : x.config.interval ≡ y.config.interval
+  pub network : network_at x.config p ≡ network_at y.config q
+  pub events : events_at x.config p x.said x.answers ≡ events_at y.config q y.said y.answers
 
 -- ---- as in a report
 
@@ -101,14 +116,23 @@ pub record IsShown (section : Section) (place : ℕ) (answers : List Answer) (ne
   pub table : table_of network.network ≡ section.table
   pub counts : counts_of network.events network.network ≡ section.counts
 
--- A text that is a trace, whose lines are not too long, and of which a network hears at most as many events as a
--- history may have, was answered, and nothing was refused for memory.
-pub record IsLikeTrace (c : RadioConfig) (text : List ℕ) (said : List Line) (place : ℕ) (answers : List Answer)
-    (next : Moment) : Type 0 where
-  pub sound : fault_of c ≡ None
-  pub read : lines_of c text ≡ Ok said
-  pub short : AllByRecursion (λ line. length line ≤ max_line) (lines text)
-  pub there : place < length c.networks
-  pub events : length (heard place (network_at c place).bssid said) ≤ (network_at c place).max_events
-  pub answered : Answers (first_moment c) (asked_in (first_moment c) (lines_of_text text)) answers next
+-- a text, and what its lines say to the networks of a configuration, as those of a trace
+pub record TraceOf : Type 0 where
+  pub config : RadioConfig
+  pub text : List ℕ
+  pub said : List Line
+
+abbrev pub trace_of : RadioConfig → List ℕ → List Line → TraceOf
+trace_of config text said = record { config = config; text = text; said = said }
+
+-- A text that is a trace, whose lines are not too long, and of which the network at a place hears at most as many
+-- events as a history may have, was answered, and nothing was refused for memory.
+pub record IsLikeTrace (t : TraceOf) (place : ℕ) (answers : List Answer) (next : Moment) : Type 0 where
+  pub sound : fault_of t.config ≡ None
+  pub read : lines_of t.config t.text ≡ Ok t.said
+  pub short : AllByRecursion (λ line. length line ≤ max_line) (lines t.text)
+  pub there : place < length t.config.networks
+  pub events : length (heard place (network_at t.config place).bssid t.said) ≤ (network_at t.config place).max_events
+  pub answered :
+      Answers (first_moment t.config) (asked_in (first_moment t.config) (lines_of_text t.text)) answers next
   pub unrefused : AreUnrefused answers

@@ -15,6 +15,7 @@ ghost use Rattle.live_answers.specs.Answers.{Answer, Answers, answers_of, AreUnr
 ghost use Rattle.live_answers.specs.Asked.{Asked};
 ghost use Rattle.live_answers.specs.Moments.{Moment, first_moment};
 ghost use Rattle.live_answers.specs.Own.{IsAlone, AreAlike, IsLikeTrace, IsShown, air_at, wire_at, alone_after};
+ghost use Rattle.live_answers.specs.Own.{course, trace_of};
 ghost use Rattle.live_answers.specs.TextLines.{lines_of_text, ended_lines, partial_in, lines_in, partial_after};
 ghost use Rattle.live_answers.specs.TextLines.{last_line};
 ghost use Rattle.live_answers.specs.Records.{AreRecords};
@@ -40,13 +41,13 @@ pub fn records_come_in_pieces()
         → AreRecords (octets ++ piece) (records ++ more) rest }
 {}
 
-/// No network reaches another, whatever is said, however it comes: what is answered of one, one answer after the other, is
-/// what it does alone with its own events, what it hears of what was read, less what it refused. So are the tables that
-/// are asked for, and those of the last moment.
+/// No network reaches another, whatever is said, however it comes: what is answered of one, one answer after the other,
+/// is what it does alone with its own events, what it hears of what was read, less what it refused. So are the tables
+/// that are asked for, and those of the last moment.
 pub fn isolation()
     ensures alone { (c : RadioConfig) (said : List Asked) (answers : List Answer) (next : Moment) (place : ℕ)
         → place < length c.networks → Answers (first_moment c) said answers next
-        → IsAlone c place said answers next }
+        → IsAlone (course c said answers) place next }
     ensures shown { (s : Setting) (es : List Event) → table_text (alone_after s es)
         ≡ network_line s.network ++ counts_line (length es) (counts_of (length es) (alone s es))
         ++ flat_map station_line (table_of (alone s es)) ++ ended (codes "end") }
@@ -59,16 +60,16 @@ pub fn isolation()
 /// table are the same, whatever the other networks are and whatever else is said.
 pub fn two_inputs()
     ensures { (c d : RadioConfig) (said others : List Asked) (answers replies : List Answer) (next after : Moment)
-        (p q : ℕ) → AreAlike c d said others answers replies p q → Answers (first_moment c) said answers next
-        → Answers (first_moment d) others replies after
+        (p q : ℕ) → AreAlike (course c said answers) p (course d others replies) q
+        → Answers (first_moment c) said answers next → Answers (first_moment d) others replies after
         → (air_at p answers ≡ air_at q replies) × (wire_at p answers ≡ wire_at q replies)
         × (slice_get next.networks p ≡ slice_get after.networks q) }
 {
     isolation();
 }
 
-/// Where nothing is refused for memory, the answers are the ones of `answers_of`; these may be given to whatever is said,
-/// and nothing is refused in them.
+/// Where nothing is refused for memory, the answers are the ones of `answers_of`; these may be given to whatever is
+/// said, and nothing is refused in them.
 pub fn enough_memory()
     ensures only { (m : Moment) (said : List Asked) (answers : List Answer) (next : Moment)
         → Answers m said answers next → AreUnrefused answers → answers ≡ answers_of m said }
@@ -82,7 +83,7 @@ pub fn enough_memory()
 /// report tells it: the same frames, table and counts.
 pub fn as_replayed()
     ensures { (c : RadioConfig) (text : List ℕ) (said : List Line) (place : ℕ) (answers : List Answer)
-        (next : Moment) (section : Section) → IsLikeTrace c text said place answers next
+        (next : Moment) (section : Section) → IsLikeTrace (trace_of c text said) place answers next
         → slice_get (sections_of_lines c said) place ≡ Some section → IsShown section place answers next }
 {
     one_step();

@@ -1,8 +1,8 @@
 //! What an access point answers that runs, as definitions, and what follows from them (*profile*).
 //!
-//! `specs/` says what the lines of a text are (`TextLines`) and the records of octets (`Records`), what each of them says
-//! to the networks (`Asked`), which event that is to which of them (`Dispatch`), what is answered to it and what becomes
-//! of the networks (`Answers`), in which words (`AnswerText`), and what of it is one network's own (`Own`).
+//! `specs/` says what the lines of a text are (`TextLines`) and the records of octets (`Records`), what each of them
+//! says to the networks (`Asked`), which event that is to which of them (`Dispatch`), what is answered to it and what
+//! becomes of the networks (`Answers`), in which words (`AnswerText`), and what of it is one network's own (`Own`).
 //!
 //! The crate promises of these definitions, whatever is said and however it came, that no network reaches another
 //! ([`isolation`]), so that two inputs that give a network the same events give it the same frames and table

@@ -1,7 +1,7 @@
 use Rattle.std.proofs.Common.{arith, sym, subst}
 use Rattle.network.specs.NetworkView.{NetworkState}
 use Rattle.live_answers.specs.Dispatch.{line_as}
-use Rattle.live.specs.Output.{HasReplied}
+use Rattle.live.specs.Output.{HasReplied, through, watch, numbered, placed}
 use Rattle.live.proofs.DispatchSteps.{replies-none, replies-more, replies-all}
 use Rattle.live.proofs.dispatch.reply_all.Goals as goal
 
@@ -18,9 +18,7 @@ loop-place-preserved g c =
     c.index-networks-place.is
     (subst
     (λ (n : NetworkState).
-    HasReplied g.W.Sink.taken g.W.Sink.failed c.args.face c.loop-place.place c.args.number
-    (line_as c.args.line.now.place c.args.line.now.event) n c.reply_at.new.network c.loop-place.out
-    c.reply_at.new.out)
+    HasReplied (through c.args.face (watch g.W.Sink.taken g.W.Sink.failed) c.loop-place.out c.reply_at.new.out) (numbered c.args.number (line_as c.args.line.now.place c.args.line.now.event)) (placed c.loop-place.place n) c.reply_at.new.network)
     (sym c.index-networks-place.is)
     c.reply_at.ensures)
 

@@ -1,4 +1,5 @@
--- What ends in the piece is answered, and in the end the piece of memory is written. The sink after it is the one that was passed.
+-- What ends in the piece is answered, and in the end the piece of memory is written. The sink after it is the one that
+-- was passed.
 use Rattle.std.proofs.Common.{rules, ◌≡◌, ◌∙◌, ◌+◌}
 use Rattle.trace.specs.Endings.{failures_of}
 use Rattle.trace.specs.Sinks.{write_ending}

@@ -1,6 +1,6 @@
 use Rattle.std.proofs.Common.{[], ◌∷◌, ◌∙◌, ap, subst}
 use Rattle.live_answers.specs.Asked.{asked_in}
-use Rattle.live.specs.Output.{AreAnswered}
+use Rattle.live.specs.Output.{AreAnswered, through, watch}
 use Rattle.live.specs.declared.face.Face.TheVariants.{Lines}
 use Rattle.live.specs.PartialLine.{ended_with}
 use Rattle.live_answers.specs.TextLines.{TextLine}
@@ -11,9 +11,7 @@ pub returns-clause-answered : goal.returns-clause-answered
 returns-clause-answered g c =
     subst
     (λ (l : TextLine).
-    AreAnswered g.W.Sink.taken g.W.Sink.failed Lines c.args.networks.now c.answer_line-2.new.self c.args.out.now
-    c.answer_line-2.new.out
-    (asked_in c.args.networks.now (l ∷ [])))
+    AreAnswered (through Lines (watch g.W.Sink.taken g.W.Sink.failed) c.args.out.now c.answer_line-2.new.out) c.args.networks.now c.answer_line-2.new.self (asked_in c.args.networks.now (l ∷ [])))
     (c.ended.ensures ∙ ap (λ (b : TextLine). ended_with b []) c.add.ensures.after
     ∙ ended-after c.args.partial.now c.args.octets.now c.add.ensures.unended c.requires.lacks)
     c.answer_line-2.ensures

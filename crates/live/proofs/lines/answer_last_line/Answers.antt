@@ -1,6 +1,6 @@
 use Rattle.std.proofs.Common.{◌≡◌, ◌∙◌, List, [], ◌∷◌, ap, sym, subst}
 use Rattle.live_answers.specs.Asked.{asked_in}
-use Rattle.live.specs.Output.{AreAnswered}
+use Rattle.live.specs.Output.{AreAnswered, through, watch}
 use Rattle.live.specs.declared.face.Face.TheVariants.{Lines}
 use Rattle.live_answers.specs.TextLines.{TextLine, Octets}
 use Rattle.live.proofs.FeedSteps.{last-whole}
@@ -12,7 +12,6 @@ returns g c =
     λ (e : c.args.partial.now ≡ Octets []). let yes = c.is_empty.ensures.1 e in cc (yes, c.if-is_empty.false) in
     subst
     (λ (ls : List TextLine).
-    AreAnswered g.W.Sink.taken g.W.Sink.failed Lines c.args.networks.now c.answer_line.new.self
-    c.args.out.now c.answer_line.new.out (asked_in c.args.networks.now ls))
+    AreAnswered (through Lines (watch g.W.Sink.taken g.W.Sink.failed) c.args.out.now c.answer_line.new.out) c.args.networks.now c.answer_line.new.self (asked_in c.args.networks.now ls))
     (ap (λ (l : TextLine). l ∷ []) c.whole.ensures ∙ sym (last-whole c.args.partial.now some))
     c.answer_line.ensures

@@ -1,6 +1,6 @@
 use Rattle.std.proofs.Common.{◌≤◌, ◌++◌, ℕ, List, [], ◌∷◌, length, arith, sym, subst}
 use Rattle.live_answers.specs.Moments.{bssids_at}
-use Rattle.live.specs.Output.{AreAnswered}
+use Rattle.live.specs.Output.{AreAnswered, through, watch}
 use Rattle.live_answers.specs.Records.{IsBegun, IsRecord, records_ask}
 use Rattle.live.specs.declared.face.Face.TheVariants.{Records}
 use Rattle.live_answers.proofs.RecordLaws.{begun-on}
@@ -24,10 +24,7 @@ returns-then-is_whole-clause-answers g c =
     c.split_at.result.1.now c.add.ensures c.begin.ensures front some (c.is_whole.ensures.0 c.if-is_whole.true)
     (subst
     (λ (r : List ℕ).
-    AreAnswered g.W.Sink.taken g.W.Sink.failed Records c.args.networks.now c.answer_record-then-is_whole.new.self
-    c.args.out.now
-    c.answer_record-then-is_whole.new.out
-    (records_ask (bssids_at c.args.networks.now) (r ∷ [])))
+    AreAnswered (through Records (watch g.W.Sink.taken g.W.Sink.failed) c.args.out.now c.answer_record-then-is_whole.new.out) c.args.networks.now c.answer_record-then-is_whole.new.self (records_ask (bssids_at c.args.networks.now) (r ∷ [])))
     c.as_slice.ensures
     c.answer_record-then-is_whole.ensures)
 

@@ -60,7 +60,7 @@ returns-in_default-clause-answers g c =
       is_said = s.is_said;
       answered = s.answered;
       written = s.written;
-      stops = tt;
+      stops = λ e. absurd (cc);
     }
 
 pub returns-then-count-eq0-clause-answers : goal.returns-then-count-eq0-clause-answers
@@ -93,7 +93,7 @@ returns-then-count-eq0-clause-answers g c =
       is_said = s.is_said;
       answered = s.answered;
       written = (c.in-Ok.ensures.end none, s.written);
-      stops = tt;
+      stops = λ e. absurd (cc);
     }
 
 pub returns-in_err-feed-clause-answers : goal.returns-in_err-feed-clause-answers
@@ -129,7 +129,7 @@ returns-clause-answers g c =
       is_said = s.is_said;
       answered = s.answered;
       written = s.written;
-      stops = tt;
+      stops = λ e. absurd (cc);
     }
 
 pub returns-then-count-eq0-clause-countable : goal.returns-then-count-eq0-clause-countable

@@ -1,7 +1,7 @@
 -- What was read is answered, and neither a read nor a write failed.
 use Rattle.std.proofs.Common.{◌≡◌}
 use Rattle.live.specs.Inputs.{face_of}
-use Rattle.live.specs.Run.{progress, streams}
+use Rattle.live.specs.Run.{progress, seen, streams}
 use Rattle.live.proofs.RunSteps.{InputSoFar}
 use Rattle.live.proofs.run.answer_input.Given as goal
 
@@ -10,11 +10,11 @@ invariant-loop g l = record {
   so_far :
       InputSoFar (face_of l.initial.engine.begun) l.counter
       (progress l.initial.engine.networks l.initial.engine.begun
-      (streams (g.R.Source.left l.initial.input) (g.R.Source.failed l.initial.input) (g.R.Source.reads l.initial.input)
+      (streams (seen (g.R.Source.left l.initial.input) (g.R.Source.failed l.initial.input) (g.R.Source.reads l.initial.input))
       (g.W.Sink.taken l.initial.out)
       (g.W.Sink.failed l.initial.out)))
       (progress l.engine.networks l.engine.begun
-      (streams (g.R.Source.left l.input) (g.R.Source.failed l.input) (g.R.Source.reads l.input) (g.W.Sink.taken l.out)
+      (streams (seen (g.R.Source.left l.input) (g.R.Source.failed l.input) (g.R.Source.reads l.input)) (g.W.Sink.taken l.out)
       (g.W.Sink.failed l.out)));
   none_failed : g.R.Source.failed l.input ≡ g.R.Source.failed l.initial.input;
   all_written : g.W.Sink.failed l.out ≡ g.W.Sink.failed l.initial.out;

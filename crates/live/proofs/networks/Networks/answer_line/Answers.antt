@@ -2,7 +2,7 @@ use Rattle.std.proofs.Common.{◌≡◌, ◌∙◌, List, [], ◌∷◌, ℕ, ap
 use Rattle.std.specs.Prelude.{option_map}
 use Rattle.live_answers.specs.Asked.{asked_by}
 use Rattle.live_answers.specs.Moments.{bssids_at}
-use Rattle.live.specs.Output.{AreAnswered}
+use Rattle.live.specs.Output.{AreAnswered, through, watch}
 use Rattle.live.specs.PartialLine.{line_in}
 use Rattle.live.specs.declared.face.Face.TheVariants.{Lines}
 use Rattle.live.proofs.networks.Networks.answer_line.Goals as goal
@@ -13,7 +13,6 @@ returns g c =
     c.as_slice.ensures.value ∙ c.self.invariant.addresses ∙ ap bssids_at c.self.view_is in
     subst
     (λ (bs : List (List ℕ)).
-    AreAnswered g.W.Sink.taken g.W.Sink.failed Lines c.args.self.now c.answer.new.self c.args.out.now c.answer.new.out
-    (asked_by bs (line_in (option_map (λ octets. octets.now) c.args.line)) ∷ []))
+    AreAnswered (through Lines (watch g.W.Sink.taken g.W.Sink.failed) c.args.out.now c.answer.new.out) c.args.self.now c.answer.new.self (asked_by bs (line_in (option_map (λ octets. octets.now) c.args.line)) ∷ []))
     same
     (c.answer.ensures _ c.read_line-reading.ensures)

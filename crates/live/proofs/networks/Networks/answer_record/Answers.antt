@@ -1,6 +1,6 @@
 use Rattle.std.proofs.Common.{◌≡◌, ◌∙◌, List, [], ◌∷◌, ℕ, ap, subst}
 use Rattle.live_answers.specs.Moments.{bssids_at}
-use Rattle.live.specs.Output.{AreAnswered}
+use Rattle.live.specs.Output.{AreAnswered, through, watch}
 use Rattle.live_answers.specs.Records.{record_asks}
 use Rattle.live.specs.declared.face.Face.TheVariants.{Records}
 use Rattle.live.proofs.networks.Networks.answer_record.Goals as goal
@@ -11,7 +11,6 @@ returns g c =
     c.as_slice.ensures.value ∙ c.self.invariant.addresses ∙ ap bssids_at c.self.view_is in
     subst
     (λ (bs : List (List ℕ)).
-    AreAnswered g.W.Sink.taken g.W.Sink.failed Records c.args.self.now c.answer.new.self c.args.out.now c.answer.new.out
-    (record_asks bs c.args.octets.now ∷ []))
+    AreAnswered (through Records (watch g.W.Sink.taken g.W.Sink.failed) c.args.out.now c.answer.new.out) c.args.self.now c.answer.new.self (record_asks bs c.args.octets.now ∷ []))
     same
     (c.answer.ensures _ c.read_record-reading.ensures)
