@@ -6,6 +6,8 @@ from typing import NamedTuple
 from lines import (BROADCAST, HOST, RATES, SNAP, TICK, Line, air, association, authentication, data, deauthentication,
                    disassociation, element, management, null, poll, probe, reassociation, typed, wired)
 from model import MOST_AID, MOST_OCTETS, NetworkConfig, Radio, RadioConfig, elements
+from records import HEADER_LEN as RECORD_HEADER_LEN
+from records import NOBODY, cut, record
 
 BSSID, STATION, OTHER = (bytes.fromhex(digits) for digits in ("020000000001", "02aa00000001", "02aa00000002"))
 NAME = b"lab"
@@ -20,16 +22,23 @@ EDGE_KINDS = (0, 1, 2, 3, 4, 45, 46, 1499, 1500, 1501, 1535, 1536, 1537, 0x0800,
 
 
 class Case(NamedTuple):
-    """A run: a configuration, a trace text, and how many it counts for."""
+    """A run: a configuration, a trace text or records, and how many lines, texts or records they are."""
 
     config: RadioConfig
     text: bytes
     count: int
+    is_records: bool = False
 
 
 def case_of(config, lines):
     """A run that counts for its lines."""
     return Case(config, "".join(f"{line.text()}\n" for line in lines).encode(), len(lines))
+
+
+def records_case(config, octets):
+    """A run over octets as records, that counts for these, and for one that is cut."""
+    whole, rest = cut(octets)
+    return Case(config, octets, len(whole) + bool(rest), True)
 
 
 def one_network(**limits):
@@ -367,3 +376,73 @@ def drawn_texts(seed, count):
         for _ in range(draw.choice((1, 1, 2, 3))):
             text = changed_text(draw, text)
         yield Case(story.config, text, 1)
+
+
+def record_kinds():
+    """All kinds of record, with each BSSID that a record may have and others, and with lengths at the edges; and each
+    kind that is known, cut at each length."""
+    frame = probe(STATION, NAME)
+    for bssid in (NOBODY, BSSID, OTHER, BROADCAST):
+        for octets in (b"", b"\0", frame, bytes(MOST_OCTETS), bytes(MOST_OCTETS + 1), bytes(0xFFFF)):
+            kinds = b"AWTI" if len(octets) > MOST_OCTETS + 1 else bytes(range(256))
+            records = [record(bytes([kind]), bssid, octets) for kind in kinds]
+            yield records_case(one_network(), b"".join([*records, record(b"I")]))
+    wired_frame = wired(BSSID, STATION, payload=b"\x5a").octets
+    of_all = record(b"A", NOBODY, frame) + record(b"W", BSSID, wired_frame) + record(b"T") + record(b"I")
+    for size in range(len(of_all) + 1):
+        yield records_case(one_network(), of_all[:size])
+
+
+def drawn_records(seed, count):
+    """This many lines as records, in inputs of up to 200, with questions for tables among them; of about half of the
+    inputs the frames are made to break, of some the records, and some are changed as octets."""
+    draw = random.Random(f"records {seed}")
+    while count > 0:
+        story = Story(draw)
+        hostile, broken, changes = draw.choice((0, 0.3, 0.9)), draw.choice((0, 0.05, 0.3)), draw.choice((0, 0, 1, 2))
+        size = min(count, draw.randint(1, 200))
+        octets = b"".join(drawn_record(story, hostile, broken) for _ in range(size))
+        for _ in range(changes):
+            octets = changed_octets(draw, octets)
+        count -= size
+        yield records_case(story.config, octets)
+
+
+def drawn_record(story, hostile, broken):
+    """The record of a line, or the question for the tables; it is broken by this chance."""
+    if story.draw.random() < 0.02:
+        said = (b"I", NOBODY, b"")
+    else:
+        line = story.line(hostile)
+        said = (line.word.encode(), line.bssid or NOBODY, line.octets)
+    return broken_record(story, *said) if story.draw.random() < broken else record(*said)
+
+
+def broken_record(story, kind, bssid, octets):
+    """A record with another kind, BSSID, length or string of octets, or cut."""
+    draw = story.draw
+    whole = record(kind, bssid, octets)
+    told = draw.choice((0, 1, max(len(octets) - 1, 0), len(octets) + 1, len(octets) + RECORD_HEADER_LEN, 0xFFFF))
+    return draw.choice((
+        lambda: record(draw.choice((b"A", b"W", b"T", b"I", b"O", b"N", b"a", bytes([draw.randrange(256)]))), bssid,
+                       octets),
+        lambda: record(kind, draw.choice((NOBODY, bytes(5) + b"\1", *story.addresses)), octets),
+        lambda: record(kind, bssid, b"\x5a" * draw.choice((0, 1, MOST_OCTETS, MOST_OCTETS + 1, 0xFFFF))),
+        lambda: kind + bssid + (told & 0xFFFF).to_bytes(2, "little") + octets,
+        lambda: whole[:draw.randrange(len(whole) + 1)],
+        lambda: whole * 2,
+        lambda: whole + draw.randbytes(draw.randrange(12)),
+    ))()
+
+
+def changed_octets(draw, octets):
+    """Octets of records after a change that these know nothing of."""
+    place = draw.randrange(len(octets) + 1)
+    end = min(place + draw.choice((1, 1, 2, RECORD_HEADER_LEN, 30)), len(octets))
+    return draw.choice((
+        lambda: octets[:place],
+        lambda: octets[:place] + octets[end:],
+        lambda: octets[:place] + draw.randbytes(end - place) + octets[end:],
+        lambda: octets[:place] + octets[place:end] * 2 + octets[end:],
+        lambda: octets[:place] + draw.randbytes(draw.choice((1, 2, RECORD_HEADER_LEN))) + octets[place:],
+    ))()

@@ -329,8 +329,8 @@ class Network:
             for place, unit in enumerate(units, 1):
                 self.send_unit(unit, place < len(units))
 
-    def section(self):
-        """The lines of the report."""
+    def table(self):
+        """The lines of the report before those of its frames."""
         yield f"network {address_text(self.bssid)} ssid {self.name.hex()}"
         yield f"events {self.events} clock {self.clock} unread {self.unread} lost {self.lost} kept {self.kept_len}"
         for address, station in self.stations.items():
@@ -340,6 +340,10 @@ class Network:
             else:
                 mode, kept = "doze" if station.doze else "active", len(self.kept.get(address, ()))
                 yield f"{shown} associated aid {station.aid} listen {station.listen} {mode} kept {kept}"
+
+    def section(self):
+        """The lines of the report."""
+        yield from self.table()
         yield from (f"air {frame.hex()}" for frame in self.air)
         yield from (f"wire {frame.hex()}" for frame in self.wire)
         yield "end"
@@ -374,13 +378,17 @@ class Answer(NamedTuple):
     stderr: bytes
 
 
-def read_trace(config, text):
-    """The lines of a trace text, without those that are skipped. TraceFault with the first fault."""
+def ended_lines(text):
+    """The lines of a text, without what ends them."""
     ended = text.split(b"\n")
     last = ended.pop()
-    texts = [line.removesuffix(b"\r") for line in ended] + ([last] if last else [])
+    return [line.removesuffix(b"\r") for line in ended] + ([last] if last else [])
+
+
+def read_trace(config, text):
+    """The lines of a trace text, without those that are skipped. TraceFault with the first fault."""
     read = []
-    for place, line in enumerate(texts, 1):
+    for place, line in enumerate(ended_lines(text), 1):
         if place > MOST_LINES:
             raise TraceFault(f"fault L5 line {place}")
         line = line.rstrip(b" ")
