@@ -44,6 +44,7 @@ mod faces;
 mod faults;
 mod filter;
 mod frames;
+mod hashing;
 mod log;
 mod meaning;
 #[cfg(test)]

@@ -1,9 +1,10 @@
 //! What the program sends goes to the interfaces here: in order, many frames a call, and no longer than is worth it.
-use std::collections::{BTreeMap, HashMap, VecDeque};
+use std::collections::{BTreeMap, VecDeque};
 use std::io::{self, ErrorKind};
 
 use crate::faults::{reason, tell, Fault};
 use crate::frames::{is_tagged, Address, Frame, FrameType};
+use crate::hashing::AddressMap;
 use crate::radiotap::{sending_header, Outcome};
 use crate::sockets::{Port, AT_A_TIME};
 use crate::stations::{Stations, ToSend, Unacknowledged};
@@ -159,7 +160,7 @@ pub struct Sender<P> {
     monitor: Exit<P>,
     wires: Vec<Option<Exit<P>>>,
     networks: Vec<Network>,
-    places: HashMap<Address, usize>,
+    places: AddressMap<usize>,
     stations: Stations,
     counts: Counts,
 }
