@@ -480,7 +480,7 @@ impl<P: Port, C: io::Read + std::os::unix::io::AsRawFd> Bridge<P, C> {
     fn send(&mut self) -> Result<(), Fault> {
         let reads = self.phase == Phase::Running;
         if let Some(running) = &mut self.running {
-            for (token, descriptor, is_blocked) in running.flush() {
+            for (token, descriptor, is_blocked) in running.flush(now()) {
                 self.poller.change(descriptor, token, reads, is_blocked)?;
             }
         }
@@ -740,19 +740,13 @@ impl<P: Port> Running<P> {
     }
 
     /// Sends what waits, and answers which interfaces got or lost their room by it.
-    fn flush(&mut self) -> Vec<(Token, std::os::unix::io::RawFd, bool)> {
-        let before: Vec<bool> = self.sender.exits().map(|exit| exit.is_waited_for()).collect();
-        self.sender.flush(now());
-        let tokens = std::iter::once(Token::Monitor).chain(
-            self.networks
-                .iter()
-                .enumerate()
-                .filter(|(_, network)| network.wire.is_some())
-                .map(|(place, _)| Token::Wire(place)),
-        );
+    fn flush(&mut self, time: Nanos) -> Vec<(Token, std::os::unix::io::RawFd, bool)> {
+        self.sender.flush(time);
+        let networks = self.networks.iter().enumerate();
+        let wires = networks.filter(|(_, network)| network.wire.is_some()).map(|(place, _)| Token::Wire(place));
         let mut changed = Vec::new();
-        for ((token, exit), before) in tokens.zip(self.sender.exits()).zip(before) {
-            if exit.is_blocked() != before {
+        for (token, exit) in std::iter::once(Token::Monitor).chain(wires).zip(self.sender.exits()) {
+            if exit.is_blocked() != exit.is_waited_for() {
                 exit.set_waited_for(exit.is_blocked());
                 changed.push((token, exit.port.descriptor(), exit.is_blocked()));
             }

@@ -59,6 +59,7 @@ pub struct Exit<P> {
     pub port: P,
     leaving: VecDeque<Leaving>,
     octets: usize,
+    sent: u64,
     is_blocked: bool,
     is_waited_for: bool,
 }
@@ -66,7 +67,7 @@ pub struct Exit<P> {
 impl<P: Port> Exit<P> {
     /// Nothing waits.
     pub fn new(port: P) -> Exit<P> {
-        Exit { port, leaving: VecDeque::new(), octets: 0, is_blocked: false, is_waited_for: false }
+        Exit { port, leaving: VecDeque::new(), octets: 0, sent: 0, is_blocked: false, is_waited_for: false }
     }
 
     /// Whether one waits for its room.
@@ -107,7 +108,7 @@ impl<P: Port> Exit<P> {
     }
 
     /// Sends what waits, as far as there is room, and drops data that waited too long.
-    pub fn flush(&mut self, now: Nanos, is_air: bool, counts: &mut Counts) {
+    pub fn flush(&mut self, now: Nanos, counts: &mut Counts) {
         while !self.is_blocked && !self.leaving.is_empty() {
             self.drop_late(now, counts);
             let frames: Vec<&[u8]> = self.leaving.iter().take(AT_A_TIME).map(|frame| &frame.octets[..]).collect();
@@ -115,7 +116,7 @@ impl<P: Port> Exit<P> {
                 return;
             }
             match self.port.send(&frames) {
-                Ok(number) => self.sent(number, is_air, counts),
+                Ok(number) => self.sent(number),
                 Err(fault) if fault.kind() == ErrorKind::WouldBlock => self.is_blocked = true,
                 Err(fault) if fault.kind() == ErrorKind::Interrupted => {}
                 Err(fault) => self.refused(&fault, counts),
@@ -134,11 +135,11 @@ impl<P: Port> Exit<P> {
         }
     }
 
-    fn sent(&mut self, number: usize, is_air: bool, counts: &mut Counts) {
+    fn sent(&mut self, number: usize) {
         for frame in self.leaving.drain(..number) {
             self.octets -= frame.octets.len();
         }
-        count(counts, if is_air { "sent on the air" } else { "sent on the wires" }, number as u64);
+        self.sent += number as u64;
     }
 
     /// The interface refused the first frame: it is counted, and told the first time.
@@ -183,7 +184,13 @@ impl<P: Port> Sender<P> {
     pub fn counts(&self) -> Counts {
         let mut counts = self.counts.clone();
         let Unacknowledged { again, lost } = self.stations.unacknowledged();
-        for (what, number) in [("sent once more, since no acknowledgement came", again), ("never acknowledged", lost)] {
+        let of_wires = self.wires.iter().flatten().map(|wire| wire.sent).sum();
+        for (what, number) in [
+            ("sent on the air", self.monitor.sent),
+            ("sent on the wires", of_wires),
+            ("sent once more, since no acknowledgement came", again),
+            ("never acknowledged", lost),
+        ] {
             if number > 0 {
                 count(&mut counts, what, number);
             }
@@ -274,9 +281,9 @@ impl<P: Port> Sender<P> {
 
     /// Sends what waits, as far as there is room.
     pub fn flush(&mut self, now: Nanos) {
-        self.monitor.flush(now, true, &mut self.counts);
+        self.monitor.flush(now, &mut self.counts);
         for wire in self.wires.iter_mut().flatten() {
-            wire.flush(now, false, &mut self.counts);
+            wire.flush(now, &mut self.counts);
         }
     }
 }
