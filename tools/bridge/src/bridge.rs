@@ -101,6 +101,10 @@ pub struct Bridge<P, C> {
     poller: Poller,
     manner: Manner,
     began: Nanos,
+    /// When the last wait ended: the time of all that is done then.
+    time: Nanos,
+    /// What came by then.
+    ready: Vec<Ready>,
     faults: Faults,
     alive_told: Nanos,
     phase: Phase,
@@ -124,7 +128,8 @@ impl<P: Port, C: io::Read + std::os::unix::io::AsRawFd> Bridge<P, C> {
         let poller = Poller::new()?;
         poller.add(requests.descriptor(), Token::Control, true, false)?;
         poller.add(program.descriptor(), Token::Output, true, false)?;
-        let phase = Phase::Opening(now() + TO_READY);
+        let began = now();
+        let phase = Phase::Opening(began + TO_READY);
         Ok(Bridge {
             program,
             feeder,
@@ -132,7 +137,9 @@ impl<P: Port, C: io::Read + std::os::unix::io::AsRawFd> Bridge<P, C> {
             clients,
             poller,
             manner,
-            began: now(),
+            began,
+            time: began,
+            ready: Vec::new(),
             faults: Faults::default(),
             alive_told: 0,
             phase,
@@ -170,11 +177,10 @@ impl<P: Port, C: io::Read + std::os::unix::io::AsRawFd> Bridge<P, C> {
 
     /// Waits for what comes first, and does what is to be done then.
     fn step(&mut self, open: &mut impl FnMut() -> Result<Sender<P>, Fault>) -> Result<(), Fault> {
-        let mut found = Vec::new();
         self.poller.set_due(self.due())?;
-        let most = self.most_wait();
-        self.poller.wait(most, &mut found)?;
-        for ready in found {
+        self.wait(self.most_wait())?;
+        for place in 0..self.ready.len() {
+            let ready = self.ready[place];
             match ready.token {
                 Token::Control => self.take_requests()?,
                 Token::Output => self.take_answers()?,
@@ -189,10 +195,17 @@ impl<P: Port, C: io::Read + std::os::unix::io::AsRawFd> Bridge<P, C> {
             _ => {}
         }
         self.take_time()?;
-        self.tell_alive(now());
+        self.tell_alive();
         self.answer_clients()?;
         self.feed()?;
         self.send()
+    }
+
+    /// Waits for what comes first, or for so many milliseconds at most.
+    fn wait(&mut self, most: Option<u16>) -> Result<(), Fault> {
+        self.poller.wait(most, &mut self.ready)?;
+        self.time = now();
+        Ok(())
     }
 
     /// When something is to be done at the latest.
@@ -200,7 +213,8 @@ impl<P: Port, C: io::Read + std::os::unix::io::AsRawFd> Bridge<P, C> {
         match (self.phase, &self.running) {
             (Phase::Opening(until), _) => until,
             (Phase::Running, Some(running)) => {
-                let tick = if running.ticks.due() <= now() { now() + MILLISECOND } else { running.ticks.due() };
+                let is_late = running.ticks.due() <= self.time;
+                let tick = if is_late { self.time + MILLISECOND } else { running.ticks.due() };
                 let alive = (self.manner.tells_alive && running.is_answered).then_some(self.alive_told + ALIVE_EVERY);
                 [running.beacon_due, running.sender.due(), alive].into_iter().flatten().fold(tick, Nanos::min)
             }
@@ -268,9 +282,8 @@ impl<P: Port, C: io::Read + std::os::unix::io::AsRawFd> Bridge<P, C> {
             if !self.program.read()? {
                 break;
             }
-            let time = now();
             while let Some(answer) = self.program.next_answer()? {
-                self.take_answer(answer, time)?;
+                self.take_answer(answer, self.time)?;
             }
             self.send()?;
         }
@@ -324,10 +337,10 @@ impl<P: Port, C: io::Read + std::os::unix::io::AsRawFd> Bridge<P, C> {
     }
 
     /// Tells `tools/live` that the program answers: it has answered the last beginning of a beacon interval.
-    fn tell_alive(&mut self, time: Nanos) {
+    fn tell_alive(&mut self) {
         let is_answered = self.running.as_ref().map_or(false, |running| running.is_answered);
-        if self.manner.tells_alive && is_answered && time >= self.alive_told + ALIVE_EVERY {
-            self.alive_told = time;
+        if self.manner.tells_alive && is_answered && self.time >= self.alive_told + ALIVE_EVERY {
+            self.alive_told = self.time;
             say(&Notice::Alive);
         }
     }
@@ -344,9 +357,9 @@ impl<P: Port, C: io::Read + std::os::unix::io::AsRawFd> Bridge<P, C> {
     /// Somebody connects, or a client wrote or reads.
     fn take_client(&mut self, ready: Ready) -> Result<(), Fault> {
         match (ready.token, &mut self.clients) {
-            (Token::Listener, Some(clients)) => clients.accept(&self.poller, now()),
+            (Token::Listener, Some(clients)) => clients.accept(&self.poller, self.time),
             (Token::Client(place), Some(clients)) => {
-                clients.take(place, ready.can_read, ready.can_write, now());
+                clients.take(place, ready.can_read, ready.can_write, self.time);
                 Ok(())
             }
             _ => Ok(()),
@@ -355,7 +368,7 @@ impl<P: Port, C: io::Read + std::os::unix::io::AsRawFd> Bridge<P, C> {
 
     /// Answers the questions of clients; the program is asked for its tables where somebody waits for them.
     fn answer_clients(&mut self) -> Result<(), Fault> {
-        let time = now();
+        let time = self.time;
         let (clients, running) = match (&mut self.clients, &mut self.running) {
             (Some(clients), Some(running)) if self.phase == Phase::Running => (clients, running),
             _ => return Ok(()),
@@ -392,7 +405,7 @@ impl<P: Port, C: io::Read + std::os::unix::io::AsRawFd> Bridge<P, C> {
         }
         let was_waited_for = running.beacon_due.is_some();
         if ready.can_read && self.phase == Phase::Running {
-            running.receive(ready.token, &mut self.batch)?;
+            running.receive(ready.token, &mut self.batch, self.time)?;
         }
         if was_waited_for && running.beacon_due.is_none() {
             say(&Notice::Sending);
@@ -404,7 +417,7 @@ impl<P: Port, C: io::Read + std::os::unix::io::AsRawFd> Bridge<P, C> {
     /// Begins a beacon interval where it is time, and asks for the tables where that was asked for. An interval begins
     /// only once the program has read the beginning of the one before: what it doesn't read doesn't pile up.
     fn take_time(&mut self) -> Result<(), Fault> {
-        let time = now();
+        let time = self.time;
         match (self.phase, &mut self.running) {
             (Phase::Opening(until), _) if time >= until => {
                 return Err(Fault::new(format!("the program answered nothing in {} seconds", TO_READY / SECOND)));
@@ -445,7 +458,7 @@ impl<P: Port, C: io::Read + std::os::unix::io::AsRawFd> Bridge<P, C> {
                 Some(running) if is_written => running,
                 _ => return Ok(()),
             };
-            let time = now();
+            let time = self.time;
             let mut said = 0;
             let room = if running.waiting.is_empty() { 0 } else { self.feeder.room() };
             while said < room {
@@ -480,7 +493,7 @@ impl<P: Port, C: io::Read + std::os::unix::io::AsRawFd> Bridge<P, C> {
     fn send(&mut self) -> Result<(), Fault> {
         let reads = self.phase == Phase::Running;
         if let Some(running) = &mut self.running {
-            for (token, descriptor, is_blocked) in running.flush(now()) {
+            for (token, descriptor, is_blocked) in running.flush(self.time) {
                 self.poller.change(descriptor, token, reads, is_blocked)?;
             }
         }
@@ -501,7 +514,6 @@ impl<P: Port, C: io::Read + std::os::unix::io::AsRawFd> Bridge<P, C> {
                 self.poller.remove(clients.descriptor())?;
             }
         }
-        let mut found = Vec::new();
         while !self.program.has_ended() && now() < until {
             if self.feeder.descriptor().is_some() {
                 let is_written = self.feeder.flush()?;
@@ -510,8 +522,9 @@ impl<P: Port, C: io::Read + std::os::unix::io::AsRawFd> Bridge<P, C> {
                     self.feeder.close();
                 }
             }
-            self.poller.wait(Some(100), &mut found)?;
-            for ready in found.drain(..) {
+            self.wait(Some(100))?;
+            for place in 0..self.ready.len() {
+                let ready = self.ready[place];
                 match ready.token {
                     Token::Output => self.take_answers()?,
                     Token::Monitor | Token::Wire(_) => self.take_port(ready)?,
@@ -649,7 +662,7 @@ impl<P: Port> Running<P> {
     }
 
     /// Reads what waits at an interface, some batches of it at most.
-    fn receive(&mut self, token: Token, batch: &mut Batch) -> Result<(), Fault> {
+    fn receive(&mut self, token: Token, batch: &mut Batch, time: Nanos) -> Result<(), Fault> {
         for _ in 0..IN_A_ROW {
             let port = match token {
                 Token::Wire(place) => match self.sender.wire(place) {
@@ -661,7 +674,7 @@ impl<P: Port> Running<P> {
             let number = port
                 .receive(batch)
                 .map_err(|fault| Fault::new(format!("{}: {}: was it taken down?", port.interface(), reason(&fault))))?;
-            let (time, wall) = (now(), wall_now());
+            let wall = wall_now();
             for packet in batch.packets() {
                 let waited = packet.arrived.map_or(0, |arrived| wall.saturating_sub(arrived));
                 let arrived = time.saturating_sub(waited.min(SECOND));
