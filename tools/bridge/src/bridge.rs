@@ -6,7 +6,7 @@ use crate::clients::{Clients, Question};
 use crate::control::{say, Notice, Request, Requests};
 use crate::faces::{Answer, Event};
 use crate::faults::{reason, tell, Fault};
-use crate::filter::{monitor_filter, Shown};
+use crate::filter::{acknowledged_filter, monitor_filter, Shown};
 use crate::frames::{Address, Frame, FrameType};
 use crate::log::{self, Level};
 use crate::operating::{Errand, Operating};
@@ -25,6 +25,8 @@ use crate::waiting::{Flow, Source, Waiter, Waiting};
 const TO_BEACON: Nanos = SECOND;
 const TO_READY: Nanos = 20 * SECOND;
 const TO_END: Nanos = 20 * SECOND;
+/// After how many frames on the air the ones are read that the radio shows as acknowledged, where nothing waits for them.
+const UNREAD_ACKNOWLEDGED: u64 = AT_A_TIME as u64;
 /// How many batches of one socket are read, and pieces of the program's output, before something else is looked at.
 const IN_A_ROW: usize = 4;
 /// The lane of the air; those of wires come after, in the networks' order.
@@ -90,6 +92,10 @@ struct Running<P> {
     given: Given,
     left_out: BTreeMap<(Source, LeftOut), u64>,
     has_told_drops: bool,
+    /// How many frames were sent on the air when those that were acknowledged were read last.
+    sent_before: u64,
+    /// Whether one waits for frames that were acknowledged.
+    awaits_acknowledged: bool,
 }
 
 /// The program, `tools/live`, and once the interfaces are there, these.
@@ -185,7 +191,7 @@ impl<P: Port, C: io::Read + std::os::unix::io::AsRawFd> Bridge<P, C> {
                 Token::Control => self.take_requests()?,
                 Token::Output => self.take_answers()?,
                 Token::Input | Token::Clock => {}
-                Token::Monitor | Token::Wire(_) => self.take_port(ready)?,
+                Token::Monitor | Token::Acknowledged | Token::Wire(_) => self.take_port(ready)?,
                 Token::Listener | Token::Client(_) => self.take_client(ready)?,
             }
         }
@@ -198,7 +204,8 @@ impl<P: Port, C: io::Read + std::os::unix::io::AsRawFd> Bridge<P, C> {
         self.tell_alive();
         self.answer_clients()?;
         self.feed()?;
-        self.send()
+        self.send()?;
+        self.take_acknowledged()
     }
 
     /// Waits for what comes first, or for so many milliseconds at most.
@@ -256,6 +263,9 @@ impl<P: Port, C: io::Read + std::os::unix::io::AsRawFd> Bridge<P, C> {
             if let Some(wire) = sender.wire(place) {
                 self.poller.add(wire.port.descriptor(), Token::Wire(place), true, false)?;
             }
+        }
+        if let Some(port) = sender.acknowledged() {
+            self.poller.add(port.descriptor(), Token::Acknowledged, false, false)?;
         }
         if let Some(clients) = &self.clients {
             self.poller.add(clients.descriptor(), Token::Listener, true, false)?;
@@ -409,7 +419,43 @@ impl<P: Port, C: io::Read + std::os::unix::io::AsRawFd> Bridge<P, C> {
         }
         if was_waited_for && running.beacon_due.is_none() {
             say(&Notice::Sending);
-            self.set_filter(Shown::Outcomes)?;
+            self.filter_outcomes()?;
+        }
+        Ok(())
+    }
+
+    /// The radio sends: from now on of the frames that it shows as sent only their outcomes come, and those that were
+    /// acknowledged wake nobody where they have a port of their own.
+    fn filter_outcomes(&mut self) -> Result<(), Fault> {
+        let acknowledged = self.running.as_mut().and_then(|running| running.sender.acknowledged());
+        let shown = if acknowledged.is_some() { Shown::Failures } else { Shown::Outcomes };
+        if let Some(port) = acknowledged {
+            let outcome = port.set_filter(&acknowledged_filter());
+            outcome.map_err(|fault| Fault::of(format!("{}: no filter", port.interface()), &fault))?;
+        }
+        self.set_filter(shown)
+    }
+
+    /// Reads the frames that the radio shows as acknowledged, once there may be many; where frames wait for them, they
+    /// are waited for.
+    fn take_acknowledged(&mut self) -> Result<(), Fault> {
+        let running = match &mut self.running {
+            Some(running) if self.phase == Phase::Running => running,
+            _ => return Ok(()),
+        };
+        if running.sender.sent_on_air() >= running.sent_before + UNREAD_ACKNOWLEDGED {
+            running.receive(Token::Acknowledged, &mut self.batch, self.time)?;
+            self.send()?;
+        }
+        if let Some(running) = &mut self.running {
+            let awaits = running.sender.due().is_some();
+            match running.sender.acknowledged() {
+                Some(port) if awaits != running.awaits_acknowledged => {
+                    self.poller.change(port.descriptor(), Token::Acknowledged, awaits, false)?;
+                    running.awaits_acknowledged = awaits;
+                }
+                _ => {}
+            }
         }
         Ok(())
     }
@@ -428,6 +474,7 @@ impl<P: Port, C: io::Read + std::os::unix::io::AsRawFd> Bridge<P, C> {
                     self.feeder.flush_record()?;
                     running.is_answered = false;
                     running.given.ticks += 1;
+                    running.receive(Token::Acknowledged, &mut self.batch, time)?;
                 }
                 running.sender.expire(time);
                 if self.tables_asked {
@@ -556,6 +603,8 @@ impl<P: Port> Running<P> {
             given: Given::default(),
             left_out: BTreeMap::new(),
             has_told_drops: false,
+            sent_before: 0,
+            awaits_acknowledged: false,
         }
     }
 
@@ -663,10 +712,17 @@ impl<P: Port> Running<P> {
 
     /// Reads what waits at an interface, some batches of it at most.
     fn receive(&mut self, token: Token, batch: &mut Batch, time: Nanos) -> Result<(), Fault> {
+        if token == Token::Acknowledged {
+            self.sent_before = self.sender.sent_on_air();
+        }
         for _ in 0..IN_A_ROW {
             let port = match token {
                 Token::Wire(place) => match self.sender.wire(place) {
                     Some(wire) => &mut wire.port,
+                    None => return Ok(()),
+                },
+                Token::Acknowledged => match self.sender.acknowledged() {
+                    Some(port) => port,
                     None => return Ok(()),
                 },
                 _ => &mut self.sender.monitor().port,
@@ -770,6 +826,9 @@ impl<P: Port> Running<P> {
     /// Reads the interfaces no more.
     fn stop_reading(&mut self, poller: &Poller) -> Result<(), Fault> {
         poller.change(self.sender.monitor().port.descriptor(), Token::Monitor, false, false)?;
+        if let Some(port) = self.sender.acknowledged() {
+            poller.change(port.descriptor(), Token::Acknowledged, false, false)?;
+        }
         for place in 0..self.networks.len() {
             if let Some(wire) = self.sender.wire(place) {
                 poller.change(wire.port.descriptor(), Token::Wire(place), false, false)?;

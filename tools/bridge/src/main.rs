@@ -76,6 +76,7 @@ use bridge::{Bridge, Manner};
 use clients::Clients;
 use control::{say, Notice, Requests};
 use faults::Fault;
+use filter::nothing_filter;
 use program::{Program, Record};
 use sending::Sender;
 use sockets::{inherited_listener, PacketSocket};
@@ -132,7 +133,9 @@ fn open(words: &Words) -> Result<Sender<PacketSocket>, Fault> {
     let wires = words.networks.iter().map(|network| network.wire.as_deref().map(open_wire).transpose());
     let wires = wires.collect::<Result<_, Fault>>()?;
     let monitor = open_port(&words.monitor, AIR_ROOM)?;
-    Ok(Sender::new(words.networks.clone(), monitor, wires))
+    let acknowledged = PacketSocket::open(&words.monitor, AIR_ROOM, Some(&nothing_filter()));
+    let acknowledged = acknowledged.map_err(no_socket(&words.monitor))?;
+    Ok(Sender::new(words.networks.clone(), monitor, wires).with_acknowledged(acknowledged))
 }
 
 /// A wire is heard whole: frames for any receiver.
@@ -143,5 +146,9 @@ fn open_wire(name: &str) -> Result<PacketSocket, Fault> {
 }
 
 fn open_port(name: &str, room: i32) -> Result<PacketSocket, Fault> {
-    PacketSocket::open(name, room).map_err(|fault| Fault::of(format!("{name}: no packet socket"), &fault))
+    PacketSocket::open(name, room, None).map_err(no_socket(name))
+}
+
+fn no_socket(name: &str) -> impl Fn(std::io::Error) -> Fault + '_ {
+    move |fault| Fault::of(format!("{name}: no packet socket"), &fault)
 }

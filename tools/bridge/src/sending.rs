@@ -159,6 +159,8 @@ impl<P: Port> Exit<P> {
 #[derive(Debug)]
 pub struct Sender<P> {
     monitor: Exit<P>,
+    /// By which the radio shows the frames that were acknowledged, where it doesn't by the monitor interface's own.
+    acknowledged: Option<P>,
     wires: Vec<Option<Exit<P>>>,
     networks: Vec<Network>,
     places: AddressMap<usize>,
@@ -172,7 +174,13 @@ impl<P: Port> Sender<P> {
         let places = networks.iter().enumerate().map(|(place, network)| (network.bssid, place)).collect();
         let wires = wires.into_iter().map(|wire| wire.map(Exit::new)).collect();
         let stations = Stations::new(&networks);
-        Sender { monitor: Exit::new(monitor), wires, networks, places, stations, counts: Counts::new() }
+        let monitor = Exit::new(monitor);
+        Sender { monitor, acknowledged: None, wires, networks, places, stations, counts: Counts::new() }
+    }
+
+    /// The same, with a port of its own for the frames that the radio shows as acknowledged.
+    pub fn with_acknowledged(self, port: P) -> Sender<P> {
+        Sender { acknowledged: Some(port), ..self }
     }
 
     /// The networks, in the order of their places.
@@ -206,6 +214,16 @@ impl<P: Port> Sender<P> {
     /// The monitor interface, and what waits for it.
     pub fn monitor(&mut self) -> &mut Exit<P> {
         &mut self.monitor
+    }
+
+    /// The port of the frames that the radio shows as acknowledged, where they have one.
+    pub fn acknowledged(&mut self) -> Option<&mut P> {
+        self.acknowledged.as_mut()
+    }
+
+    /// How many frames were sent on the air.
+    pub fn sent_on_air(&self) -> u64 {
+        self.monitor.sent
     }
 
     /// The wire of the network of this place, and what waits for it.

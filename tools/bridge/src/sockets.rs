@@ -91,8 +91,9 @@ pub struct PacketSocket {
 }
 
 impl PacketSocket {
-    /// Opens it; `sending_room` bounds the octets that wait in the kernel to be sent.
-    pub fn open(interface: &str, sending_room: c_int) -> io::Result<PacketSocket> {
+    /// Opens it; `sending_room` bounds the octets that wait in the kernel to be sent. It never hears what a filter
+    /// doesn't let through.
+    pub fn open(interface: &str, sending_room: c_int, filter: Option<&[sock_filter]>) -> io::Result<PacketSocket> {
         let index = index_of(interface)?;
         // SAFETY: no memory is handed over; the descriptor is owned from here on.
         let socket = unsafe {
@@ -105,6 +106,9 @@ impl PacketSocket {
         set_option(&socket, libc::SOL_SOCKET, libc::SO_TIMESTAMPNS, &one)?;
         set_option(&socket, libc::SOL_PACKET, PACKET_AUXDATA, &one)?;
         set_option(&socket, libc::SOL_PACKET, PACKET_IGNORE_OUTGOING, &one)?;
+        if let Some(filter) = filter {
+            attach(&socket, filter)?;
+        }
         // SAFETY: all zero is an address; the length is its own.
         unsafe {
             let mut address: sockaddr_ll = zeroed();
@@ -147,8 +151,7 @@ impl Port for PacketSocket {
     }
 
     fn set_filter(&mut self, filter: &[sock_filter]) -> io::Result<()> {
-        let program = libc::sock_fprog { len: filter.len() as u16, filter: filter.as_ptr() as *mut sock_filter };
-        set_option(&self.socket, libc::SOL_SOCKET, libc::SO_ATTACH_FILTER, &program)
+        attach(&self.socket, filter)
     }
 
     fn count_dropped(&mut self) -> u64 {
@@ -192,6 +195,11 @@ fn set_option<T>(socket: &OwnedFd, level: c_int, name: c_int, value: &T) -> io::
         checked(libc::setsockopt(socket.as_raw_fd(), level, name, place.cast::<c_void>(), size_of::<T>() as u32))?
     };
     Ok(())
+}
+
+fn attach(socket: &OwnedFd, filter: &[sock_filter]) -> io::Result<()> {
+    let program = libc::sock_fprog { len: filter.len() as u16, filter: filter.as_ptr() as *mut sock_filter };
+    set_option(socket, libc::SOL_SOCKET, libc::SO_ATTACH_FILTER, &program)
 }
 
 /// How many octets of a pipe wait to be read.
@@ -373,7 +381,7 @@ mod tests {
 
     /// Two sockets on the loopback interface, or `None` where the machine gives none, as without root.
     fn pair() -> Option<(PacketSocket, PacketSocket)> {
-        match (PacketSocket::open("lo", 1 << 16), PacketSocket::open("lo", 1 << 16)) {
+        match (PacketSocket::open("lo", 1 << 16, None), PacketSocket::open("lo", 1 << 16, None)) {
             (Ok(hearing), Ok(sending)) => Some((hearing, sending)),
             _ => {
                 eprintln!("no packet socket here: not tried");
