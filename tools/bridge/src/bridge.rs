@@ -1,6 +1,8 @@
 //! The bridge while it runs: one thread that waits for what comes first, and does it.
 use std::collections::BTreeMap;
 use std::io;
+use std::thread::sleep;
+use std::time::Duration;
 
 use crate::clients::{Clients, Question};
 use crate::control::{say, Notice, Request, Requests};
@@ -8,6 +10,7 @@ use crate::faces::{Answer, Event};
 use crate::faults::{reason, tell, Fault};
 use crate::filter::{acknowledged_filter, monitor_filter, Shown};
 use crate::frames::{Address, Frame, FrameType};
+use crate::gathering::Gathering;
 use crate::log::{self, Level};
 use crate::operating::{Errand, Operating};
 use crate::own_frames::is_null_of_network;
@@ -34,6 +37,8 @@ const AIR: Source = 0;
 
 /// The subtype and type of a beacon, in the first octet of Frame Control.
 const BEACON: u8 = 0x80;
+/// So long before a beacon interval begins frames gather no more: a sleep may end some 50 µs late.
+const BEFORE_TICK: Nanos = MILLISECOND / 5;
 /// How often `tools/live` is told at most that the program answers.
 const ALIVE_EVERY: Nanos = SECOND;
 
@@ -81,6 +86,7 @@ struct Running<P> {
     networks: Vec<Network>,
     air: Air,
     waiting: Waiting,
+    gathering: Gathering,
     operating: Operating,
     tables: Tables,
     ticks: Ticks,
@@ -92,6 +98,9 @@ struct Running<P> {
     given: Given,
     left_out: BTreeMap<(Source, LeftOut), u64>,
     has_told_drops: bool,
+    /// How often the bridge was woken, and of each source in which waking it was read last.
+    wakings: u64,
+    read_in: Vec<u64>,
     /// How many frames were sent on the air when those that were acknowledged were read last.
     sent_before: u64,
     /// Whether one waits for frames that were acknowledged.
@@ -183,6 +192,7 @@ impl<P: Port, C: io::Read + std::os::unix::io::AsRawFd> Bridge<P, C> {
 
     /// Waits for what comes first, and does what is to be done then.
     fn step(&mut self, open: &mut impl FnMut() -> Result<Sender<P>, Fault>) -> Result<(), Fault> {
+        self.gather();
         self.poller.set_due(self.due())?;
         self.wait(self.most_wait())?;
         for place in 0..self.ready.len() {
@@ -208,10 +218,23 @@ impl<P: Port, C: io::Read + std::os::unix::io::AsRawFd> Bridge<P, C> {
         self.take_acknowledged()
     }
 
+    /// Lets frames gather where many come, but never where a beacon is awaited.
+    fn gather(&mut self) {
+        let running = match &mut self.running {
+            Some(running) if self.phase == Phase::Running && running.is_answered => running,
+            _ => return,
+        };
+        if let Some(until) = running.gathering.until(self.time) {
+            let until = until.min(running.ticks.due().saturating_sub(BEFORE_TICK));
+            sleep(Duration::from_nanos(until.saturating_sub(now())));
+        }
+    }
+
     /// Waits for what comes first, or for so many milliseconds at most.
     fn wait(&mut self, most: Option<u16>) -> Result<(), Fault> {
         self.poller.wait(most, &mut self.ready)?;
         self.time = now();
+        self.running.iter_mut().for_each(|running| running.wakings += 1);
         Ok(())
     }
 
@@ -539,7 +562,7 @@ impl<P: Port, C: io::Read + std::os::unix::io::AsRawFd> Bridge<P, C> {
     /// Sends what waits for the interfaces, and waits for those that have no room.
     fn send(&mut self) -> Result<(), Fault> {
         let reads = self.phase == Phase::Running;
-        if let Some(running) = &mut self.running {
+        if let Some(running) = self.running.as_mut().filter(|running| !running.sender.is_idle()) {
             for (token, descriptor, is_blocked) in running.flush(self.time) {
                 self.poller.change(descriptor, token, reads, is_blocked)?;
             }
@@ -593,8 +616,10 @@ impl<P: Port> Running<P> {
             sender,
             air: Air::new(bssids()),
             waiting: Waiting::new(1 + networks.len()),
+            gathering: Gathering::default(),
             operating: Operating::new(bssids().collect(), manner.most_silence),
             tables: Tables::new(networks.len()),
+            read_in: vec![0; 1 + networks.len()],
             networks,
             ticks: Ticks::new(start, manner.interval),
             is_answered: false,
@@ -603,6 +628,7 @@ impl<P: Port> Running<P> {
             given: Given::default(),
             left_out: BTreeMap::new(),
             has_told_drops: false,
+            wakings: 0,
             sent_before: 0,
             awaits_acknowledged: false,
         }
@@ -712,9 +738,7 @@ impl<P: Port> Running<P> {
 
     /// Reads what waits at an interface, some batches of it at most.
     fn receive(&mut self, token: Token, batch: &mut Batch, time: Nanos) -> Result<(), Fault> {
-        if token == Token::Acknowledged {
-            self.sent_before = self.sender.sent_on_air();
-        }
+        batch.ask_for(self.to_ask_for(token));
         for _ in 0..IN_A_ROW {
             let port = match token {
                 Token::Wire(place) => match self.sender.wire(place) {
@@ -730,6 +754,9 @@ impl<P: Port> Running<P> {
             let number = port
                 .receive(batch)
                 .map_err(|fault| Fault::new(format!("{}: {}: was it taken down?", port.interface(), reason(&fault))))?;
+            if token != Token::Acknowledged {
+                self.gathering.count(number);
+            }
             let wall = wall_now();
             for packet in batch.packets() {
                 let waited = packet.arrived.map_or(0, |arrived| wall.saturating_sub(arrived));
@@ -745,6 +772,25 @@ impl<P: Port> Running<P> {
         }
         self.tell_of_drops();
         Ok(())
+    }
+
+    /// How many packets are asked for at a time: one where an interface had nothing at the last waking, since a question
+    /// for one more that isn't there costs as much as reading one.
+    fn to_ask_for(&mut self, token: Token) -> usize {
+        let source = match token {
+            Token::Monitor => AIR,
+            Token::Wire(place) => AIR + 1 + place,
+            _ => {
+                self.sent_before = self.sender.sent_on_air();
+                return AT_A_TIME;
+            }
+        };
+        let before = std::mem::replace(&mut self.read_in[source], self.wakings);
+        if before + 1 == self.wakings || self.gathering.are_many() {
+            AT_A_TIME
+        } else {
+            1
+        }
     }
 
     fn take_air(&mut self, packet: &Packet<'_>, arrived: Nanos) {

@@ -253,7 +253,7 @@ mod tests {
         let unit = Unit { transmitter: OURS, receiver: STRANGER, ..Unit::default() }.octets();
         let beacon = Unit { transmitter: OURS, receiver: Address::BROADCAST, ..Unit::default() }.octets();
         for (asked, of_unit, of_beacon) in
-            [(Shown::All, ALL, ALL), (Shown::Outcomes, OUTCOME_LEN, NONE), (Shown::Failures, NONE, NONE)]
+            [(Shown::All, ALL, ALL), (Shown::Outcomes, OUTCOME_LEN, NONE), (Shown::Failures, OUTCOME_LEN, NONE)]
         {
             let filter = monitor_filter(&[OURS], asked);
             assert_eq!(

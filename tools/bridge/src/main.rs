@@ -23,7 +23,8 @@
 //! since. Each frame that comes is given to the program once, or counted as left out or dropped, but for what the
 //! kernel's filter keeps out: control frames, frames for no network, and those that this radio sent to groups. A
 //! beginning of a beacon interval waits for none of the frames that wait. All memory is bounded. One thread does all by
-//! `epoll`, and waits nowhere else but for its ends of standard error and the record.
+//! `epoll`, and waits nowhere else but for its ends of standard error and the record, and where many frames come for a
+//! millisecond at most, in which some gather (`gathering`).
 //!
 //! It leaves every decision on a frame to the program, and leaves to `tools/live` all that is done once. It speaks with
 //! that by lines: it reads `open`, once the interfaces are there, `tables`, and `dismiss`, by which all stations are told
@@ -44,6 +45,7 @@ mod faces;
 mod faults;
 mod filter;
 mod frames;
+mod gathering;
 mod hashing;
 mod log;
 mod meaning;

@@ -80,6 +80,11 @@ impl<P: Port> Exit<P> {
         self.is_waited_for = is_waited_for;
     }
 
+    /// Whether nothing waits, for room or to be sent.
+    pub fn is_idle(&self) -> bool {
+        self.leaving.is_empty() && self.is_blocked == self.is_waited_for
+    }
+
     /// Whether it has no room at the moment.
     pub fn is_blocked(&self) -> bool {
         self.is_blocked
@@ -111,11 +116,13 @@ impl<P: Port> Exit<P> {
     pub fn flush(&mut self, now: Nanos, counts: &mut Counts) {
         while !self.is_blocked && !self.leaving.is_empty() {
             self.drop_late(now, counts);
-            let frames: Vec<&[u8]> = self.leaving.iter().take(AT_A_TIME).map(|frame| &frame.octets[..]).collect();
-            if frames.is_empty() {
+            let mut frames: [&[u8]; AT_A_TIME] = [&[]; AT_A_TIME];
+            frames.iter_mut().zip(&self.leaving).for_each(|(frame, leaving)| *frame = &leaving.octets);
+            let number = self.leaving.len().min(AT_A_TIME);
+            if number == 0 {
                 return;
             }
-            match self.port.send(&frames) {
+            match self.port.send(&frames[..number]) {
                 Ok(number) => self.sent(number),
                 Err(fault) if fault.kind() == ErrorKind::WouldBlock => self.is_blocked = true,
                 Err(fault) if fault.kind() == ErrorKind::Interrupted => {}
@@ -234,6 +241,11 @@ impl<P: Port> Sender<P> {
     /// All interfaces.
     pub fn exits(&mut self) -> impl Iterator<Item = &mut Exit<P>> {
         std::iter::once(&mut self.monitor).chain(self.wires.iter_mut().flatten())
+    }
+
+    /// Whether nothing waits for any interface.
+    pub fn is_idle(&self) -> bool {
+        self.monitor.is_idle() && self.wires.iter().flatten().all(Exit::is_idle)
     }
 
     /// A network sends a frame on the air; a fault where there is no such network.
