@@ -1,13 +1,16 @@
 //! The bridge while it runs: one thread that waits for what comes first, and does it.
 use std::collections::BTreeMap;
 use std::io;
+use std::thread::sleep;
+use std::time::Duration;
 
 use crate::clients::{Clients, Question};
 use crate::control::{say, Notice, Request, Requests};
 use crate::faces::{Answer, Event};
 use crate::faults::{reason, tell, Fault};
-use crate::filter::{monitor_filter, Shown};
+use crate::filter::{acknowledged_filter, monitor_filter, Shown};
 use crate::frames::{Address, Frame, FrameType};
+use crate::gathering::Gathering;
 use crate::log::{self, Level};
 use crate::operating::{Errand, Operating};
 use crate::own_frames::is_null_of_network;
@@ -25,6 +28,8 @@ use crate::waiting::{Flow, Source, Waiter, Waiting};
 const TO_BEACON: Nanos = SECOND;
 const TO_READY: Nanos = 20 * SECOND;
 const TO_END: Nanos = 20 * SECOND;
+/// After how many frames on the air the ones are read that the radio shows as acknowledged, where nothing waits for them.
+const UNREAD_ACKNOWLEDGED: u64 = AT_A_TIME as u64;
 /// How many batches of one socket are read, and pieces of the program's output, before something else is looked at.
 const IN_A_ROW: usize = 4;
 /// The lane of the air; those of wires come after, in the networks' order.
@@ -32,6 +37,8 @@ const AIR: Source = 0;
 
 /// The subtype and type of a beacon, in the first octet of Frame Control.
 const BEACON: u8 = 0x80;
+/// So long before a beacon interval begins frames gather no more: a sleep may end some 50 µs late.
+const BEFORE_TICK: Nanos = MILLISECOND / 5;
 /// How often `tools/live` is told at most that the program answers.
 const ALIVE_EVERY: Nanos = SECOND;
 
@@ -79,6 +86,7 @@ struct Running<P> {
     networks: Vec<Network>,
     air: Air,
     waiting: Waiting,
+    gathering: Gathering,
     operating: Operating,
     tables: Tables,
     ticks: Ticks,
@@ -90,6 +98,13 @@ struct Running<P> {
     given: Given,
     left_out: BTreeMap<(Source, LeftOut), u64>,
     has_told_drops: bool,
+    /// How often the bridge was woken, and of each source in which waking it was read last.
+    wakings: u64,
+    read_in: Vec<u64>,
+    /// How many frames were sent on the air when those that were acknowledged were read last.
+    sent_before: u64,
+    /// Whether one waits for frames that were acknowledged.
+    awaits_acknowledged: bool,
 }
 
 /// The program, `tools/live`, and once the interfaces are there, these.
@@ -101,6 +116,10 @@ pub struct Bridge<P, C> {
     poller: Poller,
     manner: Manner,
     began: Nanos,
+    /// When the last wait ended: the time of all that is done then.
+    time: Nanos,
+    /// What came by then.
+    ready: Vec<Ready>,
     faults: Faults,
     alive_told: Nanos,
     phase: Phase,
@@ -124,7 +143,8 @@ impl<P: Port, C: io::Read + std::os::unix::io::AsRawFd> Bridge<P, C> {
         let poller = Poller::new()?;
         poller.add(requests.descriptor(), Token::Control, true, false)?;
         poller.add(program.descriptor(), Token::Output, true, false)?;
-        let phase = Phase::Opening(now() + TO_READY);
+        let began = now();
+        let phase = Phase::Opening(began + TO_READY);
         Ok(Bridge {
             program,
             feeder,
@@ -132,7 +152,9 @@ impl<P: Port, C: io::Read + std::os::unix::io::AsRawFd> Bridge<P, C> {
             clients,
             poller,
             manner,
-            began: now(),
+            began,
+            time: began,
+            ready: Vec::new(),
             faults: Faults::default(),
             alive_told: 0,
             phase,
@@ -170,16 +192,16 @@ impl<P: Port, C: io::Read + std::os::unix::io::AsRawFd> Bridge<P, C> {
 
     /// Waits for what comes first, and does what is to be done then.
     fn step(&mut self, open: &mut impl FnMut() -> Result<Sender<P>, Fault>) -> Result<(), Fault> {
-        let mut found = Vec::new();
+        self.gather();
         self.poller.set_due(self.due())?;
-        let most = self.most_wait();
-        self.poller.wait(most, &mut found)?;
-        for ready in found {
+        self.wait(self.most_wait())?;
+        for place in 0..self.ready.len() {
+            let ready = self.ready[place];
             match ready.token {
                 Token::Control => self.take_requests()?,
                 Token::Output => self.take_answers()?,
                 Token::Input | Token::Clock => {}
-                Token::Monitor | Token::Wire(_) => self.take_port(ready)?,
+                Token::Monitor | Token::Acknowledged | Token::Wire(_) => self.take_port(ready)?,
                 Token::Listener | Token::Client(_) => self.take_client(ready)?,
             }
         }
@@ -189,10 +211,31 @@ impl<P: Port, C: io::Read + std::os::unix::io::AsRawFd> Bridge<P, C> {
             _ => {}
         }
         self.take_time()?;
-        self.tell_alive(now());
+        self.tell_alive();
         self.answer_clients()?;
         self.feed()?;
-        self.send()
+        self.send()?;
+        self.take_acknowledged()
+    }
+
+    /// Lets frames gather where many come, but never where a beacon is awaited.
+    fn gather(&mut self) {
+        let running = match &mut self.running {
+            Some(running) if self.phase == Phase::Running && running.is_answered => running,
+            _ => return,
+        };
+        if let Some(until) = running.gathering.until(self.time) {
+            let until = until.min(running.ticks.due().saturating_sub(BEFORE_TICK));
+            sleep(Duration::from_nanos(until.saturating_sub(now())));
+        }
+    }
+
+    /// Waits for what comes first, or for so many milliseconds at most.
+    fn wait(&mut self, most: Option<u16>) -> Result<(), Fault> {
+        self.poller.wait(most, &mut self.ready)?;
+        self.time = now();
+        self.running.iter_mut().for_each(|running| running.wakings += 1);
+        Ok(())
     }
 
     /// When something is to be done at the latest.
@@ -200,7 +243,8 @@ impl<P: Port, C: io::Read + std::os::unix::io::AsRawFd> Bridge<P, C> {
         match (self.phase, &self.running) {
             (Phase::Opening(until), _) => until,
             (Phase::Running, Some(running)) => {
-                let tick = if running.ticks.due() <= now() { now() + MILLISECOND } else { running.ticks.due() };
+                let is_late = running.ticks.due() <= self.time;
+                let tick = if is_late { self.time + MILLISECOND } else { running.ticks.due() };
                 let alive = (self.manner.tells_alive && running.is_answered).then_some(self.alive_told + ALIVE_EVERY);
                 [running.beacon_due, running.sender.due(), alive].into_iter().flatten().fold(tick, Nanos::min)
             }
@@ -243,6 +287,9 @@ impl<P: Port, C: io::Read + std::os::unix::io::AsRawFd> Bridge<P, C> {
                 self.poller.add(wire.port.descriptor(), Token::Wire(place), true, false)?;
             }
         }
+        if let Some(port) = sender.acknowledged() {
+            self.poller.add(port.descriptor(), Token::Acknowledged, false, false)?;
+        }
         if let Some(clients) = &self.clients {
             self.poller.add(clients.descriptor(), Token::Listener, true, false)?;
         }
@@ -268,9 +315,8 @@ impl<P: Port, C: io::Read + std::os::unix::io::AsRawFd> Bridge<P, C> {
             if !self.program.read()? {
                 break;
             }
-            let time = now();
             while let Some(answer) = self.program.next_answer()? {
-                self.take_answer(answer, time)?;
+                self.take_answer(answer, self.time)?;
             }
             self.send()?;
         }
@@ -324,10 +370,10 @@ impl<P: Port, C: io::Read + std::os::unix::io::AsRawFd> Bridge<P, C> {
     }
 
     /// Tells `tools/live` that the program answers: it has answered the last beginning of a beacon interval.
-    fn tell_alive(&mut self, time: Nanos) {
+    fn tell_alive(&mut self) {
         let is_answered = self.running.as_ref().map_or(false, |running| running.is_answered);
-        if self.manner.tells_alive && is_answered && time >= self.alive_told + ALIVE_EVERY {
-            self.alive_told = time;
+        if self.manner.tells_alive && is_answered && self.time >= self.alive_told + ALIVE_EVERY {
+            self.alive_told = self.time;
             say(&Notice::Alive);
         }
     }
@@ -344,9 +390,9 @@ impl<P: Port, C: io::Read + std::os::unix::io::AsRawFd> Bridge<P, C> {
     /// Somebody connects, or a client wrote or reads.
     fn take_client(&mut self, ready: Ready) -> Result<(), Fault> {
         match (ready.token, &mut self.clients) {
-            (Token::Listener, Some(clients)) => clients.accept(&self.poller, now()),
+            (Token::Listener, Some(clients)) => clients.accept(&self.poller, self.time),
             (Token::Client(place), Some(clients)) => {
-                clients.take(place, ready.can_read, ready.can_write, now());
+                clients.take(place, ready.can_read, ready.can_write, self.time);
                 Ok(())
             }
             _ => Ok(()),
@@ -355,7 +401,7 @@ impl<P: Port, C: io::Read + std::os::unix::io::AsRawFd> Bridge<P, C> {
 
     /// Answers the questions of clients; the program is asked for its tables where somebody waits for them.
     fn answer_clients(&mut self) -> Result<(), Fault> {
-        let time = now();
+        let time = self.time;
         let (clients, running) = match (&mut self.clients, &mut self.running) {
             (Some(clients), Some(running)) if self.phase == Phase::Running => (clients, running),
             _ => return Ok(()),
@@ -392,11 +438,47 @@ impl<P: Port, C: io::Read + std::os::unix::io::AsRawFd> Bridge<P, C> {
         }
         let was_waited_for = running.beacon_due.is_some();
         if ready.can_read && self.phase == Phase::Running {
-            running.receive(ready.token, &mut self.batch)?;
+            running.receive(ready.token, &mut self.batch, self.time)?;
         }
         if was_waited_for && running.beacon_due.is_none() {
             say(&Notice::Sending);
-            self.set_filter(Shown::Outcomes)?;
+            self.filter_outcomes()?;
+        }
+        Ok(())
+    }
+
+    /// The radio sends: from now on of the frames that it shows as sent only their outcomes come, and those that were
+    /// acknowledged wake nobody where they have a port of their own.
+    fn filter_outcomes(&mut self) -> Result<(), Fault> {
+        let acknowledged = self.running.as_mut().and_then(|running| running.sender.acknowledged());
+        let shown = if acknowledged.is_some() { Shown::Failures } else { Shown::Outcomes };
+        if let Some(port) = acknowledged {
+            let outcome = port.set_filter(&acknowledged_filter());
+            outcome.map_err(|fault| Fault::of(format!("{}: no filter", port.interface()), &fault))?;
+        }
+        self.set_filter(shown)
+    }
+
+    /// Reads the frames that the radio shows as acknowledged, once there may be many; where frames wait for them, they
+    /// are waited for.
+    fn take_acknowledged(&mut self) -> Result<(), Fault> {
+        let running = match &mut self.running {
+            Some(running) if self.phase == Phase::Running => running,
+            _ => return Ok(()),
+        };
+        if running.sender.sent_on_air() >= running.sent_before + UNREAD_ACKNOWLEDGED {
+            running.receive(Token::Acknowledged, &mut self.batch, self.time)?;
+            self.send()?;
+        }
+        if let Some(running) = &mut self.running {
+            let awaits = running.sender.due().is_some();
+            match running.sender.acknowledged() {
+                Some(port) if awaits != running.awaits_acknowledged => {
+                    self.poller.change(port.descriptor(), Token::Acknowledged, awaits, false)?;
+                    running.awaits_acknowledged = awaits;
+                }
+                _ => {}
+            }
         }
         Ok(())
     }
@@ -404,7 +486,7 @@ impl<P: Port, C: io::Read + std::os::unix::io::AsRawFd> Bridge<P, C> {
     /// Begins a beacon interval where it is time, and asks for the tables where that was asked for. An interval begins
     /// only once the program has read the beginning of the one before: what it doesn't read doesn't pile up.
     fn take_time(&mut self) -> Result<(), Fault> {
-        let time = now();
+        let time = self.time;
         match (self.phase, &mut self.running) {
             (Phase::Opening(until), _) if time >= until => {
                 return Err(Fault::new(format!("the program answered nothing in {} seconds", TO_READY / SECOND)));
@@ -415,6 +497,7 @@ impl<P: Port, C: io::Read + std::os::unix::io::AsRawFd> Bridge<P, C> {
                     self.feeder.flush_record()?;
                     running.is_answered = false;
                     running.given.ticks += 1;
+                    running.receive(Token::Acknowledged, &mut self.batch, time)?;
                 }
                 running.sender.expire(time);
                 if self.tables_asked {
@@ -445,7 +528,7 @@ impl<P: Port, C: io::Read + std::os::unix::io::AsRawFd> Bridge<P, C> {
                 Some(running) if is_written => running,
                 _ => return Ok(()),
             };
-            let time = now();
+            let time = self.time;
             let mut said = 0;
             let room = if running.waiting.is_empty() { 0 } else { self.feeder.room() };
             while said < room {
@@ -479,8 +562,8 @@ impl<P: Port, C: io::Read + std::os::unix::io::AsRawFd> Bridge<P, C> {
     /// Sends what waits for the interfaces, and waits for those that have no room.
     fn send(&mut self) -> Result<(), Fault> {
         let reads = self.phase == Phase::Running;
-        if let Some(running) = &mut self.running {
-            for (token, descriptor, is_blocked) in running.flush() {
+        if let Some(running) = self.running.as_mut().filter(|running| !running.sender.is_idle()) {
+            for (token, descriptor, is_blocked) in running.flush(self.time) {
                 self.poller.change(descriptor, token, reads, is_blocked)?;
             }
         }
@@ -501,7 +584,6 @@ impl<P: Port, C: io::Read + std::os::unix::io::AsRawFd> Bridge<P, C> {
                 self.poller.remove(clients.descriptor())?;
             }
         }
-        let mut found = Vec::new();
         while !self.program.has_ended() && now() < until {
             if self.feeder.descriptor().is_some() {
                 let is_written = self.feeder.flush()?;
@@ -510,8 +592,9 @@ impl<P: Port, C: io::Read + std::os::unix::io::AsRawFd> Bridge<P, C> {
                     self.feeder.close();
                 }
             }
-            self.poller.wait(Some(100), &mut found)?;
-            for ready in found.drain(..) {
+            self.wait(Some(100))?;
+            for place in 0..self.ready.len() {
+                let ready = self.ready[place];
                 match ready.token {
                     Token::Output => self.take_answers()?,
                     Token::Monitor | Token::Wire(_) => self.take_port(ready)?,
@@ -533,8 +616,10 @@ impl<P: Port> Running<P> {
             sender,
             air: Air::new(bssids()),
             waiting: Waiting::new(1 + networks.len()),
+            gathering: Gathering::default(),
             operating: Operating::new(bssids().collect(), manner.most_silence),
             tables: Tables::new(networks.len()),
+            read_in: vec![0; 1 + networks.len()],
             networks,
             ticks: Ticks::new(start, manner.interval),
             is_answered: false,
@@ -543,6 +628,9 @@ impl<P: Port> Running<P> {
             given: Given::default(),
             left_out: BTreeMap::new(),
             has_told_drops: false,
+            wakings: 0,
+            sent_before: 0,
+            awaits_acknowledged: false,
         }
     }
 
@@ -649,11 +737,16 @@ impl<P: Port> Running<P> {
     }
 
     /// Reads what waits at an interface, some batches of it at most.
-    fn receive(&mut self, token: Token, batch: &mut Batch) -> Result<(), Fault> {
+    fn receive(&mut self, token: Token, batch: &mut Batch, time: Nanos) -> Result<(), Fault> {
+        batch.ask_for(self.to_ask_for(token));
         for _ in 0..IN_A_ROW {
             let port = match token {
                 Token::Wire(place) => match self.sender.wire(place) {
                     Some(wire) => &mut wire.port,
+                    None => return Ok(()),
+                },
+                Token::Acknowledged => match self.sender.acknowledged() {
+                    Some(port) => port,
                     None => return Ok(()),
                 },
                 _ => &mut self.sender.monitor().port,
@@ -661,7 +754,10 @@ impl<P: Port> Running<P> {
             let number = port
                 .receive(batch)
                 .map_err(|fault| Fault::new(format!("{}: {}: was it taken down?", port.interface(), reason(&fault))))?;
-            let (time, wall) = (now(), wall_now());
+            if token != Token::Acknowledged {
+                self.gathering.count(number);
+            }
+            let wall = wall_now();
             for packet in batch.packets() {
                 let waited = packet.arrived.map_or(0, |arrived| wall.saturating_sub(arrived));
                 let arrived = time.saturating_sub(waited.min(SECOND));
@@ -676,6 +772,25 @@ impl<P: Port> Running<P> {
         }
         self.tell_of_drops();
         Ok(())
+    }
+
+    /// How many packets are asked for at a time: one where an interface had nothing at the last waking, since a question
+    /// for one more that isn't there costs as much as reading one.
+    fn to_ask_for(&mut self, token: Token) -> usize {
+        let source = match token {
+            Token::Monitor => AIR,
+            Token::Wire(place) => AIR + 1 + place,
+            _ => {
+                self.sent_before = self.sender.sent_on_air();
+                return AT_A_TIME;
+            }
+        };
+        let before = std::mem::replace(&mut self.read_in[source], self.wakings);
+        if before + 1 == self.wakings || self.gathering.are_many() {
+            AT_A_TIME
+        } else {
+            1
+        }
     }
 
     fn take_air(&mut self, packet: &Packet<'_>, arrived: Nanos) {
@@ -740,19 +855,13 @@ impl<P: Port> Running<P> {
     }
 
     /// Sends what waits, and answers which interfaces got or lost their room by it.
-    fn flush(&mut self) -> Vec<(Token, std::os::unix::io::RawFd, bool)> {
-        let before: Vec<bool> = self.sender.exits().map(|exit| exit.is_waited_for()).collect();
-        self.sender.flush(now());
-        let tokens = std::iter::once(Token::Monitor).chain(
-            self.networks
-                .iter()
-                .enumerate()
-                .filter(|(_, network)| network.wire.is_some())
-                .map(|(place, _)| Token::Wire(place)),
-        );
+    fn flush(&mut self, time: Nanos) -> Vec<(Token, std::os::unix::io::RawFd, bool)> {
+        self.sender.flush(time);
+        let networks = self.networks.iter().enumerate();
+        let wires = networks.filter(|(_, network)| network.wire.is_some()).map(|(place, _)| Token::Wire(place));
         let mut changed = Vec::new();
-        for ((token, exit), before) in tokens.zip(self.sender.exits()).zip(before) {
-            if exit.is_blocked() != before {
+        for (token, exit) in std::iter::once(Token::Monitor).chain(wires).zip(self.sender.exits()) {
+            if exit.is_blocked() != exit.is_waited_for() {
                 exit.set_waited_for(exit.is_blocked());
                 changed.push((token, exit.port.descriptor(), exit.is_blocked()));
             }
@@ -763,6 +872,9 @@ impl<P: Port> Running<P> {
     /// Reads the interfaces no more.
     fn stop_reading(&mut self, poller: &Poller) -> Result<(), Fault> {
         poller.change(self.sender.monitor().port.descriptor(), Token::Monitor, false, false)?;
+        if let Some(port) = self.sender.acknowledged() {
+            poller.change(port.descriptor(), Token::Acknowledged, false, false)?;
+        }
         for place in 0..self.networks.len() {
             if let Some(wire) = self.sender.wire(place) {
                 poller.change(wire.port.descriptor(), Token::Wire(place), false, false)?;

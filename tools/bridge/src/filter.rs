@@ -1,6 +1,9 @@
 //! The filter that the kernel applies to what the monitor interface hears, before the bridge reads it (classic BPF): it
 //! keeps out control frames but PS-Poll, what is for no network, and what this radio sent to groups. What it can't read
 //! goes on, and is judged as ever.
+//!
+//! Frames that were acknowledged come by a socket of their own, which wakes nobody: its filter lets through those alone
+//! whose header is as mac80211 writes it, and these the first filter keeps out.
 use libc::sock_filter;
 
 use crate::frames::Address;
@@ -12,6 +15,8 @@ pub enum Shown {
     All,
     /// Those to one receiver come, cut after their addresses: what became of them is learned.
     Outcomes,
+    /// Of those to one receiver come the ones that `acknowledged_filter` doesn't let through.
+    Failures,
 }
 
 // Of <linux/bpf_common.h>, and not in the crate libc yet.
@@ -38,8 +43,16 @@ const ALL: u32 = 1 << 18;
 const OUTCOME_LEN: u32 = 128;
 const NONE: u32 = 0;
 const HEADER_LEN: u32 = 8;
+const FIRST_PRESENT_OCTET: u32 = 4;
 const SECOND_PRESENT_OCTET: u32 = 5;
+const LAST_PRESENT_OCTET: u32 = 7;
+const RATE_BIT: u32 = 0x04;
 const TX_FLAGS_BIT: u32 = 0x80;
+const MORE_PRESENT_BIT: u32 = 0x80;
+const FAILED_BIT: u32 = 0x01;
+/// Where the flags of a frame that was sent stand if the rate alone is before them, and if nothing is.
+const TX_FLAGS_AFTER_RATE_AT: u32 = 10;
+const TX_FLAGS_AT: u32 = 8;
 const LEAST: u32 = 10;
 const RECEIVER_AT: u32 = 4;
 const TYPE_BITS: u32 = 0x0c;
@@ -49,7 +62,7 @@ const PS_POLL: u32 = 0xa0;
 
 /// The filter of a monitor interface for these networks.
 pub fn monitor_filter(bssids: &[Address], shown: Shown) -> Vec<sock_filter> {
-    let mut filter = read_lengths();
+    let mut filter = read_lengths(ALL);
     filter.extend(of_those_sent(shown));
     filter.extend(of_control_frames());
     let networks = [Address::BROADCAST].iter().chain(bssids);
@@ -58,27 +71,43 @@ pub fn monitor_filter(bssids: &[Address], shown: Shown) -> Vec<sock_filter> {
     filter
 }
 
-/// What is too short, of another version or cut goes on; then X is where the frame begins.
-fn read_lengths() -> Vec<sock_filter> {
+/// The filter of the socket by which frames come that were sent to one receiver and acknowledged, cut after their
+/// addresses.
+pub fn acknowledged_filter() -> Vec<sock_filter> {
+    let mut filter =
+        vec![plain(LOAD_OCTET, SECOND_PRESENT_OCTET), jump(IF_ANY_BIT, TX_FLAGS_BIT, 1, 0), returned(NONE)];
+    filter.extend(read_lengths(NONE));
+    filter.extend(of_groups());
+    filter.extend(of_outcomes(OUTCOME_LEN, NONE));
+    filter
+}
+
+/// The filter that lets nothing through.
+pub fn nothing_filter() -> Vec<sock_filter> {
+    vec![returned(NONE)]
+}
+
+/// What is too short, of another version or cut is `odd`; then X is where the frame begins.
+fn read_lengths(odd: u32) -> Vec<sock_filter> {
     vec![
         plain(LOAD_LENGTH, 0),
         jump(IF_AT_LEAST, HEADER_LEN, 1, 0),
-        returned(ALL),
+        returned(odd),
         plain(LOAD_OCTET, 0),
         jump(IF_EQUAL, 0, 1, 0),
-        returned(ALL),
+        returned(odd),
         plain(LOAD_OCTET, 2),
         plain(INTO_X, 0),
         plain(LOAD_OCTET, 3),
         plain(SHIFT_LEFT, 8),
         plain(ADD_X, 0),
         jump(IF_AT_LEAST, HEADER_LEN, 1, 0),
-        returned(ALL),
+        returned(odd),
         plain(ADD, LEAST),
         plain(INTO_X, 0),
         plain(LOAD_LENGTH, 0),
         jump(IF_AT_LEAST_X, 0, 1, 0),
-        returned(ALL),
+        returned(odd),
         plain(FROM_X, 0),
         plain(ADD, LEAST.wrapping_neg()),
         plain(INTO_X, 0),
@@ -87,18 +116,40 @@ fn read_lengths() -> Vec<sock_filter> {
 
 /// The frames that the radio shows as sent.
 fn of_those_sent(shown: Shown) -> Vec<sock_filter> {
-    let begin = plain(LOAD_OCTET, SECOND_PRESENT_OCTET);
-    match shown {
-        Shown::All => vec![begin, jump(IF_ANY_BIT, TX_FLAGS_BIT, 0, 1), returned(ALL)],
-        Shown::Outcomes => vec![
-            begin,
-            jump(IF_ANY_BIT, TX_FLAGS_BIT, 0, 4),
-            plain(LOAD_OCTET_AT_X, RECEIVER_AT),
-            jump(IF_ANY_BIT, 1, 0, 1),
-            returned(NONE),
-            returned(OUTCOME_LEN),
-        ],
-    }
+    let of_them = match shown {
+        Shown::All => vec![returned(ALL)],
+        Shown::Outcomes => [of_groups(), vec![returned(OUTCOME_LEN)]].concat(),
+        Shown::Failures => [of_groups(), of_outcomes(NONE, OUTCOME_LEN)].concat(),
+    };
+    let mut filter =
+        vec![plain(LOAD_OCTET, SECOND_PRESENT_OCTET), jump(IF_ANY_BIT, TX_FLAGS_BIT, 0, of_them.len() as u8)];
+    filter.extend(of_them);
+    filter
+}
+
+/// Frames to groups are kept out.
+fn of_groups() -> Vec<sock_filter> {
+    vec![plain(LOAD_OCTET_AT_X, RECEIVER_AT), jump(IF_ANY_BIT, 1, 0, 1), returned(NONE)]
+}
+
+/// Whether a frame that was sent was acknowledged, by a header that names no fields before the flags but the rate; other
+/// headers count as ones of frames that weren't.
+fn of_outcomes(acknowledged: u32, others: u32) -> Vec<sock_filter> {
+    vec![
+        plain(LOAD_OCTET, LAST_PRESENT_OCTET),
+        jump(IF_ANY_BIT, MORE_PRESENT_BIT, 10, 0),
+        plain(LOAD_OCTET, SECOND_PRESENT_OCTET),
+        jump(IF_EQUAL, TX_FLAGS_BIT, 0, 8),
+        plain(LOAD_OCTET, FIRST_PRESENT_OCTET),
+        jump(IF_EQUAL, 0, 0, 2),
+        plain(LOAD_OCTET, TX_FLAGS_AT),
+        jump(IF_AT_LEAST, 0, 2, 2),
+        jump(IF_EQUAL, RATE_BIT, 0, 3),
+        plain(LOAD_OCTET, TX_FLAGS_AFTER_RATE_AT),
+        jump(IF_ANY_BIT, FAILED_BIT, 1, 0),
+        returned(acknowledged),
+        returned(others),
+    ]
 }
 
 /// Of control frames only PS-Polls are looked at further.
@@ -201,7 +252,9 @@ mod tests {
     fn what_this_radio_sent_comes_as_long_as_it_is_asked_for() {
         let unit = Unit { transmitter: OURS, receiver: STRANGER, ..Unit::default() }.octets();
         let beacon = Unit { transmitter: OURS, receiver: Address::BROADCAST, ..Unit::default() }.octets();
-        for (asked, of_unit, of_beacon) in [(Shown::All, ALL, ALL), (Shown::Outcomes, OUTCOME_LEN, NONE)] {
+        for (asked, of_unit, of_beacon) in
+            [(Shown::All, ALL, ALL), (Shown::Outcomes, OUTCOME_LEN, NONE), (Shown::Failures, OUTCOME_LEN, NONE)]
+        {
             let filter = monitor_filter(&[OURS], asked);
             assert_eq!(
                 (kept(&filter, &shown(&unit)), kept(&filter, &shown(&beacon))),
@@ -209,6 +262,31 @@ mod tests {
                 "{asked:?}"
             );
         }
+    }
+
+    /// A frame that was sent comes by one of the two sockets, whatever its header names; by that which wakes nobody
+    /// where it was acknowledged and the header is as mac80211 writes it.
+    #[test]
+    fn outcomes_come_by_one_socket_or_the_other() {
+        let (waking, quiet) = (monitor_filter(&[OURS], Shown::Failures), acknowledged_filter());
+        let unit = Unit { transmitter: OURS, receiver: STRANGER, ..Unit::default() }.octets();
+        let both = |packet: &[u8]| (kept(&waking, packet), kept(&quiet, packet));
+        let sent = |present: u32, fields: &[u8]| both(&radiotap(&unit, present, fields));
+        let (wakes, is_quiet) = ((OUTCOME_LEN, NONE), (NONE, OUTCOME_LEN));
+        assert_eq!(sent(1 << 2 | 1 << 15 | 1 << 17, &[108, 0, 0, 0, 0]), is_quiet);
+        assert_eq!(sent(1 << 2 | 1 << 15 | 1 << 17, &[108, 0, 1, 0, 10]), wakes);
+        assert_eq!(sent(1 << 15 | 1 << 17 | 1 << 19, &[0, 0, 3, 7, 0, 7]), is_quiet);
+        assert_eq!(sent(1 << 15 | 1 << 17 | 1 << 19, &[1, 0, 3, 7, 0, 7]), wakes);
+        assert_eq!(sent(1 << 1 | 1 << 15, &[0, 0, 0, 0]), wakes);
+        assert_eq!(sent(1 << 3 | 1 << 15, &[0; 6]), wakes);
+        assert_eq!(sent(1 << 15 | 1 << 31, &[0; 8]), wakes);
+        let beacon = Unit { transmitter: OURS, receiver: Address::BROADCAST, ..Unit::default() }.octets();
+        assert_eq!(both(&radiotap(&beacon, 1 << 15, &[0, 0])), (NONE, NONE));
+        for packet in [&heard(&data())[..], &[], &[0; 7], &[0, 0, 8, 0, 0, 0x80, 0, 0], &shown(&unit)[..14]] {
+            assert_eq!(kept(&quiet, packet), NONE, "{packet:?}");
+            assert_ne!(kept(&waking, packet), NONE, "{packet:?}");
+        }
+        assert_eq!(kept(&nothing_filter(), &heard(&data())), NONE);
     }
 
     #[test]
@@ -227,6 +305,7 @@ mod tests {
     #[test]
     fn it_agrees_with_what_is_judged() {
         let filter = monitor_filter(&[OURS, OTHER], Shown::Outcomes);
+        let apart = [monitor_filter(&[OURS, OTHER], Shown::Failures), acknowledged_filter()];
         let mut seeded = Seeded(3);
         let mut out = 0;
         for _ in 0..200_000 {
@@ -244,6 +323,7 @@ mod tests {
                 _ => ALL,
             };
             assert_eq!(kept(&filter, &packet), wanted, "{packet:?}");
+            assert_eq!(kept(&apart[0], &packet).max(kept(&apart[1], &packet)), wanted, "{packet:?}");
             out += u32::from(wanted == NONE);
         }
         assert!(out > 50_000 && out < 190_000, "{out}");

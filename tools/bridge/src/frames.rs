@@ -1,6 +1,7 @@
 //! Octets of the air and of Ethernet as the fields that the bridge looks at (IEEE Std 802.11-2016, 9.2). Nothing else
 //! of a frame is read here.
 use std::fmt;
+use std::hash::{Hash, Hasher};
 use std::str::FromStr;
 
 /// The fewest octets of a frame on the air: the header of an acknowledgement.
@@ -17,8 +18,15 @@ const TYPE_AT: usize = 12;
 const VLAN_TYPES: [[u8; 2]; 3] = [[0x81, 0x00], [0x88, 0xa8], [0x91, 0x00]];
 
 /// An address of 48 bits.
-#[derive(Debug, Clone, Copy, PartialEq, Eq, Hash, PartialOrd, Ord)]
+#[derive(Debug, Clone, Copy, PartialEq, Eq, PartialOrd, Ord)]
 pub struct Address([u8; 6]);
+
+impl Hash for Address {
+    fn hash<H: Hasher>(&self, to: &mut H) {
+        let [a, b, c, d, e, f] = self.0;
+        to.write_u64(u64::from_be_bytes([0, 0, a, b, c, d, e, f]));
+    }
+}
 
 impl Address {
     /// The address of all.

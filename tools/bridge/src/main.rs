@@ -23,7 +23,8 @@
 //! since. Each frame that comes is given to the program once, or counted as left out or dropped, but for what the
 //! kernel's filter keeps out: control frames, frames for no network, and those that this radio sent to groups. A
 //! beginning of a beacon interval waits for none of the frames that wait. All memory is bounded. One thread does all by
-//! `epoll`, and waits nowhere else but for its ends of standard error and the record.
+//! `epoll`, and waits nowhere else but for its ends of standard error and the record, and where many frames come for a
+//! millisecond at most, in which some gather (`gathering`).
 //!
 //! It leaves every decision on a frame to the program, and leaves to `tools/live` all that is done once. It speaks with
 //! that by lines: it reads `open`, once the interfaces are there, `tables`, and `dismiss`, by which all stations are told
@@ -44,6 +45,8 @@ mod faces;
 mod faults;
 mod filter;
 mod frames;
+mod gathering;
+mod hashing;
 mod log;
 mod meaning;
 #[cfg(test)]
@@ -75,6 +78,7 @@ use bridge::{Bridge, Manner};
 use clients::Clients;
 use control::{say, Notice, Requests};
 use faults::Fault;
+use filter::nothing_filter;
 use program::{Program, Record};
 use sending::Sender;
 use sockets::{inherited_listener, PacketSocket};
@@ -131,7 +135,9 @@ fn open(words: &Words) -> Result<Sender<PacketSocket>, Fault> {
     let wires = words.networks.iter().map(|network| network.wire.as_deref().map(open_wire).transpose());
     let wires = wires.collect::<Result<_, Fault>>()?;
     let monitor = open_port(&words.monitor, AIR_ROOM)?;
-    Ok(Sender::new(words.networks.clone(), monitor, wires))
+    let acknowledged = PacketSocket::open(&words.monitor, AIR_ROOM, Some(&nothing_filter()));
+    let acknowledged = acknowledged.map_err(no_socket(&words.monitor))?;
+    Ok(Sender::new(words.networks.clone(), monitor, wires).with_acknowledged(acknowledged))
 }
 
 /// A wire is heard whole: frames for any receiver.
@@ -142,5 +148,9 @@ fn open_wire(name: &str) -> Result<PacketSocket, Fault> {
 }
 
 fn open_port(name: &str, room: i32) -> Result<PacketSocket, Fault> {
-    PacketSocket::open(name, room).map_err(|fault| Fault::of(format!("{name}: no packet socket"), &fault))
+    PacketSocket::open(name, room, None).map_err(no_socket(name))
+}
+
+fn no_socket(name: &str) -> impl Fn(std::io::Error) -> Fault + '_ {
+    move |fault| Fault::of(format!("{name}: no packet socket"), &fault)
 }

@@ -22,6 +22,8 @@ pub enum Token {
     Clock,
     /// The monitor interface.
     Monitor,
+    /// The frames that it shows as acknowledged.
+    Acknowledged,
     /// Somebody who connects to ask something.
     Listener,
     /// The client of this place.
@@ -32,7 +34,7 @@ pub enum Token {
 
 /// How many clients there are at most.
 pub const MOST_CLIENTS: usize = 16;
-const FIRST_CLIENT: u64 = 6;
+const FIRST_CLIENT: u64 = 7;
 const LAST_CLIENT: u64 = FIRST_CLIENT + MOST_CLIENTS as u64 - 1;
 const FIRST_WIRE: u64 = LAST_CLIENT + 1;
 
@@ -45,6 +47,7 @@ impl Token {
             Token::Clock => 3,
             Token::Monitor => 4,
             Token::Listener => 5,
+            Token::Acknowledged => 6,
             Token::Client(place) => FIRST_CLIENT + place as u64,
             Token::Wire(place) => FIRST_WIRE + place as u64,
         }
@@ -58,6 +61,7 @@ impl Token {
             3 => Token::Clock,
             4 => Token::Monitor,
             5 => Token::Listener,
+            6 => Token::Acknowledged,
             FIRST_CLIENT..=LAST_CLIENT => Token::Client((number - FIRST_CLIENT) as usize),
             _ => Token::Wire((number - FIRST_WIRE) as usize),
         }
@@ -166,8 +170,8 @@ mod tests {
     #[test]
     fn each_token_has_a_number_of_its_own() {
         let clients = (0..MOST_CLIENTS).map(Token::Client);
-        let all = [Token::Control, Token::Output, Token::Input, Token::Clock, Token::Monitor, Token::Listener];
-        for token in all.into_iter().chain(clients).chain((0..20).map(Token::Wire)) {
+        let all = [Token::Control, Token::Output, Token::Input, Token::Clock, Token::Monitor, Token::Acknowledged];
+        for token in all.into_iter().chain([Token::Listener]).chain(clients).chain((0..20).map(Token::Wire)) {
             assert_eq!(Token::of(token.number()), token);
         }
     }

@@ -127,12 +127,15 @@ impl<'a> Fields<'a> {
             place += PRESENT_LEN;
         }
         let mut places = [None; FIELDS.len()];
-        for (number, (length, alignment)) in FIELDS.iter().enumerate() {
-            if first & 1 << number != 0 {
-                place = (place + alignment - 1) / alignment * alignment;
-                places[number] = (place + length <= header.len()).then_some(place);
-                place += length;
-            }
+        let mut rest = first & ((1 << FIELDS.len()) - 1);
+        while rest != 0 {
+            let number = rest.trailing_zeros() as usize;
+            let (length, alignment) = FIELDS[number];
+            // Alignments are powers of two.
+            place = (place + alignment - 1) & !(alignment - 1);
+            places[number] = (place + length <= header.len()).then_some(place);
+            place += length;
+            rest &= rest - 1;
         }
         Fields { header, places }
     }

@@ -78,22 +78,30 @@ impl Known {
 struct Rate {
     rate: u8,
     known: Known,
+    /// Bits that it brings through in a microsecond on the air if all tries are acknowledged.
+    most: f64,
 }
 
 impl Rate {
-    /// Bits that it brings through in a microsecond on the air, by its share of acknowledged tries.
-    fn throughput(&self) -> f64 {
-        self.known.share() * self.most_throughput()
+    /// A rate of which nothing is known.
+    fn untried(rate: u8) -> Rate {
+        Rate { rate, known: Known::Untried, most: most_throughput(rate) }
     }
 
-    /// The same if all were acknowledged: preamble, unit, SIFS and acknowledgement (16.3.4, 18.5.3), and DIFS before.
-    fn most_throughput(&self) -> f64 {
-        const SIFS_AND_DIFS: f64 = 60.0;
-        const ACK_BITS: f64 = 8.0 * 14.0;
-        let megabits = f64::from(self.rate) / 2.0;
-        let preamble = if SPREAD.contains(&self.rate) { 192.0 } else { 26.0 };
-        BITS / (SIFS_AND_DIFS + 2.0 * preamble + (BITS + ACK_BITS) / megabits)
+    /// Bits that it brings through in a microsecond on the air, by its share of acknowledged tries.
+    fn throughput(&self) -> f64 {
+        self.known.share() * self.most
     }
+}
+
+/// Bits that a rate brings through in a microsecond if all tries are acknowledged: preamble, unit, SIFS and
+/// acknowledgement (16.3.4, 18.5.3), and DIFS before.
+fn most_throughput(rate: u8) -> f64 {
+    const SIFS_AND_DIFS: f64 = 60.0;
+    const ACK_BITS: f64 = 8.0 * 14.0;
+    let megabits = f64::from(rate) / 2.0;
+    let preamble = if SPREAD.contains(&rate) { 192.0 } else { 26.0 };
+    BITS / (SIFS_AND_DIFS + 2.0 * preamble + (BITS + ACK_BITS) / megabits)
 }
 
 /// The rates of one station, slowest first.
@@ -115,7 +123,7 @@ impl Rates {
     pub fn common(station: &[u8], network: &[u8]) -> Option<Rates> {
         let has = |octets: &[u8], rate: u8| octets.iter().any(|octet| octet & !BASIC == rate);
         let common = BAND.iter().copied().filter(|rate| has(station, *rate) && has(network, *rate));
-        let mut rates: Vec<Rate> = common.map(|rate| Rate { rate, known: Known::Untried }).collect();
+        let mut rates: Vec<Rate> = common.map(Rate::untried).collect();
         rates.first_mut()?.known = Known::Share(1.0);
         Some(Rates { rates, failures: 0, since_sample: 0, sampled: 0, turn: 0 })
     }
@@ -172,14 +180,14 @@ impl Rates {
 
     /// The rate that brings the most through; the slowest where none brings anything.
     fn best(&self) -> usize {
-        let better = |best: usize, place: usize| {
-            if self.rates[place].throughput() > self.rates[best].throughput() {
-                place
-            } else {
-                best
+        let (mut best, mut most) = (0, 0.0);
+        for (place, rate) in self.rates.iter().enumerate() {
+            let throughput = rate.throughput();
+            if throughput > most {
+                (best, most) = (place, throughput);
             }
-        };
-        (1..self.rates.len()).fold(0, better)
+        }
+        best
     }
 
     /// The rate to be sampled, where it is time for it.
@@ -189,20 +197,18 @@ impl Rates {
         }
         let best = self.best();
         let throughput = self.rates[best].throughput();
-        let faster = |place: &usize| *place > best && self.rates[*place].most_throughput() > throughput;
-        let candidates: Vec<usize> = (0..self.rates.len()).filter(faster).collect();
-        let untried: Vec<usize> =
-            candidates.iter().copied().filter(|place| self.rates[*place].known == Known::Untried).collect();
-        if !untried.is_empty() {
-            return untried.get(untried.len() / 2).copied();
+        let candidates = (best + 1..self.rates.len()).filter(|place| self.rates[*place].most > throughput);
+        let mut untried = candidates.clone().filter(|place| self.rates[*place].known == Known::Untried);
+        match untried.clone().count() {
+            0 => {}
+            number => return untried.nth(number / 2),
         }
         let is_time = self.since_sample >= UNITS_PER_SAMPLE
             || self.since_sample > 0 && now.saturating_sub(self.sampled) >= SAMPLE_EVERY;
-        let next = candidates.iter().copied().find(|place| *place > self.turn).or_else(|| candidates.first().copied());
-        next.filter(|_| is_time).map(|place| {
-            self.turn = place;
-            place
-        })
+        let next = candidates.clone().find(|place| *place > self.turn).or_else(|| candidates.clone().next());
+        let next = next.filter(|_| is_time)?;
+        self.turn = next;
+        Some(next)
     }
 
     /// A rate that brought nothing was heard: those above it that brought nothing may be, too.

@@ -1,8 +1,9 @@
 //! Which of the frames that a radio and the wired ports give go on to the program, and why others don't.
-use std::collections::{HashMap, HashSet, VecDeque};
+use std::collections::VecDeque;
 use std::fmt;
 
 use crate::frames::{is_tagged, Address, Frame, FrameType, LEAST, MOST};
+use crate::hashing::{AddressSet, PairMap};
 use crate::radiotap::{captured, Outcome};
 
 /// Of how many senders the last sequence control is known.
@@ -65,7 +66,7 @@ pub enum Judged<'a> {
 /// known (IEEE Std 802.11-2016, 10.3.2.11).
 #[derive(Debug)]
 pub struct Air {
-    bssids: HashSet<Address>,
+    bssids: AddressSet,
     last: LastHeard,
 }
 
@@ -131,7 +132,7 @@ type Pair = (Address, Address);
 /// Of so many pairs of a sender and a receiver, those heard last, the last sequence control.
 #[derive(Debug, Default)]
 struct LastHeard {
-    numbers: HashMap<Pair, (u16, u64)>,
+    numbers: PairMap<(u16, u64)>,
     /// When each was heard, the oldest first; an entry counts where its time is the one of `numbers`.
     order: VecDeque<(Pair, u64)>,
     times: u64,

@@ -6,6 +6,7 @@
 use std::collections::{BTreeMap, HashMap};
 
 use crate::frames::{Address, Frame};
+use crate::hashing::AddressMap;
 use crate::meaning::{answered, said, Answered, Said, Tim};
 use crate::radiotap::{Outcome, Reception};
 use crate::time::Nanos;
@@ -106,9 +107,9 @@ pub struct Station {
 #[derive(Debug)]
 pub struct Roster {
     bssids: Vec<Address>,
-    places: HashMap<Address, usize>,
+    places: AddressMap<usize>,
     /// Of each network.
-    stations: Vec<HashMap<Address, Station>>,
+    stations: Vec<AddressMap<Station>>,
     associated: HashMap<(usize, u16), Address>,
     /// Of each network, for how many beacons in a row units were told of, by the station's identifier.
     told_of: Vec<BTreeMap<u16, u32>>,
@@ -124,7 +125,7 @@ impl Roster {
         let places = bssids.iter().enumerate().map(|(place, bssid)| (*bssid, place)).collect();
         Roster {
             places,
-            stations: vec![HashMap::new(); bssids.len()],
+            stations: bssids.iter().map(|_| AddressMap::default()).collect(),
             associated: HashMap::new(),
             told_of: vec![BTreeMap::new(); bssids.len()],
             refusals: vec![BTreeMap::new(); bssids.len()],

@@ -1,9 +1,10 @@
 //! What the program sends goes to the interfaces here: in order, many frames a call, and no longer than is worth it.
-use std::collections::{BTreeMap, HashMap, VecDeque};
+use std::collections::{BTreeMap, VecDeque};
 use std::io::{self, ErrorKind};
 
 use crate::faults::{reason, tell, Fault};
 use crate::frames::{is_tagged, Address, Frame, FrameType};
+use crate::hashing::AddressMap;
 use crate::radiotap::{sending_header, Outcome};
 use crate::sockets::{Port, AT_A_TIME};
 use crate::stations::{Stations, ToSend, Unacknowledged};
@@ -58,6 +59,7 @@ pub struct Exit<P> {
     pub port: P,
     leaving: VecDeque<Leaving>,
     octets: usize,
+    sent: u64,
     is_blocked: bool,
     is_waited_for: bool,
 }
@@ -65,7 +67,7 @@ pub struct Exit<P> {
 impl<P: Port> Exit<P> {
     /// Nothing waits.
     pub fn new(port: P) -> Exit<P> {
-        Exit { port, leaving: VecDeque::new(), octets: 0, is_blocked: false, is_waited_for: false }
+        Exit { port, leaving: VecDeque::new(), octets: 0, sent: 0, is_blocked: false, is_waited_for: false }
     }
 
     /// Whether one waits for its room.
@@ -76,6 +78,11 @@ impl<P: Port> Exit<P> {
     /// One waits for its room from now on, or no more.
     pub fn set_waited_for(&mut self, is_waited_for: bool) {
         self.is_waited_for = is_waited_for;
+    }
+
+    /// Whether nothing waits, for room or to be sent.
+    pub fn is_idle(&self) -> bool {
+        self.leaving.is_empty() && self.is_blocked == self.is_waited_for
     }
 
     /// Whether it has no room at the moment.
@@ -106,15 +113,17 @@ impl<P: Port> Exit<P> {
     }
 
     /// Sends what waits, as far as there is room, and drops data that waited too long.
-    pub fn flush(&mut self, now: Nanos, is_air: bool, counts: &mut Counts) {
+    pub fn flush(&mut self, now: Nanos, counts: &mut Counts) {
         while !self.is_blocked && !self.leaving.is_empty() {
             self.drop_late(now, counts);
-            let frames: Vec<&[u8]> = self.leaving.iter().take(AT_A_TIME).map(|frame| &frame.octets[..]).collect();
-            if frames.is_empty() {
+            let mut frames: [&[u8]; AT_A_TIME] = [&[]; AT_A_TIME];
+            frames.iter_mut().zip(&self.leaving).for_each(|(frame, leaving)| *frame = &leaving.octets);
+            let number = self.leaving.len().min(AT_A_TIME);
+            if number == 0 {
                 return;
             }
-            match self.port.send(&frames) {
-                Ok(number) => self.sent(number, is_air, counts),
+            match self.port.send(&frames[..number]) {
+                Ok(number) => self.sent(number),
                 Err(fault) if fault.kind() == ErrorKind::WouldBlock => self.is_blocked = true,
                 Err(fault) if fault.kind() == ErrorKind::Interrupted => {}
                 Err(fault) => self.refused(&fault, counts),
@@ -133,11 +142,11 @@ impl<P: Port> Exit<P> {
         }
     }
 
-    fn sent(&mut self, number: usize, is_air: bool, counts: &mut Counts) {
+    fn sent(&mut self, number: usize) {
         for frame in self.leaving.drain(..number) {
             self.octets -= frame.octets.len();
         }
-        count(counts, if is_air { "sent on the air" } else { "sent on the wires" }, number as u64);
+        self.sent += number as u64;
     }
 
     /// The interface refused the first frame: it is counted, and told the first time.
@@ -157,9 +166,11 @@ impl<P: Port> Exit<P> {
 #[derive(Debug)]
 pub struct Sender<P> {
     monitor: Exit<P>,
+    /// By which the radio shows the frames that were acknowledged, where it doesn't by the monitor interface's own.
+    acknowledged: Option<P>,
     wires: Vec<Option<Exit<P>>>,
     networks: Vec<Network>,
-    places: HashMap<Address, usize>,
+    places: AddressMap<usize>,
     stations: Stations,
     counts: Counts,
 }
@@ -170,7 +181,13 @@ impl<P: Port> Sender<P> {
         let places = networks.iter().enumerate().map(|(place, network)| (network.bssid, place)).collect();
         let wires = wires.into_iter().map(|wire| wire.map(Exit::new)).collect();
         let stations = Stations::new(&networks);
-        Sender { monitor: Exit::new(monitor), wires, networks, places, stations, counts: Counts::new() }
+        let monitor = Exit::new(monitor);
+        Sender { monitor, acknowledged: None, wires, networks, places, stations, counts: Counts::new() }
+    }
+
+    /// The same, with a port of its own for the frames that the radio shows as acknowledged.
+    pub fn with_acknowledged(self, port: P) -> Sender<P> {
+        Sender { acknowledged: Some(port), ..self }
     }
 
     /// The networks, in the order of their places.
@@ -182,7 +199,13 @@ impl<P: Port> Sender<P> {
     pub fn counts(&self) -> Counts {
         let mut counts = self.counts.clone();
         let Unacknowledged { again, lost } = self.stations.unacknowledged();
-        for (what, number) in [("sent once more, since no acknowledgement came", again), ("never acknowledged", lost)] {
+        let of_wires = self.wires.iter().flatten().map(|wire| wire.sent).sum();
+        for (what, number) in [
+            ("sent on the air", self.monitor.sent),
+            ("sent on the wires", of_wires),
+            ("sent once more, since no acknowledgement came", again),
+            ("never acknowledged", lost),
+        ] {
             if number > 0 {
                 count(&mut counts, what, number);
             }
@@ -200,6 +223,16 @@ impl<P: Port> Sender<P> {
         &mut self.monitor
     }
 
+    /// The port of the frames that the radio shows as acknowledged, where they have one.
+    pub fn acknowledged(&mut self) -> Option<&mut P> {
+        self.acknowledged.as_mut()
+    }
+
+    /// How many frames were sent on the air.
+    pub fn sent_on_air(&self) -> u64 {
+        self.monitor.sent
+    }
+
     /// The wire of the network of this place, and what waits for it.
     pub fn wire(&mut self, place: usize) -> Option<&mut Exit<P>> {
         self.wires.get_mut(place).and_then(Option::as_mut)
@@ -208,6 +241,11 @@ impl<P: Port> Sender<P> {
     /// All interfaces.
     pub fn exits(&mut self) -> impl Iterator<Item = &mut Exit<P>> {
         std::iter::once(&mut self.monitor).chain(self.wires.iter_mut().flatten())
+    }
+
+    /// Whether nothing waits for any interface.
+    pub fn is_idle(&self) -> bool {
+        self.monitor.is_idle() && self.wires.iter().flatten().all(Exit::is_idle)
     }
 
     /// A network sends a frame on the air; a fault where there is no such network.
@@ -273,9 +311,9 @@ impl<P: Port> Sender<P> {
 
     /// Sends what waits, as far as there is room.
     pub fn flush(&mut self, now: Nanos) {
-        self.monitor.flush(now, true, &mut self.counts);
+        self.monitor.flush(now, &mut self.counts);
         for wire in self.wires.iter_mut().flatten() {
-            wire.flush(now, false, &mut self.counts);
+            wire.flush(now, &mut self.counts);
         }
     }
 }

@@ -71,7 +71,7 @@ pub trait Port {
     fn descriptor(&self) -> RawFd;
     /// The name of its interface.
     fn interface(&self) -> &str;
-    /// Reads as many packets as wait and fit, and answers how many: fewer than `AT_A_TIME` where no more wait.
+    /// Reads as many packets as wait and fit, and answers how many: fewer than were asked for where no more wait.
     fn receive(&mut self, batch: &mut Batch) -> io::Result<usize>;
     /// Sends the first so many of these frames as the interface has room for, and answers how many. An error is of the
     /// first one alone: `WouldBlock` where there is no room.
@@ -91,8 +91,9 @@ pub struct PacketSocket {
 }
 
 impl PacketSocket {
-    /// Opens it; `sending_room` bounds the octets that wait in the kernel to be sent.
-    pub fn open(interface: &str, sending_room: c_int) -> io::Result<PacketSocket> {
+    /// Opens it; `sending_room` bounds the octets that wait in the kernel to be sent. It never hears what a filter
+    /// doesn't let through.
+    pub fn open(interface: &str, sending_room: c_int, filter: Option<&[sock_filter]>) -> io::Result<PacketSocket> {
         let index = index_of(interface)?;
         // SAFETY: no memory is handed over; the descriptor is owned from here on.
         let socket = unsafe {
@@ -105,6 +106,9 @@ impl PacketSocket {
         set_option(&socket, libc::SOL_SOCKET, libc::SO_TIMESTAMPNS, &one)?;
         set_option(&socket, libc::SOL_PACKET, PACKET_AUXDATA, &one)?;
         set_option(&socket, libc::SOL_PACKET, PACKET_IGNORE_OUTGOING, &one)?;
+        if let Some(filter) = filter {
+            attach(&socket, filter)?;
+        }
         // SAFETY: all zero is an address; the length is its own.
         unsafe {
             let mut address: sockaddr_ll = zeroed();
@@ -147,8 +151,7 @@ impl Port for PacketSocket {
     }
 
     fn set_filter(&mut self, filter: &[sock_filter]) -> io::Result<()> {
-        let program = libc::sock_fprog { len: filter.len() as u16, filter: filter.as_ptr() as *mut sock_filter };
-        set_option(&self.socket, libc::SOL_SOCKET, libc::SO_ATTACH_FILTER, &program)
+        attach(&self.socket, filter)
     }
 
     fn count_dropped(&mut self) -> u64 {
@@ -194,6 +197,11 @@ fn set_option<T>(socket: &OwnedFd, level: c_int, name: c_int, value: &T) -> io::
     Ok(())
 }
 
+fn attach(socket: &OwnedFd, filter: &[sock_filter]) -> io::Result<()> {
+    let program = libc::sock_fprog { len: filter.len() as u16, filter: filter.as_ptr() as *mut sock_filter };
+    set_option(socket, libc::SOL_SOCKET, libc::SO_ATTACH_FILTER, &program)
+}
+
 /// How many octets of a pipe wait to be read.
 pub fn octets_in_pipe(pipe: RawFd) -> io::Result<usize> {
     let mut found: c_int = 0;
@@ -232,6 +240,11 @@ pub fn user_of(socket: RawFd) -> io::Result<u32> {
 
 /// Sends frames by one call.
 fn send_many(socket: RawFd, frames: &[&[u8]]) -> io::Result<usize> {
+    if let [frame] = frames {
+        // SAFETY: the kernel reads as many octets as the frame has.
+        let sent = unsafe { libc::send(socket, frame.as_ptr().cast(), frame.len(), libc::MSG_DONTWAIT) };
+        return if sent < 0 { Err(io::Error::last_os_error()) } else { Ok(1) };
+    }
     let mut vectors: Vec<iovec> = frames
         .iter()
         .take(AT_A_TIME)
@@ -268,6 +281,7 @@ pub struct Batch {
     vectors: Vec<iovec>,
     headers: Vec<mmsghdr>,
     used: usize,
+    most: usize,
 }
 
 impl Batch {
@@ -292,7 +306,12 @@ impl Batch {
                 header
             })
             .collect();
-        Batch { octets, controls, addresses, vectors, headers, used: AT_A_TIME }
+        Batch { octets, controls, addresses, vectors, headers, used: AT_A_TIME, most: AT_A_TIME }
+    }
+
+    /// So many packets are read by a call from now on, `AT_A_TIME` at most.
+    pub fn ask_for(&mut self, most: usize) {
+        self.most = most.min(AT_A_TIME);
     }
 
     /// Reads as many packets of a socket as wait and fit.
@@ -307,7 +326,7 @@ impl Batch {
         let flags = libc::MSG_DONTWAIT | libc::MSG_TRUNC;
         // SAFETY: each header points to room of this batch, as long as it says; none of it moved since `new`.
         let found =
-            unsafe { libc::recvmmsg(socket, self.headers.as_mut_ptr(), AT_A_TIME as u32, flags as _, ptr::null_mut()) };
+            unsafe { libc::recvmmsg(socket, self.headers.as_mut_ptr(), self.most as u32, flags as _, ptr::null_mut()) };
         match checked(found) {
             Ok(found) => self.used = found as usize,
             Err(fault) if fault.kind() == io::ErrorKind::WouldBlock => {}
@@ -373,7 +392,7 @@ mod tests {
 
     /// Two sockets on the loopback interface, or `None` where the machine gives none, as without root.
     fn pair() -> Option<(PacketSocket, PacketSocket)> {
-        match (PacketSocket::open("lo", 1 << 16), PacketSocket::open("lo", 1 << 16)) {
+        match (PacketSocket::open("lo", 1 << 16, None), PacketSocket::open("lo", 1 << 16, None)) {
             (Ok(hearing), Ok(sending)) => Some((hearing, sending)),
             _ => {
                 eprintln!("no packet socket here: not tried");
@@ -433,6 +452,7 @@ mod tests {
             let long = [ethernet(b"cut one"), vec![0; 20_000]].concat();
             sending.send(&[&long]).unwrap();
             let mut batch = Batch::new();
+            batch.ask_for(1);
             let until = now() + 2 * SECOND;
             let mut is_seen = false;
             while !is_seen && now() < until {

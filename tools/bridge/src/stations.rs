@@ -8,10 +8,11 @@
 //!
 //! Nothing is sent or timed here: what is to be sent is asked by `pop`. A radio that says nothing of what it sent is
 //! given all frames at the lowest basic rate.
-use std::collections::{HashMap, VecDeque};
+use std::collections::VecDeque;
 use std::rc::Rc;
 
 use crate::frames::{Address, Frame, FrameType};
+use crate::hashing::{AddressMap, PairMap};
 use crate::radiotap::{Outcome, MOST_RETRIES};
 use crate::rates::{Choice, Rates};
 use crate::sending::Network;
@@ -82,8 +83,8 @@ struct Station {
 /// The stations of all networks, and what is to be sent now.
 #[derive(Debug)]
 pub struct Stations {
-    networks: HashMap<Address, Network>,
-    stations: HashMap<Pair, Station>,
+    networks: AddressMap<Network>,
+    stations: PairMap<Station>,
     joining: VecDeque<(Pair, Rates)>,
     ready: VecDeque<ToSend>,
     waits: VecDeque<(Nanos, Pair)>,
@@ -98,7 +99,7 @@ impl Stations {
     pub fn new(networks: &[Network]) -> Stations {
         Stations {
             networks: networks.iter().map(|network| (network.bssid, network.clone())).collect(),
-            stations: HashMap::new(),
+            stations: PairMap::default(),
             joining: VecDeque::new(),
             ready: VecDeque::new(),
             waits: VecDeque::new(),

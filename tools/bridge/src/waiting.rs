@@ -9,6 +9,7 @@ use std::collections::{HashMap, VecDeque};
 use std::fmt;
 
 use crate::frames::Address;
+use crate::hashing::PairMap;
 use crate::time::{Nanos, MILLISECOND};
 
 /// How long a frame of data waits at most.
@@ -63,7 +64,7 @@ impl fmt::Display for Dropped {
 #[derive(Debug, Default)]
 struct Lane {
     waiters: VecDeque<Waiter>,
-    flows: HashMap<Flow, usize>,
+    flows: PairMap<usize>,
     octets: usize,
     dropped: HashMap<Dropped, u64>,
 }
