@@ -12,7 +12,7 @@ use Rattle.live_answers.specs.Asked.{Asked}
 use Rattle.live.specs.Inputs.{IsSaidIn, face_of, nothing_begun, saying}
 use Rattle.live.specs.LiveView.{Takes, running}
 use Rattle.live_answers.specs.Moments.{Moment, bssids_at}
-use Rattle.live.specs.Run.{AnswersInput, Progress, max_reads}
+use Rattle.live.specs.Run.{AllAnswered, AnswersInput, Progress, max_reads}
 use Rattle.live.specs.Written.{written_after}
 use Rattle.live.specs.declared.begun.Begun.{Begun}
 use Rattle.live.specs.declared.face.Face.{Face}
@@ -88,6 +88,22 @@ input-none face old begun first = record {
   written = Appends-nil old.streams.sink.taken;
   lines = omega arith;
 }
+
+-- the answers to all that ended are written
+pub answered-so-far : (count : ℕ) (first old now : Progress) → first ≡ old → InputSoFar (face_of old.begun) count old now
+    → AllAnswered first now.streams.source.left now.streams.sink.taken
+answered-so-far count first old now is s =
+    subst (λ (p : Progress). AllAnswered p now.streams.source.left now.streams.sink.taken) (sym is)
+    (record {
+      read = s.input;
+      said = s.said;
+      answers = s.answers;
+      moment = now.moment;
+      took = s.took;
+      is_said = said-ended (face_of old.begun) (bssids_at old.moment) s.input s.said now.begun s.is_said;
+      answered = s.answered;
+      written = s.written;
+    })
 
 -- what is said in a piece more
 piece-more : (m between next : Moment) (said more : List Asked) (some others : List Answer) → Answers m said some between

@@ -1,16 +1,17 @@
 -- What the access point does from its configuration's text to the end of its input.
-use Rattle.std.specs.Prelude.{◌≡◌, ℕ, ◌^◌, ◌≤◌, ◌⊎◌, List, [], ◌++◌, length, Option, Result, Ok, Err}
-use Rattle.std.specs.Io.KnownBytes.{Appends, IsAtEnd, Keeps}
+use Rattle.std.specs.Prelude.{◌≡◌, ℕ, ◌^◌, ◌≤◌, ◌⊎◌, List, [], ◌++◌, length, Option, None, Result, Ok, Err}
+use Rattle.std.specs.Io.KnownBytes.{Appends, Consumes, IsAtEnd, Keeps}
 use Rattle.ap_config.specs.declared.config.RadioConfig.{RadioConfig}
 use Rattle.trace.specs.ConfigurationText.{configuration_of}
 use Rattle.trace.specs.Endings.{Ending, Refused, ReadFailed, WriteFailed, OutOfMemory, AppendsPrefix, ending_of}
 use Rattle.trace.specs.Streams.{Reads, SinkView, SourceView, Streams}
 use Rattle.live_answers.specs.Answers.{Answer, Answers}
 use Rattle.live_answers.specs.Asked.{Asked}
-use Rattle.live.specs.Inputs.{IsSaid, IsAllSaid, IsSaidIn, nothing_begun, saying}
+use Rattle.live.specs.Inputs.{IsSaid, IsAllSaid, IsSaidIn, face_of, nothing_begun, saying}
 use Rattle.live_answers.specs.Moments.{Moment, first_moment, bssids_at}
 use Rattle.live.specs.Written.{written_count, written_after, written_tables}
 use Rattle.live.specs.declared.begun.Begun.{Begun}
+use Rattle.live.specs.declared.begun.Begun.TheVariants.{Record}
 use Rattle.live.specs.declared.face.Face.{Face}
 use Rattle.live.specs.declared.face.Face.TheVariants.{Lines, Records}
 use Rattle.live.specs.declared.fault.LiveFault.{LiveFault}
@@ -53,6 +54,21 @@ pub record Progress : Type 0 where
 
 abbrev pub progress : Moment → Begun → Streams → Progress
 progress moment begun streams = record { moment = moment; begun = begun; streams = streams }
+
+-- The sink has taken, since then, the answers to all that ended in what was read of the source.
+pub record AllAnswered (first : Progress) (left taken : Option (List ℕ)) : Type 0 where
+  pub read : List ℕ
+  pub said : List Asked
+  pub answers : List Answer
+  pub moment : Moment
+  pub took : Consumes first.streams.source.left left read
+  pub is_said : IsSaid (face_of first.begun) (bssids_at first.moment) read said
+  pub answered : Answers first.moment said answers moment
+  pub written : Appends first.streams.sink.taken taken (written_after (face_of first.begun) first.moment answers)
+
+-- an access point of no networks, whose input and output aren't known
+abbrev pub unknown : Progress
+unknown = progress (record { lines = 0; networks = [] }) (Record []) (streams (seen None 0 0) None 0)
 
 -- A write failed, and reading stopped there: what was read are octets, the answers to what is said in which were
 -- written whole, and a piece of at most 4,096 octets.

@@ -1,19 +1,21 @@
 //! The access point from its configuration's text to the end of its input.
 
-ghost use Rattle.std.specs.Prelude.{◌≡◌, ◌<◌, ◌+◌, ◌^◌, Ok, Err, OnOk};
-ghost use Rattle.std.specs.Io.KnownBytes.{Keeps};
+ghost use Rattle.std.specs.Prelude.{◌≡◌, ◌<◌, ◌≤◌, ◌+◌, ◌^◌, length, take, Ok, Err, IfOk, OnErr, OnOk};
+ghost use Rattle.std.specs.Io.KnownBytes.{Consumes, IsAtEnd, Keeps};
 ghost use Rattle.trace.specs.Endings.{Ends, failures_of};
-ghost use Rattle.trace.specs.Sinks.{MayFail, report_ending};
+ghost use Rattle.trace.specs.Sinks.{MayFail, failed_reads, report_ending};
+ghost use Rattle.trace.specs.Streams.{reads_after};
 ghost use Rattle.live.specs.AnswerOctets.{count_record};
 ghost use Rattle.live.specs.Inputs.{face_of, nothing_begun};
-ghost use Rattle.live.specs.Run.{AnswersInput, Runs, RunsLive, RunsOctets, live_ending, progress, seen, setup, streams};
+ghost use Rattle.live.specs.Run.{AllAnswered, AnswersInput, Runs, RunsLive, RunsOctets, live_ending, progress, seen, setup, streams};
 ghost use Rattle.live.specs.Written.{written_count};
 
 use crate::engine::Engine;
 use crate::face::Face;
 use crate::fault::LiveFault;
 use std::alloc::Global;
-use trace::{ReportFault, Sink, Source, read_config, write_all, write_count};
+use std::marker::Brand;
+use trace::{Failed, ReportFault, Sink, Source, read_config, write_all, write_count};
 
 /// How many octets are read at a time.
 const PIECE_LEN: usize = 4096;
@@ -95,7 +97,7 @@ fn run<R: Source, W: Sink>(
     let count = config.networks.as_slice().len();
     let mut engine = Engine::new(alloc, face, config)?;
     write_open(alloc, face, count, out)?;
-    answer_input(&mut engine, input, out)?;
+    answer_input::<Brand, R, W>(&mut engine, input, out)?;
     engine.end(out)?;
     Ok(())
 }
@@ -129,12 +131,49 @@ fn write_count_record<W: Sink>(count: usize, out: &mut W) -> Result<(), ReportFa
     Ok(())
 }
 
+/// An access point before its first read, as the clauses of later reads name it.
+trait Beginning {
+    ghost use Rattle.live.specs.Run.{Progress};
+
+    // The access point, its input and its output then.
+    ghost first: { Progress };
+}
+
+impl Beginning for Brand {
+    ghost use Rattle.live.specs.Run.{unknown};
+
+    ghost first = { unknown };
+}
+
+/// Reads more of a source. It may be called only where the sink has taken the answers to all that ended in what was
+/// read since the beginning.
+fn read_more<B: Beginning, R: Source, W: Sink>(
+    input: &mut R,
+    _out: &W,
+    buffer: &mut [u8],
+) -> Result<usize, Failed>
+    requires some { 0 < length buffer.old }
+    requires few { MayFail (R.failed input.old) }
+    requires answered { AllAnswered B.first (R.left input.old) (W.taken _out.now) }
+    ensures prefix { IfOk result (λ count. (count ≤ length buffer.new)
+        × Consumes (R.left input.old) (R.left input.new) (take count buffer.new)) }
+    ensures end { IfOk result (λ count. count ≡ 0 → IsAtEnd (R.left input.new)) }
+    ensures err { OnErr result (Keeps (R.left input.old) (R.left input.new)) }
+    ensures failures { R.failed input.new ≡ R.failed input.old + failed_reads result }
+    ensures reads { R.reads input.new ≡ reads_after (R.reads input.old) 1 }
+{
+    input.read_some(buffer)
+}
+
 /// Answers what ends in what a source has left, of a piece before the next is read.
-fn answer_input<R: Source, W: Sink>(
+fn answer_input<B: Beginning, R: Source, W: Sink>(
     engine: &mut Engine,
     input: &mut R,
     out: &mut W,
 ) -> Result<(), LiveFault>
+    requires beginning { B.first ≡ progress engine.old.networks engine.old.begun
+        (streams (seen (R.left input.old) (R.failed input.old) (R.reads input.old))
+        (W.taken out.old) (W.failed out.old)) }
     requires begun { engine.old.begun ≡ nothing_begun (face_of engine.old.begun) }
     requires first { engine.old.networks.lines ≡ 0 }
     requires input { MayFail (R.failed input.old) }
@@ -151,7 +190,7 @@ fn answer_input<R: Source, W: Sink>(
 {
     let mut piece = [0; PIECE_LEN];
     for _ in 0..MAX_READS {
-        let Ok(count) = input.read_some(&mut piece) else {
+        let Ok(count) = read_more::<B, R, W>(input, out, &mut piece) else {
             return Err(LiveFault::Read);
         };
         if count == 0 {

@@ -1,49 +1,64 @@
-//! Lines of each kind, and what is written of them.
+//! What is said to an access point, and what is written of it.
 
 use std::alloc::{AllocError, Global};
 
-/// Lines of each kind, of which the last has no end.
-pub(crate) const TEXT: &str = "T\r\n# a line\n\nX\n\
-    A 40000000 ffffffffffff 02aa00000001 ffffffffffff 0000 0000 010402040b16  \r\n\
-    I\nI \r\nA 4\r\nT 1\r";
+/// The two faces of the access point.
+#[derive(Clone, Copy)]
+pub(crate) enum Face {
+    /// Lines, with frames in digits.
+    Lines,
+    /// Records, with frames as octets.
+    Records,
+}
 
-/// What is written before the first line.
-pub(crate) const OK: &str = "ok 1\n";
+/// An input, and what is written of it by when.
+#[derive(Drop)]
+pub(crate) struct Sample {
+    pub(crate) face: Face,
+    /// What is said.
+    pub(crate) input: Vec<u8>,
+    /// What is written.
+    pub(crate) written: Vec<u8>,
+    /// How many octets of it are due after no octet of the input, after one, and so on.
+    pub(crate) due: Vec<usize>,
+}
 
-/// What is written before the first line, then what is answered to each line of [`TEXT`], and what is written at the
-/// end.
-pub(crate) const SAID: &[&str] = &[
-    OK,
-    "air 02:00:00:00:00:01 80000000ffffffffffff020000000001020000000001000000900100000000006400010000036c6162\
-        010482840b16030106050400010000\n",
-    "",
-    "",
-    "fault L1 line 4\n",
-    "air 02:00:00:00:00:01 5000000002aa00000001020000000001020000000001100000900100000000006400010000036c6162\
-        010482840b16030106\n",
-    TABLE,
-    TABLE,
-    "fault L2 line 8\n",
-    "fault L1 line 9\n",
-    TABLE,
-];
-
-/// The table from the sixth line on.
-const TABLE: &str = "network 02:00:00:00:00:01 ssid 6c6162\n\
-    events 2 clock 1 unread 0 lost 0 kept 0\n\
-    end\n";
-
-/// How many octets of [`SAID`] are due after no octet of [`TEXT`], after one, and so on: a line is answered at its LF.
-pub(crate) fn due_lengths(alloc: Global) -> Result<Vec<usize>, AllocError> {
-    let mut answers = SAID.iter().skip(1);
-    let mut due = OK.len();
-    let mut lengths = vec![in alloc; due]?;
-    for octet in TEXT.bytes() {
-        if octet == b'\n' {
-            let answer = answers.next().copied().unwrap_or("");
-            due = due.saturating_add(answer.len());
-        }
-        lengths.push(due)?;
+impl Sample {
+    /// Nothing is said, and this is written before anything is read.
+    pub(crate) fn new(alloc: Global, face: Face, opened: &[u8]) -> Result<Sample, AllocError> {
+        Ok(Sample {
+            face,
+            input: Vec::new(alloc),
+            written: opened.to_vec(alloc)?,
+            due: vec![in alloc; opened.len()]?,
+        })
     }
-    Ok(lengths)
+
+    /// This is said too, and has no answer.
+    pub(crate) fn say(&mut self, said: &[u8]) -> Result<(), AllocError> {
+        self.input.extend_from_slice(said)?;
+        for _ in said {
+            self.due.push(self.written.len())?;
+        }
+        Ok(())
+    }
+
+    /// This is said too, and this is its answer, which is due once all of it is there.
+    pub(crate) fn ask(&mut self, said: &[u8], answer: &[u8]) -> Result<(), AllocError> {
+        self.say(said)?;
+        self.written.extend_from_slice(answer)?;
+        let _before = self.due.pop();
+        self.due.push(self.written.len())?;
+        Ok(())
+    }
+
+    /// This is written too, where the input ends.
+    pub(crate) fn end(&mut self, answer: &[u8]) -> Result<(), AllocError> {
+        self.written.extend_from_slice(answer)
+    }
+
+    /// How many octets are due once all was read.
+    pub(crate) fn due_at_end(&self) -> usize {
+        self.due.as_slice().last().copied().unwrap_or(0)
+    }
 }

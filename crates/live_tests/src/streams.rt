@@ -1,17 +1,17 @@
 //! A reader and a writer that fail where they are told to, and what becomes of a run over them.
 
-use crate::samples::TEXT;
+use crate::samples::{Face, Sample};
 use fixtures::texts::CONFIGURATION;
-use live::{LiveFault, live};
+use live::{LiveFault, live, live_octets};
 use std::alloc::Global;
 use std::cell::Cell;
 use std::io::{self, ErrorKind, Read, Write};
 use trace::{Counted, Sink, Source};
 
-/// More octets, and more lines, than any text here has.
+/// More octets, and more lines, than any input here has.
 pub(crate) const MANY: usize = 1 << 32;
 
-/// How [`TEXT`] is read, and how its answers are written.
+/// How an input is read, and how its answers are written.
 #[derive(Clone, Copy)]
 pub(crate) struct Streams {
     /// Where the first piece ends.
@@ -32,11 +32,11 @@ pub(crate) const WHOLE: Streams = Streams {
     room: MANY,
 };
 
-/// A reader of [`TEXT`] that looks, at each read, at how many octets the writer has taken.
+/// A reader of an input that looks, at each read, at how many octets the writer has taken.
 #[derive(Drop)]
 struct Looking<'a> {
     streams: Streams,
-    due: &'a [usize],
+    sample: &'a Sample,
     taken: &'a Cell<usize>,
     given: usize,
     reads: usize,
@@ -46,7 +46,7 @@ struct Looking<'a> {
 impl Read for Looking<'_> {
     fn read(&mut self, buf: &mut [u8]) -> io::Result<usize> {
         self.reads = self.reads.saturating_add(1);
-        if self.due.get(self.given).copied() != Some(self.taken.get()) {
+        if self.sample.due.get(self.given).copied() != Some(self.taken.get()) {
             self.untimely = self.untimely.saturating_add(1);
         }
         if self.given == self.streams.readable {
@@ -57,8 +57,9 @@ impl Read for Looking<'_> {
         } else {
             self.given.saturating_add(self.streams.most)
         };
-        let end = end.min(self.streams.readable).min(TEXT.len());
-        let mut piece = TEXT.as_bytes().get(self.given..end).unwrap_or(b"");
+        let input = self.sample.input.as_slice();
+        let end = end.min(self.streams.readable).min(input.len());
+        let mut piece = input.get(self.given..end).unwrap_or(b"");
         let count = piece.read(buf)?;
         self.given = self.given.saturating_add(count);
         Ok(count)
@@ -98,12 +99,12 @@ pub(crate) struct Outcome {
     pub(crate) written: Vec<u8>,
 }
 
-/// Answers [`TEXT`] over these streams, where so many octets are due after each number of octets that were read.
-pub(crate) fn run(alloc: Global, due: &[usize], streams: Streams) -> Outcome {
+/// Answers an input over these streams.
+pub(crate) fn run(alloc: Global, sample: &Sample, streams: Streams) -> Outcome {
     let taken = Cell::new(0);
     let mut source = Counted::new(Looking {
         streams,
-        due,
+        sample,
         taken: &taken,
         given: 0,
         reads: 0,
@@ -114,7 +115,11 @@ pub(crate) fn run(alloc: Global, due: &[usize], streams: Streams) -> Outcome {
         room: streams.room,
         taken: &taken,
     });
-    let answer = live(alloc, CONFIGURATION.as_bytes(), &mut source, &mut out);
+    let config = CONFIGURATION.as_bytes();
+    let answer = match sample.face {
+        Face::Lines => live(alloc, config, &mut source, &mut out),
+        Face::Records => live_octets(alloc, config, &mut source, &mut out),
+    };
     let failed_reads = source.failures();
     let failed_writes = out.failures();
     let reader = source.into_inner();

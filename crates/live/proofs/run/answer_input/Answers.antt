@@ -6,7 +6,7 @@ use Rattle.std.proofs.lemmas.Result.{err_from_is_err_and}
 use Rattle.std.specs.Io.KnownBytes.{Consumes}
 use Rattle.live.specs.Inputs.{face_of}
 use Rattle.live.proofs.InputSteps.{said-unfinished}
-use Rattle.live.proofs.RunSteps.{counted-more, input-none, input-more, input-cut}
+use Rattle.live.proofs.RunSteps.{answered-so-far, counted-more, input-none, input-more, input-cut}
 use Rattle.live.proofs.run.answer_input.Goals as goal
 
 pub loop-init : goal.loop-init
@@ -18,17 +18,21 @@ loop-init g c = record {
 
 pub feed-requires-clause-countable : goal.feed-requires-clause-countable
 feed-requires-clause-countable g c =
-    let long = length-take-le c.in-Ok.count c.read_some.new.buffer c.in-Ok.ensures.prefix.0 in
+    let long = length-take-le c.in-Ok.count c.read_more.new.buffer c.in-Ok.ensures.prefix.0 in
     omega (arith, long, c.in-Ok.ensures.prefix.0, c.loop.invariant.so_far.lines)
 
 pub feed-requires-clause-unfinished : goal.feed-requires-clause-unfinished
 feed-requires-clause-unfinished g c =
     let s = c.loop.invariant.so_far in said-unfinished (face_of c.args.engine.now.begun) _ s.input s.said _ s.is_said
 
+pub read_more-requires-clause-answered : goal.read_more-requires-clause-answered
+read_more-requires-clause-answered g c =
+    answered-so-far c.loop.counter _ _ _ c.requires.beginning c.loop.invariant.so_far
+
 pub loop-preserved : goal.loop-preserved
 loop-preserved g c =
-    let piece : List ℕ = take c.in-Ok.count c.read_some.new.buffer in
-    let long : length piece ≡ c.in-Ok.count = length-take-le c.in-Ok.count c.read_some.new.buffer c.in-Ok.ensures.prefix.0 in
+    let piece : List ℕ = take c.in-Ok.count c.read_more.new.buffer in
+    let long : length piece ≡ c.in-Ok.count = length-take-le c.in-Ok.count c.read_more.new.buffer c.in-Ok.ensures.prefix.0 in
     let few : length piece ≤ 4096 = omega (arith, long, c.in-Ok.ensures.prefix.0) in
     record {
       so_far =
@@ -51,7 +55,7 @@ returns-in_default-clause-answers g c =
       reads = record {
         taken =
             Consumes-kept (g.R.Source.left c.args.input.now) (g.R.Source.left c.loop.input)
-            (g.R.Source.left c.read_some.new.self) s.input s.took c.in_default.ensures.err;
+            (g.R.Source.left c.read_more.new.input) s.input s.took c.in_default.ensures.err;
         made = c.loop.counter + 1;
         within = within;
         counted = counted-more _ _ _ c.loop.counter s.counted c.in_default.ensures.reads;
@@ -69,10 +73,10 @@ returns-then-count-eq0-clause-answers g c =
     let none : c.in-Ok.count ≡ 0 = c.if-count-eq0.true in
     let first : Option (List ℕ) = g.R.Source.left c.args.input.now in
     let before : Option (List ℕ) = g.R.Source.left c.loop.input in
-    let after : Option (List ℕ) = g.R.Source.left c.read_some.new.self in
+    let after : Option (List ℕ) = g.R.Source.left c.read_more.new.input in
     let took : Consumes before after [] =
-    subst (λ (n : ℕ). Consumes before after (take n c.read_some.new.buffer)) none c.in-Ok.ensures.prefix.1 in
-    let same : g.R.Source.failed c.read_some.new.self ≡ g.R.Source.failed c.args.input.now =
+    subst (λ (n : ℕ). Consumes before after (take n c.read_more.new.buffer)) none c.in-Ok.ensures.prefix.1 in
+    let same : g.R.Source.failed c.read_more.new.input ≡ g.R.Source.failed c.args.input.now =
     omega (arith, c.in-Ok.ensures.failures, c.loop.invariant.none_failed) in
     let within : c.loop.counter + 1 ≤ 70368744177664 = omega (arith, c.loop-test.true) in
     record {
@@ -100,10 +104,10 @@ pub returns-in_err-feed-clause-answers : goal.returns-in_err-feed-clause-answers
 returns-in_err-feed-clause-answers g c =
     let p = err_from_is_err_and c.from_residual.result c.from_residual.ensures.1 in
     let s = c.loop.invariant.so_far in
-    let same : g.R.Source.failed c.read_some.new.self ≡ g.R.Source.failed c.args.input.now =
+    let same : g.R.Source.failed c.read_more.new.input ≡ g.R.Source.failed c.args.input.now =
     omega (arith, c.in-Ok.ensures.failures, c.loop.invariant.none_failed) in
-    let piece : List ℕ = take c.in-Ok.count c.read_some.new.buffer in
-    let long : length piece ≡ c.in-Ok.count = length-take-le c.in-Ok.count c.read_some.new.buffer c.in-Ok.ensures.prefix.0 in
+    let piece : List ℕ = take c.in-Ok.count c.read_more.new.buffer in
+    let long : length piece ≡ c.in-Ok.count = length-take-le c.in-Ok.count c.read_more.new.buffer c.in-Ok.ensures.prefix.0 in
     let few : length piece ≤ 4096 = omega (arith, long, c.in-Ok.ensures.prefix.0) in
     let within : c.loop.counter + 1 ≤ 70368744177664 = omega (arith, c.loop-test.true) in
     rw (p.1, p.2)

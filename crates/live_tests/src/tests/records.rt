@@ -1,0 +1,162 @@
+//! The face of records.
+
+use super::{check_cuts, check_failing_reader, check_failing_writer, check_run, check_whole};
+use crate::records::{
+    FRESH_TABLE, KINDS, NOBODY, OPEN, Written, conversation, octets_of, record, records_of, told,
+};
+use crate::samples::{Face, Sample};
+use crate::streams::{Streams, WHOLE};
+use fixtures::lab::{BEACON, BSSID, PROBE_RESPONSE};
+use fixtures::{PROBE_REQUEST, octets};
+use std::alloc::Global;
+use std::test::Fail;
+
+#[test]
+fn nothing_is_held_back_however_records_are_cut(rt: HostRuntime) -> Result<(), Fail> {
+    let alloc = rt.alloc();
+    check_cuts(&rt, alloc, &conversation(alloc)?)
+}
+
+#[test]
+fn failing_reader(rt: HostRuntime) -> Result<(), Fail> {
+    let alloc = rt.alloc();
+    check_failing_reader(&rt, alloc, &conversation(alloc)?)
+}
+
+#[test]
+fn failing_writer(rt: HostRuntime) -> Result<(), Fail> {
+    let alloc = rt.alloc();
+    check_failing_writer(&rt, alloc, &conversation(alloc)?)
+}
+
+/// An input that ends within its first record, and what is written of it.
+fn cut(alloc: Global, begun: &[u8]) -> Result<Sample, Fail> {
+    let mut sample = Sample::new(alloc, Face::Records, OPEN)?;
+    sample.say(begun)?;
+    sample.end(told(alloc, "fault L2 record 1\n")?.as_slice())?;
+    sample.end(told(alloc, FRESH_TABLE)?.as_slice())?;
+    Ok(sample)
+}
+
+/// Nothing is taken of a record that is cut, whatever its kind and wherever it is cut.
+#[test]
+fn a_record_of_each_kind_is_cut_at_each_octet(rt: HostRuntime) -> Result<(), Fail> {
+    let alloc = rt.alloc();
+    for kind in KINDS {
+        let record = octets_of(alloc, *kind)?;
+        for len in 1..record.len() {
+            let begun = record.as_slice().get(..len).unwrap_or(b"");
+            check_whole(&rt, alloc, &cut(alloc, begun)?)?;
+        }
+    }
+    Ok(())
+}
+
+/// What is written of a record of this kind that has no BSSID and no octets, where those of lower kinds came before.
+fn answer_to_kind(alloc: Global, kind: u8) -> Result<Vec<u8>, Fail> {
+    let number = u32::from(kind) + 1;
+    match kind {
+        b'A' => records_of(alloc, Written::Nothing),
+        b'I' => records_of(alloc, Written::Told(FRESH_TABLE)),
+        b'T' => records_of(alloc, Written::Air(BEACON)),
+        b'W' => records_of(alloc, Written::Told("fault L4 record 88\n")),
+        _ => Ok(told(
+            alloc,
+            format!(in alloc; "fault L1 record {number}\n")?.as_str(),
+        )?),
+    }
+}
+
+#[test]
+fn kinds_that_are_not_known_are_told(rt: HostRuntime) -> Result<(), Fail> {
+    let alloc = rt.alloc();
+    let mut sample = Sample::new(alloc, Face::Records, OPEN)?;
+    for kind in 0..=255u8 {
+        let octets = record(alloc, kind, NOBODY, &[])?;
+        sample.ask(octets.as_slice(), answer_to_kind(alloc, kind)?.as_slice())?;
+    }
+    let table =
+        "network 02:00:00:00:00:01 ssid 6c6162\nevents 1 clock 1 unread 0 lost 0 kept 0\nend\n";
+    sample.end(told(alloc, table)?.as_slice())?;
+    check_whole(&rt, alloc, &sample)
+}
+
+/// Strings of these lengths on the air and on the wire, and the faults and the table that are told of them: a string of
+/// zeros is heard by nobody, and a frame of zeros on the wire can't be read.
+const LENGTHS: &[(usize, &str, &str, &str)] = &[
+    (0, "", "", ONE_UNREAD),
+    (4096, "", "", ONE_UNREAD),
+    (
+        4097,
+        "fault L5 record 1\n",
+        "fault L5 record 2\n",
+        FRESH_TABLE,
+    ),
+    (
+        65_535,
+        "fault L5 record 1\n",
+        "fault L5 record 2\n",
+        FRESH_TABLE,
+    ),
+];
+
+/// The table after a frame on the wire that can't be read.
+const ONE_UNREAD: &str = "network 02:00:00:00:00:01 ssid 6c6162\n\
+    events 1 clock 0 unread 1 lost 0 kept 0\n\
+    end\n";
+
+#[test]
+fn more_than_4096_octets_are_passed_over(rt: HostRuntime) -> Result<(), Fail> {
+    let alloc = rt.alloc();
+    for (len, air, wire, table) in LENGTHS {
+        let octets = vec![in alloc; 0u8; *len]?;
+        let mut sample = Sample::new(alloc, Face::Records, OPEN)?;
+        let heard = record(alloc, b'A', NOBODY, octets.as_slice())?;
+        sample.ask(heard.as_slice(), told(alloc, *air)?.as_slice())?;
+        let wired = record(alloc, b'W', BSSID, octets.as_slice())?;
+        sample.ask(wired.as_slice(), told(alloc, *wire)?.as_slice())?;
+        sample.end(told(alloc, *table)?.as_slice())?;
+        check_whole(&rt, alloc, &sample)?;
+    }
+    Ok(())
+}
+
+/// The probe request with an element that is not known, so that its record has 70 octets.
+const LONG_PROBE: &str = "dd1b 000000000000000000000000000000000000000000000000000000";
+
+#[test]
+fn one_record_in_70_pieces(rt: HostRuntime) -> Result<(), Fail> {
+    let alloc = rt.alloc();
+    let mut heard = octets(alloc, PROBE_REQUEST)?.as_slice().to_vec(alloc)?;
+    heard.extend_from_slice(octets(alloc, LONG_PROBE)?.as_slice())?;
+    let mut sample = Sample::new(alloc, Face::Records, OPEN)?;
+    let one = record(alloc, b'A', NOBODY, heard.as_slice())?;
+    sample.ask(
+        one.as_slice(),
+        records_of(alloc, Written::Air(PROBE_RESPONSE))?.as_slice(),
+    )?;
+    let table =
+        "network 02:00:00:00:00:01 ssid 6c6162\nevents 1 clock 0 unread 0 lost 0 kept 0\nend\n";
+    sample.end(told(alloc, table)?.as_slice())?;
+    let streams = Streams {
+        cut: 0,
+        most: 1,
+        ..WHOLE
+    };
+    let all = sample.written.len();
+    check_run(&rt, alloc, &sample, streams, Ok(()), 71, all)
+}
+
+#[test]
+fn seventy_records_in_one_piece(rt: HostRuntime) -> Result<(), Fail> {
+    let alloc = rt.alloc();
+    let mut sample = Sample::new(alloc, Face::Records, OPEN)?;
+    let one = record(alloc, b'X', NOBODY, b"1")?;
+    for number in 1..=70u32 {
+        let fault = format!(in alloc; "fault L1 record {number}\n")?;
+        sample.ask(one.as_slice(), told(alloc, fault.as_str())?.as_slice())?;
+    }
+    sample.end(told(alloc, FRESH_TABLE)?.as_slice())?;
+    let all = sample.written.len();
+    check_run(&rt, alloc, &sample, WHOLE, Ok(()), 2, all)
+}
