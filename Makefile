@@ -34,8 +34,9 @@ try-check: ## reads the configuration CONFIG=FILE without any proof
 
 # The gate. Proves every crate from nothing, tries each edit of crates/*/must-fail, runs each test, runs the program
 # that was built of what was proved over examples/ and tests/, with more and more memory, over files and streams that
-# fail and over lines that it answers as they come, lets each allocation of some calls fail in turn, and finds edits of
-# wrong/ that can't be applied, and names in the documents that aren't there. The last line is 'N passed, M failed'.
+# fail and over lines and records that it answers as they come, lets each allocation of some calls fail in turn, and
+# finds edits of wrong/ that can't be applied, names in the documents that aren't there, and scripts that don't say how
+# they are used. The last line is 'N passed, M failed'.
 test: ## the gate: proves all from nothing, tries wrong bodies, runs all tests
 	@.ci/gate
 
@@ -69,8 +70,8 @@ bench-limits: apctl ## measures it where its tables are full
 stress: apctl ## plays four traces at once, a hundred times or TIMES=N times
 	@bench/stress $(TIMES)
 
-# Runs the program over hostile frames, wired frames and traces, each drawn from a fixed seed, and compares each answer
-# with that of the model, octet for octet. The last line is 'N compared, M differ'.
+# Runs the program over hostile frames, wired frames, traces and records, each drawn from a fixed seed, and compares
+# each answer with that of the model, octet for octet. The last line is 'N compared, M differ'.
 fuzz: apctl ## compares the program with a model of the rules over hostile input
 	@bench/fuzz
 
