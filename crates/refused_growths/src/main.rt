@@ -12,6 +12,7 @@
 
 mod access_point;
 mod answered;
+mod answered_records;
 mod asked;
 mod lines;
 mod one_network;
@@ -20,6 +21,7 @@ mod texts;
 
 use access_point::give_lines;
 use answered::answer_lines;
+use answered_records::answer_records;
 use asked::{Asked, asked_of};
 use lines::feed_pieces;
 use one_network::take_each;
@@ -82,6 +84,8 @@ fn trial<R: Threads + Wait + Sync>(
         "lines" => feed_pieces(alloc, asked, report),
         // `Live::feed` for each line, none of which is offered again, and `end`.
         "live" => answer_lines(alloc, asked, report),
+        // `live_octets` over the lines as records, none of which is offered again; made again where it read none.
+        "records" => answer_records(alloc, asked, report),
         // The calls of these names that write a report, `play` with the trace as the only one.
         "report" | "text" | "stream" | "play" => write_twice(rt, alloc, asked, report),
         _ => Err(Flaw::Wrong("wrong: there is no such trial\n")),
