@@ -1,6 +1,8 @@
 //! Several traces that are played at once, and the report of it.
 
 ghost use Rattle.std.specs.Prelude.{◌≡◌, ◌+◌, ◌<◌, [], length, map, slice_index_or, IfOk, MatchResult};
+ghost use Rattle.std.specs.Io.KnownBytes.{Appends};
+ghost use Rattle.trace.specs.Report.{report_text};
 ghost use Rattle.trace.specs.Endings.{Gives, failures_of, outcome_of};
 ghost use Rattle.trace.specs.Faults.{read_ending};
 ghost use Rattle.trace.specs.TraceText.{lines_of};
@@ -55,6 +57,9 @@ pub fn report_play<R: Threads + Wait + Sync, W: Sink>(
     requires { MayFail (W.failed out.old) }
     ensures ends { EndsPlay (outcome_of result) config.now traces.now (W.taken out.old) (W.taken out.new) }
     ensures failures { W.failed out.new ≡ W.failed out.old + failures_of play_ending result }
+
+    // The sections that it hands out are those of the report.
+    ensures sections { IfOk result (λ r. Appends (W.taken out.old) (W.taken out.new) (report_text r.1.sections)) }
 {
     let config = read_config(alloc, config)?;
     if !fit(traces.len()) {

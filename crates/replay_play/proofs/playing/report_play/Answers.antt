@@ -53,3 +53,6 @@ returns-clause-ends g c =
     let play = played_is c.in_ok-config.config c.in_ok-sources.sources.items c.as_slice.result.now (λ s. s.items) c.as_slice.ensures.value c.in_ok-played.played said.networks said.sections said.air said.givers said.played in
     whole_plays c.in_ok-config.config c.args.config.now c.args.traces.now sources (whole_of c.in_ok-played.played said.air.0) _ _ able play
     (rw c.as_slice-2.ensures at c.in_ok-write_in_threads.ensures.ends)
+
+pub returns-clause-sections : goal.returns-clause-sections
+returns-clause-sections g c = rw c.as_slice-2.ensures at c.in_ok-write_in_threads.ensures.ends
