@@ -10,8 +10,8 @@ use Rattle.live.specs.Inputs.{face_of}
 use Rattle.live.specs.Output.{AnswersPiece, AnswersRecords, AreAnswered, through, watch, reached, waiting}
 use Rattle.live_answers.specs.Records.{IsBegun, IsRecord, all_octets, record_asks, records_ask}
 use Rattle.live_answers.specs.TextLines.{TextLine, partial_after, lines_in}
-use Rattle.live.specs.declared.begun.Begun.{Begun}
-use Rattle.live.specs.declared.begun.Begun.TheVariants.{Line, Record}
+use Rattle.live.specs.declared.partial_input.PartialInput.{PartialInput}
+use Rattle.live.specs.declared.partial_input.PartialInput.TheVariants.{Line, Record}
 use Rattle.live.specs.declared.face.Face.TheVariants.{Lines, Records}
 use Rattle.live.proofs.AnswerSteps.{answered-none, answered-then}
 use Rattle.live_answers.proofs.MoreLines.{lines-said, bssids-answers}
@@ -133,12 +133,12 @@ records-all taken failed m next old new begun now piece rest none a =
 -- ---- in either face
 
 pub piece-lines : {W : Type 0} (taken : W → Option (List ℕ)) (failed : W → ℕ) (m next : Moment) (old new : Buffered W)
-    (begun begun' : Begun) (partial partial' : TextLine) (piece : List ℕ) → begun ≡ Line partial → begun' ≡ Line partial'
+    (begun begun' : PartialInput) (partial partial' : TextLine) (piece : List ℕ) → begun ≡ Line partial → begun' ≡ Line partial'
     → partial' ≡ partial_after partial piece
     → AreAnswered (through Lines (watch taken failed) old new) m next (asked_in m (lines_in partial piece))
     → AnswersPiece (through (face_of begun) (watch taken failed) old new) (reached m begun) (reached next begun') piece
 piece-lines taken failed m next old new begun begun' partial partial' piece is is' after a =
-    subst (λ (b : Begun). AnswersPiece (through (face_of b) (watch taken failed) old new) (reached m b) (reached next begun') piece) (sym is)
+    subst (λ (b : PartialInput). AnswersPiece (through (face_of b) (watch taken failed) old new) (reached m b) (reached next begun') piece) (sym is)
     (record {
       said = asked_in m (lines_in partial piece);
       is_said = (refl, is' ∙ ap (λ (p : TextLine). Line p) after);
@@ -146,11 +146,11 @@ piece-lines taken failed m next old new begun begun' partial partial' piece is i
     })
 
 pub piece-records : {W : Type 0} (taken : W → Option (List ℕ)) (failed : W → ℕ) (m next : Moment) (old new : Buffered W)
-    (begun begun' : Begun) (partial partial' piece : List ℕ) → begun ≡ Record partial → begun' ≡ Record partial'
+    (begun begun' : PartialInput) (partial partial' piece : List ℕ) → begun ≡ Record partial → begun' ≡ Record partial'
     → AnswersRecords (through Records (watch taken failed) old new) (waiting m partial piece) (waiting next partial' [])
     → AnswersPiece (through (face_of begun) (watch taken failed) old new) (reached m begun) (reached next begun') piece
 piece-records taken failed m next old new begun begun' partial partial' piece is is' a =
-    subst (λ (b : Begun). AnswersPiece (through (face_of b) (watch taken failed) old new) (reached m b) (reached next begun') piece) (sym is)
+    subst (λ (b : PartialInput). AnswersPiece (through (face_of b) (watch taken failed) old new) (reached m b) (reached next begun') piece) (sym is)
     (record {
       said = records_ask (bssids_at m) a.records;
       is_said = record {

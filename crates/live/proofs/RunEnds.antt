@@ -22,7 +22,7 @@ use Rattle.live_answers.specs.Moments.{Moment, first_moment, bssids_at}
 use Rattle.live.specs.Run.{AnswersAll, AnswersInput, Runs, StopsInPiece, StopsReading, Texts, Progress, progress, live_ending, setup}
 use Rattle.live.specs.Run.{max_reads, setup}
 use Rattle.live.specs.Written.{written_after, written_count, written_tables}
-use Rattle.live.specs.declared.begun.Begun.{Begun}
+use Rattle.live.specs.declared.partial_input.PartialInput.{PartialInput}
 use Rattle.live.specs.declared.face.Face.{Face}
 use Rattle.live.specs.declared.face.Face.TheVariants.{Lines, Records}
 use Rattle.live.specs.declared.fault.LiveFault.{LiveFault}
@@ -95,7 +95,7 @@ said-whole face c ct input said answers last is all answered = record {
 }
 
 -- what was said as far as it had ended, and then what the end says
-all-answered : (face : Face) (c : RadioConfig) (ct input : List ℕ) (between last : Moment) (begun : Begun)
+all-answered : (face : Face) (c : RadioConfig) (ct input : List ℕ) (between last : Moment) (begun : PartialInput)
     (said : List Asked) (some more : List Answer) → configuration_of ct ≡ Ok c
     → IsSaidIn (bssids_at (first_moment c)) (nothing_begun face) input (saying said begun)
     → Answers (first_moment c) said some between → Answers between (last_said (bssids_at between) begun) more last
@@ -205,7 +205,7 @@ stops-reading face c ct input old mid new is count s =
 -- ---- reading ended before the source did, or a write failed
 
 pub input-runs : (face : Face) (e : LiveFault) (c : RadioConfig) (ct : List ℕ) (old : SinkView) (mid new : Streams)
-    (moment : Moment) (begun : Begun) → configuration_of ct ≡ Ok c
+    (moment : Moment) (begun : PartialInput) → configuration_of ct ≡ Ok c
     → Appends old.taken mid.sink.taken (written_count face (length c.networks))
     → AnswersInput face (Err e) (first face c mid) (progress moment begun new)
     → Runs (setup face ct) (Err e) (both mid.source old) new
@@ -256,7 +256,7 @@ input-runs face (Config fault) c ct old mid new moment begun is count s = absurd
 -- ---- the source came to its end
 
 -- the end is written in the face of what has begun
-end-in : (face : Face) (r : Result Unit Failed) (moment : Moment) (begun : Begun) (old new : Option (List ℕ))
+end-in : (face : Face) (r : Result Unit Failed) (moment : Moment) (begun : PartialInput) (old new : Option (List ℕ))
     → face_of begun ≡ face → Finishes r (running moment begun old) new
     → (answers : List Answer) × (last : Moment) × Answers moment (last_said (bssids_at moment) begun) answers last
     × Ends write_ending r (Ok (written_after face moment answers ++ written_tables face last.networks)) old new
@@ -271,7 +271,7 @@ end-in face r moment begun old new same t = (
 )
 
 pub end-runs : (face : Face) (e : Failed) (u : Unit {0}) (c : RadioConfig) (ct : List ℕ) (old : SinkView)
-    (mid read : Streams) (new : SinkView) (moment : Moment) (begun : Begun) → configuration_of ct ≡ Ok c
+    (mid read : Streams) (new : SinkView) (moment : Moment) (begun : PartialInput) → configuration_of ct ≡ Ok c
     → Appends old.taken mid.sink.taken (written_count face (length c.networks))
     → AnswersInput face (Ok u) (first face c mid) (progress moment begun read)
     → Finishes (Err e) (running moment begun read.sink.taken) new.taken
@@ -323,7 +323,7 @@ end-runs face e u c ct old mid read new moment begun is count s finished =
     }
 
 pub whole-runs : (face : Face) (u v w : Unit {0}) (c : RadioConfig) (ct : List ℕ) (old : SinkView)
-    (mid read : Streams) (new : SinkView) (moment : Moment) (begun : Begun) → configuration_of ct ≡ Ok c
+    (mid read : Streams) (new : SinkView) (moment : Moment) (begun : PartialInput) → configuration_of ct ≡ Ok c
     → Appends old.taken mid.sink.taken (written_count face (length c.networks))
     → AnswersInput face (Ok u) (first face c mid) (progress moment begun read)
     → Finishes (Ok v) (running moment begun read.sink.taken) new.taken
@@ -356,18 +356,18 @@ face-same : (face : Face) → face_of (nothing_begun face) ≡ face
 face-same Lines = refl
 face-same Records = refl
 
-pub from-first : (face : Face) (r : Result Unit LiveFault) (c : RadioConfig) (moment : Moment) (begun : Begun)
+pub from-first : (face : Face) (r : Result Unit LiveFault) (c : RadioConfig) (moment : Moment) (begun : PartialInput)
     (mid : Streams) (end : Progress) → moment ≡ first_moment c → begun ≡ nothing_begun face
     → AnswersInput (face_of begun) r (progress moment begun mid) end → AnswersInput face r (first face c mid) end
 from-first face r c moment begun mid end at is s =
     subst (λ (f : Face). AnswersInput f r (first face c mid) end) (face-same face)
-    (subst (λ (b : Begun). AnswersInput (face_of b) r (progress (first_moment c) b mid) end) is
+    (subst (λ (b : PartialInput). AnswersInput (face_of b) r (progress (first_moment c) b mid) end) is
     (subst (λ (m : Moment). AnswersInput (face_of begun) r (progress m begun mid) end) at s))
 
 -- it begins with nothing
-pub begins-so : (face : Face) (begun : Begun) → begun ≡ nothing_begun face → begun ≡ nothing_begun (face_of begun)
+pub begins-so : (face : Face) (begun : PartialInput) → begun ≡ nothing_begun face → begun ≡ nothing_begun (face_of begun)
 begins-so face begun is =
-    is ∙ ap nothing_begun (sym (face-same face)) ∙ ap (λ (b : Begun). nothing_begun (face_of b)) (sym is)
+    is ∙ ap nothing_begun (sym (face-same face)) ∙ ap (λ (b : PartialInput). nothing_begun (face_of b)) (sym is)
 
 pub counted : (face : Face) (count : ℕ) (c : RadioConfig) (old new : Option (List ℕ)) → count ≡ length c.networks
     → Appends old new (written_count face count) → Appends old new (written_count face (length c.networks))

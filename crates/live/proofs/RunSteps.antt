@@ -14,7 +14,7 @@ use Rattle.live.specs.LiveView.{Takes, running}
 use Rattle.live_answers.specs.Moments.{Moment, bssids_at}
 use Rattle.live.specs.Run.{AllAnswered, AnswersInput, Progress, max_reads}
 use Rattle.live.specs.Written.{written_after}
-use Rattle.live.specs.declared.begun.Begun.{Begun}
+use Rattle.live.specs.declared.partial_input.PartialInput.{PartialInput}
 use Rattle.live.specs.declared.face.Face.{Face}
 use Rattle.live.specs.declared.fault.LiveFault.TheVariants.{Write}
 use Rattle.live.proofs.InputSteps.{said-none, said-more, said-ended, said-face}
@@ -82,7 +82,7 @@ input-none face old begun first = record {
   took = Consumes-nil old.streams.source.left;
   counted = counted-none old.streams.source.reads;
   is_said =
-      subst (λ (b : Begun). IsSaidIn (bssids_at old.moment) (nothing_begun face) [] (saying [] b)) (sym begun)
+      subst (λ (b : PartialInput). IsSaidIn (bssids_at old.moment) (nothing_begun face) [] (saying [] b)) (sym begun)
       (said-none face (bssids_at old.moment));
   answered = refl;
   written = Appends-nil old.streams.sink.taken;
@@ -114,7 +114,7 @@ piece-more m between next said more some others first later =
 
 -- it is said to the same networks
 piece-said : (face : Face) (m between : Moment) (input piece : List ℕ) (said more : List Asked) (some : List Answer)
-    (mid next : Begun) → Answers m said some between → IsSaidIn (bssids_at m) (nothing_begun face) input (saying said mid)
+    (mid next : PartialInput) → Answers m said some between → IsSaidIn (bssids_at m) (nothing_begun face) input (saying said mid)
     → IsSaidIn (bssids_at between) mid piece (saying more next)
     → IsSaidIn (bssids_at m) (nothing_begun face) (input ++ piece) (saying (said ++ more) next)
 piece-said face m between input piece said more some mid next h is k =

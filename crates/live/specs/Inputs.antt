@@ -3,37 +3,37 @@ use Rattle.std.specs.Prelude.{◌≡◌, ℕ, List, [], ◌++◌}
 use Rattle.live_answers.specs.Asked.{Asked, asked_by_all}
 use Rattle.live_answers.specs.Records.{AreRecords, IsBegun, records_ask, cut_record}
 use Rattle.live_answers.specs.TextLines.{TextLine, Octets, ended_lines, lines_of_text, partial_after, last_line, lines_in}
-use Rattle.live.specs.declared.begun.Begun.{Begun}
-use Rattle.live.specs.declared.begun.Begun.TheVariants.{Line, Record}
+use Rattle.live.specs.declared.partial_input.PartialInput.{PartialInput}
+use Rattle.live.specs.declared.partial_input.PartialInput.TheVariants.{Line, Record}
 use Rattle.live.specs.declared.face.Face.{Face}
 use Rattle.live.specs.declared.face.Face.TheVariants.{Lines, Records}
 
 -- ---- pieces
 
-abbrev pub nothing_begun : Face → Begun
+abbrev pub nothing_begun : Face → PartialInput
 nothing_begun Lines = Line (Octets [])
 nothing_begun Records = Record []
 
-abbrev pub face_of : Begun → Face
+abbrev pub face_of : PartialInput → Face
 face_of (Line partial) = Lines
 face_of (Record begun) = Records
 
 -- what has begun of a line, where one has
-abbrev pub line_begun : Begun → TextLine
+abbrev pub line_begun : PartialInput → TextLine
 line_begun (Line partial) = partial
 line_begun (Record begun) = Octets begun
 
 -- less than a whole record has begun
-abbrev pub IsUnfinished : Begun → Type 0
+abbrev pub IsUnfinished : PartialInput → Type 0
 IsUnfinished (Line partial) = Unit {0}
 IsUnfinished (Record begun) = IsBegun begun
 
 -- what is said in a piece, and what has begun after it
 pub record Saying : Type 0 where
   pub said : List Asked
-  pub next : Begun
+  pub next : PartialInput
 
-abbrev pub saying : List Asked → Begun → Saying
+abbrev pub saying : List Asked → PartialInput → Saying
 saying said next = record { said = said; next = next }
 
 -- what had begun and a piece are records that say this
@@ -45,13 +45,13 @@ pub record AreRecordsIn (bssids : List (List ℕ)) (begun piece : List ℕ) (s :
   pub next_is : s.next ≡ Record rest
 
 -- what is said to networks with these addresses in a piece, after what had begun
-abbrev pub IsSaidIn : List (List ℕ) → Begun → List ℕ → Saying → Type 0
+abbrev pub IsSaidIn : List (List ℕ) → PartialInput → List ℕ → Saying → Type 0
 IsSaidIn bssids (Line partial) piece s =
     (s.said ≡ asked_by_all bssids (lines_in partial piece)) × (s.next ≡ Line (partial_after partial piece))
 IsSaidIn bssids (Record begun) piece s = AreRecordsIn bssids begun piece s
 
 -- what is said by the end of the input, after what had begun
-abbrev pub last_said : List (List ℕ) → Begun → List Asked
+abbrev pub last_said : List (List ℕ) → PartialInput → List Asked
 last_said bssids (Line partial) = asked_by_all bssids (last_line partial)
 last_said bssids (Record begun) = cut_record begun
 

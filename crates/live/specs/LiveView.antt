@@ -10,7 +10,7 @@ use Rattle.live.specs.Inputs.{IsSaidIn, face_of, last_said, saying}
 use Rattle.live_answers.specs.Moments.{Moment, bssids_at}
 use Rattle.live_answers.specs.TextLines.{TextLine, partial_after, last_line, lines_in}
 use Rattle.live.specs.Written.{text_after, written_after, written_tables}
-use Rattle.live.specs.declared.begun.Begun.{Begun}
+use Rattle.live.specs.declared.partial_input.PartialInput.{PartialInput}
 
 -- the moment after the lines that have ended, and what has begun of the next line
 pub record LiveState : Type 0 where
@@ -51,10 +51,10 @@ pub record TakesEnd (result : Result Unit Failed) (old : Fed) (taken : Option (L
 -- the moment after what has ended, what has begun of the next, and what its sink has taken, where that is known
 pub record Running : Type 0 where
   pub moment : Moment
-  pub begun : Begun
+  pub begun : PartialInput
   pub taken : Option (List ℕ)
 
-abbrev pub running : Moment → Begun → Option (List ℕ) → Running
+abbrev pub running : Moment → PartialInput → Option (List ℕ) → Running
 running moment begun taken = record { moment = moment; begun = begun; taken = taken }
 
 -- It took a piece: what is said in it is answered, and the sink has gained the answers; or, where a write failed, a

@@ -15,7 +15,7 @@ use Rattle.live_answers.specs.Asked.{Asked}
 use Rattle.live.specs.Inputs.{IsSaidIn, saying}
 use Rattle.live_answers.specs.Records.{IsBegun, IsRecord, all_octets, records_ask}
 use Rattle.live.specs.Written.{written_reply_if, written_replies, written_after}
-use Rattle.live.specs.declared.begun.Begun.{Begun}
+use Rattle.live.specs.declared.partial_input.PartialInput.{PartialInput}
 use Rattle.live.specs.declared.face.Face.{Face}
 
 -- ---- frames
@@ -95,9 +95,9 @@ pub record AreAnswered {W : Type 0} (o : Through W) (m next : Moment) (said : Li
 -- the moment after what has ended, and what has begun of the next line or record
 pub record Reached : Type 0 where
   pub moment : Moment
-  pub begun : Begun
+  pub begun : PartialInput
 
-abbrev pub reached : Moment → Begun → Reached
+abbrev pub reached : Moment → PartialInput → Reached
 reached moment begun = record { moment = moment; begun = begun }
 
 -- What is said in a piece was answered, after what had begun.

@@ -10,8 +10,8 @@ use Rattle.live_answers.specs.Asked.{Asked}
 use Rattle.live.specs.Inputs.{IsSaid, IsAllSaid, IsSaidIn, face_of, nothing_begun, saying}
 use Rattle.live_answers.specs.Moments.{Moment, first_moment, bssids_at}
 use Rattle.live.specs.Written.{written_count, written_after, written_tables}
-use Rattle.live.specs.declared.begun.Begun.{Begun}
-use Rattle.live.specs.declared.begun.Begun.TheVariants.{Record}
+use Rattle.live.specs.declared.partial_input.PartialInput.{PartialInput}
+use Rattle.live.specs.declared.partial_input.PartialInput.TheVariants.{Record}
 use Rattle.live.specs.declared.face.Face.{Face}
 use Rattle.live.specs.declared.face.Face.TheVariants.{Lines, Records}
 use Rattle.live.specs.declared.fault.LiveFault.{LiveFault}
@@ -49,10 +49,10 @@ WrittenSoFar (Err NoMemory) answered old new = ⊥
 -- the access point, its input and its output
 pub record Progress : Type 0 where
   pub moment : Moment
-  pub begun : Begun
+  pub begun : PartialInput
   pub streams : Streams
 
-abbrev pub progress : Moment → Begun → Streams → Progress
+abbrev pub progress : Moment → PartialInput → Streams → Progress
 progress moment begun streams = record { moment = moment; begun = begun; streams = streams }
 
 -- The sink has taken, since then, the answers to all that ended in what was read of the source.

@@ -10,10 +10,10 @@ ghost use Rattle.live.specs.LiveView.{Finishes, Takes, running};
 ghost use Rattle.live_answers.specs.Moments.{bssids_at, first_moment};
 ghost use Rattle.live.specs.Output.{AnswersPiece, AreAnswered, through, watch, reached};
 
-use crate::begun::Begun;
 use crate::face::Face;
 use crate::lines::{answer_last_line, answer_lines};
 use crate::networks::Networks;
+use crate::partial_input::PartialInput;
 use crate::records::{answer_cut_record, answer_records};
 use ap_config::RadioConfig;
 use mac_frame::NoMemory;
@@ -27,7 +27,7 @@ const HELD: usize = 65_536;
 #[derive(Drop)]
 pub struct Engine {
     pub networks: Networks,
-    pub begun: Begun,
+    pub begun: PartialInput,
     pub held: Vec<u8>,
 }
 
@@ -41,7 +41,7 @@ impl Engine {
     {
         Ok(Engine {
             networks: Networks::new(alloc, config)?,
-            begun: Begun::new(alloc, face)?,
+            begun: PartialInput::new(alloc, face)?,
             held: vec![in alloc; 0; HELD]?,
         })
     }
@@ -88,7 +88,7 @@ impl Engine {
 /// Answers what ends in a piece, through a piece of memory.
 fn feed_through<W: Sink>(
     networks: &mut Networks,
-    begun: &mut Begun,
+    begun: &mut PartialInput,
     held: &mut [u8],
     piece: &[u8],
     out: &mut W,
@@ -109,7 +109,7 @@ fn feed_through<W: Sink>(
 /// Answers what has begun, if anything has, and puts the tables, through a piece of memory.
 fn end_through<W: Sink>(
     networks: &mut Networks,
-    begun: &Begun,
+    begun: &PartialInput,
     held: &mut [u8],
     out: &mut W,
 ) -> Result<(), Failed>
@@ -125,19 +125,19 @@ fn end_through<W: Sink>(
 }
 
 /// The face of what has begun.
-fn face_of(begun: &Begun) -> Face
+fn face_of(begun: &PartialInput) -> Face
     ensures { result ≡ face_of begun.now }
 {
     match begun {
-        Begun::Line(_) => Face::Lines,
-        Begun::Record(_) => Face::Records,
+        PartialInput::Line(_) => Face::Lines,
+        PartialInput::Record(_) => Face::Records,
     }
 }
 
 /// Answers what ends in a piece.
 fn answer_piece<W: Sink>(
     networks: &mut Networks,
-    begun: &mut Begun,
+    begun: &mut PartialInput,
     piece: &[u8],
     out: &mut Buffered<'_, W>,
 )
@@ -149,20 +149,20 @@ fn answer_piece<W: Sink>(
     ensures lines { networks.new.lines ≤ networks.old.lines + length piece.now }
 {
     match begun {
-        Begun::Line(partial) => answer_lines(networks, partial, piece, out),
-        Begun::Record(partial) => answer_records(networks, partial, piece, out),
+        PartialInput::Line(partial) => answer_lines(networks, partial, piece, out),
+        PartialInput::Record(partial) => answer_records(networks, partial, piece, out),
     }
 }
 
 /// Answers what has begun, if anything has.
-fn answer_last<W: Sink>(networks: &mut Networks, begun: &Begun, out: &mut Buffered<'_, W>)
+fn answer_last<W: Sink>(networks: &mut Networks, begun: &PartialInput, out: &mut Buffered<'_, W>)
     requires countable { networks.old.lines < 2 ^ 62 }
     requires can_write { CanWrite W.failed out.old }
     ensures { AreAnswered (through (face_of begun.now) (watch W.taken W.failed) out.old out.new)
         networks.old networks.new (last_said (bssids_at networks.old) begun.now) }
 {
     match begun {
-        Begun::Line(partial) => answer_last_line(networks, partial, out),
-        Begun::Record(partial) => answer_cut_record(networks, partial, out),
+        PartialInput::Line(partial) => answer_last_line(networks, partial, out),
+        PartialInput::Record(partial) => answer_cut_record(networks, partial, out),
     }
 }

@@ -18,7 +18,6 @@
 //! Where the input comes from, and where the answers go, is left to the program.
 #![tactic(auto)]
 
-mod begun;
 mod dispatch;
 mod engine;
 mod face;
@@ -29,6 +28,7 @@ mod live_lines;
 mod networks;
 mod output;
 mod partial;
+mod partial_input;
 mod reading;
 mod record;
 mod record_output;

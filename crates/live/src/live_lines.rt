@@ -29,7 +29,7 @@ impl Model for Live {
     ghost use Rattle.std.specs.Prelude.{◌≡◌};
     ghost use Rattle.live.specs.Inputs.{line_begun};
     ghost use Rattle.live.specs.LiveView.{LiveState};
-    ghost use Rattle.live.specs.declared.begun.Begun.TheVariants.{Line};
+    ghost use Rattle.live.specs.declared.partial_input.PartialInput.TheVariants.{Line};
 
     ghost Value = { LiveState };
 

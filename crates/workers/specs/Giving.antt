@@ -13,8 +13,8 @@ use Rattle.events.specs.declared.line.Line.{Line}
 use Rattle.events.specs.declared.line.Line.TheVariants as line
 use Rattle.workers.specs.declared.caller.Entry.{Entry}
 use Rattle.workers.specs.declared.caller.Entry.TheVariants.{Receipt, Refused}
-use Rattle.workers.specs.declared.given.Given.{Given}
-use Rattle.workers.specs.declared.given.Given.TheVariants as given
+use Rattle.workers.specs.declared.lent_line.LentLine.{LentLine}
+use Rattle.workers.specs.declared.lent_line.LentLine.TheVariants as given
 use Rattle.workers.specs.declared.outcome.Outcome.{Outcome}
 use Rattle.workers.specs.declared.outcome.Outcome.TheVariants.{NotHeard, Took, Full, NoMemory}
 
@@ -50,7 +50,7 @@ AddsEntries e old new outcomes = new ≡ old ++ entries_of e outcomes
 
 -- ---- a line as it is lent
 
-abbrev pub line_of : Given → Line
+abbrev pub line_of : LentLine → Line
 line_of (given.Air x) = line.Air x.now
 line_of (given.Wire place octets) = line.Wire place octets.now
 line_of given.Tick = line.Tick

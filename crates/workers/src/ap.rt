@@ -15,7 +15,7 @@ ghost use Rattle.workers.specs.Seats.{IsNetworkOf};
 use crate::answers::{Answer, Heard};
 use crate::caller::{Caller, Entry};
 use crate::copies::Copies;
-use crate::given::Given;
+use crate::lent_line::LentLine;
 use crate::name::ApName;
 use crate::outcome::Outcome;
 use crate::seat::{Handing, Seat};
@@ -84,7 +84,7 @@ impl<N: ApName> Ap<N> {
         ensures entries { IfOk result (AddsEntries (Event.Air frame.now) caller.old caller.new) }
         ensures err { OnErr result (caller.new ≡ caller.old) }
     {
-        self.give(rt, caller, Given::Air(frame))
+        self.give(rt, caller, LentLine::Air(frame))
     }
 
     /// Gives a frame that came over the wire to the network at a place, and answers as [`Ap::air`] does (*profile*).
@@ -101,7 +101,7 @@ impl<N: ApName> Ap<N> {
         ensures entries { IfOk result (AddsEntries (Event.Wire octets.now) caller.old caller.new) }
         ensures err { OnErr result (caller.new ≡ caller.old) }
     {
-        self.give(rt, caller, Given::Wire { place, octets })
+        self.give(rt, caller, LentLine::Wire { place, octets })
     }
 
     /// Tells each network that a beacon interval began, and answers as [`Ap::air`] does (*profile*).
@@ -115,7 +115,7 @@ impl<N: ApName> Ap<N> {
         ensures entries { IfOk result (AddsEntries Event.Tick caller.old caller.new) }
         ensures err { OnErr result (caller.new ≡ caller.old) }
     {
-        self.give(rt, caller, Given::Tick)
+        self.give(rt, caller, LentLine::Tick)
     }
 
     /// Gives a line to each network that hears it.
@@ -123,7 +123,7 @@ impl<N: ApName> Ap<N> {
         &self,
         rt: &R,
         caller: &mut Caller,
-        given: Given<'_>,
+        given: LentLine<'_>,
     ) -> Result<[Outcome; MAX_NETWORKS], NoMemory>
         ensures count { IfOk result (λ outcomes. length outcomes ≡ MAX_NETWORKS) }
         ensures heard { IfOk result (AreHeard N.config (line_of given.entry)) }
@@ -136,7 +136,7 @@ impl<N: ApName> Ap<N> {
     }
 
     /// For each place, copies of the event if the network there hears the line.
-    fn copies(&self, given: Given<'_>) -> Result<Vec<Option<Copies>>, NoMemory>
+    fn copies(&self, given: LentLine<'_>) -> Result<Vec<Option<Copies>>, NoMemory>
         ensures { IfOk result (λ copies. AreCopies N.config (line_of given.entry) copies.items) }
     {
         let mut copies = Vec::with_capacity(self.alloc, MAX_NETWORKS)?;
@@ -147,7 +147,7 @@ impl<N: ApName> Ap<N> {
     }
 
     /// Copies of the event if the network at this place hears the line.
-    fn copies_at(&self, place: usize, given: Given<'_>) -> Result<Option<Copies>, NoMemory>
+    fn copies_at(&self, place: usize, given: LentLine<'_>) -> Result<Option<Copies>, NoMemory>
         ensures { IfOk result (λ copies. copies ≡ copies_at N.config (line_of given.entry) place) }
     {
         if place >= self.bssids.len() || !given.is_heard(place, self.bssids[place]) {

@@ -5,7 +5,7 @@ ghost use Rattle.workers.specs.Attributions.{IsAdded, fresh_attribution};
 ghost use Rattle.workers.specs.Giving.{line_of, event_of};
 
 use crate::finish::FinishFault;
-use crate::given::Given;
+use crate::lent_line::LentLine;
 use events::Event;
 use mac_frame::{List, NoMemory};
 use std::alloc::Global;
@@ -46,7 +46,7 @@ impl Attribution {
         history: &[Event],
         caller: usize,
         number: usize,
-        given: Given<'_>,
+        given: LentLine<'_>,
     ) -> Result<(), FinishFault>
         requires { length self.old.givers ≡ length history.now }
         ensures { OnOk result
@@ -80,13 +80,13 @@ impl Attribution {
 }
 
 /// Whether an event is what was given.
-fn is_of(event: &Event, given: Given<'_>) -> bool
+fn is_of(event: &Event, given: LentLine<'_>) -> bool
     ensures { IsTrue result ↔ (event.now ≡ event_of (line_of given.entry)) }
 {
     match (event, given) {
-        (Event::Air(took), Given::Air(frame)) => took.as_slice() == frame,
-        (Event::Wire(took), Given::Wire { octets, .. }) => took.as_slice() == octets,
-        (Event::Tick, Given::Tick) => true,
+        (Event::Air(took), LentLine::Air(frame)) => took.as_slice() == frame,
+        (Event::Wire(took), LentLine::Wire { octets, .. }) => took.as_slice() == octets,
+        (Event::Tick, LentLine::Tick) => true,
         _ => false,
     }
 }

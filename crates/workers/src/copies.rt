@@ -4,7 +4,7 @@ ghost use Rattle.std.specs.Prelude.{◌≡◌, IfOk};
 ghost use Rattle.workers.specs.Giving.{line_of, event_of};
 ghost use Rattle.workers.specs.Copies.{copies_of_event};
 
-use crate::given::Given;
+use crate::lent_line::LentLine;
 use events::Event;
 use mac_frame::NoMemory;
 use std::alloc::Global;
@@ -18,7 +18,7 @@ pub(crate) struct Copies {
 
 impl Copies {
     /// The copies of the event that a line is to a network which hears it.
-    pub(crate) fn of(alloc: Global, given: Given<'_>) -> Result<Copies, NoMemory>
+    pub(crate) fn of(alloc: Global, given: LentLine<'_>) -> Result<Copies, NoMemory>
         ensures { IfOk result (λ copies. copies ≡ copies_of_event (event_of (line_of given.entry))) }
     {
         let offered = given.event(alloc)?;

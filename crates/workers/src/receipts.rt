@@ -10,7 +10,7 @@ ghost use Rattle.workers.specs.declared.caller.Entry.TheVariants.{Receipt};
 use crate::attribution::Attribution;
 use crate::caller::{Caller, Entry};
 use crate::finish::FinishFault;
-use crate::given::Given;
+use crate::lent_line::LentLine;
 use mac_frame::{List, NoMemory};
 use network::{Bss, Refusal};
 use std::alloc::Global;
@@ -90,7 +90,7 @@ fn read_entry(
         caller,
         *place,
         *number,
-        Given::again(event),
+        LentLine::again(event),
         attributions,
     )
 }
@@ -101,7 +101,7 @@ pub(crate) fn read_receipt(
     caller: usize,
     place: usize,
     number: u32,
-    given: Given<'_>,
+    given: LentLine<'_>,
     attributions: &mut [Attribution],
 ) -> Result<(), FinishFault>
     requires count { length attributions.old ≡ length networks.now }

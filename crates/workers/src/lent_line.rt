@@ -10,7 +10,7 @@ use std::alloc::Global;
 
 /// One thing that happened to the networks of a radio, as [`events::Line`] has it, lent by whoever tells of it.
 #[derive(Clone, Copy)]
-pub(crate) enum Given<'a> {
+pub(crate) enum LentLine<'a> {
     /// A string of octets was heard on the air.
     Air(&'a [u8]),
     /// A frame came over the wire to the network at a place.
@@ -24,32 +24,32 @@ pub(crate) enum Given<'a> {
     Tick,
 }
 
-impl<'a> Given<'a> {
+impl<'a> LentLine<'a> {
     /// A line.
-    pub(crate) fn of(line: &'a Line) -> Given<'a>
+    pub(crate) fn of(line: &'a Line) -> LentLine<'a>
         ensures { line_of result ≡ line.now }
     {
         match line {
-            Line::Air(frame) => Given::Air(frame.as_slice()),
-            Line::Wire { place, octets } => Given::Wire {
+            Line::Air(frame) => LentLine::Air(frame.as_slice()),
+            Line::Wire { place, octets } => LentLine::Wire {
                 place: *place,
                 octets: octets.as_slice(),
             },
-            Line::Tick => Given::Tick,
+            Line::Tick => LentLine::Tick,
         }
     }
 
     /// What an event was to the network that took it. A frame on the wire is of no place.
-    pub(crate) fn again(event: &'a Event) -> Given<'a>
+    pub(crate) fn again(event: &'a Event) -> LentLine<'a>
         ensures { event_of (line_of result) ≡ event.now }
     {
         match event {
-            Event::Air(frame) => Given::Air(frame.as_slice()),
-            Event::Wire(octets) => Given::Wire {
+            Event::Air(frame) => LentLine::Air(frame.as_slice()),
+            Event::Wire(octets) => LentLine::Wire {
                 place: usize::MAX,
                 octets: octets.as_slice(),
             },
-            Event::Tick => Given::Tick,
+            Event::Tick => LentLine::Tick,
         }
     }
 
@@ -58,9 +58,9 @@ impl<'a> Given<'a> {
         ensures { result ≡ hears_line place bssid (line_of self.entry) }
     {
         match self {
-            Given::Air(frame) => hears(bssid, frame),
-            Given::Wire { place: named, .. } => named == place,
-            Given::Tick => true,
+            LentLine::Air(frame) => hears(bssid, frame),
+            LentLine::Wire { place: named, .. } => named == place,
+            LentLine::Tick => true,
         }
     }
 
@@ -69,9 +69,9 @@ impl<'a> Given<'a> {
         ensures { IfOk result (λ event. event ≡ event_of (line_of self.entry)) }
     {
         match self {
-            Given::Air(frame) => Ok(Event::Air(Octets::from_slice(alloc, frame)?)),
-            Given::Wire { octets, .. } => Ok(Event::Wire(Octets::from_slice(alloc, octets)?)),
-            Given::Tick => Ok(Event::Tick),
+            LentLine::Air(frame) => Ok(Event::Air(Octets::from_slice(alloc, frame)?)),
+            LentLine::Wire { octets, .. } => Ok(Event::Wire(Octets::from_slice(alloc, octets)?)),
+            LentLine::Tick => Ok(Event::Tick),
         }
     }
 }

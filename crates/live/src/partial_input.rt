@@ -11,21 +11,21 @@ use std::alloc::Global;
 
 /// What has begun of the next line or record, and so in which face the access point runs.
 #[derive(Drop)]
-pub enum Begun {
+pub enum PartialInput {
     /// Of a line.
     Line(PartialLine),
     /// Of a record.
     Record(PartialRecord),
 }
 
-impl Begun {
+impl PartialInput {
     /// Nothing has begun. `NoMemory` where memory ran out.
-    pub fn new(alloc: Global, face: Face) -> Result<Begun, NoMemory>
+    pub fn new(alloc: Global, face: Face) -> Result<PartialInput, NoMemory>
         ensures { IfOk result (λ begun. begun ≡ nothing_begun face) }
     {
         match face {
-            Face::Lines => Ok(Begun::Line(PartialLine::new(alloc)?)),
-            Face::Records => Ok(Begun::Record(PartialRecord::new(alloc)?)),
+            Face::Lines => Ok(PartialInput::Line(PartialLine::new(alloc)?)),
+            Face::Records => Ok(PartialInput::Record(PartialRecord::new(alloc)?)),
         }
     }
 }
