@@ -174,25 +174,34 @@ fn told(rt: &impl Abort, keep: &Keep, whom: Whom) -> Result<Option<u32>, Fail> {
     Ok(at)
 }
 
+/// This many must be told, and of the group and the stations 1 to 3 the clocks at which their oldest units came.
+fn tells(rt: &impl Abort, keep: &Keep, count: usize, oldest: [Option<u32>; 4]) -> Result<(), Fail> {
+    let [group, one, two, three] = oldest;
+    assert_eq!(rt; keep.oldest_of_each()?.len(), count);
+    assert_eq!(rt; told(rt, keep, Whom::Group)?, group);
+    assert_eq!(rt; told(rt, keep, station(1))?, one);
+    assert_eq!(rt; told(rt, keep, station(2))?, two);
+    assert_eq!(rt; told(rt, keep, station(3))?, three);
+    Ok(())
+}
+
+/// Puts units for the group, for station 2, for station 1, and once more for station 2.
+fn put_in_turn(rt: &impl Abort, alloc: Global, keep: &mut Keep) -> Result<(), NoMemory> {
+    put(rt, alloc, keep, Whom::Group, 2)?;
+    put(rt, alloc, keep, station(2), 3)?;
+    put(rt, alloc, keep, station(1), 4)?;
+    put(rt, alloc, keep, station(2), 5)
+}
+
 #[test]
 fn each_for_whom_units_are_kept_is_told_with_its_oldest(rt: HostRuntime) -> Result<(), Fail> {
     let mut keep = Keep::new(rt.alloc(), 9);
-    assert_eq!(rt; keep.oldest_of_each()?.len(), 0);
-    keep.put(Whom::Group, unit(rt.alloc(), 2))?;
-    keep.put(station(2), unit(rt.alloc(), 3))?;
-    keep.put(station(1), unit(rt.alloc(), 4))?;
-    keep.put(station(2), unit(rt.alloc(), 5))?;
-    assert_eq!(rt; keep.oldest_of_each()?.len(), 3);
-    assert_eq!(rt; told(&rt, &keep, Whom::Group)?, Some(2));
-    assert_eq!(rt; told(&rt, &keep, station(2))?, Some(3));
-    assert_eq!(rt; told(&rt, &keep, station(1))?, Some(4));
-    assert_eq!(rt; told(&rt, &keep, station(3))?, None);
+    tells(&rt, &keep, 0, [None; 4])?;
+    put_in_turn(&rt, rt.alloc(), &mut keep)?;
+    tells(&rt, &keep, 3, [Some(2), Some(4), Some(3), None])?;
     keep.oldest(station(2));
     keep.oldest(station(1));
-    assert_eq!(rt; told(&rt, &keep, station(2))?, Some(5));
-    assert_eq!(rt; told(&rt, &keep, station(1))?, None);
-    assert_eq!(rt; keep.oldest_of_each()?.len(), 2);
-    Ok(())
+    tells(&rt, &keep, 2, [Some(2), None, Some(5), None])
 }
 
 /// These counts of units must be kept for the stations 1 and 2 and for the group, and the first for station 1 must have
