@@ -14,6 +14,8 @@ mod beacon_tests;
 #[cfg(test)]
 mod bridge_tests;
 #[cfg(test)]
+mod digits_tests;
+#[cfg(test)]
 mod elements_tests;
 #[cfg(test)]
 mod mac_frame_tests;

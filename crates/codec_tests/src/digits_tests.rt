@@ -1,0 +1,71 @@
+//! Digits of each length up to more than two blocks of 16 octets, beside what `hex` makes of the same.
+
+use std::alloc::Global;
+use std::process::Abort;
+
+/// 40 octets, and their digits in both cases.
+const OCTETS: &[u8] =
+    b"\x1f\x54\x89\xbe\xf3\x28\x5d\x92\xc7\xfc\x31\x66\x9b\xd0\x05\x3a\x6f\xa4\xd9\x0e\
+    \x43\x78\xad\xe2\x17\x4c\x81\xb6\xeb\x20\x55\x8a\xbf\xf4\x29\x5e\x93\xc8\xfd\x32";
+
+const DIGITS: &[u8] = b"1F5489BEf3285d92c7FC31669BD0053a6fa4D90E\
+    4378aDe2174C81b6eb20558AbfF4295e93c8Fd32";
+
+/// Characters beside the digits, and octets beyond them.
+const OTHERS: &[u8] = b"/:@G`g \x00\x7f\x80\xb0\xff";
+
+/// What is read of a text must be what `hex` reads, or the same fault.
+fn reads_as_hex(rt: &impl Abort, alloc: Global, text: &[u8]) {
+    match (digits::decode(alloc, text), hex::decode(alloc, text)) {
+        (Ok(octets), Ok(wanted)) => assert_eq!(rt; octets.as_slice(), wanted.as_slice()),
+        (Err(fault), Err(wanted)) => assert_eq!(rt; fault, wanted),
+        _ => panic!(rt; "only one of them reads the text"),
+    }
+}
+
+#[test]
+fn digits_of_each_length_are_read(rt: HostRuntime) {
+    for len in 0..=DIGITS.len() {
+        reads_as_hex(&rt, rt.alloc(), &DIGITS[..len]);
+    }
+}
+
+/// A text with one other character, at each place.
+#[test]
+fn another_character_is_named_at_each_place(rt: HostRuntime) {
+    let mut text = [0; 80];
+    for place in 0..text.len() {
+        for other in OTHERS {
+            text.copy_from_slice(DIGITS);
+            text[place] = *other;
+            for octets in place / 2..=text.len() / 2 {
+                reads_as_hex(&rt, rt.alloc(), &text[..2 * octets]);
+            }
+        }
+    }
+}
+
+/// A text of each character, at both places of a pair.
+#[test]
+fn each_character_is_read(rt: HostRuntime) {
+    let mut text = [b'0'; 32];
+    for character in 0..=255 {
+        for place in [0, 13, 31] {
+            text[place] = character;
+            reads_as_hex(&rt, rt.alloc(), &text);
+            text[place] = b'0';
+        }
+    }
+}
+
+#[test]
+fn octets_of_each_length_are_written(rt: HostRuntime) {
+    let mut text = [b'-'; 80];
+    let mut wanted = [b'-'; 80];
+    for len in 0..=OCTETS.len() {
+        let octets = &OCTETS[..len];
+        digits::encode_to_slice(octets, &mut text[..2 * len]);
+        assert!(rt; hex::encode_to_slice(octets, &mut wanted[..2 * len]).is_ok());
+        assert_eq!(rt; text.as_slice(), wanted.as_slice());
+    }
+}

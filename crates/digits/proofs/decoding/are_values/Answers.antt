@@ -1,0 +1,8 @@
+use Rattle.digits.proofs.Marks.{small_first, small_second}
+use Rattle.digits.proofs.decoding.are_values.Goals as goal
+
+pub returns-clause-high : goal.returns-clause-high
+returns-clause-high c = small_first c.args.high c.args.low c.fits-high c.fits-low
+
+pub returns-clause-low : goal.returns-clause-low
+returns-clause-low c = small_second c.args.high c.args.low c.fits-high c.fits-low
