@@ -12,7 +12,7 @@ ghost use Rattle.hex.specs.Hex.{decode_of};
 
 use crate::fault::LineFault;
 use crate::read_fault::ReadFault;
-use crate::text::without_spaces_at_end;
+use crate::text::{place_of, without_spaces_at_end};
 use ap_config::NetConfig;
 use events::Line;
 use mac_frame::{MacAddr, NoMemory, Octets};
@@ -171,7 +171,7 @@ fn first_space(line: &[u8]) -> Option<usize>
 fn read_octets(alloc: Global, text: &[u8]) -> Result<Octets, ReadFault<LineFault>>
     ensures { Gives (λ octets. octets) read_ending result (octets_of text.now) }
 {
-    if !text.contains(&b' ') {
+    if place_of(b' ', text).is_none() {
         return read_digits(alloc, text);
     }
     let digits = without_spaces(alloc, text)?;
@@ -191,7 +191,7 @@ fn without_spaces(alloc: Global, text: &[u8]) -> Result<Vec<u8>, AllocError>
 fn read_digits(alloc: Global, digits: &[u8]) -> Result<Octets, ReadFault<LineFault>>
     ensures { Gives (λ octets. octets) read_ending result (within_limit (decode_of digits.now)) }
 {
-    let octets = hex::decode(alloc, digits)?;
+    let octets = digits::decode(alloc, digits)?;
     if octets.len() > MAX_OCTETS {
         return Err(ReadFault::At(LineFault::TooMany));
     }

@@ -127,7 +127,7 @@ impl<W: Sink> Buffered<'_, W> {
     {
         let mut digits = [0; 2 * OCTETS_AT_A_TIME];
         let pairs = &mut digits[..2 * octets.len()];
-        hex::encode_to_slice(octets, pairs).unwrap();
+        digits::encode_to_slice(octets, pairs);
         self.put(pairs);
     }
 
@@ -141,7 +141,7 @@ impl<W: Sink> Buffered<'_, W> {
         ensures flag { self.new.has_failed ≡ self.old.has_failed }
     {
         let end = self.len + 2 * octets.len();
-        hex::encode_to_slice(octets, &mut self.piece[self.len..end]).unwrap();
+        digits::encode_to_slice(octets, &mut self.piece[self.len..end]);
         self.len = end;
     }
 

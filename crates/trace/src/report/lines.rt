@@ -156,6 +156,6 @@ fn address_digits(address: MacAddr) -> [u8; 12]
     ensures address { IsAddress address }
 {
     let mut digits = [0; 12];
-    hex::encode_to_slice(address.octets().as_slice(), &mut digits).unwrap();
+    digits::encode_to_slice(address.octets().as_slice(), &mut digits);
     digits
 }
