@@ -8,6 +8,7 @@ ghost use Rattle.powersave.specs.Queues.{queue_for, unit_at, oldest_in, HasRoom,
 ghost use Rattle.powersave.specs.Queues.{Pops, Sends, Removes, MakesRoom, Pushes};
 
 use crate::unit::{Oldest, Unit, Whom};
+use address_hash::AddressHashes;
 use indexmap::IndexMap;
 use mac_frame::{HEADER_LEN, MacAddr, NoMemory, Octets, write_msdu};
 use std::alloc::Global;
@@ -25,7 +26,7 @@ pub(crate) struct Arrived {
 #[derive(Debug, Drop)]
 pub(crate) struct Queues {
     alloc: Global,
-    map: IndexMap<Whom, VecDeque<Arrived>>,
+    map: IndexMap<Whom, VecDeque<Arrived>, AddressHashes>,
 }
 
 impl Queues {
@@ -35,7 +36,7 @@ impl Queues {
     {
         Queues {
             alloc,
-            map: IndexMap::new(alloc),
+            map: IndexMap::with_hasher(alloc, AddressHashes::new()),
         }
     }
 
