@@ -1,4 +1,5 @@
 pub mod StationTables
+pub mod StationSlots
 pub mod StationsSound
 pub mod UnitsKept
 pub mod RosterAging

@@ -32,7 +32,7 @@ not-here true state rest h = absurd (cc)
 not-here false state rest h = (refl, h)
 
 -- another station that is not there does not come
-unknown-stays : (k a : List ℕ) (l : StationState) (t : Table) → bytes_eq k a ≡ false → state_of k t ≡ None → state_of k (set_state a l t) ≡ None
+pub unknown-stays : (k a : List ℕ) (l : StationState) (t : Table) → bytes_eq k a ≡ false → state_of k t ≡ None → state_of k (set_state a l t) ≡ None
 unknown-stays k a l [] other h = rw other refl
 unknown-stays k a l (e ∷ t) other h = by (bytes_eq a e.0) refl (not-here (bytes_eq k e.0) e.1 (state_of k t) h) (unknown-stays k a l t other)
   where
@@ -48,7 +48,7 @@ unknown-stays_forgotten k a (e ∷ t) h = by (bytes_eq a e.0) refl (not-here (by
     by true same parts later = rw same parts.1
     by false apart parts later = let away = parts.0 in rw (apart, away) (later parts.1)
 
-apart-set : (a : List ℕ) (l : StationState) (t : Table) → AreApart t → AreApart (set_state a l t)
+pub apart-set : (a : List ℕ) (l : StationState) (t : Table) → AreApart t → AreApart (set_state a l t)
 apart-set a l [] h = (refl, tt)
 apart-set a l (e ∷ t) h = by (bytes_eq a e.0) refl (apart-set a l t)
   where
@@ -56,7 +56,7 @@ apart-set a l (e ∷ t) h = by (bytes_eq a e.0) refl (apart-set a l t)
     by true same later = rw same h
     by false apart later = rw apart (unknown-stays e.0 a l t (other_way a e.0 apart) h.0, later h.1)
 
-apart-forgotten : (a : List ℕ) (t : Table) → AreApart t → AreApart (forget a t)
+pub apart-forgotten : (a : List ℕ) (t : Table) → AreApart t → AreApart (forget a t)
 apart-forgotten a [] h = tt
 apart-forgotten a (e ∷ t) h = by (bytes_eq a e.0) refl (apart-forgotten a t)
   where

@@ -8,6 +8,7 @@
 #![tactic(auto)]
 
 mod keeping;
+mod list;
 mod roster;
 mod table;
 

@@ -8,8 +8,8 @@ ghost use Rattle.stations.specs.Stations.{some_station_dozes, listen_with, may_a
 ghost use Rattle.stations.specs.Stations.{set_state, authenticate, associate, disassociate, forget, set_mode, with_mode};
 ghost use Rattle.stations.specs.Stations.{changed, IsAllowed, IsModeAlone};
 
+use crate::list::StationList;
 use aid_pool::AidPool;
-use indexmap::IndexMap;
 use mac_frame::{MAX_AID, MacAddr, NoMemory};
 use station_state::Standing;
 use std::alloc::Global;
@@ -62,7 +62,7 @@ pub enum Change {
 /// the list of the stations with their states. Each is found by its address without a walk over the list.
 #[derive(Drop)]
 pub struct Stations {
-    states: IndexMap<MacAddr, StationState>,
+    states: StationList,
     pool: AidPool,
     // how many doze
     dozing: usize,
@@ -74,9 +74,9 @@ impl Model for Stations {
 
     ghost Value = { StationTable };
 
-    ghost view = { λ s. record { most = s.pool.most; table = s.states.entries } };
+    ghost view = { λ s. record { most = s.pool.most; table = s.states } };
 
-    ghost invariant = { λ s. AreCounted s.pool.most s.pool.out s.dozing s.states.entries };
+    ghost invariant = { λ s. AreCounted s.pool.most s.pool.out s.dozing s.states };
 }
 
 impl Stations {
@@ -87,7 +87,7 @@ impl Stations {
         ensures { result ≡ record { most = most; table = [] } }
     {
         Stations {
-            states: IndexMap::new(alloc),
+            states: StationList::new(alloc),
             pool: AidPool::new(most),
             dozing: 0,
         }
@@ -105,15 +105,14 @@ impl Stations {
         requires { place < length self.now.table }
         ensures { slice_get self.now.table place ≡ Some result }
     {
-        let (addr, state) = self.states.get_index(place).unwrap();
-        (*addr, *state)
+        self.states.row(place)
     }
 
     /// The state of a station, or `None` where it is not known.
     pub fn state_of(&self, addr: MacAddr) -> Option<StationState>
         ensures { result ≡ state_of addr self.now.table }
     {
-        self.states.get(&addr).copied()
+        self.states.get(addr)
     }
 
     /// The association identifier of a station, if it is associated.
@@ -236,12 +235,12 @@ impl Stations {
         set_known(&mut self.states, addr, StationState::Authenticated);
     }
 
-    /// Forgets a station, whose identifier is free then. The others keep their order: this walks over those after it.
-    /// Nothing changes where it is not known.
+    /// Forgets a station, whose identifier is free then. The others keep their order, and none moves unless many have
+    /// left. Nothing changes where it is not known.
     pub fn forget(&mut self, addr: MacAddr)
         ensures { self.new ≡ with_table self.old (forget addr self.old.table) }
     {
-        let before = self.states.shift_remove(&addr);
+        let before = self.states.remove(addr);
         self.dozing -= usize::from(dozes_with(before));
         if let Some(aid) = aid_with(before) {
             self.pool.give(aid);
@@ -252,12 +251,10 @@ impl Stations {
     pub fn set_mode(&mut self, addr: MacAddr, doze: bool)
         ensures { self.new ≡ with_table self.old (set_mode addr doze self.old.table) }
     {
-        let Some(known) = self.states.get_mut(&addr) else {
+        let Some(before) = self.states.set_mode(addr, doze) else {
             return;
         };
-        let before = *known;
         let state = with_mode(before, doze);
-        *known = state;
         self.dozing -= usize::from(dozes_with(Some(before)));
         self.dozing += usize::from(dozes_with(Some(state)));
     }
@@ -309,7 +306,7 @@ fn state_with_mode(state: Option<StationState>, doze: bool) -> Option<StationSta
 }
 
 /// A state in another mode; a station that is not associated has no mode.
-fn with_mode(state: StationState, doze: bool) -> StationState
+pub(crate) fn with_mode(state: StationState, doze: bool) -> StationState
     ensures { result ≡ with_mode doze state }
 {
     match state {
@@ -333,11 +330,9 @@ pub fn aid_with(state: Option<StationState>) -> Option<u16>
 }
 
 /// Sets the state of a station that is known.
-fn set_known(states: &mut IndexMap<MacAddr, StationState>, addr: MacAddr, state: StationState)
-    requires { IsTrue (is_some (state_of addr states.old.entries)) }
-    ensures { states.new.entries ≡ set_state addr state states.old.entries }
+fn set_known(states: &mut StationList, addr: MacAddr, state: StationState)
+    requires { IsTrue (is_some (state_of addr states.old)) }
+    ensures { states.new ≡ set_state addr state states.old }
 {
-    if let Some(known) = states.get_mut(&addr) {
-        *known = state;
-    }
+    states.replace(addr, state);
 }

@@ -1,4 +1,4 @@
-use Rattle.std.proofs.Common.{◌≡◌, ◌≤◌, ◌+◌, not, length, drop}
+use Rattle.std.proofs.Common.{◌≡◌, ◌+◌, not, length, drop}
 use Rattle.std.specs.Prelude.{filter}
 use Rattle.stations.specs.Sound.{CameBy}
 use Rattle.stations.specs.KeptUnits.{is_too_old}

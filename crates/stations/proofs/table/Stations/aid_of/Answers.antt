@@ -11,6 +11,6 @@ in_range addr t (Some aid) is sound = range-of_associated addr t aid (sym is) so
 
 pub returns-clause-within : goal.returns-clause-within
 returns-clause-within c =
-    let t : Table = c.self.inside.states.entries in
+    let t : Table = c.self.inside.states in
     let table : c.args.self.now.table ≡ t = ap (λ (s : StationTable). s.table) (sym c.self.view_is) in
     in_range c.args.addr t c.aid_with.result (c.aid_with.ensures ∙ ap aid_with (c.state_of.ensures ∙ ap (state_of c.args.addr) table)) c.self.invariant.pool.sound

@@ -11,7 +11,7 @@ use Rattle.stations.proofs.table.Stations.associate.Goals.{in-Some, in-None}
 
 pub overflow_sub-self : goal.overflow_sub-self
 overflow_sub-self c =
-    let t : Table = c.self.inside.states.entries in
+    let t : Table = c.self.inside.states in
     let table : c.args.self.now.table ≡ t = ap (λ (s : StationTable). s.table) (sym c.self.view_is) in
     let state : c.state_of-before.result ≡ state_of c.args.addr t = c.state_of-before.ensures ∙ ap (state_of c.args.addr) table in
     let dozed : c.from.result ≡ dozing_at c.args.addr t = c.from.ensures ∙ ap from_bool (c.dozes_with.ensures ∙ ap dozes_with state) in
@@ -19,7 +19,7 @@ overflow_sub-self c =
 
 pub invariant_of-self : goal.invariant_of-self
 invariant_of-self c =
-    let t : Table = c.self.inside.states.entries in
+    let t : Table = c.self.inside.states in
     let table : c.args.self.now.table ≡ t = ap (λ (s : StationTable). s.table) (sym c.self.view_is) in
     let state : c.state_of-before.result ≡ state_of c.args.addr t = c.state_of-before.ensures ∙ ap (state_of c.args.addr) table in
     let dozed : c.from.result ≡ dozing_at c.args.addr t = c.from.ensures ∙ ap from_bool (c.dozes_with.ensures ∙ ap dozes_with state) in
@@ -48,7 +48,7 @@ invariant_of-self c =
 
 pub returns : goal.returns
 returns c =
-    let t : Table = c.self.inside.states.entries in
+    let t : Table = c.self.inside.states in
     let table : c.args.self.now.table ≡ t = ap (λ (s : StationTable). s.table) (sym c.self.view_is) in
     let state : c.state_of-before.result ≡ state_of c.args.addr t = c.state_of-before.ensures ∙ ap (state_of c.args.addr) table in
     elim c.match-aid_with.branch [

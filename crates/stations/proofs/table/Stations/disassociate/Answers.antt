@@ -7,7 +7,7 @@ use Rattle.stations.proofs.table.Stations.disassociate.Goals as goal
 
 pub overflow_sub-self : goal.overflow_sub-self
 overflow_sub-self c =
-    let t : Table = c.self.inside.states.entries in
+    let t : Table = c.self.inside.states in
     let table : c.args.self.now.table ≡ t = ap (λ (s : StationTable). s.table) (sym c.self.view_is) in
     let state : c.state_of-before.result ≡ state_of c.args.addr t = c.state_of-before.ensures ∙ ap (state_of c.args.addr) table in
     let dozed : c.from.result ≡ dozing_at c.args.addr t = c.from.ensures ∙ ap from_bool (c.dozes_with.ensures ∙ ap dozes_with state) in
@@ -15,7 +15,7 @@ overflow_sub-self c =
 
 pub give-requires : goal.give-requires
 give-requires c =
-    let t : Table = c.self.inside.states.entries in
+    let t : Table = c.self.inside.states in
     let table : c.args.self.now.table ≡ t = ap (λ (s : StationTable). s.table) (sym c.self.view_is) in
     let state : c.state_of-before.result ≡ state_of c.args.addr t = c.state_of-before.ensures ∙ ap (state_of c.args.addr) table in
     let had : aid_of c.args.addr t ≡ Some c.in-Some.aid = ap aid_with (sym state) ∙ sym c.in-Some.ensures in
@@ -23,7 +23,7 @@ give-requires c =
 
 pub invariant_of-self : goal.invariant_of-self
 invariant_of-self c =
-    let t : Table = c.self.inside.states.entries in
+    let t : Table = c.self.inside.states in
     let table : c.args.self.now.table ≡ t = ap (λ (s : StationTable). s.table) (sym c.self.view_is) in
     let state : c.state_of-before.result ≡ state_of c.args.addr t = c.state_of-before.ensures ∙ ap (state_of c.args.addr) table in
     let had : aid_of c.args.addr t ≡ Some c.in-Some.aid = ap aid_with (sym state) ∙ sym c.in-Some.ensures in
@@ -36,7 +36,7 @@ invariant_of-self c =
 
 pub returns : goal.returns
 returns c =
-    let t : Table = c.self.inside.states.entries in
+    let t : Table = c.self.inside.states in
     let table : c.args.self.now.table ≡ t = ap (λ (s : StationTable). s.table) (sym c.self.view_is) in
     let state : c.state_of-before.result ≡ state_of c.args.addr t = c.state_of-before.ensures ∙ ap (state_of c.args.addr) table in
     let had : aid_of c.args.addr t ≡ Some c.in-Some.aid = ap aid_with (sym state) ∙ sym c.in-Some.ensures in

@@ -8,7 +8,7 @@ use Rattle.stations.proofs.table.Stations.next_aid.Goals as goal
 
 pub returns-in-Some-clause-last : goal.returns-in-Some-clause-last
 returns-in-Some-clause-last c =
-    let t : Table = c.self.inside.states.entries in
+    let t : Table = c.self.inside.states in
     let table : c.args.self.now.table ≡ t = ap (λ (s : StationTable). s.table) (sym c.self.view_is) in
     let state : c.args.state ≡ state_of c.args.addr t = c.requires ∙ ap (state_of c.args.addr) table in
     let had : aid_of c.args.addr t ≡ Some c.in-Some.aid = ap aid_with (sym state) ∙ sym c.in-Some.ensures in
@@ -16,7 +16,7 @@ returns-in-Some-clause-last c =
 
 pub returns-in-None-clause-room : goal.returns-in-None-clause-room
 returns-in-None-clause-room c =
-    let t : Table = c.self.inside.states.entries in
+    let t : Table = c.self.inside.states in
     let table : c.args.self.now.table ≡ t = ap (λ (s : StationTable). s.table) (sym c.self.view_is) in
     let state : c.args.state ≡ state_of c.args.addr t = c.requires ∙ ap (state_of c.args.addr) table in
     let none : aid_of c.args.addr t ≡ None = ap aid_with (sym state) ∙ sym c.in-None.ensures in
@@ -25,7 +25,7 @@ returns-in-None-clause-room c =
 
 pub returns-in-None-clause-aid : goal.returns-in-None-clause-aid
 returns-in-None-clause-aid c =
-    let t : Table = c.self.inside.states.entries in
+    let t : Table = c.self.inside.states in
     let table : c.args.self.now.table ≡ t = ap (λ (s : StationTable). s.table) (sym c.self.view_is) in
     let state : c.args.state ≡ state_of c.args.addr t = c.requires ∙ ap (state_of c.args.addr) table in
     let none : aid_of c.args.addr t ≡ None = ap aid_with (sym state) ∙ sym c.in-None.ensures in

@@ -9,7 +9,7 @@ use Rattle.stations.proofs.table.Stations.some_dozes_after.Goals as goal
 
 pub returns-in_default : goal.returns-in_default
 returns-in_default c =
-    let t : Table = c.self.inside.states.entries in
+    let t : Table = c.self.inside.states in
     let table : c.args.self.now.table ≡ t = ap (λ (s : StationTable). s.table) (sym c.self.view_is) in
     ap (nat_lt 0) c.self.invariant.dozing ∙ sym (some-dozes t) ∙ ap some_station_dozes (sym table ∙ sym (nothing-changes c.args.change c.args.self.now.table c.requires c.in_default.not-SetMode))
 
@@ -24,7 +24,7 @@ returns-then-after c =
 pub returns-else-after : goal.returns-else-after
 returns-else-after c =
     let a = c.in-SetMode.addr in
-    let t : Table = c.self.inside.states.entries in
+    let t : Table = c.self.inside.states in
     let now : Table = c.args.self.now.table in
     let table : now ≡ t = ap (λ (s : StationTable). s.table) (sym c.self.view_is) in
     let is : (u : Table) → changed c.args.change u ≡ set_mode a c.in-SetMode.doze u = λ u. ap (λ (k : Change). changed k u) c.in-SetMode.is in

@@ -1,0 +1,584 @@
+-- The slots of the stations of a network: which stations they have, where each is found, and what the blocks count.
+use Rattle.std.proofs.Common.{◌≡◌, ℕ, zero, suc, ◌+◌, ◌-◌, ◌*◌, ◌<◌, ◌≤◌, Bool, true, false, cond, List, [], ◌∷◌, ◌++◌, length, take, drop, set, get_or, replicate, filter, count_by, slice_get, Option, Some, None, is_some, option_map, refl, sym, ap, subst, ◌∙◌, arith, inl, inr}
+use Rattle.std.specs.Prelude.{if◌then◌else◌, IfNone, OnErr}
+use Rattle.std.proofs.Common.{Result, Ok, Err}
+use Rattle.std.specs.Str.{bytes_eq}
+use Rattle.std.specs.Map.{lookup, set_value}
+use Rattle.std.proofs.lemmas.Bool.{both_ways, cases_lt}
+use Rattle.std.proofs.lemmas.List.{length-append, length-set, length-take, length-drop, take-append-drop, take-append-le, drop-append-le, take-set-le, drop-set-lt, drop-set-add, drop-drop, take_all, take_more, drop_more, length-take-le}
+use Rattle.std.proofs.lemmas.Option.{slice_get_within, get_or_from_slice_get}
+use Rattle.std.proofs.lemmas.List.Recursion.{is_count_by}
+use Rattle.std.proofs.lemmas.Slice.Eq.{bytes_eq-Decides}
+use Rattle.stations.specs.Stations.{Table, state_of, set_state, forget}
+use Rattle.stations.specs.Sound.{AreApart}
+use Rattle.stations.specs.Slots.{Slots, stations_in, slot_of, IsAt, AreFound, AreCounts, Tells, IsStationList}
+use Rattle.stations.proofs.StationTables.{set_value-is_set_state, set_state-unknown}
+use Rattle.stations.proofs.StationsSound.{apart-set, apart-forgotten, not-here}
+use Rattle.stations.specs.declared.table.StationState.{StationState}
+
+abbrev Station : Type 0
+Station = List ℕ × StationState
+
+abbrev Slot : Type 0
+Slot = Option (List ℕ × StationState)
+
+-- ---- addresses
+
+pub same_addr : (a b : List ℕ) → bytes_eq a b ≡ true → a ≡ b
+same_addr a b h = (bytes_eq-Decides a b).0 h
+
+pub equal_addr : (a : List ℕ) → bytes_eq a a ≡ true
+equal_addr a = (bytes_eq-Decides a a).1 refl
+
+other_addr : (a b : List ℕ) → bytes_eq a b ≡ false → bytes_eq b a ≡ false
+other_addr a b h = by (bytes_eq b a) refl
+  where
+    by : (r : Bool) → bytes_eq b a ≡ r → bytes_eq b a ≡ false
+    by false e = e
+    by true e = absurd (both_ways (bytes_eq a b) h (ap (bytes_eq a) (same_addr b a e) ∙ equal_addr a))
+
+-- ---- one slot further
+
+further : Option ℕ → Option ℕ
+further o = option_map (λ n. suc n) o
+
+further-some : (o : Option ℕ) (i : ℕ) → option_map (λ n. suc n) o ≡ Some i → (j : ℕ) × (o ≡ Some j) × (i ≡ suc j)
+further-some None i h = absurd (cc)
+further-some (Some j) i h = (j, refl, cc)
+
+further-none : (o : Option ℕ) → option_map (λ n. suc n) o ≡ None → o ≡ None
+further-none None h = refl
+further-none (Some j) h = absurd (cc)
+
+is_some-further : (o : Option ℕ) → is_some (option_map (λ n. suc n) o) ≡ is_some o
+is_some-further None = refl
+is_some-further (Some j) = refl
+
+none-from : {X : Type 0} (o : Option X) → is_some o ≡ false → o ≡ None
+none-from None h = refl
+none-from (Some x) h = absurd (both_ways true h refl)
+
+-- ---- where a station stands
+
+-- it has a slot exactly where it is known
+pub slot_of-known : (addr : List ℕ) (slots : Slots) → is_some (slot_of addr slots) ≡ is_some (state_of addr (stations_in slots))
+slot_of-known addr [] = refl
+slot_of-known addr (None ∷ slots) = is_some-further (slot_of addr slots) ∙ slot_of-known addr slots
+slot_of-known addr (Some e ∷ slots) = by (bytes_eq addr e.0) refl (slot_of-known addr slots)
+  where
+    by : (b : Bool) → bytes_eq addr e.0 ≡ b → is_some (slot_of addr slots) ≡ is_some (state_of addr (stations_in slots)) → is_some (slot_of addr (Some e ∷ slots)) ≡ is_some (state_of addr (stations_in (Some e ∷ slots)))
+    by true same later = rw same refl
+    by false other later = rw other (is_some-further (slot_of addr slots) ∙ later)
+
+pub slot_of-none : (addr : List ℕ) (slots : Slots) → state_of addr (stations_in slots) ≡ None → slot_of addr slots ≡ None
+slot_of-none addr slots h = none-from (slot_of addr slots) (slot_of-known addr slots ∙ ap is_some h)
+
+pub unknown-where : (addr : List ℕ) (slots : Slots) → slot_of addr slots ≡ None → state_of addr (stations_in slots) ≡ None
+unknown-where addr slots h = none-from (state_of addr (stations_in slots)) (sym (slot_of-known addr slots) ∙ ap is_some h)
+
+-- the station in a slot is the one that is found there
+
+at-further : (addr : List ℕ) (e : List ℕ × StationState) (slots : Slots) (i j : ℕ) (state : StationState) → bytes_eq addr e.0 ≡ false → i ≡ suc j → IsAt addr slots j state → IsAt addr (Some e ∷ slots) i state
+at-further addr e slots i j state other is h =
+    record { place = rw other (ap (option_map (λ n. suc n)) h.place ∙ ap (λ n. Some n) (sym is)); slot = subst (λ n. slice_get (Some e ∷ slots) n ≡ Some (Some (addr, state))) (sym is) h.slot; known = rw other h.known }
+
+pub slot_of-at : (addr : List ℕ) (slots : Slots) (i : ℕ) → slot_of addr slots ≡ Some i → (state : StationState) × IsAt addr slots i state
+slot_of-at addr [] i h = absurd (cc)
+slot_of-at addr (None ∷ slots) i h =
+    let s = further-some (slot_of addr slots) i h in
+    let r = slot_of-at addr slots s.0 s.1 in
+    (r.0, record { place = h; slot = subst (λ n. slice_get (None ∷ slots) n ≡ Some (Some (addr, r.0))) (sym s.2) r.1.slot; known = r.1.known })
+slot_of-at addr (Some e ∷ slots) i h = by (bytes_eq addr e.0) refl (slot_of-at addr slots)
+  where
+    by : (b : Bool) → bytes_eq addr e.0 ≡ b → ((j : ℕ) → slot_of addr slots ≡ Some j → (state : StationState) × IsAt addr slots j state) → (state : StationState) × IsAt addr (Some e ∷ slots) i state
+    by true same later =
+        let first : Some 0 ≡ Some i = sym (rw same refl) ∙ h in
+        let zeroth : i ≡ 0 = cc in
+        let name : e.0 ≡ addr = sym (same_addr addr e.0 same) in
+        (e.1, record { place = h; slot = rw zeroth (ap (λ (a : List ℕ). Some (Some (a, e.1))) name); known = rw same refl })
+    by false other later =
+        let rest : option_map (λ n. suc n) (slot_of addr slots) ≡ Some i = sym (rw other refl) ∙ h in
+        let s = further-some (slot_of addr slots) i rest in
+        let r = later s.0 s.1 in
+        (r.0, at-further addr e slots i s.0 r.0 other s.2 r.1)
+
+-- a station in a slot is known
+pub known-at : (slots : Slots) (i : ℕ) (station : List ℕ × StationState) → slice_get slots i ≡ Some (Some station) → is_some (state_of station.0 (stations_in slots)) ≡ true
+known-at [] i station h = absurd (cc)
+known-at (None ∷ slots) zero station h = absurd (cc)
+known-at (None ∷ slots) (suc i) station h = known-at slots i station h
+known-at (Some e ∷ slots) zero station h =
+    let same : e ≡ station = cc in
+    let here : bytes_eq station.0 e.0 ≡ true = ap (λ (k : List ℕ × StationState). bytes_eq station.0 k.0) same ∙ equal_addr station.0 in
+    rw here refl
+known-at (Some e ∷ slots) (suc i) station h = by (bytes_eq station.0 e.0) refl (known-at slots i station h)
+  where
+    by : (b : Bool) → bytes_eq station.0 e.0 ≡ b → is_some (state_of station.0 (stations_in slots)) ≡ true → is_some (state_of station.0 (stations_in (Some e ∷ slots))) ≡ true
+    by true same later = rw same refl
+    by false other later = rw other later
+
+-- and stands in none before it
+pub first-at : (slots : Slots) (i : ℕ) (station : List ℕ × StationState) → AreApart (stations_in slots) → slice_get slots i ≡ Some (Some station) → slot_of station.0 (take i slots) ≡ None
+first-at [] i station apart h = absurd (cc)
+first-at (x ∷ slots) zero station apart h = refl
+first-at (None ∷ slots) (suc i) station apart h = ap (option_map (λ n. suc n)) (first-at slots i station apart h)
+first-at (Some e ∷ slots) (suc i) station apart h = by (bytes_eq station.0 e.0) refl (first-at slots i station apart.1 h)
+  where
+    by : (b : Bool) → bytes_eq station.0 e.0 ≡ b → slot_of station.0 (take i slots) ≡ None → slot_of station.0 (Some e ∷ take i slots) ≡ None
+    by true same later =
+        let none : is_some (state_of station.0 (stations_in slots)) ≡ false = ap (λ (a : List ℕ). is_some (state_of a (stations_in slots))) (same_addr station.0 e.0 same) ∙ ap is_some apart.0 in
+        absurd (both_ways (is_some (state_of station.0 (stations_in slots))) none (known-at slots i station h))
+    by false other later = rw (other, later) refl
+
+-- ---- a state is set
+
+set-further : (addr : List ℕ) (state : StationState) (e : List ℕ × StationState) (slots : Slots) (i j : ℕ) → bytes_eq addr e.0 ≡ false → i ≡ suc j → stations_in (set slots j (Some (addr, state))) ≡ set_value (bytes_eq addr) (stations_in slots) state → stations_in (set (Some e ∷ slots) i (Some (addr, state))) ≡ set_value (bytes_eq addr) (e ∷ stations_in slots) state
+set-further addr state e slots i j other is h =
+    subst (λ n. stations_in (set (Some e ∷ slots) n (Some (addr, state))) ≡ set_value (bytes_eq addr) (e ∷ stations_in slots) state) (sym is)
+    (rw other (ap (λ (t : Table). e ∷ t) h))
+
+pub stations-set : (addr : List ℕ) (state : StationState) (slots : Slots) (i : ℕ) → slot_of addr slots ≡ Some i → stations_in (set slots i (Some (addr, state))) ≡ set_value (bytes_eq addr) (stations_in slots) state
+stations-set addr state [] i h = absurd (cc)
+stations-set addr state (None ∷ slots) i h =
+    let s = further-some (slot_of addr slots) i h in
+    subst (λ n. stations_in (set (None ∷ slots) n (Some (addr, state))) ≡ set_value (bytes_eq addr) (stations_in slots) state) (sym s.2) (stations-set addr state slots s.0 s.1)
+stations-set addr state (Some e ∷ slots) i h = by (bytes_eq addr e.0) refl (stations-set addr state slots)
+  where
+    by : (b : Bool) → bytes_eq addr e.0 ≡ b → ((j : ℕ) → slot_of addr slots ≡ Some j → stations_in (set slots j (Some (addr, state))) ≡ set_value (bytes_eq addr) (stations_in slots) state) → stations_in (set (Some e ∷ slots) i (Some (addr, state))) ≡ set_value (bytes_eq addr) (stations_in (Some e ∷ slots)) state
+    by true same later =
+        let first : Some 0 ≡ Some i = sym (rw same refl) ∙ h in
+        let zeroth : i ≡ 0 = cc in
+        rw (zeroth, same) (ap (λ (a : List ℕ). (a, state) ∷ stations_in slots) (same_addr addr e.0 same))
+    by false other later =
+        let rest : option_map (λ n. suc n) (slot_of addr slots) ≡ Some i = sym (rw other refl) ∙ h in
+        let s = further-some (slot_of addr slots) i rest in
+        set-further addr state e slots i s.0 other s.2 (later s.0 s.1)
+
+pub found-set : (b : List ℕ) (slots : Slots) (i : ℕ) (addr : List ℕ) (before state : StationState) → slice_get slots i ≡ Some (Some (addr, before)) → slot_of b (set slots i (Some (addr, state))) ≡ slot_of b slots
+found-set b [] i addr before state h = absurd (cc)
+found-set b (None ∷ slots) zero addr before state h = absurd (cc)
+found-set b (None ∷ slots) (suc i) addr before state h = ap (option_map (λ n. suc n)) (found-set b slots i addr before state h)
+found-set b (Some e ∷ slots) zero addr before state h =
+    let same : e ≡ (addr, before) = cc in
+    let name : addr ≡ e.0 = sym (ap (λ (k : List ℕ × StationState). k.0) same) in
+    ap (λ (a : List ℕ). if bytes_eq b a then Some 0 else option_map (λ n. suc n) (slot_of b slots)) name
+found-set b (Some e ∷ slots) (suc i) addr before state h = ap (λ (o : Option ℕ). if bytes_eq b e.0 then Some 0 else option_map (λ n. suc n) o) (found-set b slots i addr before state h)
+
+pub count-set : (slots : Slots) (i : ℕ) (station new : List ℕ × StationState) → slice_get slots i ≡ Some (Some station) → length (stations_in (set slots i (Some new))) ≡ length (stations_in slots)
+count-set [] i station new h = absurd (cc)
+count-set (None ∷ slots) zero station new h = absurd (cc)
+count-set (None ∷ slots) (suc i) station new h = count-set slots i station new h
+count-set (Some e ∷ slots) zero station new h = refl
+count-set (Some e ∷ slots) (suc i) station new h = ap (λ n. suc n) (count-set slots i station new h)
+
+-- ---- a station is taken out
+
+out-further : (addr : List ℕ) (e : List ℕ × StationState) (slots : Slots) (i j : ℕ) → bytes_eq addr e.0 ≡ false → i ≡ suc j → stations_in (set slots j None) ≡ forget addr (stations_in slots) → stations_in (set (Some e ∷ slots) i None) ≡ forget addr (e ∷ stations_in slots)
+out-further addr e slots i j other is h =
+    subst (λ n. stations_in (set (Some e ∷ slots) n None) ≡ forget addr (e ∷ stations_in slots)) (sym is)
+    (rw other (ap (λ (t : Table). e ∷ t) h))
+
+pub stations-out : (addr : List ℕ) (slots : Slots) (i : ℕ) → slot_of addr slots ≡ Some i → stations_in (set slots i None) ≡ forget addr (stations_in slots)
+stations-out addr [] i h = absurd (cc)
+stations-out addr (None ∷ slots) i h =
+    let s = further-some (slot_of addr slots) i h in
+    subst (λ n. stations_in (set (None ∷ slots) n None) ≡ forget addr (stations_in slots)) (sym s.2) (stations-out addr slots s.0 s.1)
+stations-out addr (Some e ∷ slots) i h = by (bytes_eq addr e.0) refl (stations-out addr slots)
+  where
+    by : (b : Bool) → bytes_eq addr e.0 ≡ b → ((j : ℕ) → slot_of addr slots ≡ Some j → stations_in (set slots j None) ≡ forget addr (stations_in slots)) → stations_in (set (Some e ∷ slots) i None) ≡ forget addr (stations_in (Some e ∷ slots))
+    by true same later =
+        let first : Some 0 ≡ Some i = sym (rw same refl) ∙ h in
+        let zeroth : i ≡ 0 = cc in
+        rw (zeroth, same) refl
+    by false other later =
+        let rest : option_map (λ n. suc n) (slot_of addr slots) ≡ Some i = sym (rw other refl) ∙ h in
+        let s = further-some (slot_of addr slots) i rest in
+        out-further addr e slots i s.0 other s.2 (later s.0 s.1)
+
+further-cond : (b : Bool) (o p : Option ℕ) → option_map (λ n. suc n) (cond b o p) ≡ cond b (option_map (λ n. suc n) o) (option_map (λ n. suc n) p)
+further-cond true o p = refl
+further-cond false o p = refl
+
+-- another station's slot stays, past a station that is not in question
+past-other : (b : List ℕ) (addr : List ℕ) (e : List ℕ × StationState) (o p : Option ℕ) → bytes_eq addr e.0 ≡ false → (if bytes_eq b e.0 then Some 0 else option_map (λ n. suc n) (cond (bytes_eq addr b) o p)) ≡ cond (bytes_eq addr b) (option_map (λ n. suc n) o) (if bytes_eq b e.0 then Some 0 else option_map (λ n. suc n) p)
+past-other b addr e o p other = by (bytes_eq addr b) refl
+  where
+    by : (r : Bool) → bytes_eq addr b ≡ r → (if bytes_eq b e.0 then Some 0 else option_map (λ n. suc n) (cond (bytes_eq addr b) o p)) ≡ cond (bytes_eq addr b) (option_map (λ n. suc n) o) (if bytes_eq b e.0 then Some 0 else option_map (λ n. suc n) p)
+    by true same =
+        let away : bytes_eq b e.0 ≡ false = ap (λ (a : List ℕ). bytes_eq a e.0) (sym (same_addr addr b same)) ∙ other in
+        rw (same, away) refl
+    by false apart = rw apart refl
+
+pub found-out : (b addr : List ℕ) (slots : Slots) (i : ℕ) → AreApart (stations_in slots) → slot_of addr slots ≡ Some i → slot_of b (set slots i None) ≡ cond (bytes_eq addr b) None (slot_of b slots)
+found-out b addr [] i apart h = absurd (cc)
+found-out b addr (None ∷ slots) i apart h =
+    let s = further-some (slot_of addr slots) i h in
+    subst (λ n. slot_of b (set (None ∷ slots) n None) ≡ cond (bytes_eq addr b) None (slot_of b (None ∷ slots))) (sym s.2)
+    (ap (option_map (λ n. suc n)) (found-out b addr slots s.0 apart s.1) ∙ further-cond (bytes_eq addr b) None (slot_of b slots))
+found-out b addr (Some e ∷ slots) i apart h = by (bytes_eq addr e.0) refl (λ j. found-out b addr slots j apart.1)
+  where
+    here : (r : Bool) → bytes_eq addr b ≡ r → bytes_eq addr e.0 ≡ true → option_map (λ n. suc n) (slot_of b slots) ≡ cond r None (if bytes_eq b e.0 then Some 0 else option_map (λ n. suc n) (slot_of b slots))
+    here true is same =
+        let name : e.0 ≡ b = sym (same_addr addr e.0 same) ∙ same_addr addr b is in
+        let none : slot_of b slots ≡ None = slot_of-none b slots (ap (λ (a : List ℕ). state_of a (stations_in slots)) (sym name) ∙ apart.0) in
+        ap (option_map (λ n. suc n)) none
+    here false other same =
+        let away : bytes_eq b e.0 ≡ false = ap (bytes_eq b) (sym (same_addr addr e.0 same)) ∙ other_addr addr b other in
+        rw away refl
+
+    by : (r : Bool) → bytes_eq addr e.0 ≡ r → ((j : ℕ) → slot_of addr slots ≡ Some j → slot_of b (set slots j None) ≡ cond (bytes_eq addr b) None (slot_of b slots)) → slot_of b (set (Some e ∷ slots) i None) ≡ cond (bytes_eq addr b) None (slot_of b (Some e ∷ slots))
+    by true same later =
+        let first : Some 0 ≡ Some i = sym (rw same refl) ∙ h in
+        let zeroth : i ≡ 0 = cc in
+        rw zeroth (here (bytes_eq addr b) refl same)
+    by false other later =
+        let rest : option_map (λ n. suc n) (slot_of addr slots) ≡ Some i = sym (rw other refl) ∙ h in
+        let s = further-some (slot_of addr slots) i rest in
+        subst (λ n. slot_of b (set (Some e ∷ slots) n None) ≡ cond (bytes_eq addr b) None (slot_of b (Some e ∷ slots))) (sym s.2)
+        (ap (λ (o : Option ℕ). if bytes_eq b e.0 then Some 0 else option_map (λ n. suc n) o) (later s.0 s.1) ∙ past-other b addr e None (slot_of b slots) other)
+
+pub count-out : (slots : Slots) (i : ℕ) (station : List ℕ × StationState) → slice_get slots i ≡ Some (Some station) → length (stations_in (set slots i None)) + 1 ≡ length (stations_in slots)
+count-out [] i station h = absurd (cc)
+count-out (None ∷ slots) zero station h = absurd (cc)
+count-out (None ∷ slots) (suc i) station h = count-out slots i station h
+count-out (Some e ∷ slots) zero station h = omega arith
+count-out (Some e ∷ slots) (suc i) station h = let rest = count-out slots i station h in omega (arith, rest)
+
+-- ---- a station comes last
+
+pub stations-append : (s t : Slots) → stations_in (s ++ t) ≡ stations_in s ++ stations_in t
+stations-append [] t = refl
+stations-append (None ∷ s) t = stations-append s t
+stations-append (Some e ∷ s) t = ap (λ (k : Table). e ∷ k) (stations-append s t)
+
+pub found-last : (b addr : List ℕ) (state : StationState) (slots : Slots) → slot_of addr slots ≡ None → slot_of b (slots ++ Some (addr, state) ∷ []) ≡ cond (bytes_eq addr b) (Some (length slots)) (slot_of b slots)
+found-last b addr state [] h = by (bytes_eq addr b) refl
+  where
+    by : (r : Bool) → bytes_eq addr b ≡ r → slot_of b (Some (addr, state) ∷ []) ≡ cond (bytes_eq addr b) (Some 0) None
+    by true same = let here : bytes_eq b addr ≡ true = ap (λ (a : List ℕ). bytes_eq a addr) (sym (same_addr addr b same)) ∙ equal_addr addr in rw (same, here) refl
+    by false other = let away : bytes_eq b addr ≡ false = other_addr addr b other in rw (other, away) refl
+found-last b addr state (None ∷ slots) h =
+    ap (option_map (λ n. suc n)) (found-last b addr state slots (further-none (slot_of addr slots) h)) ∙ further-cond (bytes_eq addr b) (Some (length slots)) (slot_of b slots)
+found-last b addr state (Some e ∷ slots) h = by (bytes_eq addr e.0) refl (found-last b addr state slots)
+  where
+    by : (r : Bool) → bytes_eq addr e.0 ≡ r → (slot_of addr slots ≡ None → slot_of b (slots ++ Some (addr, state) ∷ []) ≡ cond (bytes_eq addr b) (Some (length slots)) (slot_of b slots)) → slot_of b (Some e ∷ (slots ++ Some (addr, state) ∷ [])) ≡ cond (bytes_eq addr b) (Some (suc (length slots))) (slot_of b (Some e ∷ slots))
+    by true same later = let found : ◌≡◌ {A = Option ℕ} (Some 0) None = sym (rw same refl) ∙ h in absurd (cc)
+    by false other later =
+        let rest : option_map (λ n. suc n) (slot_of addr slots) ≡ None = sym (rw other refl) ∙ h in
+        ap (λ (o : Option ℕ). if bytes_eq b e.0 then Some 0 else option_map (λ n. suc n) o) (later (further-none (slot_of addr slots) rest)) ∙ past-other b addr e (Some (length slots)) (slot_of b slots) other
+
+-- ---- what the blocks count
+
+pub counts-within : (size : ℕ) (counts : List ℕ) (slots : Slots) → AreCounts size counts slots → length counts * size ≤ length slots
+counts-within size [] slots h = omega arith
+counts-within size (c ∷ counts) slots h =
+    let rest = counts-within size counts (drop size slots) h.2 in
+    let here = h.0 in
+    omega (arith, rest, here, length-drop size slots)
+
+pub counts-append : (size : ℕ) (counts : List ℕ) (slots more : Slots) → AreCounts size counts slots → AreCounts size counts (slots ++ more)
+counts-append size [] slots more h = tt
+counts-append size (c ∷ counts) slots more h =
+    let within : size ≤ length slots = h.0 in (
+      omega (arith, within, length-append slots more),
+      h.1 ∙ ap (λ (s : Slots). length (stations_in s)) (sym (take-append-le size slots more within)),
+      subst (AreCounts size counts) (sym (drop-append-le size slots more within)) (counts-append size counts (drop size slots) more h.2),
+    )
+
+pub counts-next : (size first n : ℕ) (counts : List ℕ) (slots : Slots) → first ≡ length counts * size → first + size ≤ length slots → n ≡ length (stations_in (take size (drop first slots))) → AreCounts size counts slots → AreCounts size (counts ++ n ∷ []) slots
+counts-next size first n [] slots at within count h =
+    let none : first ≡ 0 = omega (arith, at) in
+    (omega (arith, within), count ∙ ap (λ k. length (stations_in (take size (drop k slots)))) none, tt)
+counts-next size first n (c ∷ counts) slots at within count h =
+    let here : size ≤ length slots = h.0 in
+    let later : first ≡ size + length counts * size = omega (arith, at) in (
+      here,
+      h.1,
+      counts-next size (length counts * size) n counts (drop size slots) refl (omega (arith, within, later, length-drop size slots))
+          (count ∙ ap (λ k. length (stations_in (take size (drop k slots)))) later ∙ ap (λ (s : Slots). length (stations_in (take size s))) (sym (drop-drop (length counts * size) size slots))) h.2,
+    )
+
+slice_get-take : (n : ℕ) (slots : Slots) (i : ℕ) → i < n → slice_get (take n slots) i ≡ slice_get slots i
+slice_get-take zero slots i h = absurd (omega (arith, h))
+slice_get-take (suc n) [] i h = refl
+slice_get-take (suc n) (x ∷ slots) zero h = refl
+slice_get-take (suc n) (x ∷ slots) (suc i) h = slice_get-take n slots i (omega (arith, h))
+
+slice_get-drop : (n : ℕ) (slots : Slots) (i : ℕ) → slice_get (drop n slots) i ≡ slice_get slots (n + i)
+slice_get-drop zero slots i = let same : i ≡ 0 + i = omega arith in ap (slice_get slots) same
+slice_get-drop (suc n) [] i = refl
+slice_get-drop (suc n) (x ∷ slots) i = let same : suc (n + i) ≡ suc n + i = omega arith in slice_get-drop n slots i ∙ ap (slice_get (x ∷ slots)) same
+
+take-set-lt : (n : ℕ) (slots : Slots) (i : ℕ) (x : Option (List ℕ × StationState)) → i < n → take n (set slots i x) ≡ set (take n slots) i x
+take-set-lt zero slots i x h = absurd (omega (arith, h))
+take-set-lt (suc n) [] i x h = refl
+take-set-lt (suc n) (y ∷ slots) zero x h = refl
+take-set-lt (suc n) (y ∷ slots) (suc i) x h = ap (λ (s : Slots). y ∷ s) (take-set-lt n slots i x (omega (arith, h)))
+
+-- a block in which the number of stations changes from one to another
+pub counts-set : (size : ℕ) (counts : List ℕ) (slots : Slots) (i : ℕ) (station new : List ℕ × StationState) → slice_get slots i ≡ Some (Some station) → AreCounts size counts slots → AreCounts size counts (set slots i (Some new))
+counts-set size [] slots i station new at h = tt
+counts-set size (c ∷ counts) slots i station new at h = elim (cases_lt i size) [
+  | inl before ↦ (
+    omega (arith, h.0, length-set slots i (Some new)),
+    h.1 ∙ sym (count-set (take size slots) i station new (slice_get-take size slots i before ∙ at)) ∙ ap (λ (s : Slots). length (stations_in s)) (sym (take-set-lt size slots i (Some new) before)),
+    subst (AreCounts size counts) (sym (drop-set-lt size slots i (Some new) before)) h.2,
+  )
+  | inr behind ↦
+      let j : ℕ = i - size in
+      let sum : i ≡ size + j = omega (arith, behind) in (
+        omega (arith, h.0, length-set slots i (Some new)),
+        h.1 ∙ ap (λ (s : Slots). length (stations_in s)) (sym (take-set-le size slots i (Some new) behind)),
+        subst (AreCounts size counts) (sym (ap (λ k. drop size (set slots k (Some new))) sum ∙ drop-set-add size slots j (Some new)))
+            (counts-set size counts (drop size slots) j station new (slice_get-drop size slots j ∙ ap (slice_get slots) (sym sum) ∙ at) h.2),
+      )
+]
+
+-- the count of a block of which one station is taken out
+pub record IsCountOut (size : ℕ) (counts : List ℕ) (slots : Slots) (b i : ℕ) : Type 0 where
+  pub some : b < length counts → 1 ≤ get_or counts b 0
+  pub after : AreCounts size (set counts b (get_or counts b 0 - 1)) (set slots i None)
+
+pub counts-out : (size : ℕ) (counts : List ℕ) (slots : Slots) (b i r : ℕ) (station : List ℕ × StationState) → i ≡ b * size + r → r < size → slice_get slots i ≡ Some (Some station) → AreCounts size counts slots → IsCountOut size counts slots b i
+counts-out size [] slots b i r station is low at h = record { some = λ k. absurd (omega (arith, k)); after = tt }
+counts-out size (c ∷ counts) slots zero i r station is low at h =
+    let before : i < size = omega (arith, is, low) in
+    let one = count-out (take size slots) i station (slice_get-take size slots i before ∙ at) in
+    let same : length (stations_in (take size (set slots i None))) ≡ length (stations_in (set (take size slots) i None)) = ap (λ (s : Slots). length (stations_in s)) (take-set-lt size slots i None before) in
+    let count = h.1 in
+    record {
+      some = λ k. omega (arith, one, count);
+      after = (
+        omega (arith, h.0, length-set slots i None),
+        omega (arith, one, count, same),
+        subst (AreCounts size counts) (sym (drop-set-lt size slots i None before)) h.2,
+      );
+    }
+counts-out size (c ∷ counts) slots (suc b) i r station is low at h =
+    let j : ℕ = b * size + r in
+    let sum : i ≡ size + j = omega (arith, is) in
+    let rest = counts-out size counts (drop size slots) b j r station refl low (slice_get-drop size slots j ∙ ap (slice_get slots) (sym sum) ∙ at) h.2 in
+    record {
+      some = λ k. rest.some (omega (arith, k));
+      after = (
+        omega (arith, h.0, length-set slots i None),
+        h.1 ∙ ap (λ (s : Slots). length (stations_in s)) (sym (take-set-le size slots i None (omega (arith, sum)))),
+        subst (AreCounts size (set counts b (get_or counts b 0 - 1))) (sym (ap (λ k. drop size (set slots k None)) sum ∙ drop-set-add size slots j None)) rest.after,
+      );
+    }
+
+-- ---- slots without a hole
+
+past-from_none : (t : Table) (i : ℕ) → slice_get t i ≡ None → length t ≤ i
+past-from_none [] i h = omega arith
+past-from_none (e ∷ t) zero h = absurd (cc)
+past-from_none (e ∷ t) (suc i) h = let rest = past-from_none t i h in omega (arith, rest)
+
+pub few-stations : (slots : Slots) → length (stations_in slots) ≤ length slots
+few-stations [] = omega arith
+few-stations (None ∷ slots) = let rest = few-stations slots in omega (arith, rest)
+few-stations (Some e ∷ slots) = let rest = few-stations slots in omega (arith, rest)
+
+-- the place of a station is its slot
+pub full-at : (slots : Slots) (i : ℕ) → length (stations_in slots) ≡ length slots → slice_get slots i ≡ option_map (λ (e : List ℕ × StationState). Some e) (slice_get (stations_in slots) i)
+full-at [] i full = refl
+full-at (None ∷ slots) i full = let rest = few-stations slots in absurd (omega (arith, rest, full))
+full-at (Some e ∷ slots) zero full = refl
+full-at (Some e ∷ slots) (suc i) full = full-at slots i (omega (arith, full))
+
+full-parts : (n : ℕ) (slots : Slots) → length (stations_in slots) ≡ length slots → (length (stations_in (take n slots)) ≡ length (take n slots)) × (length (stations_in (drop n slots)) ≡ length (drop n slots))
+full-parts n slots full =
+    let whole : length (stations_in (take n slots) ++ stations_in (drop n slots)) ≡ length slots = ap length (sym (stations-append (take n slots) (drop n slots))) ∙ ap (λ (s : Slots). length (stations_in s)) (take-append-drop n slots) ∙ full in
+    let parts = length-append (stations_in (take n slots)) (stations_in (drop n slots)) in
+    let both = length-append (take n slots) (drop n slots) in
+    let all : length (take n slots ++ drop n slots) ≡ length slots = ap length (take-append-drop n slots) in
+    let low = few-stations (take n slots) in
+    let high = few-stations (drop n slots) in
+    (omega (arith, whole, parts, both, all, low, high), omega (arith, whole, parts, both, all, low, high))
+
+pub full-counts : (size n : ℕ) (slots : Slots) → length (stations_in slots) ≡ length slots → n * size ≤ length slots → AreCounts size (replicate n size) slots
+full-counts size zero slots full within = tt
+full-counts size (suc n) slots full within =
+    let parts = full-parts size slots full in
+    let here : size ≤ length slots = omega (arith, within) in
+    let block = parts.0 in (
+      here,
+      omega (arith, block, length-take size slots, here),
+      full-counts size n (drop size slots) parts.1 (omega (arith, within, length-drop size slots)),
+    )
+
+-- ---- the stations are moved together
+
+pub stations-kept : (slots : Slots) → (stations_in (filter is_some slots) ≡ stations_in slots) × (length (filter is_some slots) ≡ length (stations_in slots))
+stations-kept [] = (refl, refl)
+stations-kept (None ∷ slots) = stations-kept slots
+stations-kept (Some e ∷ slots) = let rest = stations-kept slots in (ap (λ (t : Table). e ∷ t) rest.0, ap (λ n. suc n) rest.1)
+
+-- ---- a place among the stations
+
+slice_get-behind : (s t : Table) (i : ℕ) → length s ≤ i → slice_get (s ++ t) i ≡ slice_get t (i - length s)
+slice_get-behind [] t i h = let same : i ≡ i - 0 = omega arith in ap (slice_get t) same
+slice_get-behind (e ∷ s) t zero h = absurd (omega (arith, h))
+slice_get-behind (e ∷ s) t (suc i) h = let same : i - length s ≡ suc i - suc (length s) = omega arith in slice_get-behind s t i (omega (arith, h)) ∙ ap (slice_get t) same
+
+pub behind-block : (size : ℕ) (slots : Slots) (count i : ℕ) → count ≡ length (stations_in (take size slots)) → count ≤ i → slice_get (stations_in (drop size slots)) (i - count) ≡ slice_get (stations_in slots) i
+behind-block size slots count i is behind =
+    let s = stations_in (take size slots) in
+    let t = stations_in (drop size slots) in
+    let whole : s ++ t ≡ stations_in slots = sym (stations-append (take size slots) (drop size slots)) ∙ ap stations_in (take-append-drop size slots) in
+    ap (λ k. slice_get t (i - k)) is ∙ sym (slice_get-behind s t i (omega (arith, is, behind))) ∙ ap (λ (k : Table). slice_get k i) whole
+
+-- one block further
+pub counts-step : (size : ℕ) (counts : List ℕ) (i : ℕ) (slots : Slots) → i < length counts → AreCounts size (drop i counts) slots → (size ≤ length slots) × (get_or counts i 0 ≡ length (stations_in (take size slots))) × AreCounts size (drop (i + 1) counts) (drop size slots)
+counts-step size counts i slots low h = subst (λ (cs : List ℕ). AreCounts size cs slots) (drop_more counts i 0 low) h
+
+-- ---- the index is mended
+
+-- the first of two slots that is there
+abbrev pub or_else : Option ℕ → Option ℕ → Option ℕ
+or_else None o = o
+or_else (Some n) o = Some n
+
+-- the stations before a slot have their slots in the index, and the others those that they had
+abbrev pub IsMendedTo : ℕ → Slots → (old new : List (List ℕ × ℕ)) → Type 0
+IsMendedTo k slots old new = (addr : List ℕ) → lookup (bytes_eq addr) new ≡ or_else (slot_of addr (take k slots)) (lookup (bytes_eq addr) old)
+
+-- an index has the stations of these slots, wherever it says that they are
+abbrev pub HasStations : List (List ℕ × ℕ) → Slots → Type 0
+HasStations index slots = (addr : List ℕ) → is_some (lookup (bytes_eq addr) index) ≡ is_some (state_of addr (stations_in slots))
+
+or_else-cond : (b : Bool) (o p q : Option ℕ) (n : ℕ) → o ≡ Some n → or_else (cond b o p) q ≡ cond b o (or_else p q)
+or_else-cond true o p q n h = rw h refl
+or_else-cond false o p q n h = refl
+
+or_else-some : (o p : Option ℕ) → is_some p ≡ true → is_some (or_else o p) ≡ true
+or_else-some None p h = h
+or_else-some (Some n) p h = refl
+
+pub found-hole : (b : List ℕ) (slots : Slots) → slot_of b (slots ++ None ∷ []) ≡ slot_of b slots
+found-hole b [] = refl
+found-hole b (None ∷ slots) = ap (option_map (λ n. suc n)) (found-hole b slots)
+found-hole b (Some e ∷ slots) = ap (λ (o : Option ℕ). if bytes_eq b e.0 then Some 0 else option_map (λ n. suc n) o) (found-hole b slots)
+
+taken-at : (slots : Slots) (k : ℕ) (x : Option (List ℕ × StationState)) → slice_get slots k ≡ Some x → take (k + 1) slots ≡ take k slots ++ x ∷ []
+taken-at slots k x h =
+    let within : k < length slots = slice_get_within slots k x h in
+    take_more slots k x within ∙ ap (λ (y : Option (List ℕ × StationState)). take k slots ++ y ∷ []) (get_or_from_slice_get slots k x x h)
+
+-- the index has each station that it is told of
+pub mended-has : (slots : Slots) (k : ℕ) (old now : List (List ℕ × ℕ)) (station : List ℕ × StationState) → slice_get slots k ≡ Some (Some station) → HasStations old slots → IsMendedTo k slots old now → is_some (lookup (bytes_eq station.0) now) ≡ true
+mended-has slots k old now station at has h =
+    ap is_some (h station.0) ∙ or_else-some (slot_of station.0 (take k slots)) (lookup (bytes_eq station.0) old) (has station.0 ∙ known-at slots k station at)
+
+pub mended-past_hole : (slots : Slots) (k : ℕ) (old new : List (List ℕ × ℕ)) → slice_get slots k ≡ Some None → IsMendedTo k slots old new → IsMendedTo (k + 1) slots old new
+mended-past_hole slots k old new at h addr =
+    h addr ∙ ap (λ (o : Option ℕ). or_else o (lookup (bytes_eq addr) old)) (sym (ap (slot_of addr) (taken-at slots k None at) ∙ found-hole addr (take k slots)))
+
+pub mended-more : (slots : Slots) (k : ℕ) (old now new : List (List ℕ × ℕ)) (station : List ℕ × StationState) → AreApart (stations_in slots) → slice_get slots k ≡ Some (Some station)
+    → ((q : List ℕ) → lookup (bytes_eq q) new ≡ cond (bytes_eq station.0 q) (Some k) (lookup (bytes_eq q) now)) → IsMendedTo k slots old now → IsMendedTo (k + 1) slots old new
+mended-more slots k old now new station apart at written h addr =
+    let within : k < length slots = slice_get_within slots k (Some station) at in
+    let len : length (take k slots) ≡ k = length-take-le k slots (omega (arith, within)) in
+    let here : slot_of addr (take (k + 1) slots) ≡ cond (bytes_eq station.0 addr) (Some k) (slot_of addr (take k slots)) =
+    ap (slot_of addr) (taken-at slots k (Some station) at) ∙ found-last addr station.0 station.1 (take k slots) (first-at slots k station apart at)
+    ∙ ap (λ n. cond (bytes_eq station.0 addr) (Some n) (slot_of addr (take k slots))) len in
+    written addr ∙ ap (cond (bytes_eq station.0 addr) (Some k)) (h addr) ∙ sym (or_else-cond (bytes_eq station.0 addr) (Some k) (slot_of addr (take k slots)) (lookup (bytes_eq addr) old) k refl)
+    ∙ ap (λ (o : Option ℕ). or_else o (lookup (bytes_eq addr) old)) (sym here)
+
+pub mended-step : (x : Option (List ℕ × StationState)) (slots : Slots) (k : ℕ) (old now new : List (List ℕ × ℕ)) → slice_get slots k ≡ Some x → AreApart (stations_in slots) → HasStations old slots → Tells x k now new → IsMendedTo k slots old now → IsMendedTo (k + 1) slots old new
+mended-step None slots k old now new at apart has told h = mended-past_hole slots k old new at (subst (IsMendedTo k slots old) (sym told) h)
+mended-step (Some station) slots k old now new at apart has told h =
+    mended-more slots k old now new station apart at (told (mended-has slots k old now station at has h)) h
+
+pub mended-all : (slots : Slots) (old new : List (List ℕ × ℕ)) → HasStations old slots → IsMendedTo (length slots) slots old new → AreFound new slots
+mended-all slots old new has h addr =
+    h addr ∙ ap (λ (s : Slots). or_else (slot_of addr s) (lookup (bytes_eq addr) old)) (take_all (length slots) slots (omega arith)) ∙ by (slot_of addr slots) refl
+  where
+    by : (o : Option ℕ) → slot_of addr slots ≡ o → or_else o (lookup (bytes_eq addr) old) ≡ slot_of addr slots
+    by None is = none-from (lookup (bytes_eq addr) old) (has addr ∙ sym (slot_of-known addr slots) ∙ ap is_some is) ∙ sym is
+    by (Some n) is = sym is
+
+-- ---- how many there are
+
+pub counted-by : (slots : Slots) → length (stations_in slots) ≡ count_by is_some slots
+counted-by = is_count_by (λ (s : Slots). length (stations_in s)) is_some refl step
+  where
+    step : (x : Option (List ℕ × StationState)) (s : Slots) → length (stations_in (x ∷ s)) ≡ cond (is_some x) (1 + length (stations_in s)) (length (stations_in s))
+    step None s = refl
+    step (Some e) s = omega arith
+
+-- ---- what is read
+
+pub read-found : (addr : List ℕ) (index : List (List ℕ × ℕ)) (slots : Slots) (i : ℕ) → AreFound index slots → lookup (bytes_eq addr) index ≡ Some i → (state : StationState) × IsAt addr slots i state
+read-found addr index slots i found h = slot_of-at addr slots i (sym (found addr) ∙ h)
+
+pub full-row : (slots : Slots) (place : ℕ) (x : Option (List ℕ × StationState)) → length (stations_in slots) ≡ length slots → place < length (stations_in slots) → x ≡ get_or slots place x → (station : List ℕ × StationState) × (x ≡ Some station) × (slice_get (stations_in slots) place ≡ Some station)
+full-row slots place x full low read = by (slice_get (stations_in slots) place) refl
+  where
+    by : (o : Option (List ℕ × StationState)) → slice_get (stations_in slots) place ≡ o → (station : List ℕ × StationState) × (x ≡ Some station) × (slice_get (stations_in slots) place ≡ Some station)
+    by None is = absurd (let past : length (stations_in slots) ≤ place = past-from_none (stations_in slots) place is in omega (arith, past, low))
+    by (Some e) is =
+        let at : slice_get slots place ≡ Some (Some e) = full-at slots place full ∙ ap (option_map (λ (k : List ℕ × StationState). Some k)) is in
+        (e, read ∙ get_or_from_slice_get slots place (Some e) x at, is)
+
+pub some-at : (t : Table) (i : ℕ) → i < length t → is_some (slice_get t i) ≡ true
+some-at [] i h = absurd (omega (arith, h))
+some-at (e ∷ t) zero h = refl
+some-at (e ∷ t) (suc i) h = some-at t i (omega (arith, h))
+
+pub if_none-from : {X : Type 0} (o : Option X) (P : Type 0) → P → IfNone o P
+if_none-from None P p = p
+if_none-from (Some x) P p = tt
+
+-- ---- the list after a change
+
+pub stations-set_state : (addr : List ℕ) (slots : Slots) (i : ℕ) (before state : StationState) → IsAt addr slots i before → stations_in (set slots i (Some (addr, state))) ≡ set_state addr state (stations_in slots)
+stations-set_state addr slots i before state at =
+    stations-set addr state slots i at.place ∙ set_value-is_set_state addr state (stations_in slots) (ap is_some at.known)
+
+pub list-set : (index : List (List ℕ × ℕ)) (slots : Slots) (holes : ℕ) (counts : List ℕ) (addr : List ℕ) (i : ℕ) (before state : StationState) → IsStationList index slots holes counts → IsAt addr slots i before → IsStationList index (set slots i (Some (addr, state))) holes counts
+list-set index slots holes counts addr i before state l at = record {
+  apart = subst AreApart (sym (stations-set_state addr slots i before state at)) (apart-set addr state (stations_in slots) l.apart);
+  found = λ q. l.found q ∙ sym (found-set q slots i addr before state at.slot);
+  rest = omega (arith, l.rest, count-set slots i (addr, before) (addr, state) at.slot, length-set slots i (Some (addr, state)));
+  counted = counts-set 64 counts slots i (addr, before) (addr, state) at.slot l.counted;
+}
+
+pub list-out : (old new : List (List ℕ × ℕ)) (slots : Slots) (holes : ℕ) (counts : List ℕ) (addr : List ℕ) (i b r : ℕ) (before : StationState) → i ≡ b * 64 + r → r < 64 → IsStationList old slots holes counts → IsAt addr slots i before
+    → ((q : List ℕ) → lookup (bytes_eq q) new ≡ cond (bytes_eq addr q) None (lookup (bytes_eq q) old)) → IsStationList new (set slots i None) (holes + 1) (set counts b (get_or counts b 0 - 1))
+list-out old new slots holes counts addr i b r before is low l at left = record {
+  apart = subst AreApart (sym (stations-out addr slots i at.place)) (apart-forgotten addr (stations_in slots) l.apart);
+  found = λ q. left q ∙ ap (cond (bytes_eq addr q) None) (l.found q) ∙ sym (found-out q addr slots i l.apart at.place);
+  rest = omega (arith, l.rest, count-out slots i (addr, before) at.slot, length-set slots i None);
+  counted = (counts-out 64 counts slots b i r (addr, before) is low at.slot l.counted).after;
+}
+
+pub stations-last : (addr : List ℕ) (state : StationState) (slots : Slots) → stations_in (slots ++ Some (addr, state) ∷ []) ≡ stations_in slots ++ (addr, state) ∷ []
+stations-last addr state slots = stations-append slots (Some (addr, state) ∷ [])
+
+pub list-last : (old new : List (List ℕ × ℕ)) (slots : Slots) (holes : ℕ) (counts : List ℕ) (addr : List ℕ) (state : StationState) → IsStationList old slots holes counts → state_of addr (stations_in slots) ≡ None
+    → ((q : List ℕ) → lookup (bytes_eq q) new ≡ cond (bytes_eq addr q) (Some (length slots)) (lookup (bytes_eq q) old)) → IsStationList new (slots ++ Some (addr, state) ∷ []) holes counts
+list-last old new slots holes counts addr state l unknown put = record {
+  apart = subst AreApart (set_state-unknown addr state (stations_in slots) unknown ∙ sym (stations-last addr state slots)) (apart-set addr state (stations_in slots) l.apart);
+  found = λ q. put q ∙ ap (cond (bytes_eq addr q) (Some (length slots))) (l.found q) ∙ sym (found-last q addr state slots (slot_of-none addr slots unknown));
+  rest = omega (arith, l.rest, ap length (stations-last addr state slots), length-append (stations_in slots) ((addr, state) ∷ []), length-append slots (Some (addr, state) ∷ []));
+  counted = counts-append 64 counts slots (Some (addr, state) ∷ []) l.counted;
+}
+
+-- a station that is not known is not set
+pub set_value-unknown : (addr : List ℕ) (state : StationState) (t : Table) → state_of addr t ≡ None → set_value (bytes_eq addr) t state ≡ t
+set_value-unknown addr state [] h = refl
+set_value-unknown addr state (e ∷ t) h = by (bytes_eq addr e.0) refl (not-here (bytes_eq addr e.0) e.1 (state_of addr t) h) (set_value-unknown addr state t)
+  where
+    by : (b : Bool) → bytes_eq addr e.0 ≡ b → (bytes_eq addr e.0 ≡ false) × (state_of addr t ≡ None) → (state_of addr t ≡ None → set_value (bytes_eq addr) t state ≡ t) → set_value (bytes_eq addr) (e ∷ t) state ≡ e ∷ t
+    by true same parts later = absurd (both_ways (bytes_eq addr e.0) parts.0 same)
+    by false other parts later = rw other (ap (λ (s : Table). e ∷ s) (later parts.1))
+
+pub on_err-from : {T E : Type 0} (r : Result T E) (P : Type 0) → P → OnErr r P
+on_err-from (Ok x) P p = tt
+on_err-from (Err e) P p = p
+
+-- the state of the station in a slot is set
+pub put-at : (addr : List ℕ) (slots : Slots) (i : ℕ) (before state : StationState) (x new : Option (List ℕ × StationState)) → IsAt addr slots i before → x ≡ get_or slots i x → new ≡ option_map (λ (station : List ℕ × StationState). (station.0, state)) x → new ≡ Some (addr, state)
+put-at addr slots i before state x new at read put =
+    put ∙ ap (option_map (λ (station : List ℕ × StationState). (station.0, state))) (read ∙ get_or_from_slice_get slots i (Some (addr, before)) x at.slot)

@@ -1,0 +1,32 @@
+use Rattle.std.proofs.Common.{set, ◌≡◌, None, Some, ◌∙◌, sym, ap, subst, arith}
+use Rattle.std.proofs.lemmas.Option.{slice_get_within}
+use Rattle.std.specs.Map.{set_value}
+use Rattle.std.specs.Str.{bytes_eq}
+use Rattle.stations.specs.Stations.{Table, state_of}
+use Rattle.stations.specs.Slots.{Slots, IsAt, IsStationList, stations_in}
+use Rattle.stations.proofs.StationSlots.{put-at, list-set, stations-set, set_value-unknown}
+use Rattle.stations.proofs.list.StationList.replace.Goals as goal
+
+pub returns-in_err-slot-clause-stations : goal.returns-in_err-slot-clause-stations
+returns-in_err-slot-clause-stations c =
+    let none : state_of c.args.addr c.args.self.now ≡ None = ap (state_of c.args.addr) (sym c.self.view_is ∙ ap stations_in (sym c.as_slice.ensures.value)) ∙ c.in_err-slot.ensures.unknown in
+    sym (set_value-unknown c.args.addr c.args.state c.args.self.now none)
+
+pub index_mut-requires : goal.index_mut-requires
+index_mut-requires c =
+    let at : IsAt c.args.addr c.self.inside.slots.items c.in_ok-slot.slot c.in_ok-slot.before = subst (λ (s : Slots). IsAt c.args.addr s c.in_ok-slot.slot c.in_ok-slot.before) c.as_slice.ensures.value c.in_ok-slot.ensures.known in
+    let within = slice_get_within c.self.inside.slots.items c.in_ok-slot.slot (Some (c.args.addr, c.in_ok-slot.before)) at.slot in
+    omega (arith, within)
+
+pub invariant_of-self : goal.invariant_of-self
+invariant_of-self c =
+    let at : IsAt c.args.addr c.self.inside.slots.items c.in_ok-slot.slot c.in_ok-slot.before = subst (λ (s : Slots). IsAt c.args.addr s c.in_ok-slot.slot c.in_ok-slot.before) c.as_slice.ensures.value c.in_ok-slot.ensures.known in
+    let put : c.put_state.new.slot ≡ Some (c.args.addr, c.args.state) = put-at c.args.addr c.self.inside.slots.items c.in_ok-slot.slot c.in_ok-slot.before c.args.state c.index_mut.result.now c.put_state.new.slot at c.index_mut.ensures.value c.put_state.ensures in
+    subst (λ x. IsStationList c.self.inside.index.entries (set c.self.inside.slots.items c.in_ok-slot.slot x) c.self.inside.holes c.self.inside.counts.items) (sym put)
+    (list-set c.self.inside.index.entries c.self.inside.slots.items c.self.inside.holes c.self.inside.counts.items c.args.addr c.in_ok-slot.slot c.in_ok-slot.before c.args.state c.self.invariant at)
+
+pub returns-clause-stations : goal.returns-clause-stations
+returns-clause-stations c =
+    let at : IsAt c.args.addr c.self.inside.slots.items c.in_ok-slot.slot c.in_ok-slot.before = subst (λ (s : Slots). IsAt c.args.addr s c.in_ok-slot.slot c.in_ok-slot.before) c.as_slice.ensures.value c.in_ok-slot.ensures.known in
+    let put : c.put_state.new.slot ≡ Some (c.args.addr, c.args.state) = put-at c.args.addr c.self.inside.slots.items c.in_ok-slot.slot c.in_ok-slot.before c.args.state c.index_mut.result.now c.put_state.new.slot at c.index_mut.ensures.value c.put_state.ensures in
+    ap (λ x. stations_in (set c.self.inside.slots.items c.in_ok-slot.slot x)) put ∙ stations-set c.args.addr c.args.state c.self.inside.slots.items c.in_ok-slot.slot at.place ∙ ap (λ (t : Table). set_value (bytes_eq c.args.addr) t c.args.state) c.self.view_is

@@ -1,0 +1,330 @@
+//! The stations of a network in order of first authentication, each found by its address.
+//!
+//! A station stands in a slot, in that order, and leaves a hole where it is taken out, so that no other moves. Where
+//! holes are many the stations are moved together: that takes no memory, and a few steps for each station that left.
+
+ghost use Rattle.std.specs.Prelude.{◌≡◌, ◌<◌, ◌≤◌, ◌-◌, ◌++◌, ◌∷◌, [], ℕ, List, length, replicate, slice_get};
+ghost use Rattle.std.specs.Prelude.{slice_set, slice_index, is_some, Some, None, OnOk, OnErr, IfOk, IfSome, IfNone, option_map};
+ghost use Rattle.std.specs.Map.{lookup, set_value};
+ghost use Rattle.std.specs.Str.{bytes_eq};
+ghost use Rattle.stations.specs.Stations.{state_of, set_state, forget, set_mode};
+ghost use Rattle.stations.specs.Sound.{AreApart};
+ghost use Rattle.stations.specs.Slots.{stations_in, IsAt, AreFound, AreCounts, Tells};
+
+use crate::table::{StationState, with_mode};
+use indexmap::IndexMap;
+use mac_frame::{MacAddr, NoMemory};
+use std::alloc::Global;
+use std::marker::Model;
+
+/// How many slots are a block, as `AreCounts` has it in the list's invariant.
+const BLOCK: usize = 64;
+
+/// How many holes are few, whatever the number of slots.
+const FEW: usize = 64;
+
+/// A station with its state, or the hole where one was.
+type Slot = Option<(MacAddr, StationState)>;
+
+/// The stations with their states, in order of first authentication. Contracts see this list.
+#[derive(Drop)]
+pub(crate) struct StationList {
+    // the slot of each station
+    index: IndexMap<MacAddr, usize>,
+    slots: Vec<Slot>,
+    // how many slots are holes
+    holes: usize,
+    // how many stations each of the first blocks of slots has, so that a place is found without a walk over all slots
+    counts: Vec<usize>,
+}
+
+impl Model for StationList {
+    ghost use Rattle.stations.specs.Stations.{Table};
+    ghost use Rattle.stations.specs.Slots.{stations_in, IsStationList};
+
+    ghost Value = { Table };
+
+    ghost view = { λ l. stations_in l.slots.items };
+
+    ghost invariant = { λ l. IsStationList l.index.entries l.slots.items l.holes l.counts.items };
+}
+
+impl StationList {
+    /// No station. It takes no memory.
+    pub(crate) fn new(alloc: Global) -> StationList
+        ensures { result ≡ [] }
+    {
+        StationList {
+            index: IndexMap::new(alloc),
+            slots: Vec::new(alloc),
+            holes: 0,
+            counts: Vec::new(alloc),
+        }
+    }
+
+    /// How many stations it has.
+    pub(crate) fn len(&self) -> usize
+        ensures { result ≡ length self.now }
+    {
+        self.slots.len() - self.holes
+    }
+
+    /// The station at a place, from 0, with its state.
+    pub(crate) fn row(&self, place: usize) -> (MacAddr, StationState)
+        requires { place < length self.now }
+        ensures { slice_get self.now place ≡ Some result }
+    {
+        if self.holes == 0 {
+            // The place is the slot.
+            return self.slots[place].unwrap();
+        }
+        let (slots, left) = skip_blocks(self.slots.as_slice(), self.counts.as_slice(), place);
+        nth(slots, left).unwrap()
+    }
+
+    /// The state of a station, or `None` where it is not known.
+    pub(crate) fn get(&self, addr: MacAddr) -> Option<StationState>
+        ensures { result ≡ state_of addr self.now }
+    {
+        let (_, state) = find(&self.index, self.slots.as_slice(), addr)?;
+        Some(state)
+    }
+
+    /// Sets the state of a station: a known one keeps its place, an unknown one goes last. It answers the state before.
+    /// `NoMemory`, and no change, can come for an unknown station alone.
+    pub(crate) fn insert(
+        &mut self,
+        addr: MacAddr,
+        state: StationState,
+    ) -> Result<Option<StationState>, NoMemory>
+        ensures old { IfOk result (λ old. old ≡ state_of addr self.old) }
+        ensures stations { OnOk result (self.new ≡ set_state addr state self.old) }
+        ensures err { OnErr result (self.new ≡ self.old) }
+        ensures unknown { OnErr result (state_of addr self.old ≡ None) }
+    {
+        if let Some(before) = self.replace(addr, state) {
+            return Ok(Some(before));
+        }
+        self.add(addr, state)?;
+        Ok(None)
+    }
+
+    /// Puts an unknown station last. After `NoMemory` nothing has changed.
+    fn add(&mut self, addr: MacAddr, state: StationState) -> Result<(), NoMemory>
+        requires { state_of addr self.old ≡ None }
+        ensures ok { OnOk result (self.new ≡ self.old ++ (addr, state) ∷ []) }
+        ensures err { OnErr result (self.new ≡ self.old) }
+    {
+        count_next(self.slots.as_slice(), &mut self.counts)?;
+        self.slots.reserve(1)?;
+        self.index.insert(addr, self.slots.len())?;
+        self.slots.push_reserved(Some((addr, state)));
+        Ok(())
+    }
+
+    /// Sets the state of a known station, and answers the state before. Nothing changes where it is not known.
+    pub(crate) fn replace(&mut self, addr: MacAddr, state: StationState) -> Option<StationState>
+        ensures old { result ≡ state_of addr self.old }
+        ensures stations { self.new ≡ set_value (bytes_eq addr) self.old state }
+    {
+        let (slot, before) = find(&self.index, self.slots.as_slice(), addr)?;
+        put_state(&mut self.slots[slot], state);
+        Some(before)
+    }
+
+    /// Sets the mode of a station, and answers its state before. Nothing changes where it is not associated.
+    pub(crate) fn set_mode(&mut self, addr: MacAddr, doze: bool) -> Option<StationState>
+        ensures old { result ≡ state_of addr self.old }
+        ensures stations { self.new ≡ set_mode addr doze self.old }
+    {
+        let (slot, before) = find(&self.index, self.slots.as_slice(), addr)?;
+        put_state(&mut self.slots[slot], with_mode(before, doze));
+        Some(before)
+    }
+
+    /// Takes out a station, and answers the state that it had. The others keep their order.
+    pub(crate) fn remove(&mut self, addr: MacAddr) -> Option<StationState>
+        ensures old { result ≡ state_of addr self.old }
+        ensures stations { self.new ≡ forget addr self.old }
+    {
+        let before = self.leave_hole(addr);
+        self.close_up();
+        before
+    }
+
+    /// Takes out a station, which leaves a hole, and answers the state that it had.
+    fn leave_hole(&mut self, addr: MacAddr) -> Option<StationState>
+        ensures old { result ≡ state_of addr self.old }
+        ensures stations { self.new ≡ forget addr self.old }
+    {
+        let slot = self.index.swap_remove(&addr)?;
+        let left = self.slots[slot];
+        self.slots[slot] = None;
+        self.holes += 1;
+        count_one_less(&mut self.counts, slot / BLOCK);
+        state_in(left)
+    }
+
+    /// Moves the stations together where holes are many: more than a few, and than a third of all slots.
+    fn close_up(&mut self)
+        ensures { self.new ≡ self.old }
+    {
+        if self.holes > FEW && self.holes > self.slots.len() / 3 {
+            close_up(&mut self.index, &mut self.slots, &mut self.counts);
+            self.holes = 0;
+        }
+    }
+}
+
+/// The state of the station in a slot, if it has one.
+fn state_in(slot: Slot) -> Option<StationState>
+    ensures { result ≡ option_map (λ station. station.1) slot }
+{
+    slot.map(|(_, state)| state)
+}
+
+/// Sets the state of the station in a slot, if it has one.
+fn put_state(slot: &mut Slot, state: StationState)
+    ensures { slot.new ≡ option_map (λ station. (station.0, state)) slot.old }
+{
+    if let Some((_, known)) = slot {
+        *known = state;
+    }
+}
+
+/// The slot of a station and its state, or `None` where it is not known.
+#[inline(always)]
+fn find(
+    index: &IndexMap<MacAddr, usize>,
+    slots: &[Slot],
+    addr: MacAddr,
+) -> Option<(usize, StationState)>
+    requires { AreFound index.now.entries slots.now }
+    ensures known { IfSome result (λ found. IsAt addr slots.now found.0 found.1) }
+    ensures unknown { IfNone result (state_of addr (stations_in slots.now) ≡ None) }
+{
+    let slot = *index.get(&addr)?;
+    let (_, state) = slots[slot]?;
+    Some((slot, state))
+}
+
+/// The station that `n` others stand before.
+fn nth(slots: &[Slot], n: usize) -> Option<(MacAddr, StationState)>
+    ensures { result ≡ slice_get (stations_in slots.now) n }
+{
+    let mut left = n;
+    for slot in slots {
+        if let Some(station) = slot {
+            if left == 0 {
+                return Some(*station);
+            }
+            left -= 1;
+        }
+    }
+    None
+}
+
+/// The slots behind the counted blocks whose stations all stand before a place, and that place among the stations of
+/// those slots.
+fn skip_blocks<'a>(slots: &'a [Slot], counts: &[usize], place: usize) -> (&'a [Slot], usize)
+    requires { AreCounts BLOCK counts.now slots.now }
+    ensures { slice_get (stations_in result.0.now) result.1 ≡ slice_get (stations_in slots.now) place }
+{
+    let mut rest = slots;
+    let mut left = place;
+    for count in counts {
+        if left < *count {
+            break;
+        }
+        left -= *count;
+        (_, rest) = rest.split_at(BLOCK);
+    }
+    (rest, left)
+}
+
+/// Counts the stations of the first block that is not counted, if its last slot is there.
+fn count_next(slots: &[Slot], counts: &mut Vec<usize>) -> Result<(), NoMemory>
+    requires { AreCounts BLOCK counts.old.items slots.now }
+    ensures { AreCounts BLOCK counts.new.items slots.now }
+{
+    let slot_count = slots.len();
+    let first = counts.len() * BLOCK;
+    if slot_count - first >= BLOCK {
+        counts.push(count_in(&slots[first..first + BLOCK]))?;
+    }
+    Ok(())
+}
+
+/// Counts one station less in a block, if it is counted.
+fn count_one_less(counts: &mut Vec<usize>, block: usize)
+    requires { block < length counts.old.items → 1 ≤ slice_index counts.old.items block }
+    ensures { counts.new.items ≡ slice_set counts.old.items block (slice_index counts.old.items block - 1) }
+{
+    if let Some(count) = counts.get_mut(block) {
+        *count -= 1;
+    }
+}
+
+/// How many stations these slots have.
+fn count_in(slots: &[Slot]) -> usize
+    ensures { result ≡ length (stations_in slots.now) }
+{
+    slots.iter().filter(|slot| slot.is_some()).count()
+}
+
+/// Moves the stations together, so that no slot is a hole, and tells the index where each stands then.
+fn close_up(index: &mut IndexMap<MacAddr, usize>, slots: &mut Vec<Slot>, counts: &mut Vec<usize>)
+    requires apart { AreApart (stations_in slots.old.items) }
+    requires known { (addr : List ℕ) → is_some (lookup (bytes_eq addr) index.old.entries)
+        ≡ is_some (state_of addr (stations_in slots.old.items)) }
+    ensures stations { stations_in slots.new.items ≡ stations_in slots.old.items }
+    ensures full { length (stations_in slots.new.items) ≡ length slots.new.items }
+    ensures found { AreFound index.new.entries slots.new.items }
+    ensures counts { AreCounts BLOCK counts.new.items slots.new.items }
+{
+    drop_holes(slots);
+    mend(index, slots.as_slice());
+    count_full(counts, slots.len() / BLOCK);
+}
+
+/// Moves the stations together, so that no slot is a hole.
+fn drop_holes(slots: &mut Vec<Slot>)
+    ensures stations { stations_in slots.new.items ≡ stations_in slots.old.items }
+    ensures full { length (stations_in slots.new.items) ≡ length slots.new.items }
+{
+    slots.retain(|slot| slot.is_some());
+}
+
+/// Counts the blocks that are counted, but no more than this number, as blocks without a hole.
+fn count_full(counts: &mut Vec<usize>, blocks: usize)
+    ensures full { counts.new.items ≡ replicate (length counts.new.items) BLOCK }
+    ensures few { length counts.new.items ≤ blocks }
+{
+    counts.truncate(blocks);
+    counts.as_mut_slice().fill(BLOCK);
+}
+
+/// Tells the index of some stations the slot in which each of them stands.
+fn mend(index: &mut IndexMap<MacAddr, usize>, slots: &[Slot])
+    requires apart { AreApart (stations_in slots.now) }
+    requires known { (addr : List ℕ) → is_some (lookup (bytes_eq addr) index.old.entries)
+        ≡ is_some (state_of addr (stations_in slots.now)) }
+    ensures { AreFound index.new.entries slots.now }
+{
+    for (place, slot) in slots.iter().enumerate() {
+        tell(index, slot, place);
+    }
+}
+
+/// Tells the index where the station in a slot stands, if there is one.
+fn tell(index: &mut IndexMap<MacAddr, usize>, slot: &Slot, place: usize)
+    ensures { Tells slot.now place index.old.entries index.new.entries }
+{
+    let Some((addr, _)) = slot else {
+        return;
+    };
+    let Some(found) = index.get_mut(addr) else {
+        return;
+    };
+    *found = place;
+}
