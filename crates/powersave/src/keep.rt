@@ -91,6 +91,10 @@ impl Keep {
     pub fn count_for(&self, whom: Whom) -> usize
         ensures { result ≡ length (units_for whom self.now.entries) }
     {
+        if self.is_empty() {
+            // No queue has a unit, so none is looked for.
+            return 0;
+        }
         self.queues.count_for(&whom)
     }
 
@@ -220,6 +224,10 @@ impl Keep {
         ensures each { IfOk result (λ oldest. AreOldest oldest.items self.now.entries) }
         ensures once { IfOk result (λ oldest. AreToldOnce oldest.items) }
     {
+        if self.is_empty() {
+            // No queue has a unit, so none is looked at.
+            return Ok(Vec::new(self.queues.alloc()));
+        }
         self.queues.oldest_of_each()
     }
 

@@ -40,6 +40,11 @@ impl Queues {
         }
     }
 
+    /// What the queues take their memory from.
+    pub(crate) fn alloc(&self) -> Global {
+        self.alloc
+    }
+
     /// How many units the queue for `whom` has.
     pub(crate) fn count_for(&self, whom: &Whom) -> usize
         ensures { result ≡ length (queue_for whom.now self.now.map.entries) }
@@ -65,10 +70,11 @@ impl Queues {
         let mut oldest = Vec::with_capacity(self.alloc, self.map.len())?;
         for (whom, queue) in self.map.iter() {
             if let Some(first) = queue.get(0) {
-                oldest.push(Oldest {
+                // There is room for each queue.
+                oldest.push_reserved(Oldest {
                     whom: *whom,
                     at: first.unit.at,
-                })?;
+                });
             }
         }
         Ok(oldest)
