@@ -16,7 +16,7 @@ mod input;
 use fault::{Fault, show_fault};
 use files::{open_file, read_file, read_traces};
 use input::{STANDARD_INPUT, run_input};
-use replay::{check_text, report_stream};
+use replay::{check_text, run_stream};
 use replay_play::report_play;
 use std::io::ErrorKind;
 use std::process::ExitCode;
@@ -74,11 +74,9 @@ fn run<T: Threads + Wait + Sync>(rt: &HostRuntime, threads: &T) -> Result<(), Fa
         Task::Run { config, trace } => {
             let config = read_file(rt, config)?;
             let mut source = Counted::new(open_file(rt, trace)?);
-            let sections = report_stream(alloc, config.as_slice(), &mut source, &mut out).map_err(
+            run_stream(alloc, config.as_slice(), &mut source, &mut out).map_err(
                 |fault| Fault::of_stream(alloc, fault, trace),
-            )?;
-            end_with(sections);
-            Ok(())
+            )
         }
         Task::Live { config } => {
             let config = read_file(rt, config)?;

@@ -13,3 +13,6 @@ pub mod AnswerLemmas
 pub mod StreamEnds
 pub mod ReplayRows
 pub mod AnswerRows
+pub mod FrameSteps
+pub mod LogSteps
+pub mod LogLines

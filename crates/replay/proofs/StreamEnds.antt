@@ -4,7 +4,9 @@ use Rattle.std.proofs.KnownBytes.{Consumes-nil, Keeps-refl}
 use Rattle.std.specs.Io.KnownBytes.{Appends}
 use Rattle.ap_config.specs.declared.config.RadioConfig.{RadioConfig}
 use Rattle.ap_config.specs.declared.config.ConfigFault.{ConfigFault}
+use Rattle.events.specs.declared.line.Line.{Line}
 use Rattle.events.specs.declared.section.Section.{Section}
+use Rattle.network.specs.Section.{sections_of_lines}
 use Rattle.trace.specs.ConfigurationText.{configuration_of}
 use Rattle.trace.specs.Endings.{Well, Refused, OutOfMemory, IsFaultOf, Ends, failures_of}
 use Rattle.trace.specs.Faults.{read_as, read_ending, report_as}
@@ -19,7 +21,7 @@ use Rattle.trace.specs.declared.report.ReportFault.{ReportFault}
 use Rattle.trace.specs.declared.report.ReportFault.TheVariants as reports
 use Rattle.trace.proofs.EndingLemmas.{part_written, whole_written}
 use Rattle.replay.specs.Answer.{answer_of}
-use Rattle.replay.specs.Stream.{ReplaysStream, RunsStream, IsStreamFault, StopsIn, max_reads, stream_ending}
+use Rattle.replay.specs.Stream.{TakesWhole, ReplaysStream, RunsStream, IsStreamFault, StopsIn, max_reads, stream_ending}
 use Rattle.replay.specs.declared.fault.StreamFault.{StreamFault}
 use Rattle.replay.specs.declared.fault.StreamFault.TheVariants.{Config, Trace, NoMemory, Read, Write}
 use Rattle.replay.proofs.AnswerLemmas.{config_ends, trace_ends, answer_of-sections}
@@ -165,3 +167,20 @@ whole_runs items made u c ct old new is s written failures =
       end = (s.end.0, whole_written (answer_of ct s.text) _ _ _ answer written);
       failures = failures;
     }
+
+-- ---- networks that keep no history
+
+-- a run that ended before hands out nothing
+pub none-reported : {A : Type 0} (taken : A → List Line → Type 0) (e : StreamFault) (c : RadioConfig)
+    (old new : SourceView) → TakesWhole taken (Err e) c old new → ReplaysStream {A = A} (λ _. []) (Err e) c old new
+none-reported taken e c old new s = record { text = s.text; reads = s.reads; end = s.end }
+
+-- of one that ended well the report is that of the sections
+pub all-reported : {A : Type 0} (taken : A → List Line → Type 0) (made : A) (c : RadioConfig) (old new : SourceView)
+    (s : TakesWhole taken (Ok made) c old new)
+    → ReplaysStream {A = A} (λ _. sections_of_lines c s.end.1.0) (Ok made) c old new
+all-reported taken made c old new s = record {
+  text = s.text;
+  reads = s.reads;
+  end = (s.end.0, (s.end.1.0, s.end.1.1, refl));
+}

@@ -6,7 +6,6 @@ use Rattle.std.specs.Io.KnownBytes.{Consumes}
 use Rattle.std.proofs.lemmas.List.Quantifiers.{position-Some}
 use Rattle.std.specs.List.{position}
 use Rattle.std.specs.Option.{option_to_list}
-use Rattle.bss_core.specs.RadioView.{RadioView}
 use Rattle.ap_config.specs.declared.config.RadioConfig.{RadioConfig}
 use Rattle.events.specs.declared.line.Line.{Line}
 use Rattle.trace.specs.Faults.{◌>>=◌}
@@ -40,13 +39,13 @@ said_at_end c text said r last law e =
 -- ---- what was read so far
 
 -- the lines of a text were taken that a source gave in this many reads, none of which failed
-pub record SoFar (c : RadioConfig) (old new : SourceView) (count : ℕ) (lines : ReaderView) (replay : Option RadioView) :
-    Type 0 where
+pub record SoFar (c : RadioConfig) (old new : SourceView) (count : ℕ) (lines : ReaderView)
+    (taken : List Line → Type 0) : Type 0 where
   pub text : List ℕ
   pub read : Consumes old.left new.left text
   pub counted : new.reads ≡ reads_after old.reads count
   pub failed : new.failed ≡ old.failed
-  pub replayed : HasReplayed c text lines replay
+  pub replayed : HasReplayed c text lines taken
 
 -- no read is counted, and then one more
 none_more : (most reads : ℕ) → reads ≡ max reads (min (reads + 0) most)
@@ -63,9 +62,9 @@ pub counted-more : (old mid new count : ℕ) → mid ≡ reads_after old count �
     → new ≡ reads_after old (count + 1)
 counted-more old mid new count before here = one_more (2 ^ 64 - 1) old mid new count before here
 
-pub so_far-none : (c : RadioConfig) (source : SourceView) (lines : ReaderView) (replay : Option RadioView)
-    → HasReplayed c [] lines replay → SoFar c source source 0 lines replay
-so_far-none c source lines replay h = record {
+pub so_far-none : (c : RadioConfig) (source : SourceView) (lines : ReaderView) (taken : List Line → Type 0)
+    → HasReplayed c [] lines taken → SoFar c source source 0 lines taken
+so_far-none c source lines taken h = record {
   text = [];
   read = Consumes-nil source.left;
   counted = counted-none source.reads;
@@ -75,10 +74,11 @@ so_far-none c source lines replay h = record {
 
 -- a read more, and its piece
 pub so_far-more : (c : RadioConfig) (old mid new : SourceView) (count : ℕ) (piece : List ℕ) (lines : ReaderView)
-    (replay : Option RadioView) (lines' : ReaderView) (replay' : Option RadioView) (s : SoFar c old mid count lines replay)
+    (taken : List Line → Type 0) (lines' : ReaderView) (taken' : List Line → Type 0)
+    (s : SoFar c old mid count lines taken)
     → Consumes mid.left new.left piece → new.reads ≡ reads_after mid.reads 1 → new.failed ≡ mid.failed
-    → HasReplayed c (s.text ++ piece) lines' replay' → SoFar c old new (count + 1) lines' replay'
-so_far-more c old mid new count piece lines replay lines' replay' s took counted same h = record {
+    → HasReplayed c (s.text ++ piece) lines' taken' → SoFar c old new (count + 1) lines' taken'
+so_far-more c old mid new count piece lines taken lines' taken' s took counted same h = record {
   text = s.text ++ piece;
   read = Consumes-trans old.left mid.left new.left s.text piece s.read took;
   counted = counted-more old.reads mid.reads new.reads count s.counted counted;
@@ -89,15 +89,15 @@ so_far-more c old mid new count piece lines replay lines' replay' s took counted
 -- ---- where reading stops
 
 -- a fault was met in this piece
-pub stops_in : (c : RadioConfig) (text piece : List ℕ) (lines : ReaderView) (replay : Option RadioView)
-    → HasReplayed c text lines replay → length piece ≤ 4096 → StopsIn c (text ++ piece)
-stops_in c text piece lines replay h short =
+pub stops_in : (c : RadioConfig) (text piece : List ℕ) (lines : ReaderView) (taken : List Line → Type 0)
+    → HasReplayed c text lines taken → length piece ≤ 4096 → StopsIn c (text ++ piece)
+stops_in c text piece lines taken h short =
     record { before = text; piece = piece; said = h.0; in_order = refl; short = short; sound = h.1.answered }
 
 -- or at the end
-pub stops_at_end : (c : RadioConfig) (text : List ℕ) (lines : ReaderView) (replay : Option RadioView)
-    → HasReplayed c text lines replay → StopsIn c text
-stops_at_end c text lines replay h = record {
+pub stops_at_end : (c : RadioConfig) (text : List ℕ) (lines : ReaderView) (taken : List Line → Type 0)
+    → HasReplayed c text lines taken → StopsIn c text
+stops_at_end c text lines taken h = record {
   before = text;
   piece = [];
   said = h.0;
@@ -109,22 +109,22 @@ stops_at_end c text lines replay h = record {
 -- ---- one piece, line by line
 
 -- the lines of what is no longer left of a piece were taken
-pub record TakenSoFar (piece rest : List ℕ) (lines : ReaderView) (replay : Option RadioView) (lines' : ReaderView)
-    (replay' : Option RadioView) : Type 0 where
+pub record TakenSoFar (piece rest : List ℕ) (lines : ReaderView) (taken : RadioConfig → List Line → Type 0)
+    (lines' : ReaderView) (taken' : RadioConfig → List Line → Type 0) : Type 0 where
   pub done : List ℕ
   pub parts : piece ≡ done ++ rest
   pub replayed :
       (c : RadioConfig)
       (text : List ℕ)
-      → HasReplayed c text lines replay
-      → HasReplayed c (text ++ done) lines' replay'
+      → HasReplayed c text lines (taken c)
+      → HasReplayed c (text ++ done) lines' (taken' c)
 
-pub taken-none : (piece : List ℕ) (lines : ReaderView) (replay : Option RadioView)
-    → TakenSoFar piece piece lines replay lines replay
-taken-none piece lines replay = record {
+pub taken-none : (piece : List ℕ) (lines : ReaderView) (taken : RadioConfig → List Line → Type 0)
+    → TakenSoFar piece piece lines taken lines taken
+taken-none piece lines taken = record {
   done = [];
   parts = refl;
-  replayed = λ c text h. subst (λ (t : List ℕ). HasReplayed c t lines replay) (sym (append-nil text)) h;
+  replayed = λ c text h. subst (λ (t : List ℕ). HasReplayed c t lines (taken c)) (sym (append-nil text)) h;
 }
 
 -- the first LF of what is left, the line before it, and what stands after it
@@ -136,13 +136,14 @@ pub line_lacks : (rest : List ℕ) (n : ℕ) → position is_line_feed rest ≡ 
 line_lacks rest n found = let at = position-Some is_line_feed rest n 0 found in prefix_lacks rest n at.2
 
 -- one line more
-pub taken-more : (piece rest : List ℕ) (n : ℕ) (lines : ReaderView) (replay : Option RadioView)
-    (lines' : ReaderView) (replay' : Option RadioView) (lines'' : ReaderView) (replay'' : Option RadioView)
-    → TakenSoFar piece rest lines replay lines' replay' → position is_line_feed rest ≡ Some n
-    → ((c : RadioConfig) (text : List ℕ) → HasReplayed c text lines' replay'
-    → HasReplayed c (text ++ ended (take n rest)) lines'' replay'')
-    → TakenSoFar piece (drop (n + 1) rest) lines replay lines'' replay''
-taken-more piece rest n lines replay lines' replay' lines'' replay'' s found step = record {
+pub taken-more : (piece rest : List ℕ) (n : ℕ) (lines : ReaderView) (taken : RadioConfig → List Line → Type 0)
+    (lines' : ReaderView) (taken' : RadioConfig → List Line → Type 0) (lines'' : ReaderView)
+    (taken'' : RadioConfig → List Line → Type 0)
+    → TakenSoFar piece rest lines taken lines' taken' → position is_line_feed rest ≡ Some n
+    → ((c : RadioConfig) (text : List ℕ) → HasReplayed c text lines' (taken' c)
+    → HasReplayed c (text ++ ended (take n rest)) lines'' (taken'' c))
+    → TakenSoFar piece (drop (n + 1) rest) lines taken lines'' taken''
+taken-more piece rest n lines taken lines' taken' lines'' taken'' s found step = record {
   done = s.done ++ ended (take n rest);
   parts =
       s.parts
@@ -150,7 +151,7 @@ taken-more piece rest n lines replay lines' replay' lines'' replay'' s found ste
       ∙ sym (append_assoc s.done (ended (take n rest)) (drop (n + 1) rest));
   replayed = λ c text h.
       subst
-      (λ (t : List ℕ). HasReplayed c t lines'' replay'')
+      (λ (t : List ℕ). HasReplayed c t lines'' (taken'' c))
       (append_assoc text s.done (ended (take n rest)))
       (step c (text ++ s.done) (s.replayed c text h));
 }

@@ -1,10 +1,8 @@
 -- What is answered to the octets of a configuration and to a trace that is read as it comes.
 use Rattle.std.specs.Prelude.{◌≡◌, ℕ, ◌+◌, ◌-◌, ◌^◌, ◌≤◌, ◌++◌, ◌⊎◌, List, length, Option, Result, Ok, Err, MatchResult}
 use Rattle.std.specs.Prelude.{IsOkAnd}
-use Rattle.std.specs.Option.{IsSomeAnd}
 use Rattle.std.specs.Io.KnownBytes.{Appends, IsAtEnd, Keeps}
 use Rattle.network.specs.Section.{sections_of_lines}
-use Rattle.bss_core.specs.RadioView.{RadioView}
 use Rattle.ap_config.specs.declared.config.RadioConfig.{RadioConfig}
 use Rattle.events.specs.declared.line.Line.{Line}
 use Rattle.events.specs.declared.section.Section.{Section}
@@ -15,7 +13,6 @@ use Rattle.trace.specs.Pieces.{ReaderView, HasRead, whole_lines}
 use Rattle.trace.specs.Streams.{SourceView, Streams, Reads}
 use Rattle.trace.specs.TraceText.{bssids_of, lines_from, lines_of}
 use Rattle.replay.specs.Answer.{answer_of}
-use Rattle.replay.specs.Replay.{HasTaken}
 use Rattle.replay.specs.declared.fault.StreamFault.{StreamFault}
 use Rattle.replay.specs.declared.fault.StreamFault.TheVariants.{Config, Trace, NoMemory, Read, Write}
 use Rattle.replay.specs.declared.fault.TextFault.{TextFault}
@@ -23,10 +20,14 @@ use Rattle.replay.specs.declared.fault.TextFault.TheVariants as texts
 
 -- ---- a trace that is being read
 
--- Of what was read of a trace each network took what it hears in the lines that have ended, and the reader holds the
--- octets of the line that has not.
-abbrev pub HasReplayed : RadioConfig → List ℕ → ReaderView → Option RadioView → Type 0
-HasReplayed c text lines replay = (said : List Line) × HasRead c text said lines × IsSomeAnd replay (HasTaken c said)
+-- Of what was read of a trace the lines that have ended were taken, and the reader holds the octets of the line that
+-- has not.
+abbrev pub HasReplayed : RadioConfig → List ℕ → ReaderView → (List Line → Type 0) → Type 0
+HasReplayed c text lines taken = (said : List Line) × HasRead c text said lines × taken said
+
+-- the lines of a whole trace were taken
+abbrev pub AreTaken : RadioConfig → List ℕ → (List Line → Type 0) → Type 0
+AreTaken c text taken = (lines : List Line) × (lines_of c text ≡ Ok lines) × taken lines
 
 -- the most reads of one trace
 abbrev pub max_reads : ℕ
@@ -62,13 +63,22 @@ IsStreamFault c text Read = Unit {0}
 IsStreamFault c text (Config fault) = ⊥
 IsStreamFault c text Write = ⊥
 
--- all of a trace was taken by the networks, or reading it ended before
+-- all of a trace was read, and the lines that ended were taken, or reading it ended before
 pub record TakesStream (result : Result Unit StreamFault) (c : RadioConfig) (old new : SourceView) (lines : ReaderView)
-    (replay : Option RadioView) : Type 0 where
+    (taken : List Line → Type 0) : Type 0 where
   pub text : List ℕ
   pub reads : Reads (ending_of stream_ending result) max_reads old new text
   pub end : MatchResult result
-      (λ _. IsAtEnd new.left × HasReplayed c text lines replay)
+      (λ _. IsAtEnd new.left × HasReplayed c text lines taken)
+      (λ fault. IsStreamFault c text fault)
+
+-- the lines of all that a source had left were taken, or why reading it ended before
+pub record TakesWhole {A : Type 0} (taken : A → List Line → Type 0) (result : Result A StreamFault) (c : RadioConfig)
+    (old new : SourceView) : Type 0 where
+  pub text : List ℕ
+  pub reads : Reads (ending_of stream_ending result) max_reads old new text
+  pub end : MatchResult result
+      (λ made. IsAtEnd new.left × AreTaken c text (taken made))
       (λ fault. IsStreamFault c text fault)
 
 -- the sections are those of a trace

@@ -4,9 +4,10 @@
 //! It promises, on [`run_text`], that where it ends well, what it wrote is the report of what each network alone makes
 //! of its own events of the trace; that a fault of the configuration or of the trace is the first one, and nothing was
 //! written then; and that where memory ran out or a write failed, what was written is nothing or a prefix of that
-//! report. [`run_stream`] promises the same of a trace that it reads as it comes, a piece at a time. A [`Replay`] makes
-//! the sections of a report, one line at a time. [`split_joined`] cuts a text in which a configuration and a trace
-//! stand, and [`check_text`] writes how many networks a configuration has, or answers its first fault.
+//! report. [`run_stream`] promises the same of a trace that it reads as it comes, a piece at a time. Both keep no
+//! history; [`report_texts`] and [`report_stream`] promise the same, and hand out the sections with the events. A
+//! [`Replay`] makes the sections of a report, one line at a time. [`split_joined`] cuts a text in which a configuration
+//! and a trace stand, and [`check_text`] writes how many networks a configuration has, or answers its first fault.
 //!
 //! Where the texts come from, and where the report goes, is left to the program.
 #![tactic(auto)]
@@ -14,9 +15,12 @@
 mod check;
 mod drained_radio;
 mod fault;
+mod frame_log;
 mod joined;
 mod line_by_line;
 mod lines;
+mod logged_network;
+mod logs;
 mod sent;
 mod stream;
 mod text;

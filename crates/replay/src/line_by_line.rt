@@ -3,9 +3,10 @@
 ghost use Rattle.std.specs.Prelude.{◌≡◌, None, Some, IfOk, OnOk, OnErr, IsSomeAnd};
 ghost use Rattle.ap_config.specs.Configuration.{fault_of};
 ghost use Rattle.bss_core.specs.RadioView.{fresh_radio};
-ghost use Rattle.replay.specs.Replay.{TakesLine, sections_at};
+ghost use Rattle.replay.specs.Replay.{HasTaken, TakesLine, sections_at};
 
 use crate::drained_radio::DrainedRadio;
+use crate::lines::TakeLines;
 use ap_config::RadioConfig;
 use events::{Line, Section};
 use mac_frame::NoMemory;
@@ -33,6 +34,14 @@ impl Model for Replay {
     ghost view = { λ r. option_map (λ drained. drained.radio) r.radio };
 
     ghost invariant = { λ r. IfSome r.radio (λ drained. IsDrained drained.radio drained.sent) };
+}
+
+impl TakeLines for Replay {
+    ghost has_taken = { λ c said replay. IsSomeAnd replay (HasTaken c said) };
+
+    fn take_line(&mut self, line: Line) -> Result<(), NoMemory> {
+        self.take(line)
+    }
 }
 
 impl Replay {

@@ -9,12 +9,14 @@ ghost use Rattle.trace.specs.Faults.{read_ending};
 ghost use Rattle.trace.specs.Sinks.{MayFail};
 ghost use Rattle.trace.specs.Texts.{LacksLineFeed, ended};
 ghost use Rattle.trace.specs.TraceText.{lines_of};
-ghost use Rattle.replay.specs.Stream.{HasReplayed, TakesStream, ReplaysStream, RunsStream, AreSectionsOf, seen};
-ghost use Rattle.replay.specs.Stream.{streams};
+ghost use Rattle.replay.specs.Log.{logs_of_lines};
+ghost use Rattle.replay.specs.Stream.{HasReplayed, AreTaken, TakesStream, TakesWhole, ReplaysStream, RunsStream};
+ghost use Rattle.replay.specs.Stream.{AreSectionsOf, seen, streams};
 
 use crate::fault::StreamFault;
 use crate::line_by_line::Replay;
-use crate::lines::{take_all, take_last};
+use crate::lines::{TakeLines, take_all, take_last};
+use crate::logs::Logs;
 use ap_config::RadioConfig;
 use events::Section;
 use std::alloc::Global;
@@ -49,12 +51,14 @@ pub fn run_stream<R: Source, W: Sink>(
         (streams (seen (R.left source.new) (R.failed source.new) (R.reads source.new)) (W.taken out.new)
         (W.failed out.new)) }
 {
-    report_stream(alloc, config, source, out)?;
+    let radio = read_config(alloc, config)?;
+    let logs = log_stream(alloc, radio, source)?;
+    logs.write(alloc, out)?;
     Ok(())
 }
 
-/// Does what [`run_stream`] does, and hands out the sections that it reported, so that a program that ends then need
-/// not give back their memory, one event after another.
+/// Does what [`run_stream`] does, and hands out the sections that it reported. These have the events of each network,
+/// so that it takes more memory.
 pub fn report_stream<R: Source, W: Sink>(
     alloc: Global,
     config: &[u8],
@@ -91,22 +95,59 @@ fn replay_stream<R: Source>(
         (seen (R.left source.new) (R.failed source.new) (R.reads source.new)) }
 {
     piece_by_piece();
-    let mut lines = LineReader::new(alloc, &config)?;
+    let lines = LineReader::new(alloc, &config)?;
     let mut replay = Replay::new(alloc, config)?;
-    take_stream(&mut lines, &mut replay, source)?;
-    Ok(end_stream(lines, replay)?)
+    take_whole(lines, &mut replay, source)?;
+    Ok(replay.into_sections()?)
 }
 
-/// Lets the networks take the lines that end in what a source has left.
-fn take_stream<R: Source>(
-    lines: &mut LineReader,
-    replay: &mut Replay,
+/// The networks without their histories, which took what they hear of the lines of a source.
+fn log_stream<R: Source>(
+    alloc: Global,
+    config: RadioConfig,
+    source: &mut R,
+) -> Result<Logs, StreamFault>
+    requires config { fault_of config ≡ None }
+    requires source { MayFail (R.failed source.old) }
+    ensures { TakesWhole (λ logs said. logs.networks.items ≡ logs_of_lines config said) result config
+        (seen (R.left source.old) (R.failed source.old) (R.reads source.old))
+        (seen (R.left source.new) (R.failed source.new) (R.reads source.new)) }
+{
+    piece_by_piece();
+    let lines = LineReader::new(alloc, &config)?;
+    let mut logs = Logs::new(alloc, config)?;
+    take_whole(lines, &mut logs, source)?;
+    Ok(logs)
+}
+
+/// Lets the networks take the lines of what a source has left.
+fn take_whole<R: Source, T: TakeLines>(
+    mut lines: LineReader,
+    networks: &mut T,
     source: &mut R,
 ) -> Result<(), StreamFault>
     requires { MayFail (R.failed source.old) }
-    ensures { (c : RadioConfig) → HasReplayed c [] lines.old replay.old → TakesStream result c
+    ensures { (c : RadioConfig) → HasReplayed c [] lines (λ said. T.has_taken c said networks.old)
+        → TakesWhole (λ _ said. T.has_taken c said networks.new) result c
         (seen (R.left source.old) (R.failed source.old) (R.reads source.old))
-        (seen (R.left source.new) (R.failed source.new) (R.reads source.new)) lines.new replay.new }
+        (seen (R.left source.new) (R.failed source.new) (R.reads source.new)) }
+{
+    take_stream(&mut lines, networks, source)?;
+    end_lines(lines, networks)?;
+    Ok(())
+}
+
+/// Lets the networks take the lines that end in what a source has left.
+fn take_stream<R: Source, T: TakeLines>(
+    lines: &mut LineReader,
+    networks: &mut T,
+    source: &mut R,
+) -> Result<(), StreamFault>
+    requires { MayFail (R.failed source.old) }
+    ensures { (c : RadioConfig) → HasReplayed c [] lines.old (λ said. T.has_taken c said networks.old)
+        → TakesStream result c (seen (R.left source.old) (R.failed source.old) (R.reads source.old))
+        (seen (R.left source.new) (R.failed source.new) (R.reads source.new)) lines.new
+        (λ said. T.has_taken c said networks.new) }
 {
     let mut buffer = [0; PIECE_LEN];
     for _ in 0..MAX_READS {
@@ -116,70 +157,77 @@ fn take_stream<R: Source>(
         if count == 0 {
             return Ok(());
         }
-        take_piece(lines, replay, &buffer[..count])?;
+        take_piece(lines, networks, &buffer[..count])?;
     }
     Err(StreamFault::Read)
 }
 
 /// Lets the networks take the lines that end in a piece.
-fn take_piece(
+pub fn take_piece<T: TakeLines>(
     lines: &mut LineReader,
-    replay: &mut Replay,
+    networks: &mut T,
     piece: &[u8],
 ) -> Result<(), TraceTextFault>
-    ensures { (c : RadioConfig) (text : List ℕ) → HasReplayed c text lines.old replay.old → MatchResult result
-        (λ _. HasReplayed c (text ++ piece.now) lines.new replay.new)
+    ensures { (c : RadioConfig) (text : List ℕ)
+        → HasReplayed c text lines.old (λ said. T.has_taken c said networks.old) → MatchResult result
+        (λ _. HasReplayed c (text ++ piece.now) lines.new (λ said. T.has_taken c said networks.new))
         (λ fault. IsFaultOf (lines_of c (text ++ piece.now)) (read_ending fault)) }
 {
     let mut rest = piece;
     while let Some(end) = place_of(b'\n', rest) {
-        take_line(lines, replay, &rest[..end])?;
+        take_line(lines, networks, &rest[..end])?;
         rest = &rest[end + 1..];
     }
-    take_rest(lines, replay, rest)
+    take_rest(lines, networks, rest)
 }
 
 /// Lets the networks take the line that ends with these octets and an LF.
-fn take_line(
+fn take_line<T: TakeLines>(
     lines: &mut LineReader,
-    replay: &mut Replay,
+    networks: &mut T,
     octets: &[u8],
 ) -> Result<(), TraceTextFault>
     requires { LacksLineFeed octets.now }
-    ensures { (c : RadioConfig) (text later : List ℕ) → HasReplayed c text lines.old replay.old → MatchResult result
-        (λ _. HasReplayed c (text ++ ended octets.now) lines.new replay.new)
+    ensures { (c : RadioConfig) (text later : List ℕ)
+        → HasReplayed c text lines.old (λ said. T.has_taken c said networks.old) → MatchResult result
+        (λ _. HasReplayed c (text ++ ended octets.now) lines.new (λ said. T.has_taken c said networks.new))
         (λ fault. IsFaultOf (lines_of c (text ++ ended octets.now ++ later)) (read_ending fault)) }
 {
     piece_by_piece();
     let said = lines.end_line(octets)?;
-    take_last(replay, said)?;
+    take_last(networks, said)?;
     Ok(())
 }
 
 /// Lets the networks take the lines that end in a piece. The reader gives them as a list.
-fn take_rest(
+fn take_rest<T: TakeLines>(
     lines: &mut LineReader,
-    replay: &mut Replay,
+    networks: &mut T,
     piece: &[u8],
 ) -> Result<(), TraceTextFault>
-    ensures { (c : RadioConfig) (text : List ℕ) → HasReplayed c text lines.old replay.old → MatchResult result
-        (λ _. HasReplayed c (text ++ piece.now) lines.new replay.new)
+    ensures { (c : RadioConfig) (text : List ℕ)
+        → HasReplayed c text lines.old (λ said. T.has_taken c said networks.old) → MatchResult result
+        (λ _. HasReplayed c (text ++ piece.now) lines.new (λ said. T.has_taken c said networks.new))
         (λ fault. IsFaultOf (lines_of c (text ++ piece.now)) (read_ending fault)) }
 {
     piece_by_piece();
     let said = lines.feed(piece)?;
-    take_all(replay, said)?;
+    take_all(networks, said)?;
     Ok(())
 }
 
-/// The section of each network, in order of place, with what it takes of the last line.
-fn end_stream(mut lines: LineReader, mut replay: Replay) -> Result<Vec<Section>, TraceTextFault>
-    ensures { (c : RadioConfig) (text : List ℕ) → HasReplayed c text lines replay → MatchResult result
-        (λ sections. AreSectionsOf c text sections.items)
+/// Lets the networks take the last line.
+pub fn end_lines<T: TakeLines>(
+    mut lines: LineReader,
+    networks: &mut T,
+) -> Result<(), TraceTextFault>
+    ensures { (c : RadioConfig) (text : List ℕ)
+        → HasReplayed c text lines (λ said. T.has_taken c said networks.old) → MatchResult result
+        (λ _. AreTaken c text (λ said. T.has_taken c said networks.new))
         (λ fault. IsFaultOf (lines_of c text) (read_ending fault)) }
 {
     piece_by_piece();
-    let said = lines.end()?;
-    take_last(&mut replay, said)?;
-    Ok(replay.into_sections()?)
+    let last = lines.end()?;
+    take_last(networks, last)?;
+    Ok(())
 }

@@ -9,15 +9,20 @@ ghost use Rattle.trace.specs.Faults.{read_ending};
 ghost use Rattle.trace.specs.Sinks.{MayFail};
 ghost use Rattle.trace.specs.TraceText.{lines_of};
 ghost use Rattle.replay.specs.Answer.{answer_of, text_ending};
-ghost use Rattle.replay.specs.Stream.{AreSectionsOf};
+ghost use Rattle.replay.specs.Log.{logs_of_lines};
+ghost use Rattle.replay.specs.Stream.{AreSectionsOf, AreTaken};
 
 use crate::fault::TextFault;
 use crate::line_by_line::Replay;
 use crate::lines::take_all;
+use crate::logs::Logs;
+use crate::stream::{end_lines, take_piece};
 use ap_config::RadioConfig;
 use events::Section;
 use std::alloc::Global;
-use trace::{Sink, TraceTextFault, read_config, read_trace, write_report};
+use trace::{
+    LineReader, Sink, TraceTextFault, piece_by_piece, read_config, read_trace, write_report,
+};
 
 /// Reads a configuration and a trace, lets each network take what it hears of the trace's lines, in order, and
 /// lets every frame leave as soon as it waits; then appends the report of all networks to what `out` has taken.
@@ -35,12 +40,14 @@ pub fn run_text<W: Sink>(
     ensures ends { Ends text_ending result (answer_of config.now trace.now) (W.taken out.old) (W.taken out.new) }
     ensures failures { W.failed out.new ≡ W.failed out.old + failures_of text_ending result }
 {
-    report_texts(alloc, config, trace, out)?;
+    let radio = read_config(alloc, config)?;
+    let logs = log_text(alloc, radio, trace)?;
+    logs.write(alloc, out)?;
     Ok(())
 }
 
-/// Does what [`run_text`] does, and hands out the sections that it reported, so that a program that ends then need not
-/// give back their memory, one event after another.
+/// Does what [`run_text`] does, and hands out the sections that it reported. These have the events of each network, so
+/// that it takes more memory.
 pub fn report_texts<W: Sink>(
     alloc: Global,
     config: &[u8],
@@ -74,4 +81,19 @@ fn replay_text(
     let mut replay = Replay::new(alloc, config)?;
     take_all(&mut replay, lines)?;
     Ok(replay.into_sections()?)
+}
+
+/// The networks without their histories, which took what they hear of the lines of a trace, one line after another.
+fn log_text(alloc: Global, config: RadioConfig, trace: &[u8]) -> Result<Logs, TraceTextFault>
+    requires { fault_of config ≡ None }
+    ensures { MatchResult result
+        (λ logs. AreTaken config trace.now (λ said. logs.networks.items ≡ logs_of_lines config said))
+        (λ fault. IsFaultOf (lines_of config trace.now) (read_ending fault)) }
+{
+    piece_by_piece();
+    let mut lines = LineReader::new(alloc, &config)?;
+    let mut logs = Logs::new(alloc, config)?;
+    take_piece(&mut lines, &mut logs, trace)?;
+    end_lines(lines, &mut logs)?;
+    Ok(logs)
 }

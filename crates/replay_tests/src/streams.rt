@@ -2,7 +2,7 @@
 
 use ap_config::ConfigFault;
 use fixtures::texts::{CONFIGURATION, PROBE_LINE};
-use replay::{StreamFault, run_stream, run_text};
+use replay::{StreamFault, report_texts, run_stream, run_text};
 use std::alloc::Global;
 use std::io::{self, ErrorKind, Read};
 use std::test::Fail;
@@ -64,6 +64,42 @@ fn pieces_of_any_length_have_one_report(rt: HostRuntime) -> Result<(), Fail> {
         assert_eq!(rt; written.as_slice(), whole.as_slice());
         assert_eq!(rt; (failures, left), (0, 0));
     }
+    Ok(())
+}
+
+/// A unit of that station for one on the wire.
+const UNIT_LINE: &str =
+    "\nA 08010000 020000000001 02aa00000001 02bb00000001 0000 aaaa03000000 0800 01\n";
+
+/// `run_text` and `run_stream` keep no history, and what they write is the report of the sections, also where more lines
+/// come than a history may have events.
+#[test]
+fn one_report_with_histories_and_without(rt: HostRuntime) -> Result<(), Fail> {
+    let alloc = rt.alloc();
+    let config = CONFIGURATION.as_bytes();
+    let mut trace = String::new(alloc);
+    for _ in 0..30 {
+        trace.push_str(LINES)?;
+        trace.push_str(UNIT_LINE)?;
+    }
+    let mut out = Counted::new(Vec::new(alloc));
+    let sections = report_texts(alloc, config, trace.as_bytes(), &mut out)?;
+    let report = out.into_inner();
+    for section in sections.iter() {
+        assert_eq!(rt; section.events.as_slice().len(), 100);
+        assert_eq!(rt; section.wire.as_slice().len(), 16);
+    }
+    let mut out = Counted::new(Vec::new(alloc));
+    assert_eq!(rt; run_text(alloc, config, trace.as_bytes(), &mut out), Ok(()));
+    assert_eq!(rt; out.into_inner().as_slice(), report.as_slice());
+    let reader = Pieces {
+        octets: trace.as_bytes(),
+        most: 4096,
+        fails: false,
+    };
+    let (answer, written, _, _) = stream(alloc, config, reader);
+    assert_eq!(rt; answer, Ok(()));
+    assert_eq!(rt; written.as_slice(), report.as_slice());
     Ok(())
 }
 

@@ -9,7 +9,7 @@ use Rattle.trace.proofs.EndingLemmas.{same_fault}
 use Rattle.replay.proofs.stream.take_line.Goals as goal
 
 pub returns-in_err-said : goal.returns-in_err-said
-returns-in_err-said c config text later h =
+returns-in_err-said g c config text later h =
     let p = err_from_is_err_and c.from_residual.result c.from_residual.ensures.1 in
     let line = ended c.args.octets.now in
     rw (p.1, p.2)
@@ -17,12 +17,12 @@ returns-in_err-said c config text later h =
     (λ met e. c.piece_by_piece.ensures.fault config text line later h.0 c.args.lines.now met h.1 e))
 
 pub returns-in_err-take_last : goal.returns-in_err-take_last
-returns-in_err-take_last c config text later h =
+returns-in_err-take_last g c config text later h =
     let p = err_from_is_err_and c.from_residual-in_err-take_last.result c.from_residual-in_err-take_last.ensures.1 in
     rw (p.1, p.2) tt
 
 pub returns : goal.returns
-returns c config text later h =
+returns g c config text later h =
     let line = ended c.args.octets.now in
     let more : List Line = option_to_list c.in_ok-said.said in (
       h.0 ++ more,

@@ -12,20 +12,24 @@ use Rattle.replay.proofs.StreamSteps.{taken-none, taken-more, parted_at, line_la
 use Rattle.replay.proofs.stream.take_piece.Goals as goal
 
 pub loop-end-init : goal.loop-end-init
-loop-end-init c = taken-none c.args.piece.now c.args.lines.now c.args.replay.now
+loop-end-init g c =
+    taken-none c.args.piece.now c.args.lines.now (λ config said. g.T.TakeLines.has_taken config said c.args.networks.now)
 
 pub take_line-requires : goal.take_line-requires
-take_line-requires c = line_lacks c.loop-end.rest.now c.in-Some.end (sym c.in-Some.ensures)
+take_line-requires g c = line_lacks c.loop-end.rest.now c.in-Some.end (sym c.in-Some.ensures)
 
 pub loop-end-preserved : goal.loop-end-preserved
-loop-end-preserved c =
+loop-end-preserved g c =
     rw take_rest
-    (taken-more c.args.piece.now c.loop-end.rest.now c.in-Some.end c.args.lines.now c.args.replay.now c.loop-end.lines
-    c.loop-end.replay c.take_line.new.lines c.take_line.new.replay c.loop-end.invariant (sym c.in-Some.ensures)
+    (taken-more c.args.piece.now c.loop-end.rest.now c.in-Some.end c.args.lines.now
+    (λ config said. g.T.TakeLines.has_taken config said c.args.networks.now) c.loop-end.lines
+    (λ config said. g.T.TakeLines.has_taken config said c.loop-end.networks) c.take_line.new.lines
+    (λ config said. g.T.TakeLines.has_taken config said c.take_line.new.networks) c.loop-end.invariant
+    (sym c.in-Some.ensures)
     (λ config text h. c.in_ok-take_line.ensures config text [] h))
 
 pub returns-in_err-take_line : goal.returns-in_err-take_line
-returns-in_err-take_line c config text h =
+returns-in_err-take_line g c config text h =
     let p = err_from_is_err_and c.from_residual.result c.from_residual.ensures.1 in
     let s = c.loop-end.invariant in
     let rest : List ℕ = c.loop-end.rest.now in
@@ -40,12 +44,14 @@ returns-in_err-take_line c config text h =
     (c.in_err-take_line.ensures config (text ++ s.done) later (s.replayed config text h)))
 
 pub returns : goal.returns
-returns c config text h =
+returns g c config text h =
     let s = c.loop-end.invariant in
     let rest : List ℕ = c.loop-end.rest.now in
     subst
     (λ (t : List ℕ).
-    MatchResult c.take_rest.result (λ _. HasReplayed config t c.take_rest.new.lines c.take_rest.new.replay)
+    MatchResult c.take_rest.result
+    (λ _. HasReplayed config t c.take_rest.new.lines
+    (λ said. g.T.TakeLines.has_taken config said c.take_rest.new.networks))
     (λ fault. IsFaultOf (lines_of config t) (read_ending fault)))
     (text_so_far text c.args.piece.now s.done rest s.parts)
     (c.take_rest.ensures config (text ++ s.done) (s.replayed config text h))

@@ -3,7 +3,9 @@ use Rattle.replay.proofs.StreamSteps.{TakenSoFar}
 use Rattle.replay.proofs.stream.take_piece.Given as goal
 
 abbrev pub invariant-loop-end : goal.invariant-loop-end
-invariant-loop-end l = TakenSoFar l.piece l.rest l.initial.lines l.initial.replay l.lines l.replay
+invariant-loop-end g l =
+    TakenSoFar l.piece l.rest l.initial.lines (λ c said. g.T.TakeLines.has_taken c said l.initial.networks) l.lines
+    (λ c said. g.T.TakeLines.has_taken c said l.networks)
 
 abbrev pub decreases-loop-end : goal.decreases-loop-end
-decreases-loop-end l = length l.rest
+decreases-loop-end g l = length l.rest

@@ -6,7 +6,7 @@ use Rattle.trace.proofs.EndingLemmas.{same_fault}
 use Rattle.replay.proofs.stream.take_rest.Goals as goal
 
 pub returns-in_err-said : goal.returns-in_err-said
-returns-in_err-said c config text h =
+returns-in_err-said g c config text h =
     let p = err_from_is_err_and c.from_residual.result c.from_residual.ensures.1 in
     let piece = c.args.piece.now in
     rw (p.1, p.2)
@@ -16,12 +16,12 @@ returns-in_err-said c config text h =
     ∙ c.piece_by_piece.ensures.fault config text piece [] h.0 c.args.lines.now met h.1 e))
 
 pub returns-in_err-take_all : goal.returns-in_err-take_all
-returns-in_err-take_all c config text h =
+returns-in_err-take_all g c config text h =
     let p = err_from_is_err_and c.from_residual-in_err-take_all.result c.from_residual-in_err-take_all.ensures.1 in
     rw (p.1, p.2) tt
 
 pub returns : goal.returns
-returns c config text h =
+returns g c config text h =
     let piece = c.args.piece.now in (
       h.0 ++ c.in_ok-said.said.items,
       subst

@@ -23,8 +23,10 @@ loop-preserved g c =
     record {
       so_far = λ config h.
           let s = c.loop.invariant.so_far config h in
-          so_far-more config _ _ _ c.loop.counter piece c.loop.lines c.loop.replay c.take_piece.new.lines
-          c.take_piece.new.replay s c.in-Ok.ensures.prefix.1 c.in-Ok.ensures.reads kept
+          so_far-more config _ _ _ c.loop.counter piece c.loop.lines
+          (λ said. g.T.TakeLines.has_taken config said c.loop.networks) c.take_piece.new.lines
+          (λ said. g.T.TakeLines.has_taken config said c.take_piece.new.networks) s c.in-Ok.ensures.prefix.1
+          c.in-Ok.ensures.reads kept
           (c.in_ok-take_piece.ensures config s.text s.replayed);
       none_failed = kept ∙ c.loop.invariant.none_failed;
       whole = c.read_some.auto.buffer ∙ c.loop.invariant.whole;

@@ -8,11 +8,11 @@ abbrev pub invariant-loop : goal.invariant-loop
 invariant-loop g l = record {
   so_far :
       (c : RadioConfig)
-      → HasReplayed c [] l.initial.lines l.initial.replay
+      → HasReplayed c [] l.initial.lines (λ said. g.T.TakeLines.has_taken c said l.initial.networks)
       → SoFar c
       (seen (g.R.Source.left l.initial.source) (g.R.Source.failed l.initial.source) (g.R.Source.reads l.initial.source))
       (seen (g.R.Source.left l.source) (g.R.Source.failed l.source) (g.R.Source.reads l.source))
-      l.counter l.lines l.replay;
+      l.counter l.lines (λ said. g.T.TakeLines.has_taken c said l.networks);
   none_failed : g.R.Source.failed l.source ≡ g.R.Source.failed l.initial.source;
   whole : length l.buffer ≡ 4096;
 }

@@ -14,6 +14,6 @@ returns c =
     c.in_ok-take_all.ensures c.args.config [] (replay-none c.args.config c.in_ok-replay.replay c.in_ok-replay.ensures) in (
       c.in_ok-lines.lines.items,
       c.in_ok-lines.ensures.exact,
-      replay-sections {E = Unit {0}} c.args.config c.take_all.new.replay c.in_ok-lines.lines.items
+      replay-sections {E = Unit {0}} c.args.config c.take_all.new.networks c.in_ok-lines.lines.items
           c.in_ok-lines.lines.items (Ok c.in_ok-into_sections.field-0) taken refl c.in_ok-into_sections.ensures,
     )

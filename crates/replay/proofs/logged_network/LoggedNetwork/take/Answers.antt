@@ -1,0 +1,24 @@
+use Rattle.std.proofs.Common.{◌<◌, length, ap, arith}
+use Rattle.std.specs.Prelude.{option_to_list}
+use Rattle.ap_config.specs.declared.setting.Setting.{Setting}
+use Rattle.replay.specs.declared.logged_network.LoggedNetwork.{LoggedNetwork}
+use Rattle.replay.proofs.LogSteps.{log-kept, on_ok}
+use Rattle.replay.proofs.logged_network.LoggedNetwork.take.Goals as goal
+
+pub returns-in-Ok : goal.returns-in-Ok
+returns-in-Ok c s es h =
+    let sent = c.in-Ok.sent in
+    let room : length es < s.network.max_events =
+    omega (
+      arith,
+      c.if-events-from.false,
+      c.events.ensures,
+      c.from.ensures,
+      ap (λ (t : Setting). t.network.max_events) c.setting.ensures.setting,
+      ap (λ (n : LoggedNetwork). n.network.setting.network.max_events) h,
+      ap (λ (n : LoggedNetwork). n.network.events) h,
+    ) in
+    on_ok c.keep.result
+    (log-kept s es c.args.event.now c.args.self.now c.keep.new.self c.take.new.self sent.air (option_to_list sent.wire)
+    h room c.in-Ok.ensures.after c.in-Ok.ensures.air c.in-Ok.ensures.wire)
+    c.keep.ensures
