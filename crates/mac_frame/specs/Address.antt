@@ -1,5 +1,6 @@
 -- Addresses (IEEE Std 802.11-2016, 9.2.4.3): six octets, as a list.
-use Rattle.std.specs.Prelude.{ℕ, ◌+◌, ◌*◌, ◌/◌, ◌%◌, ◌<◌, ◌≡◌, Bool, false, not, ◌==◌, ◌&&◌, ◌||◌, List, [], ◌∷◌}
+use Rattle.std.specs.Int.{from_le_bytes, w16, w32}
+use Rattle.std.specs.Prelude.{ℕ, ◌+◌, ◌*◌, ◌/◌, ◌%◌, ◌^◌, ◌<◌, ◌≡◌, Bool, false, not, ◌==◌, ◌&&◌, ◌||◌, List, [], ◌∷◌}
 use Rattle.std.specs.Prelude.{length, map, slice_index, Option, Some, None, option_map, option_and_then, if◌then◌else◌}
 use Rattle.std.specs.List.{join_with_byte}
 use Rattle.std.specs.Str.{bytes_eq}
@@ -14,6 +15,18 @@ pub record IsAddress (address : List ℕ) : Type 0 where
 -- the broadcast address, which is the wildcard BSSID too
 abbrev pub broadcast : List ℕ
 broadcast = 255 ∷ 255 ∷ 255 ∷ 255 ∷ 255 ∷ 255 ∷ []
+
+-- the first four octets as one number, the first of them the lowest, and the last two
+abbrev pub first_number : List ℕ → ℕ
+first_number address = from_le_bytes w32 (slice_index address 0 ∷ slice_index address 1 ∷ slice_index address 2
+    ∷ slice_index address 3 ∷ [])
+
+abbrev pub last_number : List ℕ → ℕ
+last_number address = from_le_bytes w16 (slice_index address 4 ∷ slice_index address 5 ∷ [])
+
+-- the octets as one number, the first of them the lowest
+abbrev pub number_of : List ℕ → ℕ
+number_of address = first_number address + last_number address * 2 ^ 32
 
 -- bit 0 of the first octet is 1
 abbrev pub is_group : List ℕ → Bool

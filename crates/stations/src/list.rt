@@ -12,6 +12,7 @@ ghost use Rattle.stations.specs.Sound.{AreApart};
 ghost use Rattle.stations.specs.Slots.{stations_in, IsAt, AreFound, AreCounts, Tells};
 
 use crate::table::{StationState, with_mode};
+use address_hash::AddressHashes;
 use indexmap::IndexMap;
 use mac_frame::{MacAddr, NoMemory};
 use std::alloc::Global;
@@ -23,6 +24,9 @@ const BLOCK: usize = 64;
 /// How many holes are few, whatever the number of slots.
 const FEW: usize = 64;
 
+/// The slot of each station.
+type Index = IndexMap<MacAddr, usize, AddressHashes>;
+
 /// A station with its state, or the hole where one was.
 type Slot = Option<(MacAddr, StationState)>;
 
@@ -30,7 +34,7 @@ type Slot = Option<(MacAddr, StationState)>;
 #[derive(Drop)]
 pub(crate) struct StationList {
     // the slot of each station
-    index: IndexMap<MacAddr, usize>,
+    index: Index,
     slots: Vec<Slot>,
     // how many slots are holes
     holes: usize,
@@ -55,7 +59,7 @@ impl StationList {
         ensures { result ≡ [] }
     {
         StationList {
-            index: IndexMap::new(alloc),
+            index: IndexMap::with_hasher(alloc, AddressHashes::new()),
             slots: Vec::new(alloc),
             holes: 0,
             counts: Vec::new(alloc),
@@ -195,7 +199,7 @@ fn put_state(slot: &mut Slot, state: StationState)
 /// The slot of a station and its state, or `None` where it is not known.
 #[inline(always)]
 fn find(
-    index: &IndexMap<MacAddr, usize>,
+    index: &Index,
     slots: &[Slot],
     addr: MacAddr,
 ) -> Option<(usize, StationState)>
@@ -273,7 +277,7 @@ fn count_in(slots: &[Slot]) -> usize
 }
 
 /// Moves the stations together, so that no slot is a hole, and tells the index where each stands then.
-fn close_up(index: &mut IndexMap<MacAddr, usize>, slots: &mut Vec<Slot>, counts: &mut Vec<usize>)
+fn close_up(index: &mut Index, slots: &mut Vec<Slot>, counts: &mut Vec<usize>)
     requires apart { AreApart (stations_in slots.old.items) }
     requires known { (addr : List ℕ) → is_some (lookup (bytes_eq addr) index.old.entries)
         ≡ is_some (state_of addr (stations_in slots.old.items)) }
@@ -305,7 +309,7 @@ fn count_full(counts: &mut Vec<usize>, blocks: usize)
 }
 
 /// Tells the index of some stations the slot in which each of them stands.
-fn mend(index: &mut IndexMap<MacAddr, usize>, slots: &[Slot])
+fn mend(index: &mut Index, slots: &[Slot])
     requires apart { AreApart (stations_in slots.now) }
     requires known { (addr : List ℕ) → is_some (lookup (bytes_eq addr) index.old.entries)
         ≡ is_some (state_of addr (stations_in slots.now)) }
@@ -317,7 +321,7 @@ fn mend(index: &mut IndexMap<MacAddr, usize>, slots: &[Slot])
 }
 
 /// Tells the index where the station in a slot stands, if there is one.
-fn tell(index: &mut IndexMap<MacAddr, usize>, slot: &Slot, place: usize)
+fn tell(index: &mut Index, slot: &Slot, place: usize)
     ensures { Tells slot.now place index.old.entries index.new.entries }
 {
     let Some((addr, _)) = slot else {
