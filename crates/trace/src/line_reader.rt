@@ -179,9 +179,53 @@ impl LineReader {
         ensures ok { OnOk result (self.new ≡ past self.old (self.old.unfinished ++ ended octets.now)) }
         ensures err { OnErr result (self.new ≡ self.old) }
     {
-        let said = self.read_ended(octets)?;
+        let said = self.read_unfinished(octets)?;
         self.go_on();
         Ok(said)
+    }
+
+    /// What the unfinished line says, which ends with these octets and an LF. The reader stays at that line, of which
+    /// these octets may have come then.
+    #[inline(always)]
+    fn read_unfinished(&mut self, octets: &[u8]) -> Result<Option<Line>, TraceTextFault>
+        requires unfinished { LacksLineFeed self.old.unfinished }
+        requires lacks { LacksLineFeed octets.now }
+        ensures exact { Gives (λ said. said) read_ending result
+            (line_of self.old.bssids (self.old.ended_lines + 1)
+            (strip_carriage_return (self.old.unfinished ++ octets.now))) }
+        ensures within { OnOk result (self.old.ended_lines < MAX_LINES) }
+        ensures ok { OnOk result (self.new ≡ record self.old { unfinished = self.new.unfinished }) }
+        ensures err { OnErr result (self.new ≡ self.old) }
+    {
+        if self.unfinished.is_empty() {
+            self.read_ended(octets)
+        } else {
+            self.read_joined(octets)
+        }
+    }
+
+    /// The same where some of the line came before. It is put together in the memory that it stands in already, and is
+    /// as it was where it has a fault or memory ran out.
+    fn read_joined(&mut self, octets: &[u8]) -> Result<Option<Line>, TraceTextFault>
+        requires some { 0 < length self.old.unfinished }
+        requires unfinished { LacksLineFeed self.old.unfinished }
+        requires lacks { LacksLineFeed octets.now }
+        ensures exact { Gives (λ said. said) read_ending result
+            (line_of self.old.bssids (self.old.ended_lines + 1)
+            (strip_carriage_return (self.old.unfinished ++ octets.now))) }
+        ensures within { OnOk result (self.old.ended_lines < MAX_LINES) }
+        ensures ok { OnOk result (self.new
+            ≡ record self.old { unfinished = self.old.unfinished ++ octets.now }) }
+        ensures err { OnErr result (self.new ≡ self.old) }
+    {
+        let len = self.unfinished.len();
+        self.unfinished.extend_from_slice(octets)?;
+        let line = without_carriage_return(self.unfinished.as_slice());
+        let read = self.read_numbered(self.ended_lines + 1, line);
+        if read.is_err() {
+            self.unfinished.truncate(len);
+        }
+        read
     }
 
     /// What the unfinished line says, which ends with these octets and an LF, as a list.

@@ -1,4 +1,5 @@
-use Rattle.std.proofs.Common.{◌∙◌}
+use Rattle.std.proofs.Common.{◌∙◌, ◌+◌, [], ap}
+use Rattle.trace.specs.Pieces.{ReaderView}
 use Rattle.std.proofs.lemmas.Result.{err_from_is_err_and}
 use Rattle.trace.proofs.EndingLemmas.{same_fault}
 use Rattle.trace.proofs.PieceSteps.{line_says, line_has_fault, line_past}
@@ -18,4 +19,6 @@ returns-clause-exact c =
 
 pub returns-clause-ok : goal.returns-clause-ok
 returns-clause-ok c =
-    c.go_on.ensures ∙ line_past c.args.self.now c.args.octets.now c.requires.unfinished c.requires.lacks
+    c.go_on.ensures
+    ∙ ap (λ (r : ReaderView). record r { ended_lines = r.ended_lines + 1; unfinished = [] }) c.in_ok-said.ensures.ok
+    ∙ line_past c.args.self.now c.args.octets.now c.requires.unfinished c.requires.lacks
