@@ -6,6 +6,7 @@ pub mod ConfigurationSound
 pub mod TextLemmas
 pub mod TraceRows
 pub mod TraceSteps
+pub mod DigitTexts
 pub mod PieceLines
 pub mod PieceLaws
 pub mod PieceSteps

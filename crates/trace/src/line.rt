@@ -1,6 +1,6 @@
 //! One line of a trace text.
 
-ghost use Rattle.std.specs.Prelude.{◌≡◌, ◌≢◌, false, map, Err, IfOk, position};
+ghost use Rattle.std.specs.Prelude.{◌≡◌, ◌≢◌, ◌↔◌, false, map, Err, IfOk, IsTrue, position};
 ghost use Rattle.trace.specs.Endings.{Gives};
 ghost use Rattle.trace.specs.Faults.{read_ending};
 ghost use Rattle.mac_frame.specs.Address.{address_of};
@@ -9,6 +9,7 @@ ghost use Rattle.trace.specs.TraceText.{without_spaces_at_start, after_first_wor
 ghost use Rattle.trace.specs.TraceText.{place_with, place_named, wired_line, line_with, content_of, said_by};
 ghost use Rattle.trace.specs.TraceText.{has_octets, takes_memory};
 ghost use Rattle.hex.specs.Hex.{decode_of};
+ghost use Rattle.trace.specs.declared.fault.LineFault.TheVariants.{NotHexadecimal};
 
 use crate::fault::LineFault;
 use crate::read_fault::ReadFault;
@@ -21,6 +22,9 @@ use std::str;
 
 /// The most octets of a string.
 const MAX_OCTETS: usize = 4096;
+
+/// How many characters of a text are its start, in which a space is looked for first.
+const START: usize = 64;
 
 /// The address of each network, in order of place. `NoMemory` where memory ran out.
 pub fn bssids_of(alloc: Global, networks: &[NetConfig]) -> Result<Vec<MacAddr>, NoMemory>
@@ -165,15 +169,46 @@ fn first_space(line: &[u8]) -> Option<usize>
     line.iter().position(|character| *character == b' ')
 }
 
-/// The octets that a text spells in hexadecimal digits with spaces among them.
-#[tactic(auto, using(crate::proofs::TraceSteps::digits_of_none))]
+/// The octets that a text spells in hexadecimal digits with spaces among them. A text has its first space near the
+/// start, if it has any; so only one of which the start has none, and which is not of digits alone, is looked at whole.
 #[inline(always)]
 fn read_octets(alloc: Global, text: &[u8]) -> Result<Octets, ReadFault<LineFault>>
     ensures { Gives (λ octets. octets) read_ending result (octets_of text.now) }
 {
-    if place_of(b' ', text).is_none() {
-        return read_digits(alloc, text);
+    let (start, _) = text.split_at(text.len().min(START));
+    if place_of(b' ', start).is_some() {
+        return read_spaced(alloc, text);
     }
+    let read = read_digits(alloc, text);
+    if has_other_characters(&read) {
+        return read_if_spaced(alloc, text);
+    }
+    read
+}
+
+/// Whether that is the fault of a text that is not of digits alone.
+fn has_other_characters(read: &Result<Octets, ReadFault<LineFault>>) -> bool
+    ensures { IsTrue result ↔ (read.now ≡ Err (ReadFault.At NotHexadecimal)) }
+{
+    matches!(read, Err(ReadFault::At(LineFault::NotHexadecimal)))
+}
+
+/// The octets that a text spells which is not of digits alone.
+#[tactic(auto, using(crate::proofs::TraceSteps::digits_of_none))]
+fn read_if_spaced(alloc: Global, text: &[u8]) -> Result<Octets, ReadFault<LineFault>>
+    requires { within_limit (decode_of text.now) ≡ Err NotHexadecimal }
+    ensures { Gives (λ octets. octets) read_ending result (octets_of text.now) }
+{
+    if place_of(b' ', text).is_none() {
+        return Err(ReadFault::At(LineFault::NotHexadecimal));
+    }
+    read_spaced(alloc, text)
+}
+
+/// The octets that a text spells in hexadecimal digits with spaces among them, which are taken out first.
+fn read_spaced(alloc: Global, text: &[u8]) -> Result<Octets, ReadFault<LineFault>>
+    ensures { Gives (λ octets. octets) read_ending result (octets_of text.now) }
+{
     let digits = without_spaces(alloc, text)?;
     read_digits(alloc, digits.as_slice())
 }
