@@ -2,6 +2,7 @@
 
 ghost use Rattle.std.specs.Prelude.{◌≡◌, ◌↔◌, IsTrue};
 ghost use Rattle.mac_frame.specs.Hearing.{Hears, is_heard};
+ghost use Rattle.events.specs.LentEvents.{event_of};
 
 use mac_frame::{MacAddr, Octets, addressed};
 
@@ -14,6 +15,31 @@ pub enum Event {
     Wire(Octets),
     /// A beacon interval began.
     Tick,
+}
+
+/// One thing that happened to a network, as [`Event`] has it, whose octets are lent by whoever tells of it.
+#[derive(Clone, Copy, Debug)]
+pub enum LentEvent<'a> {
+    /// A string of octets was heard on the air.
+    Air(&'a [u8]),
+    /// An Ethernet frame came from the wired port of the network.
+    Wire(&'a [u8]),
+    /// A beacon interval began.
+    Tick,
+}
+
+impl Event {
+    /// The event, of which nothing is copied.
+    #[inline]
+    pub fn lend(&self) -> LentEvent<'_>
+        ensures { event_of result ≡ self.now }
+    {
+        match self {
+            Event::Air(octets) => LentEvent::Air(octets.as_slice()),
+            Event::Wire(octets) => LentEvent::Wire(octets.as_slice()),
+            Event::Tick => LentEvent::Tick,
+        }
+    }
 }
 
 /// Whether the network `bss` hears a string of octets on the air: it has at least 10 octets, and Address 1,

@@ -5,6 +5,7 @@ use Rattle.std.specs.List.{AllByRecursion}
 use Rattle.network.specs.NetworkView.{NetworkState, new_network}
 use Rattle.ap_config.specs.declared.config.NetConfig.{NetConfig}
 use Rattle.ap_config.specs.declared.config.RadioConfig.{RadioConfig}
+use Rattle.events.specs.LentEvents.{event_of}
 use Rattle.events.specs.declared.event.Event.{Event}
 use Rattle.events.specs.declared.line.Line.{Line}
 use Rattle.trace.specs.Buffers.{CanWrite, Puts}
@@ -169,7 +170,8 @@ answered-fault taken failed face lines number ns said fault old new count (inr i
 -- something is said that was read so
 said-for : (reading : Reading) → (said : Asked) × IsReading reading said
 said-for reading.Nothing = (Says (Ok None), refl)
-said-for (reading.Event e) = (Says (Ok (Some (line_as e.place e.event))), refl)
+said-for (reading.Line said) = (Says (Ok (Some said)), refl)
+said-for (reading.Record e) = (Says (Ok (Some (line_as e.place (event_of e.event)))), refl)
 said-for reading.Tables = (ForTables, refl)
 said-for (reading.Fault fault) = (HasFault fault, inl refl)
 said-for reading.Unread = (Says (Err NotHexadecimal), record { said = Err NotHexadecimal; is = refl; may = tt })

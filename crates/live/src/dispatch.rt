@@ -1,59 +1,93 @@
 //! Each event to the networks to which it is one, and their replies.
 
-ghost use Rattle.std.specs.Prelude.{◌≡◌, ◌<◌, ◌^◌, Some, None, if◌then◌else◌};
+ghost use Rattle.std.specs.Prelude.{◌≡◌, ◌<◌, ◌^◌, Some};
 ghost use Rattle.std.specs.List.{AllByRecursion};
 ghost use Rattle.trace.specs.Buffers.{CanWrite, Puts};
-ghost use Rattle.live_answers.specs.Dispatch.{event_for, line_as};
+ghost use Rattle.events.specs.LentEvents.{event_of};
+ghost use Rattle.live_answers.specs.Dispatch.{line_as};
 ghost use Rattle.live_answers.specs.Moments.{Reply, MayReply, taken_if, after_if, bssid_of};
+ghost use Rattle.live.specs.Audiences.{IsAudience, is_in};
 ghost use Rattle.live.specs.Output.{HasReplied, HaveReplied, through, watch, numbered, placed};
 ghost use Rattle.live.specs.Written.{written_reply};
 
 use crate::face::Face;
 use crate::written::{put_refusal, put_sent};
-use events::{Event, Line, hears};
-use mac_frame::MacAddr;
+use events::{LentEvent, Line};
+use mac_frame::{MacAddr, addressed};
 use network::Network;
 use trace::{Buffered, Sink};
 
-/// A line as an event of the networks that hear it.
-#[derive(Drop)]
-pub struct LineEvent {
+/// A line or a record as an event of the networks that hear it, whose octets stay where they are.
+#[derive(Clone, Copy)]
+pub struct LineEvent<'a> {
     /// What happened.
-    pub event: Event,
+    pub event: LentEvent<'a>,
     /// The place of the network that it came to, where it came over the wire.
     pub place: usize,
 }
 
-impl LineEvent {
-    /// The event of a line, of which nothing is copied.
-    pub fn new(line: Line) -> LineEvent
-        ensures { line_as result.place result.event ≡ line }
+impl LineEvent<'_> {
+    /// The event of a line.
+    pub fn of(line: &Line) -> LineEvent<'_>
+        ensures { line_as result.place (event_of result.event) ≡ line.now }
     {
         match line {
             Line::Air(octets) => LineEvent {
-                event: Event::Air(octets),
+                event: LentEvent::Air(octets.as_slice()),
                 place: 0,
             },
             Line::Wire { place, octets } => LineEvent {
-                event: Event::Wire(octets),
-                place,
+                event: LentEvent::Wire(octets.as_slice()),
+                place: *place,
             },
             Line::Tick => LineEvent {
-                event: Event::Tick,
+                event: LentEvent::Tick,
                 place: 0,
             },
         }
     }
 
-    /// Whether it is an event to the network with this place and this BSSID.
-    fn is_for(&self, place: usize, bssid: MacAddr) -> bool
-        ensures { event_for place bssid (line_as self.now.place self.now.event)
-            ≡ (if result then Some self.now.event else None) }
+    /// To which networks it is an event.
+    #[inline(always)]
+    fn audience(&self) -> Audience
+        ensures { IsAudience result (line_as self.now.place (event_of self.now.event)) (event_of self.now.event) }
     {
-        match &self.event {
-            Event::Air(octets) => hears(bssid, octets.as_slice()),
-            Event::Wire(_) => self.place == place,
-            Event::Tick => true,
+        match self.event {
+            LentEvent::Air(octets) => match addressed(octets) {
+                None => Audience::Nobody,
+                Some(to) if to.is_broadcast() => Audience::All,
+                Some(to) => Audience::Addressed(to),
+            },
+            LentEvent::Wire(_) => Audience::At(self.place),
+            LentEvent::Tick => Audience::All,
+        }
+    }
+}
+
+/// The networks to which a line is an event, read from it once for all of them.
+#[derive(Clone, Copy, Debug)]
+pub(crate) enum Audience {
+    /// None hears it.
+    Nobody,
+    /// Each does.
+    All,
+    /// The one with this address does (IEEE Std 802.11-2016, 9.2.4.3).
+    Addressed(MacAddr),
+    /// The one at this place does.
+    At(usize),
+}
+
+impl Audience {
+    /// Whether the network with this place and this BSSID is one of them.
+    #[inline(always)]
+    fn has(&self, place: usize, bssid: MacAddr) -> bool
+        ensures { result ≡ is_in self.now place bssid }
+    {
+        match self {
+            Audience::Nobody => false,
+            Audience::All => true,
+            Audience::Addressed(to) => *to == bssid,
+            Audience::At(named) => *named == place,
         }
     }
 }
@@ -63,37 +97,42 @@ impl LineEvent {
 pub fn reply_all<W: Sink>(
     face: Face,
     networks: &mut [Network],
-    line: &LineEvent,
+    line: &LineEvent<'_>,
     number: u64,
     out: &mut Buffered<'_, W>,
 )
     requires countable { AllByRecursion (λ n. n.events < 2 ^ 62) networks.old }
     requires can_write { CanWrite W.failed out.old }
     ensures { HaveReplied (through face (watch W.taken W.failed) out.old out.new)
-        (numbered number (line_as line.now.place line.now.event)) networks.old networks.new }
+        (numbered number (line_as line.now.place (event_of line.now.event))) networks.old networks.new }
 {
+    let audience = line.audience();
     for place in 0..networks.len() {
-        reply_at(face, &mut networks[place], line, place, number, out);
+        reply_at(face, &mut networks[place], line, &audience, place, number, out);
     }
 }
 
 /// Has the network at a place take the line of a number, where it is an event to it, and puts its reply.
+#[inline(always)]
 fn reply_at<W: Sink>(
     face: Face,
     network: &mut Network,
-    line: &LineEvent,
+    line: &LineEvent<'_>,
+    audience: &Audience,
     place: usize,
     number: u64,
     out: &mut Buffered<'_, W>,
 )
+    requires audience { IsAudience audience.now (line_as line.now.place (event_of line.now.event))
+        (event_of line.now.event) }
     requires countable { network.old.events < 2 ^ 62 }
     requires can_write { CanWrite W.failed out.old }
     ensures { HasReplied (through face (watch W.taken W.failed) out.old out.new)
-        (numbered number (line_as line.now.place line.now.event)) (placed place network.old) network.new }
+        (numbered number (line_as line.now.place (event_of line.now.event))) (placed place network.old) network.new }
 {
     let bssid = network.setting().network.bssid;
-    if line.is_for(place, bssid) {
-        reply(face, network, &line.event, number, out);
+    if audience.has(place, bssid) {
+        reply(face, network, line.event, number, out);
     }
 }
 
@@ -102,18 +141,18 @@ fn reply_at<W: Sink>(
 fn reply<W: Sink>(
     face: Face,
     network: &mut Network,
-    event: &Event,
+    event: LentEvent<'_>,
     number: u64,
     out: &mut Buffered<'_, W>,
 )
     requires countable { network.old.events < 2 ^ 62 }
     requires can_write { CanWrite W.failed out.old }
-    ensures { (reply : Reply) × MayReply network.old event.now reply
-        × (network.new ≡ after_if network.old (taken_if (Some event.now) (Some reply)))
+    ensures { (reply : Reply) × MayReply network.old (event_of event.entry) reply
+        × (network.new ≡ after_if network.old (taken_if (Some (event_of event.entry)) (Some reply)))
         × Puts W.taken W.failed out.old out.new (written_reply face number (bssid_of network.old) reply) }
 {
     let bssid = network.setting().network.bssid;
-    match network.take(event) {
+    match network.take_lent(event) {
         Ok(sent) => put_sent(face, out, bssid, &sent),
         Err(why) => put_refusal(face, out, why, bssid, number),
     }

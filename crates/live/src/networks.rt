@@ -13,7 +13,7 @@ ghost use Rattle.live_answers.specs.Records.{IsRecord, records_ask};
 ghost use Rattle.live.specs.Written.{written_tables};
 ghost use Rattle.live.specs.declared.face.Face.TheVariants as faces;
 
-use crate::dispatch::reply_all;
+use crate::dispatch::{LineEvent, reply_all};
 use crate::face::Face;
 use crate::reading::{Reading, read_line, read_record};
 use crate::written::{put_fault, put_tables, put_unread};
@@ -93,15 +93,15 @@ impl Networks {
         ensures { AreAnswered (through faces.Records (watch W.taken W.failed) out.old out.new)
             self.old self.new (records_ask (bssids_at self.old) (octets.now ∷ [])) }
     {
-        let reading = read_record(self.alloc, self.bssids.as_slice(), octets);
+        let reading = read_record(self.bssids.as_slice(), octets);
         self.answer(Face::Records, reading, out);
     }
 
     /// Answers what was read of the next line or record, in its face. Fewer than 2^62 ended before it.
-    pub fn answer<W: Sink>(&mut self, face: Face, reading: Reading, out: &mut Buffered<'_, W>)
+    pub fn answer<W: Sink>(&mut self, face: Face, reading: Reading<'_>, out: &mut Buffered<'_, W>)
         requires countable { self.old.lines < 2 ^ 62 }
         requires can_write { CanWrite W.failed out.old }
-        ensures { (said : Asked) → IsReading reading said
+        ensures { (said : Asked) → IsReading reading.entry said
             → AreAnswered (through face (watch W.taken W.failed) out.old out.new) self.old self.new (said ∷ []) }
     {
         self.lines += 1;
@@ -122,20 +122,21 @@ impl Networks {
 fn answer_reading<W: Sink>(
     face: Face,
     networks: &mut [Network],
-    reading: Reading,
+    reading: Reading<'_>,
     number: u64,
     out: &mut Buffered<'_, W>,
 )
     requires countable { AllByRecursion (λ n. n.events < 2 ^ 62) networks.old }
     requires can_write { CanWrite W.failed out.old }
-    ensures { (lines : ℕ) (said : Asked) → number ≡ lines + 1 → IsReading reading said
+    ensures { (lines : ℕ) (said : Asked) → number ≡ lines + 1 → IsReading reading.entry said
         → AreAnswered (through face (watch W.taken W.failed) out.old out.new)
         (record { lines = lines; networks = networks.old }) (record { lines = number; networks = networks.new })
         (said ∷ []) }
 {
     match reading {
         Reading::Nothing => {}
-        Reading::Event(event) => reply_all(face, networks, &event, number, out),
+        Reading::Line(line) => reply_all(face, networks, &LineEvent::of(&line), number, out),
+        Reading::Record(event) => reply_all(face, networks, &event, number, out),
         Reading::Tables => put_tables(face, out, networks),
         Reading::Fault(fault) => put_fault(face, out, fault, number),
         Reading::Unread => put_unread(face, out, number),

@@ -10,8 +10,8 @@ ghost use Rattle.trace.specs.TraceText.{place_with};
 
 use crate::dispatch::LineEvent;
 use crate::record::HEADER_LEN;
-use events::Line;
-use mac_frame::{MacAddr, Octets, address_at};
+use events::{LentEvent, Line};
+use mac_frame::{MacAddr, address_at};
 use std::alloc::Global;
 use trace::{LineFault, ReadFault, read_content, without_spaces_at_end};
 
@@ -23,11 +23,13 @@ const MAX_OCTETS: usize = 4096;
 
 /// What was read of a line or a record.
 #[derive(Drop)]
-pub enum Reading {
+pub enum Reading<'a> {
     /// A line that is skipped.
     Nothing,
-    /// Something happened.
-    Event(LineEvent),
+    /// Something happened, as a line says.
+    Line(Line),
+    /// Something happened, as a record says, whose octets stay where they are.
+    Record(LineEvent<'a>),
     /// The tables are asked for.
     Tables,
     /// It has this fault.
@@ -37,7 +39,7 @@ pub enum Reading {
 }
 
 /// What a line says to networks with these addresses, taken without what ends it; `None` is one that is too long.
-pub fn read_line(alloc: Global, bssids: &[MacAddr], line: Option<&[u8]>) -> Reading
+pub fn read_line(alloc: Global, bssids: &[MacAddr], line: Option<&[u8]>) -> Reading<'static>
     ensures { IsReading result (asked_by bssids.now (line_in (option_map (λ octets. octets.now) line.entry))) }
 {
     match line {
@@ -47,7 +49,7 @@ pub fn read_line(alloc: Global, bssids: &[MacAddr], line: Option<&[u8]>) -> Read
 }
 
 /// What a line says that is not too long.
-fn read_octets(alloc: Global, bssids: &[MacAddr], line: &[u8]) -> Reading
+fn read_octets(alloc: Global, bssids: &[MacAddr], line: &[u8]) -> Reading<'static>
     ensures { IsReading result (asked_by bssids.now (line_in (Some line.now))) }
 {
     let content = without_spaces_at_end(line);
@@ -56,7 +58,7 @@ fn read_octets(alloc: Global, bssids: &[MacAddr], line: &[u8]) -> Reading
     }
     match read_content(alloc, bssids, content) {
         Ok(None) => Reading::Nothing,
-        Ok(Some(said)) => Reading::Event(LineEvent::new(said)),
+        Ok(Some(said)) => Reading::Line(said),
         Err(ReadFault::At(fault)) => Reading::Fault(fault),
         Err(ReadFault::NoMemory) => Reading::Unread,
     }
@@ -69,32 +71,32 @@ fn asks_for_tables(content: &[u8]) -> bool
     content == TABLES
 }
 
-/// What a record says to networks with these addresses. It copies the octets of an event, once.
-pub fn read_record(alloc: Global, bssids: &[MacAddr], octets: &[u8]) -> Reading
+/// What a record says to networks with these addresses. It takes no memory.
+pub fn read_record<'a>(bssids: &[MacAddr], octets: &'a [u8]) -> Reading<'a>
     requires { IsRecord octets.now }
     ensures { IsReading result (record_asks bssids.now octets.now) }
 {
     let kind = octets[0];
     let bssid = address_at(octets, 1);
     let octets = &octets[HEADER_LEN..];
-    read_kind(alloc, bssids, kind, bssid, octets)
+    read_kind(bssids, kind, bssid, octets)
 }
 
 /// What a record of this kind says.
-fn read_kind(alloc: Global, bssids: &[MacAddr], kind: u8, bssid: MacAddr, octets: &[u8]) -> Reading
+fn read_kind<'a>(bssids: &[MacAddr], kind: u8, bssid: MacAddr, octets: &'a [u8]) -> Reading<'a>
     ensures { IsReading result (kind_asks bssids.now kind bssid octets.now) }
 {
     match kind {
-        b'A' => read_air(alloc, bssid, octets),
-        b'W' => read_wire(alloc, place_with(bssid, bssids), octets),
-        b'T' if is_bare(bssid, octets) => Reading::Event(LineEvent::new(Line::Tick)),
+        b'A' => read_air(bssid, octets),
+        b'W' => read_wire(place_with(bssid, bssids), octets),
+        b'T' if is_bare(bssid, octets) => Reading::Line(Line::Tick),
         b'I' if is_bare(bssid, octets) => Reading::Tables,
         _ => Reading::Fault(LineFault::UnknownKind),
     }
 }
 
 /// What a record says of a string that was heard.
-fn read_air(alloc: Global, bssid: MacAddr, octets: &[u8]) -> Reading
+fn read_air(bssid: MacAddr, octets: &[u8]) -> Reading<'_>
     ensures { IsReading result (air_record bssid octets.now) }
 {
     if !is_nobody(bssid) {
@@ -103,14 +105,14 @@ fn read_air(alloc: Global, bssid: MacAddr, octets: &[u8]) -> Reading
     if octets.len() > MAX_OCTETS {
         return Reading::Fault(LineFault::TooMany);
     }
-    match Octets::from_slice(alloc, octets) {
-        Ok(octets) => Reading::Event(LineEvent::new(Line::Air(octets))),
-        Err(_) => Reading::Unread,
-    }
+    Reading::Record(LineEvent {
+        event: LentEvent::Air(octets),
+        place: 0,
+    })
 }
 
 /// What a record says of a frame that came over the wire to the network at a place, if there is one.
-fn read_wire(alloc: Global, place: Option<usize>, octets: &[u8]) -> Reading
+fn read_wire(place: Option<usize>, octets: &[u8]) -> Reading<'_>
     ensures { IsReading result (wire_record place octets.now) }
 {
     let Some(place) = place else {
@@ -119,10 +121,10 @@ fn read_wire(alloc: Global, place: Option<usize>, octets: &[u8]) -> Reading
     if octets.len() > MAX_OCTETS {
         return Reading::Fault(LineFault::TooMany);
     }
-    match Octets::from_slice(alloc, octets) {
-        Ok(octets) => Reading::Event(LineEvent::new(Line::Wire { place, octets })),
-        Err(_) => Reading::Unread,
-    }
+    Reading::Record(LineEvent {
+        event: LentEvent::Wire(octets),
+        place,
+    })
 }
 
 /// The place of the first network that has an address.

@@ -229,7 +229,7 @@ impl Bss {
             return Err(Refusal::HistoryFull);
         }
         let mut reply = self.network.no_reply();
-        let polled = self.network.reply(&mut reply, &event)?;
+        let polled = self.network.reply(&mut reply, event.lend())?;
         self.history.reserve(1)?;
         reply.frames.reserve_in(&mut self.waiting)?;
         self.wired.reserve(1)?;

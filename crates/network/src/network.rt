@@ -9,6 +9,7 @@ ghost use Rattle.network.specs.NetworkView.{new_network, took_event, replied, ca
 ghost use Rattle.network.specs.Sound.{IsSoundNetwork};
 ghost use Rattle.network.specs.Replies.{no_reply, done, serving, before_reply, after_reply};
 ghost use Rattle.stations.specs.Roster.{AreWaitedFor};
+ghost use Rattle.events.specs.LentEvents.{event_of};
 ghost use Rattle.events.specs.declared.event.Event.TheVariants as events;
 ghost use Rattle.network.specs.declared.network.NetworkRefusal.TheVariants as refusals;
 ghost use Rattle.powersave.specs.Keep.{units_for};
@@ -19,7 +20,7 @@ use crate::reply::{Frames, Reply, SEQUENCE_NUMBERS};
 use crate::shown::row_of;
 use ap_config::{Setting, checked_numbers};
 use beacon::ResponseElements;
-use events::{Event, StationRow};
+use events::{Event, LentEvent, StationRow};
 use mac_frame::{MacAddr, NoMemory, Octets};
 use powersave::{Keep, Whom};
 use stations::{Roster, Stations};
@@ -201,7 +202,22 @@ impl Network {
             ↔ ((event.now ≡ events.Tick) × (self.old.network.clock ≡ 4294967295)) }
         ensures err { OnErr result (self.new ≡ self.old) }
     {
-        if matches!(event, Event::Tick) && self.clock == u32::MAX {
+        self.take_lent(event.lend())
+    }
+
+    /// Takes an event whose octets are lent, as [`Network::take`] takes one.
+    pub fn take_lent(&mut self, event: LentEvent<'_>) -> Result<Sent, NetworkRefusal>
+        requires countable { self.old.events < 2 ^ 62 }
+        ensures after { OnOk result (self.new ≡ took_event (event_of event.entry) self.old) }
+        ensures air { IfOk result (λ sent.
+            sent.air ≡ (step self.old.setting self.old.network (event_of event.entry)).air) }
+        ensures wire { IfOk result (λ sent.
+            option_to_list sent.wire ≡ (step self.old.setting self.old.network (event_of event.entry)).wire) }
+        ensures clock { (result ≡ Err NetworkRefusal.Clock)
+            ↔ ((event_of event.entry ≡ events.Tick) × (self.old.network.clock ≡ 4294967295)) }
+        ensures err { OnErr result (self.new ≡ self.old) }
+    {
+        if matches!(event, LentEvent::Tick) && self.clock == u32::MAX {
             return Err(NetworkRefusal::Clock);
         }
         let mut reply = self.no_reply();
@@ -214,14 +230,14 @@ impl Network {
     pub(crate) fn reply(
         &self,
         reply: &mut Reply,
-        event: &Event,
+        event: LentEvent<'_>,
     ) -> Result<Option<MacAddr>, NoMemory>
         requires nothing { reply.old ≡ no_reply self.now.network.sequence }
         requires sequence { reply.old.sequence < 4096 }
-        requires ticks { event.now ≡ events.Tick → self.now.network.clock < 4294967295 }
+        requires ticks { event_of event ≡ events.Tick → self.now.network.clock < 4294967295 }
         ensures follows { IfOk result (λ polled.
             MayFollow self.now polled (done self.now.setting self.now.network polled reply.new)) }
-        ensures step { IfOk result (λ polled. step self.now.setting self.now.network event.now
+        ensures step { IfOk result (λ polled. step self.now.setting self.now.network (event_of event.entry)
             ≡ after_reply (done self.now.setting self.now.network polled reply.new) (before_reply self.now.setting
             polled (done self.now.setting self.now.network polled reply.new) self.now.network)) }
         ensures alone { IfOk result (λ polled. IfSome polled (λ _. reply.new ≡ no_reply self.now.network.sequence)) }
@@ -231,12 +247,12 @@ impl Network {
         // The prover opens what the network keeps, which bounds its counts, where a field is read.
         let _ = &self.roster;
         match event {
-            Event::Air(frame) => self.answer(reply, frame.as_slice()),
-            Event::Wire(frame) => {
-                self.answer_wired(reply, frame.as_slice())?;
+            LentEvent::Air(frame) => self.answer(reply, frame),
+            LentEvent::Wire(frame) => {
+                self.answer_wired(reply, frame)?;
                 Ok(None)
             }
-            Event::Tick => {
+            LentEvent::Tick => {
                 self.tick(reply)?;
                 Ok(None)
             }

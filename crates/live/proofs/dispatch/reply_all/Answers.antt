@@ -1,5 +1,6 @@
 use Rattle.std.proofs.Common.{arith, sym, subst}
 use Rattle.network.specs.NetworkView.{NetworkState}
+use Rattle.events.specs.LentEvents.{event_of}
 use Rattle.live_answers.specs.Dispatch.{line_as}
 use Rattle.live.specs.Output.{HasReplied, through, watch, numbered, placed}
 use Rattle.live.proofs.DispatchSteps.{replies-none, replies-more, replies-all}
@@ -18,7 +19,7 @@ loop-place-preserved g c =
     c.index-networks-place.is
     (subst
     (λ (n : NetworkState).
-    HasReplied (through c.args.face (watch g.W.Sink.taken g.W.Sink.failed) c.loop-place.out c.reply_at.new.out) (numbered c.args.number (line_as c.args.line.now.place c.args.line.now.event)) (placed c.loop-place.place n) c.reply_at.new.network)
+    HasReplied (through c.args.face (watch g.W.Sink.taken g.W.Sink.failed) c.loop-place.out c.reply_at.new.out) (numbered c.args.number (line_as c.args.line.now.place (event_of c.args.line.now.event))) (placed c.loop-place.place n) c.reply_at.new.network)
     (sym c.index-networks-place.is)
     c.reply_at.ensures)
 

@@ -1,9 +1,12 @@
-use Rattle.std.proofs.Common.{refl, ap, subst, Some, None, Ok, List, ◌+◌}
+use Rattle.std.proofs.Common.{◌∙◌, refl, ap, subst, Some, None, Ok, List, ◌+◌}
 use Rattle.trace.proofs.BufferSteps.{Puts-nothing}
 use Rattle.network.specs.NetworkView.{NetworkState}
 use Rattle.live_answers.specs.Answers.{Nothing, Replies, Tables, Unread}
 use Rattle.live_answers.specs.Asked.{ForTables, Says}
 use Rattle.live_answers.specs.Dispatch.{line_as}
+use Rattle.live_answers.specs.Answers.{MayReplyFrom, after_line_from}
+use Rattle.events.specs.LentEvents.{event_of}
+use Rattle.events.specs.declared.line.Line.{Line}
 use Rattle.live.specs.Readings.{IsReading}
 use Rattle.live.specs.declared.reading.Reading.{Reading}
 use Rattle.live.proofs.AnswerSteps.{at, answered-reading, answered-fault, unread-after}
@@ -17,13 +20,25 @@ returns-in-Nothing g c lines said count is =
     refl
     (Puts-nothing _ c.requires.can_write)
 
-pub returns-in-Event : goal.returns-in-Event
-returns-in-Event g c lines said count is =
-    let e = c.in-Event.event in
+pub returns-in-Line : goal.returns-in-Line
+returns-in-Line g c lines said count is =
     let r = c.reply_all.ensures in
+    let l = c.in-Line.line in
     answered-reading _ _ c.args.face lines c.args.number c.args.networks.now _ said
-    (Says (Ok (Some (line_as e.place e.event)))) (Replies r.replies) _ _ count
-    (subst (λ (o : Reading). IsReading o said) c.in-Event.is is)
+    (Says (Ok (Some l))) (Replies r.replies) _ _ count
+    (subst (λ (o : Reading). IsReading o said) c.in-Line.is is)
+    (subst (λ (m : Line). MayReplyFrom 0 c.args.networks.now m r.replies) c.of.ensures r.may)
+    (ap (λ (ns : List NetworkState). at (lines + 1) ns)
+    (r.after ∙ ap (λ (m : Line). after_line_from 0 c.args.networks.now m r.replies) c.of.ensures))
+    r.puts
+
+pub returns-in-Record : goal.returns-in-Record
+returns-in-Record g c lines said count is =
+    let e = c.in-Record.event in
+    let r = c.reply_all-in-Record.ensures in
+    answered-reading _ _ c.args.face lines c.args.number c.args.networks.now _ said
+    (Says (Ok (Some (line_as e.place (event_of e.event))))) (Replies r.replies) _ _ count
+    (subst (λ (o : Reading). IsReading o said) c.in-Record.is is)
     r.may
     (ap (λ (ns : List NetworkState). at (lines + 1) ns) r.after)
     r.puts

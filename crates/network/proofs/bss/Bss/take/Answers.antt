@@ -1,6 +1,6 @@
 use Rattle.std.proofs.Common.{◌≡◌, ℕ, ◌<◌, ◌++◌, ◌∷◌, [], List, Option, length, option_to_list, ◌≤◌, ◌-◌, ◌+◌, sym, ap, ◌∙◌, arith}
 use Rattle.ap_config.specs.declared.setting.Setting.{Setting}
-use Rattle.network.specs.Network.{alone}
+use Rattle.network.specs.Network.{alone, step}
 use Rattle.network.specs.BssView.{BssView, network_of, sent_by, wired_by}
 use Rattle.network.specs.NetworkView.{NetworkState}
 use Rattle.ap_config.specs.declared.config.NetConfig.{NetConfig}
@@ -36,7 +36,7 @@ invariant_of-self-2 c =
     let wire : c.put_last.new.wired.items ≡ c.self.inside.wired.items ++ option_to_list r.wired =
     c.put_last.ensures ∙ ap (λ (w : List (List ℕ)). w ++ option_to_list c.in_ok-sent.sent.wire) c.in_ok-reserve-2.ensures.items
     ∙ ap (λ (f : Option (List ℕ)). c.self.inside.wired.items ++ option_to_list f) c.in_ok-sent.ensures.wire in
-    (rw (items, network, wire) (history-push es n c.self.inside.wired.items c.args.event c.in_ok-polled.polled r c.self.invariant.0 room c.in_ok-polled.ensures.step), λ h. absurd cc)
+    (rw (items, network, wire) (history-push es n c.self.inside.wired.items c.args.event c.in_ok-polled.polled r c.self.invariant.0 room (ap (step n.setting n.network) (sym c.lend.ensures) ∙ c.in_ok-polled.ensures.step)), λ h. absurd cc)
 
 pub returns-clause-waiting : goal.returns-clause-waiting
 returns-clause-waiting c =
@@ -44,7 +44,7 @@ returns-clause-waiting c =
     let n : NetworkState = c.self.inside.network in
     let es : List Event = c.self.inside.history.items in
     let r : Reply = done n.setting n.network c.in_ok-polled.polled c.reply.new.reply in
-    let by : sent_by n.setting es c.args.event ≡ r.frames = sent_by-reply es n c.self.inside.wired.items c.args.event c.in_ok-polled.polled r c.self.invariant.0 c.in_ok-polled.ensures.step in
+    let by : sent_by n.setting es c.args.event ≡ r.frames = sent_by-reply es n c.self.inside.wired.items c.args.event c.in_ok-polled.polled r c.self.invariant.0 (ap (step n.setting n.network) (sym c.lend.ensures) ∙ c.in_ok-polled.ensures.step) in
     let before : c.self.inside.waiting.items ≡ s.waiting = ap (λ (st : BssView). st.waiting) c.self.view_is in
     c.append_to.ensures ∙ ap (λ (w : List (List ℕ)). w ++ c.in_ok-sent.sent.air) (c.reserve_in.ensures.items ∙ before)
     ∙ ap (λ (f : List (List ℕ)). s.waiting ++ f) c.in_ok-sent.ensures.air ∙ ap (λ (f : List (List ℕ)). s.waiting ++ f) (sym by)
@@ -67,7 +67,7 @@ returns-clause-wire c =
     let items : c.push_reserved.new.self.items ≡ es ++ c.args.event ∷ [] = c.push_reserved.ensures.items ∙ ap (λ (h : List Event). h ++ c.args.event ∷ []) c.reserve.ensures.items in
     let same : c.finish.new.self.setting ≡ s = ap (λ (k : NetworkState). k.setting) c.in_ok-sent.ensures.after in
     ap (λ (t : Setting). (alone t c.push_reserved.new.self.items).wire) same ∙ ap (λ (h : List Event). (alone s h).wire) items
-    ∙ wire-push es n c.self.inside.wired.items c.args.event c.in_ok-polled.polled (done n.setting n.network c.in_ok-polled.polled c.reply.new.reply) c.self.invariant.0 c.in_ok-polled.ensures.step
+    ∙ wire-push es n c.self.inside.wired.items c.args.event c.in_ok-polled.polled (done n.setting n.network c.in_ok-polled.polled c.reply.new.reply) c.self.invariant.0 (ap (step n.setting n.network) (sym c.lend.ensures) ∙ c.in_ok-polled.ensures.step)
     ∙ ap (λ (st : BssView). (network_of st).wire ++ wired_by st.setting st.history c.args.event) c.self.view_is
 
 pub append_to-requires : goal.append_to-requires
