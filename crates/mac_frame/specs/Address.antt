@@ -25,8 +25,8 @@ abbrev pub last_number : List ℕ → ℕ
 last_number address = from_le_bytes w16 (slice_index address 4 ∷ slice_index address 5 ∷ [])
 
 -- the octets as one number, the first of them the lowest
-abbrev pub number_of : List ℕ → ℕ
-number_of address = first_number address + last_number address * 2 ^ 32
+abbrev pub address_number : List ℕ → ℕ
+address_number address = first_number address + last_number address * 2 ^ 32
 
 -- bit 0 of the first octet is 1
 abbrev pub is_group : List ℕ → Bool

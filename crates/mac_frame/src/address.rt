@@ -28,9 +28,9 @@ impl Model for MacAddr {
 
 /// The six octets as one number, so that a hasher mixes them together.
 impl Hash for MacAddr {
-    ghost use Rattle.mac_frame.specs.Address.{number_of};
+    ghost use Rattle.mac_frame.specs.Address.{address_number};
 
-    ghost hash_input = { λ a. fed.u64 (number_of a) };
+    ghost hash_input = { λ a. fed.u64 (address_number a) };
 
     ghost respects_eq = { Prim.search (hashing, rules) };
 
