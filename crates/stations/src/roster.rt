@@ -220,7 +220,7 @@ impl Roster {
         }
     }
 
-    /// Takes out all units for one.
+    /// Takes out all units for one. Where none was kept, no bit is its own, and its identifier isn't looked up.
     fn drop_for(&mut self, whom: &Whom)
         ensures { self.new ≡ record self.old {
           kept = record self.old.kept {
@@ -231,8 +231,11 @@ impl Roster {
     {
         // the units for the others stay
         parts_stay();
+        let before = self.kept.len();
         self.kept.drop_for(*whom);
-        follow(&mut self.traffic, &self.stations, whom, false);
+        if self.kept.len() < before {
+            follow(&mut self.traffic, &self.stations, whom, false);
+        }
     }
 
     /// Takes out the unit that was kept first for a station as the Data frame that carries it from the network `bss`

@@ -1,0 +1,25 @@
+-- Where as many units stay as there were, none has left.
+use Rattle.std.proofs.Common.{◌≡◌, ◌≤◌, Bool, true, false, cond, List, [], ◌∷◌, length, refl, ap, arith}
+use Rattle.std.specs.Prelude.{filter}
+
+-- no more pass a test than there are
+no_more : {X : Type 0} (p : X → Bool) (xs : List X) → length (filter p xs) ≤ length xs
+no_more p [] = omega arith
+no_more {X} p (x ∷ xs) =
+    let before : length (filter p xs) ≤ length xs = no_more p xs in
+    elim (p x) as (λ b. length (cond b (x ∷ filter p xs) (filter p xs)) ≤ length (x ∷ xs)) [
+      | true ↦ omega (arith, before)
+      | false ↦ omega (arith, before)
+    ]
+
+-- where as many do, each does
+pub all-pass : {X : Type 0} (p : X → Bool) (xs : List X) → length xs ≤ length (filter p xs) → filter p xs ≡ xs
+all-pass p [] many = refl
+all-pass {X} p (x ∷ xs) many =
+    by (p x) (all-pass p xs) many
+  where
+    by : (b : Bool) → (length xs ≤ length (filter p xs) → filter p xs ≡ xs)
+        → length (x ∷ xs) ≤ length (cond b (x ∷ filter p xs) (filter p xs))
+        → cond b (x ∷ filter p xs) (filter p xs) ≡ x ∷ xs
+    by true rest m = ap (λ (others : List X). x ∷ others) (rest (omega (arith, m)))
+    by false rest m = absurd (omega (arith, m, no_more p xs))
