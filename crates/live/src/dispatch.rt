@@ -108,7 +108,15 @@ pub fn reply_all<W: Sink>(
 {
     let audience = line.audience();
     for place in 0..networks.len() {
-        reply_at(face, &mut networks[place], line, &audience, place, number, out);
+        reply_at(
+            face,
+            &mut networks[place],
+            line,
+            &audience,
+            place,
+            number,
+            out,
+        );
     }
 }
 

@@ -198,11 +198,7 @@ fn put_state(slot: &mut Slot, state: StationState)
 
 /// The slot of a station and its state, or `None` where it is not known.
 #[inline(always)]
-fn find(
-    index: &Index,
-    slots: &[Slot],
-    addr: MacAddr,
-) -> Option<(usize, StationState)>
+fn find(index: &Index, slots: &[Slot], addr: MacAddr) -> Option<(usize, StationState)>
     requires { AreFound index.now.entries slots.now }
     ensures known { IfSome result (λ found. IsAt addr slots.now found.0 found.1) }
     ensures unknown { IfNone result (state_of addr (stations_in slots.now) ≡ None) }
