@@ -2,7 +2,8 @@
 //!
 //! Two types to know first: an [`Event`] is one thing that happened to a network, and a [`Section`] is a network with
 //! all that happened to it and all that it did. A [`Line`] is what happened to a radio; which network hears it is said
-//! here once ([`hears`], and `heard` of the definitions). A [`LentEvent`] is an event whose octets stay where they are. An [`AirItem`] is a frame of one network on its way out.
+//! here once ([`hears`], and `heard` of the definitions). A [`LentEvent`] is an event whose octets stay where they are.
+//! An [`AirItem`] is a frame of one network on its way out.
 //!
 //! What a network makes of its events is left to the crates above.
 #![tactic(auto)]
