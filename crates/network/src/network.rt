@@ -205,7 +205,8 @@ impl Network {
         self.take_lent(event.lend())
     }
 
-    /// Takes an event whose octets are lent, as [`Network::take`] takes one.
+    /// Takes an event whose octets are lent, where it took fewer than 2^62 before, and hands out what it sends for it.
+    /// `Clock` and `NoMemory` come as from [`Network::take`], and after either nothing has changed (*profile*).
     pub fn take_lent(&mut self, event: LentEvent<'_>) -> Result<Sent, NetworkRefusal>
         requires countable { self.old.events < 2 ^ 62 }
         ensures after { OnOk result (self.new ≡ took_event (event_of event.entry) self.old) }
