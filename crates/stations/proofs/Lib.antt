@@ -1,5 +1,6 @@
 pub mod StationTables
 pub mod StationSlots
+pub mod StationOrder
 pub mod StationsSound
 pub mod UnitsKept
 pub mod RosterAging

@@ -11,7 +11,7 @@ use Rattle.std.proofs.lemmas.List.Recursion.{is_count_by}
 use Rattle.std.proofs.lemmas.Slice.Eq.{bytes_eq-Decides}
 use Rattle.stations.specs.Stations.{Table, state_of, set_state, forget}
 use Rattle.stations.specs.Sound.{AreApart}
-use Rattle.stations.specs.Slots.{Slots, stations_in, slot_of, IsAt, AreFound, AreCounts, Tells, IsStationList}
+use Rattle.stations.specs.Slots.{Slots, stations_in, slot_of, IsAt, AreFound, Tells}
 use Rattle.stations.proofs.StationTables.{set_value-is_set_state, set_state-unknown}
 use Rattle.stations.proofs.StationsSound.{apart-set, apart-forgotten, not-here}
 use Rattle.stations.specs.declared.table.StationState.{StationState}
@@ -164,13 +164,6 @@ found-set b (Some e ∷ slots) zero addr before state h =
     ap (λ (a : List ℕ). if bytes_eq b a then Some 0 else option_map (λ n. suc n) (slot_of b slots)) name
 found-set b (Some e ∷ slots) (suc i) addr before state h = ap (λ (o : Option ℕ). if bytes_eq b e.0 then Some 0 else option_map (λ n. suc n) o) (found-set b slots i addr before state h)
 
-pub count-set : (slots : Slots) (i : ℕ) (station new : List ℕ × StationState) → slice_get slots i ≡ Some (Some station) → length (stations_in (set slots i (Some new))) ≡ length (stations_in slots)
-count-set [] i station new h = absurd (cc)
-count-set (None ∷ slots) zero station new h = absurd (cc)
-count-set (None ∷ slots) (suc i) station new h = count-set slots i station new h
-count-set (Some e ∷ slots) zero station new h = refl
-count-set (Some e ∷ slots) (suc i) station new h = ap (λ n. suc n) (count-set slots i station new h)
-
 -- ---- a station is taken out
 
 out-further : (addr : List ℕ) (e : List ℕ × StationState) (slots : Slots) (i j : ℕ) → bytes_eq addr e.0 ≡ false → i ≡ suc j → stations_in (set slots j None) ≡ forget addr (stations_in slots) → stations_in (set (Some e ∷ slots) i None) ≡ forget addr (e ∷ stations_in slots)
@@ -237,13 +230,6 @@ found-out b addr (Some e ∷ slots) i apart h = by (bytes_eq addr e.0) refl (λ 
         subst (λ n. slot_of b (set (Some e ∷ slots) n None) ≡ cond (bytes_eq addr b) None (slot_of b (Some e ∷ slots))) (sym s.2)
         (ap (λ (o : Option ℕ). if bytes_eq b e.0 then Some 0 else option_map (λ n. suc n) o) (later s.0 s.1) ∙ past-other b addr e None (slot_of b slots) other)
 
-pub count-out : (slots : Slots) (i : ℕ) (station : List ℕ × StationState) → slice_get slots i ≡ Some (Some station) → length (stations_in (set slots i None)) + 1 ≡ length (stations_in slots)
-count-out [] i station h = absurd (cc)
-count-out (None ∷ slots) zero station h = absurd (cc)
-count-out (None ∷ slots) (suc i) station h = count-out slots i station h
-count-out (Some e ∷ slots) zero station h = omega arith
-count-out (Some e ∷ slots) (suc i) station h = let rest = count-out slots i station h in omega (arith, rest)
-
 -- ---- a station comes last
 
 pub stations-append : (s t : Slots) → stations_in (s ++ t) ≡ stations_in s ++ stations_in t
@@ -267,170 +253,12 @@ found-last b addr state (Some e ∷ slots) h = by (bytes_eq addr e.0) refl (foun
         let rest : option_map (λ n. suc n) (slot_of addr slots) ≡ None = sym (rw other refl) ∙ h in
         ap (λ (o : Option ℕ). if bytes_eq b e.0 then Some 0 else option_map (λ n. suc n) o) (later (further-none (slot_of addr slots) rest)) ∙ past-other b addr e (Some (length slots)) (slot_of b slots) other
 
--- ---- what the blocks count
-
-pub counts-within : (size : ℕ) (counts : List ℕ) (slots : Slots) → AreCounts size counts slots → length counts * size ≤ length slots
-counts-within size [] slots h = omega arith
-counts-within size (c ∷ counts) slots h =
-    let rest = counts-within size counts (drop size slots) h.2 in
-    let here = h.0 in
-    omega (arith, rest, here, length-drop size slots)
-
-pub counts-append : (size : ℕ) (counts : List ℕ) (slots more : Slots) → AreCounts size counts slots → AreCounts size counts (slots ++ more)
-counts-append size [] slots more h = tt
-counts-append size (c ∷ counts) slots more h =
-    let within : size ≤ length slots = h.0 in (
-      omega (arith, within, length-append slots more),
-      h.1 ∙ ap (λ (s : Slots). length (stations_in s)) (sym (take-append-le size slots more within)),
-      subst (AreCounts size counts) (sym (drop-append-le size slots more within)) (counts-append size counts (drop size slots) more h.2),
-    )
-
-pub counts-next : (size first n : ℕ) (counts : List ℕ) (slots : Slots) → first ≡ length counts * size → first + size ≤ length slots → n ≡ length (stations_in (take size (drop first slots))) → AreCounts size counts slots → AreCounts size (counts ++ n ∷ []) slots
-counts-next size first n [] slots at within count h =
-    let none : first ≡ 0 = omega (arith, at) in
-    (omega (arith, within), count ∙ ap (λ k. length (stations_in (take size (drop k slots)))) none, tt)
-counts-next size first n (c ∷ counts) slots at within count h =
-    let here : size ≤ length slots = h.0 in
-    let later : first ≡ size + length counts * size = omega (arith, at) in (
-      here,
-      h.1,
-      counts-next size (length counts * size) n counts (drop size slots) refl (omega (arith, within, later, length-drop size slots))
-          (count ∙ ap (λ k. length (stations_in (take size (drop k slots)))) later ∙ ap (λ (s : Slots). length (stations_in (take size s))) (sym (drop-drop (length counts * size) size slots))) h.2,
-    )
-
-slice_get-take : (n : ℕ) (slots : Slots) (i : ℕ) → i < n → slice_get (take n slots) i ≡ slice_get slots i
-slice_get-take zero slots i h = absurd (omega (arith, h))
-slice_get-take (suc n) [] i h = refl
-slice_get-take (suc n) (x ∷ slots) zero h = refl
-slice_get-take (suc n) (x ∷ slots) (suc i) h = slice_get-take n slots i (omega (arith, h))
-
-slice_get-drop : (n : ℕ) (slots : Slots) (i : ℕ) → slice_get (drop n slots) i ≡ slice_get slots (n + i)
-slice_get-drop zero slots i = let same : i ≡ 0 + i = omega arith in ap (slice_get slots) same
-slice_get-drop (suc n) [] i = refl
-slice_get-drop (suc n) (x ∷ slots) i = let same : suc (n + i) ≡ suc n + i = omega arith in slice_get-drop n slots i ∙ ap (slice_get (x ∷ slots)) same
-
-take-set-lt : (n : ℕ) (slots : Slots) (i : ℕ) (x : Option (List ℕ × StationState)) → i < n → take n (set slots i x) ≡ set (take n slots) i x
-take-set-lt zero slots i x h = absurd (omega (arith, h))
-take-set-lt (suc n) [] i x h = refl
-take-set-lt (suc n) (y ∷ slots) zero x h = refl
-take-set-lt (suc n) (y ∷ slots) (suc i) x h = ap (λ (s : Slots). y ∷ s) (take-set-lt n slots i x (omega (arith, h)))
-
--- a block in which the number of stations changes from one to another
-pub counts-set : (size : ℕ) (counts : List ℕ) (slots : Slots) (i : ℕ) (station new : List ℕ × StationState) → slice_get slots i ≡ Some (Some station) → AreCounts size counts slots → AreCounts size counts (set slots i (Some new))
-counts-set size [] slots i station new at h = tt
-counts-set size (c ∷ counts) slots i station new at h = elim (cases_lt i size) [
-  | inl before ↦ (
-    omega (arith, h.0, length-set slots i (Some new)),
-    h.1 ∙ sym (count-set (take size slots) i station new (slice_get-take size slots i before ∙ at)) ∙ ap (λ (s : Slots). length (stations_in s)) (sym (take-set-lt size slots i (Some new) before)),
-    subst (AreCounts size counts) (sym (drop-set-lt size slots i (Some new) before)) h.2,
-  )
-  | inr behind ↦
-      let j : ℕ = i - size in
-      let sum : i ≡ size + j = omega (arith, behind) in (
-        omega (arith, h.0, length-set slots i (Some new)),
-        h.1 ∙ ap (λ (s : Slots). length (stations_in s)) (sym (take-set-le size slots i (Some new) behind)),
-        subst (AreCounts size counts) (sym (ap (λ k. drop size (set slots k (Some new))) sum ∙ drop-set-add size slots j (Some new)))
-            (counts-set size counts (drop size slots) j station new (slice_get-drop size slots j ∙ ap (slice_get slots) (sym sum) ∙ at) h.2),
-      )
-]
-
--- the count of a block of which one station is taken out
-pub record IsCountOut (size : ℕ) (counts : List ℕ) (slots : Slots) (b i : ℕ) : Type 0 where
-  pub some : b < length counts → 1 ≤ get_or counts b 0
-  pub after : AreCounts size (set counts b (get_or counts b 0 - 1)) (set slots i None)
-
-pub counts-out : (size : ℕ) (counts : List ℕ) (slots : Slots) (b i r : ℕ) (station : List ℕ × StationState) → i ≡ b * size + r → r < size → slice_get slots i ≡ Some (Some station) → AreCounts size counts slots → IsCountOut size counts slots b i
-counts-out size [] slots b i r station is low at h = record { some = λ k. absurd (omega (arith, k)); after = tt }
-counts-out size (c ∷ counts) slots zero i r station is low at h =
-    let before : i < size = omega (arith, is, low) in
-    let one = count-out (take size slots) i station (slice_get-take size slots i before ∙ at) in
-    let same : length (stations_in (take size (set slots i None))) ≡ length (stations_in (set (take size slots) i None)) = ap (λ (s : Slots). length (stations_in s)) (take-set-lt size slots i None before) in
-    let count = h.1 in
-    record {
-      some = λ k. omega (arith, one, count);
-      after = (
-        omega (arith, h.0, length-set slots i None),
-        omega (arith, one, count, same),
-        subst (AreCounts size counts) (sym (drop-set-lt size slots i None before)) h.2,
-      );
-    }
-counts-out size (c ∷ counts) slots (suc b) i r station is low at h =
-    let j : ℕ = b * size + r in
-    let sum : i ≡ size + j = omega (arith, is) in
-    let rest = counts-out size counts (drop size slots) b j r station refl low (slice_get-drop size slots j ∙ ap (slice_get slots) (sym sum) ∙ at) h.2 in
-    record {
-      some = λ k. rest.some (omega (arith, k));
-      after = (
-        omega (arith, h.0, length-set slots i None),
-        h.1 ∙ ap (λ (s : Slots). length (stations_in s)) (sym (take-set-le size slots i None (omega (arith, sum)))),
-        subst (AreCounts size (set counts b (get_or counts b 0 - 1))) (sym (ap (λ k. drop size (set slots k None)) sum ∙ drop-set-add size slots j None)) rest.after,
-      );
-    }
-
--- ---- slots without a hole
-
-past-from_none : (t : Table) (i : ℕ) → slice_get t i ≡ None → length t ≤ i
-past-from_none [] i h = omega arith
-past-from_none (e ∷ t) zero h = absurd (cc)
-past-from_none (e ∷ t) (suc i) h = let rest = past-from_none t i h in omega (arith, rest)
-
-pub few-stations : (slots : Slots) → length (stations_in slots) ≤ length slots
-few-stations [] = omega arith
-few-stations (None ∷ slots) = let rest = few-stations slots in omega (arith, rest)
-few-stations (Some e ∷ slots) = let rest = few-stations slots in omega (arith, rest)
-
--- the place of a station is its slot
-pub full-at : (slots : Slots) (i : ℕ) → length (stations_in slots) ≡ length slots → slice_get slots i ≡ option_map (λ (e : List ℕ × StationState). Some e) (slice_get (stations_in slots) i)
-full-at [] i full = refl
-full-at (None ∷ slots) i full = let rest = few-stations slots in absurd (omega (arith, rest, full))
-full-at (Some e ∷ slots) zero full = refl
-full-at (Some e ∷ slots) (suc i) full = full-at slots i (omega (arith, full))
-
-full-parts : (n : ℕ) (slots : Slots) → length (stations_in slots) ≡ length slots → (length (stations_in (take n slots)) ≡ length (take n slots)) × (length (stations_in (drop n slots)) ≡ length (drop n slots))
-full-parts n slots full =
-    let whole : length (stations_in (take n slots) ++ stations_in (drop n slots)) ≡ length slots = ap length (sym (stations-append (take n slots) (drop n slots))) ∙ ap (λ (s : Slots). length (stations_in s)) (take-append-drop n slots) ∙ full in
-    let parts = length-append (stations_in (take n slots)) (stations_in (drop n slots)) in
-    let both = length-append (take n slots) (drop n slots) in
-    let all : length (take n slots ++ drop n slots) ≡ length slots = ap length (take-append-drop n slots) in
-    let low = few-stations (take n slots) in
-    let high = few-stations (drop n slots) in
-    (omega (arith, whole, parts, both, all, low, high), omega (arith, whole, parts, both, all, low, high))
-
-pub full-counts : (size n : ℕ) (slots : Slots) → length (stations_in slots) ≡ length slots → n * size ≤ length slots → AreCounts size (replicate n size) slots
-full-counts size zero slots full within = tt
-full-counts size (suc n) slots full within =
-    let parts = full-parts size slots full in
-    let here : size ≤ length slots = omega (arith, within) in
-    let block = parts.0 in (
-      here,
-      omega (arith, block, length-take size slots, here),
-      full-counts size n (drop size slots) parts.1 (omega (arith, within, length-drop size slots)),
-    )
-
 -- ---- the stations are moved together
 
 pub stations-kept : (slots : Slots) → (stations_in (filter is_some slots) ≡ stations_in slots) × (length (filter is_some slots) ≡ length (stations_in slots))
 stations-kept [] = (refl, refl)
 stations-kept (None ∷ slots) = stations-kept slots
 stations-kept (Some e ∷ slots) = let rest = stations-kept slots in (ap (λ (t : Table). e ∷ t) rest.0, ap (λ n. suc n) rest.1)
-
--- ---- a place among the stations
-
-slice_get-behind : (s t : Table) (i : ℕ) → length s ≤ i → slice_get (s ++ t) i ≡ slice_get t (i - length s)
-slice_get-behind [] t i h = let same : i ≡ i - 0 = omega arith in ap (slice_get t) same
-slice_get-behind (e ∷ s) t zero h = absurd (omega (arith, h))
-slice_get-behind (e ∷ s) t (suc i) h = let same : i - length s ≡ suc i - suc (length s) = omega arith in slice_get-behind s t i (omega (arith, h)) ∙ ap (slice_get t) same
-
-pub behind-block : (size : ℕ) (slots : Slots) (count i : ℕ) → count ≡ length (stations_in (take size slots)) → count ≤ i → slice_get (stations_in (drop size slots)) (i - count) ≡ slice_get (stations_in slots) i
-behind-block size slots count i is behind =
-    let s = stations_in (take size slots) in
-    let t = stations_in (drop size slots) in
-    let whole : s ++ t ≡ stations_in slots = sym (stations-append (take size slots) (drop size slots)) ∙ ap stations_in (take-append-drop size slots) in
-    ap (λ k. slice_get t (i - k)) is ∙ sym (slice_get-behind s t i (omega (arith, is, behind))) ∙ ap (λ (k : Table). slice_get k i) whole
-
--- one block further
-pub counts-step : (size : ℕ) (counts : List ℕ) (i : ℕ) (slots : Slots) → i < length counts → AreCounts size (drop i counts) slots → (size ≤ length slots) × (get_or counts i 0 ≡ length (stations_in (take size slots))) × AreCounts size (drop (i + 1) counts) (drop size slots)
-counts-step size counts i slots low h = subst (λ (cs : List ℕ). AreCounts size cs slots) (drop_more counts i 0 low) h
 
 -- ---- the index is mended
 
@@ -498,28 +326,10 @@ mended-all slots old new has h addr =
     by None is = none-from (lookup (bytes_eq addr) old) (has addr ∙ sym (slot_of-known addr slots) ∙ ap is_some is) ∙ sym is
     by (Some n) is = sym is
 
--- ---- how many there are
-
-pub counted-by : (slots : Slots) → length (stations_in slots) ≡ count_by is_some slots
-counted-by = is_count_by (λ (s : Slots). length (stations_in s)) is_some refl step
-  where
-    step : (x : Option (List ℕ × StationState)) (s : Slots) → length (stations_in (x ∷ s)) ≡ cond (is_some x) (1 + length (stations_in s)) (length (stations_in s))
-    step None s = refl
-    step (Some e) s = omega arith
-
 -- ---- what is read
 
 pub read-found : (addr : List ℕ) (index : List (List ℕ × ℕ)) (slots : Slots) (i : ℕ) → AreFound index slots → lookup (bytes_eq addr) index ≡ Some i → (state : StationState) × IsAt addr slots i state
 read-found addr index slots i found h = slot_of-at addr slots i (sym (found addr) ∙ h)
-
-pub full-row : (slots : Slots) (place : ℕ) (x : Option (List ℕ × StationState)) → length (stations_in slots) ≡ length slots → place < length (stations_in slots) → x ≡ get_or slots place x → (station : List ℕ × StationState) × (x ≡ Some station) × (slice_get (stations_in slots) place ≡ Some station)
-full-row slots place x full low read = by (slice_get (stations_in slots) place) refl
-  where
-    by : (o : Option (List ℕ × StationState)) → slice_get (stations_in slots) place ≡ o → (station : List ℕ × StationState) × (x ≡ Some station) × (slice_get (stations_in slots) place ≡ Some station)
-    by None is = absurd (let past : length (stations_in slots) ≤ place = past-from_none (stations_in slots) place is in omega (arith, past, low))
-    by (Some e) is =
-        let at : slice_get slots place ≡ Some (Some e) = full-at slots place full ∙ ap (option_map (λ (k : List ℕ × StationState). Some k)) is in
-        (e, read ∙ get_or_from_slice_get slots place (Some e) x at, is)
 
 pub some-at : (t : Table) (i : ℕ) → i < length t → is_some (slice_get t i) ≡ true
 some-at [] i h = absurd (omega (arith, h))
@@ -536,34 +346,8 @@ pub stations-set_state : (addr : List ℕ) (slots : Slots) (i : ℕ) (before sta
 stations-set_state addr slots i before state at =
     stations-set addr state slots i at.place ∙ set_value-is_set_state addr state (stations_in slots) (ap is_some at.known)
 
-pub list-set : (index : List (List ℕ × ℕ)) (slots : Slots) (holes : ℕ) (counts : List ℕ) (addr : List ℕ) (i : ℕ) (before state : StationState) → IsStationList index slots holes counts → IsAt addr slots i before → IsStationList index (set slots i (Some (addr, state))) holes counts
-list-set index slots holes counts addr i before state l at = record {
-  apart = subst AreApart (sym (stations-set_state addr slots i before state at)) (apart-set addr state (stations_in slots) l.apart);
-  found = λ q. l.found q ∙ sym (found-set q slots i addr before state at.slot);
-  rest = omega (arith, l.rest, count-set slots i (addr, before) (addr, state) at.slot, length-set slots i (Some (addr, state)));
-  counted = counts-set 64 counts slots i (addr, before) (addr, state) at.slot l.counted;
-}
-
-pub list-out : (old new : List (List ℕ × ℕ)) (slots : Slots) (holes : ℕ) (counts : List ℕ) (addr : List ℕ) (i b r : ℕ) (before : StationState) → i ≡ b * 64 + r → r < 64 → IsStationList old slots holes counts → IsAt addr slots i before
-    → ((q : List ℕ) → lookup (bytes_eq q) new ≡ cond (bytes_eq addr q) None (lookup (bytes_eq q) old)) → IsStationList new (set slots i None) (holes + 1) (set counts b (get_or counts b 0 - 1))
-list-out old new slots holes counts addr i b r before is low l at left = record {
-  apart = subst AreApart (sym (stations-out addr slots i at.place)) (apart-forgotten addr (stations_in slots) l.apart);
-  found = λ q. left q ∙ ap (cond (bytes_eq addr q) None) (l.found q) ∙ sym (found-out q addr slots i l.apart at.place);
-  rest = omega (arith, l.rest, count-out slots i (addr, before) at.slot, length-set slots i None);
-  counted = (counts-out 64 counts slots b i r (addr, before) is low at.slot l.counted).after;
-}
-
 pub stations-last : (addr : List ℕ) (state : StationState) (slots : Slots) → stations_in (slots ++ Some (addr, state) ∷ []) ≡ stations_in slots ++ (addr, state) ∷ []
 stations-last addr state slots = stations-append slots (Some (addr, state) ∷ [])
-
-pub list-last : (old new : List (List ℕ × ℕ)) (slots : Slots) (holes : ℕ) (counts : List ℕ) (addr : List ℕ) (state : StationState) → IsStationList old slots holes counts → state_of addr (stations_in slots) ≡ None
-    → ((q : List ℕ) → lookup (bytes_eq q) new ≡ cond (bytes_eq addr q) (Some (length slots)) (lookup (bytes_eq q) old)) → IsStationList new (slots ++ Some (addr, state) ∷ []) holes counts
-list-last old new slots holes counts addr state l unknown put = record {
-  apart = subst AreApart (set_state-unknown addr state (stations_in slots) unknown ∙ sym (stations-last addr state slots)) (apart-set addr state (stations_in slots) l.apart);
-  found = λ q. put q ∙ ap (cond (bytes_eq addr q) (Some (length slots))) (l.found q) ∙ sym (found-last q addr state slots (slot_of-none addr slots unknown));
-  rest = omega (arith, l.rest, ap length (stations-last addr state slots), length-append (stations_in slots) ((addr, state) ∷ []), length-append slots (Some (addr, state) ∷ []));
-  counted = counts-append 64 counts slots (Some (addr, state) ∷ []) l.counted;
-}
 
 -- a station that is not known is not set
 pub set_value-unknown : (addr : List ℕ) (state : StationState) (t : Table) → state_of addr t ≡ None → set_value (bytes_eq addr) t state ≡ t

@@ -1,6 +1,7 @@
 -- How the stations of a network are kept in order (profile): each has a slot, and one that left left a hole.
-use Rattle.std.specs.Prelude.{ℕ, ◌≡◌, ◌+◌, ◌≤◌, List, [], ◌∷◌, Option, Some, None, true, is_some, if◌then◌else◌}
-use Rattle.std.specs.Prelude.{length, slice_get, take, drop, suc}
+use Rattle.std.specs.Prelude.{ℕ, ◌≡◌, ◌<◌, nat_lt, List, [], ◌∷◌, Option, Some, None, true, is_some, if◌then◌else◌}
+use Rattle.std.specs.Prelude.{length, slice_get, slice_set, zero, suc}
+use Rattle.std.specs.List.{AllByRecursion}
 use Rattle.std.specs.Option.{option_map}
 use Rattle.std.specs.Map.{lookup}
 use Rattle.std.specs.Str.{bytes_eq}
@@ -41,16 +42,51 @@ Tells (Some station) place old new = is_some (lookup (bytes_eq station.0) old) �
     → (other : List ℕ) → lookup (bytes_eq other) new
     ≡ (if bytes_eq station.0 other then Some place else lookup (bytes_eq other) old)
 
--- how many stations the first blocks of slots have, each of this size
-abbrev pub AreCounts : ℕ → List ℕ → Slots → Type 0
-AreCounts size [] slots = Unit {0}
-AreCounts size (count ∷ counts) slots =
-    (size ≤ length slots) × (count ≡ length (stations_in (take size slots))) × AreCounts size counts (drop size slots)
+-- ---- the order of the slots
 
--- what is kept beside the slots: where each station stands, how many slots are holes, and how many stations the first
--- blocks of 64 slots have
-pub record IsStationList (index : List (List ℕ × ℕ)) (slots : Slots) (holes : ℕ) (counts : List ℕ) : Type 0 where
+-- a slot; where there is none of this number it is a hole
+abbrev pub slot_at : Slots → ℕ → Option (List ℕ × StationState)
+slot_at [] i = None
+slot_at (slot ∷ slots) zero = slot
+slot_at (slot ∷ slots) (suc i) = slot_at slots i
+
+-- the slots of these numbers
+abbrev pub listed : (row : List ℕ) → Slots → Slots
+listed [] slots = []
+listed (i ∷ row) slots = slot_at slots i ∷ listed row slots
+
+-- the places of the holes, from this number on
+abbrev pub holes_from : ℕ → Slots → List ℕ
+holes_from n [] = []
+holes_from n (None ∷ slots) = n ∷ holes_from (suc n) slots
+holes_from n (Some station ∷ slots) = holes_from (suc n) slots
+
+-- the place of what stands at a place where these places, the lowest first, are left out
+abbrev pub past : (places : List ℕ) → ℕ → ℕ
+past [] place = place
+past (other ∷ places) place = if nat_lt place other then place else past places (suc place)
+
+-- one place more, the lowest first
+abbrev pub with_place : ℕ → List ℕ → List ℕ
+with_place place [] = place ∷ []
+with_place place (other ∷ places) =
+    if nat_lt other place then other ∷ with_place place places else place ∷ other ∷ places
+
+-- a row of slots has each that has a station, in their order, and others that are holes, of which these are the places
+pub record IsListed (row gone : List ℕ) (slots : Slots) : Type 0 where
+  pub within : AllByRecursion (λ i. i < length slots) row
+  pub stations : stations_in (listed row slots) ≡ stations_in slots
+  pub places : gone ≡ holes_from 0 (listed row slots)
+
+-- a slot had a station, and is a hole now
+pub record TakesOut (i : ℕ) (before after : Slots) : Type 0 where
+  pub station : List ℕ × StationState
+  pub apart : AreApart (stations_in before)
+  pub slot : slice_get before i ≡ Some (Some station)
+  pub hole : after ≡ slice_set before i None
+
+-- what is kept beside the slots: where each station stands, and the order of the slots
+pub record IsStationList (index : List (List ℕ × ℕ)) (slots : Slots) (row gone : List ℕ) : Type 0 where
   pub apart : AreApart (stations_in slots)
   pub found : AreFound index slots
-  pub rest : length (stations_in slots) + holes ≡ length slots
-  pub counted : AreCounts 64 counts slots
+  pub listed : IsListed row gone slots

@@ -9,6 +9,7 @@
 
 mod keeping;
 mod list;
+mod order;
 mod roster;
 mod table;
 

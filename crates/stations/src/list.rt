@@ -3,23 +3,21 @@
 //! A station stands in a slot, in that order, and leaves a hole where it is taken out, so that no other moves. Where
 //! holes are many the stations are moved together: that takes no memory, and a few steps for each station that left.
 
-ghost use Rattle.std.specs.Prelude.{◌≡◌, ◌<◌, ◌≤◌, ◌-◌, ◌++◌, ◌∷◌, [], ℕ, List, length, replicate, slice_get};
-ghost use Rattle.std.specs.Prelude.{slice_set, slice_index, is_some, Some, None, OnOk, OnErr, IfOk, IfSome, IfNone, option_map};
+ghost use Rattle.std.specs.Prelude.{◌≡◌, ◌<◌, ◌≤◌, ◌++◌, ◌∷◌, [], ℕ, List, length, slice_get, is_some, Some, None};
+ghost use Rattle.std.specs.Prelude.{OnOk, OnErr, IfOk, IfSome, IfNone, option_map};
 ghost use Rattle.std.specs.Map.{lookup, set_value};
 ghost use Rattle.std.specs.Str.{bytes_eq};
 ghost use Rattle.stations.specs.Stations.{state_of, set_state, forget, set_mode};
 ghost use Rattle.stations.specs.Sound.{AreApart};
-ghost use Rattle.stations.specs.Slots.{stations_in, IsAt, AreFound, AreCounts, Tells};
+ghost use Rattle.stations.specs.Slots.{stations_in, IsAt, AreFound, IsListed, Tells};
 
+use crate::order::Order;
 use crate::table::{StationState, with_mode};
 use address_hash::AddressHashes;
 use indexmap::IndexMap;
 use mac_frame::{MacAddr, NoMemory};
 use std::alloc::Global;
 use std::marker::Model;
-
-/// How many slots are a block, as `AreCounts` has it in the list's invariant.
-const BLOCK: usize = 64;
 
 /// How many holes are few, whatever the number of slots.
 const FEW: usize = 64;
@@ -28,7 +26,7 @@ const FEW: usize = 64;
 type Index = IndexMap<MacAddr, usize, AddressHashes>;
 
 /// A station with its state, or the hole where one was.
-type Slot = Option<(MacAddr, StationState)>;
+pub(crate) type Slot = Option<(MacAddr, StationState)>;
 
 /// The stations with their states, in order of first authentication. Contracts see this list.
 #[derive(Drop)]
@@ -36,10 +34,8 @@ pub(crate) struct StationList {
     // the slot of each station
     index: Index,
     slots: Vec<Slot>,
-    // how many slots are holes
-    holes: usize,
-    // how many stations each of the first blocks of slots has, so that a place is found without a walk over all slots
-    counts: Vec<usize>,
+    // the slots that have a station, in their order
+    order: Order,
 }
 
 impl Model for StationList {
@@ -50,7 +46,7 @@ impl Model for StationList {
 
     ghost view = { λ l. stations_in l.slots.items };
 
-    ghost invariant = { λ l. IsStationList l.index.entries l.slots.items l.holes l.counts.items };
+    ghost invariant = { λ l. IsStationList l.index.entries l.slots.items l.order.row.items l.order.gone.items };
 }
 
 impl StationList {
@@ -61,8 +57,7 @@ impl StationList {
         StationList {
             index: IndexMap::with_hasher(alloc, AddressHashes::new()),
             slots: Vec::new(alloc),
-            holes: 0,
-            counts: Vec::new(alloc),
+            order: Order::new(alloc),
         }
     }
 
@@ -70,7 +65,7 @@ impl StationList {
     pub(crate) fn len(&self) -> usize
         ensures { result ≡ length self.now }
     {
-        self.slots.len() - self.holes
+        self.order.len()
     }
 
     /// The station at a place, from 0, with its state.
@@ -78,12 +73,7 @@ impl StationList {
         requires { place < length self.now }
         ensures { slice_get self.now place ≡ Some result }
     {
-        if self.holes == 0 {
-            // The place is the slot.
-            return self.slots[place].unwrap();
-        }
-        let (slots, left) = skip_blocks(self.slots.as_slice(), self.counts.as_slice(), place);
-        nth(slots, left).unwrap()
+        self.order.station_at(self.slots.as_slice(), place).unwrap()
     }
 
     /// The state of a station, or `None` where it is not known.
@@ -119,9 +109,12 @@ impl StationList {
         ensures ok { OnOk result (self.new ≡ self.old ++ (addr, state) ∷ []) }
         ensures err { OnErr result (self.new ≡ self.old) }
     {
-        count_next(self.slots.as_slice(), &mut self.counts)?;
+        self.order.reserve()?;
         self.slots.reserve(1)?;
-        self.index.insert(addr, self.slots.len())?;
+        let slot = self.slots.len();
+        self.index.insert(addr, slot)?;
+        // All that may be refused is done.
+        self.order.push_reserved(slot);
         self.slots.push_reserved(Some((addr, state)));
         Ok(())
     }
@@ -164,8 +157,7 @@ impl StationList {
         let slot = self.index.swap_remove(&addr)?;
         let left = self.slots[slot];
         self.slots[slot] = None;
-        self.holes += 1;
-        count_one_less(&mut self.counts, slot / BLOCK);
+        self.order.leave(self.slots.as_slice(), slot);
         state_in(left)
     }
 
@@ -173,9 +165,9 @@ impl StationList {
     fn close_up(&mut self)
         ensures { self.new ≡ self.old }
     {
-        if self.holes > FEW && self.holes > self.slots.len() / 3 {
-            close_up(&mut self.index, &mut self.slots, &mut self.counts);
-            self.holes = 0;
+        let holes = self.slots.len().saturating_sub(self.order.len());
+        if holes > FEW && holes > self.slots.len() / 3 {
+            close_up(&mut self.index, &mut self.slots, &mut self.order);
         }
     }
 }
@@ -208,83 +200,19 @@ fn find(index: &Index, slots: &[Slot], addr: MacAddr) -> Option<(usize, StationS
     Some((slot, state))
 }
 
-/// The station that `n` others stand before.
-fn nth(slots: &[Slot], n: usize) -> Option<(MacAddr, StationState)>
-    ensures { result ≡ slice_get (stations_in slots.now) n }
-{
-    let mut left = n;
-    for slot in slots {
-        if let Some(station) = slot {
-            if left == 0 {
-                return Some(*station);
-            }
-            left -= 1;
-        }
-    }
-    None
-}
-
-/// The slots behind the counted blocks whose stations all stand before a place, and that place among the stations of
-/// those slots.
-fn skip_blocks<'a>(slots: &'a [Slot], counts: &[usize], place: usize) -> (&'a [Slot], usize)
-    requires { AreCounts BLOCK counts.now slots.now }
-    ensures { slice_get (stations_in result.0.now) result.1 ≡ slice_get (stations_in slots.now) place }
-{
-    let mut rest = slots;
-    let mut left = place;
-    for count in counts {
-        if left < *count {
-            break;
-        }
-        left -= *count;
-        (_, rest) = rest.split_at(BLOCK);
-    }
-    (rest, left)
-}
-
-/// Counts the stations of the first block that is not counted, if its last slot is there.
-fn count_next(slots: &[Slot], counts: &mut Vec<usize>) -> Result<(), NoMemory>
-    requires { AreCounts BLOCK counts.old.items slots.now }
-    ensures { AreCounts BLOCK counts.new.items slots.now }
-{
-    let slot_count = slots.len();
-    let first = counts.len() * BLOCK;
-    if slot_count - first >= BLOCK {
-        counts.push(count_in(&slots[first..first + BLOCK]))?;
-    }
-    Ok(())
-}
-
-/// Counts one station less in a block, if it is counted.
-fn count_one_less(counts: &mut Vec<usize>, block: usize)
-    requires { block < length counts.old.items → 1 ≤ slice_index counts.old.items block }
-    ensures { counts.new.items ≡ slice_set counts.old.items block (slice_index counts.old.items block - 1) }
-{
-    if let Some(count) = counts.get_mut(block) {
-        *count -= 1;
-    }
-}
-
-/// How many stations these slots have.
-fn count_in(slots: &[Slot]) -> usize
-    ensures { result ≡ length (stations_in slots.now) }
-{
-    slots.iter().filter(|slot| slot.is_some()).count()
-}
-
-/// Moves the stations together, so that no slot is a hole, and tells the index where each stands then.
-fn close_up(index: &mut Index, slots: &mut Vec<Slot>, counts: &mut Vec<usize>)
+/// Moves the stations together, so that no slot is a hole, and tells the index and the order where each stands then.
+fn close_up(index: &mut Index, slots: &mut Vec<Slot>, order: &mut Order)
     requires apart { AreApart (stations_in slots.old.items) }
     requires known { (addr : List ℕ) → is_some (lookup (bytes_eq addr) index.old.entries)
         ≡ is_some (state_of addr (stations_in slots.old.items)) }
+    requires listed { IsListed order.old.row.items order.old.gone.items slots.old.items }
     ensures stations { stations_in slots.new.items ≡ stations_in slots.old.items }
-    ensures full { length (stations_in slots.new.items) ≡ length slots.new.items }
     ensures found { AreFound index.new.entries slots.new.items }
-    ensures counts { AreCounts BLOCK counts.new.items slots.new.items }
+    ensures listed { IsListed order.new.row.items order.new.gone.items slots.new.items }
 {
     drop_holes(slots);
     mend(index, slots.as_slice());
-    count_full(counts, slots.len() / BLOCK);
+    order.number(slots.len());
 }
 
 /// Moves the stations together, so that no slot is a hole.
@@ -293,15 +221,6 @@ fn drop_holes(slots: &mut Vec<Slot>)
     ensures full { length (stations_in slots.new.items) ≡ length slots.new.items }
 {
     slots.retain(|slot| slot.is_some());
-}
-
-/// Counts the blocks that are counted, but no more than this number, as blocks without a hole.
-fn count_full(counts: &mut Vec<usize>, blocks: usize)
-    ensures full { counts.new.items ≡ replicate (length counts.new.items) BLOCK }
-    ensures few { length counts.new.items ≤ blocks }
-{
-    counts.truncate(blocks);
-    counts.as_mut_slice().fill(BLOCK);
 }
 
 /// Tells the index of some stations the slot in which each of them stands.

@@ -1,10 +1,11 @@
-use Rattle.std.proofs.Common.{◌≡◌, ℕ, ◌+◌, ◌*◌, ◌/◌, ◌%◌, ◌<◌, List, None, Some, option_map, ◌∙◌, sym, ap, arith}
+use Rattle.std.proofs.Common.{◌≡◌, ℕ, ◌<◌, List, None, Some, option_map, set, ◌∙◌, sym, ap, subst, arith}
 use Rattle.std.proofs.lemmas.Option.{slice_get_within, get_or_from_slice_get}
 use Rattle.stations.specs.Stations.{state_of, forget}
 use Rattle.stations.specs.declared.table.StationState.{StationState}
-use Rattle.stations.specs.Slots.{Slots, slot_of, stations_in}
+use Rattle.stations.specs.Slots.{Slots, slot_of, stations_in, TakesOut, IsListed}
 use Rattle.stations.proofs.StationTables.{forget-unknown}
-use Rattle.stations.proofs.StationSlots.{read-found, unknown-where, counts-out, list-out, stations-out}
+use Rattle.stations.proofs.StationSlots.{read-found, unknown-where, stations-out}
+use Rattle.stations.proofs.StationOrder.{takes-out, list-out}
 use Rattle.stations.proofs.list.StationList.leave_hole.Goals as goal
 
 pub returns-in_err-slot-clause-old : goal.returns-in_err-slot-clause-old
@@ -33,27 +34,6 @@ index_mut-requires c =
     let within = slice_get_within slots c.in_ok-slot.slot (Some (c.args.addr, found.0)) found.1.slot in
     omega (arith, within)
 
-pub count_one_less-requires : goal.count_one_less-requires
-count_one_less-requires c =
-    let slots : Slots = c.self.inside.slots.items in
-    let i : ℕ = c.in_ok-slot.slot in
-    let found = read-found c.args.addr c.self.inside.index.entries slots i c.self.invariant.found (sym c.in_ok-slot.ensures.value) in
-    let parts : i ≡ (i / 64) * 64 + i % 64 = omega arith in
-    let low : i % 64 < 64 = omega arith in
-    (counts-out 64 c.self.inside.counts.items slots (i / 64) i (i % 64) (c.args.addr, found.0) parts low found.1.slot c.self.invariant.counted).some
-
-pub invariant_of-self-2 : goal.invariant_of-self-2
-invariant_of-self-2 c =
-    let slots : Slots = c.self.inside.slots.items in
-    let i : ℕ = c.in_ok-slot.slot in
-    let old : List (List ℕ × ℕ) = c.self.inside.index.entries in
-    let new : List (List ℕ × ℕ) = c.swap_remove.new.self.entries in
-    let found = read-found c.args.addr old slots i c.self.invariant.found (sym c.in_ok-slot.ensures.value) in
-    let parts : i ≡ (i / 64) * 64 + i % 64 = omega arith in
-    let low : i % 64 < 64 = omega arith in
-    rw c.count_one_less.ensures
-    (list-out old new slots c.self.inside.holes c.self.inside.counts.items c.args.addr i (i / 64) (i % 64) found.0 parts low c.self.invariant found.1 (λ q. c.in_ok-slot.ensures.updates.0 q))
-
 pub returns-clause-old : goal.returns-clause-old
 returns-clause-old c =
     let slots : Slots = c.self.inside.slots.items in
@@ -68,3 +48,17 @@ returns-clause-stations c =
     let i : ℕ = c.in_ok-slot.slot in
     let found = read-found c.args.addr c.self.inside.index.entries slots i c.self.invariant.found (sym c.in_ok-slot.ensures.value) in
     stations-out c.args.addr slots i found.1.place ∙ ap (forget c.args.addr) c.self.view_is
+
+pub invariant_of-self-2 : goal.invariant_of-self-2
+invariant_of-self-2 c =
+    let slots : Slots = c.self.inside.slots.items in
+    let i : ℕ = c.in_ok-slot.slot in
+    let row : List ℕ = c.self.inside.order.row.items in
+    let gone : List ℕ = c.self.inside.order.gone.items in
+    let old : List (List ℕ × ℕ) = c.self.inside.index.entries in
+    let new : List (List ℕ × ℕ) = c.swap_remove.new.self.entries in
+    let found = read-found c.args.addr old slots i c.self.invariant.found (sym c.in_ok-slot.ensures.value) in
+    let out : TakesOut i slots c.as_slice.result.now = subst (TakesOut i slots) (sym c.as_slice.ensures.value) (takes-out slots c.args.addr i found.0 c.self.invariant.apart found.1) in
+    let order : IsListed c.leave.new.self.row.items c.leave.new.self.gone.items (set slots i None) =
+    subst (IsListed c.leave.new.self.row.items c.leave.new.self.gone.items) c.as_slice.ensures.value (c.leave.ensures slots out c.self.invariant.listed) in
+    list-out old new slots row gone c.leave.new.self.row.items c.leave.new.self.gone.items c.args.addr i found.0 c.self.invariant found.1 (λ q. c.in_ok-slot.ensures.updates.0 q) order

@@ -1,0 +1,417 @@
+-- The order of the slots: which stations a row of them has, which places are gone, and what becomes of both.
+use Rattle.std.proofs.Common.{◌≡◌, ◌⊎◌, ℕ, zero, suc, ◌+◌, ◌<◌, ◌≤◌, Bool, true, false, List, [], ◌∷◌, ◌++◌, length, set, take, filter, slice_get, Option, Some, None, is_some, refl, sym, ap, subst, ◌∙◌, arith, inl, inr, cond}
+use Rattle.std.specs.Prelude.{nat_lt}
+use Rattle.std.specs.List.{AllByRecursion, range_with_len}
+use Rattle.std.specs.Map.{lookup, set_value}
+use Rattle.std.specs.Str.{bytes_eq}
+use Rattle.std.proofs.lemmas.Bool.{both_ways, cases_lt, le-ltb, lt-ltb}
+use Rattle.std.proofs.lemmas.List.{length-append, length-set}
+use Rattle.std.proofs.lemmas.Option.{slice_get_within}
+use Rattle.stations.specs.Stations.{Table, state_of, forget}
+use Rattle.stations.specs.Sound.{AreApart}
+use Rattle.stations.specs.Slots.{Slots, stations_in, slot_of, IsAt, slot_at, listed, holes_from, past, with_place, IsListed, TakesOut, IsStationList}
+use Rattle.stations.proofs.StationTables.{set_state-unknown}
+use Rattle.stations.proofs.StationsSound.{apart-set, apart-forgotten, not-here}
+use Rattle.stations.proofs.StationSlots.{equal_addr, slot_of-known, slot_of-none, slot_of-at, known-at, stations-set, stations-set_state, stations-out, found-set, found-out, found-last, stations-last, stations-kept, stations-append}
+use Rattle.stations.specs.declared.table.StationState.{StationState}
+
+abbrev Station : Type 0
+Station = List ℕ × StationState
+
+abbrev Slot : Type 0
+Slot = Option (List ℕ × StationState)
+
+-- ---- one slot
+
+same_or_not : (i j : ℕ) → (i ≡ j) ⊎ (i ≡ j → ⊥)
+same_or_not i j = elim (cases_lt i j) [
+  | inl below ↦ inr (λ e. omega (arith, below, e))
+  | inr behind ↦ elim (cases_lt j i) [
+    | inl above ↦ inr (λ e. omega (arith, above, e))
+    | inr within ↦ inl (omega (arith, behind, within))
+  ]
+]
+
+pub slot_at-get : (slots : Slots) (i : ℕ) (x : Option (List ℕ × StationState)) → slice_get slots i ≡ Some x → slot_at slots i ≡ x
+slot_at-get [] i x h = absurd (cc)
+slot_at-get (y ∷ slots) zero x h = cc
+slot_at-get (y ∷ slots) (suc i) x h = slot_at-get slots i x h
+
+pub slot_at-beyond : (slots : Slots) (i : ℕ) → length slots ≤ i → slot_at slots i ≡ None
+slot_at-beyond [] i h = refl
+slot_at-beyond (y ∷ slots) zero h = absurd (omega (arith, h))
+slot_at-beyond (y ∷ slots) (suc i) h = slot_at-beyond slots i (omega (arith, h))
+
+pub slot_at-some : (slots : Slots) (i : ℕ) (station : List ℕ × StationState) → slot_at slots i ≡ Some station → slice_get slots i ≡ Some (Some station)
+slot_at-some [] i station h = absurd (cc)
+slot_at-some (y ∷ slots) zero station h = ap (λ (x : Option (List ℕ × StationState)). Some x) h
+slot_at-some (y ∷ slots) (suc i) station h = slot_at-some slots i station h
+
+slot_at-set : (slots : Slots) (i : ℕ) (x : Option (List ℕ × StationState)) → i < length slots → slot_at (set slots i x) i ≡ x
+slot_at-set [] i x h = absurd (omega (arith, h))
+slot_at-set (y ∷ slots) zero x h = refl
+slot_at-set (y ∷ slots) (suc i) x h = slot_at-set slots i x (omega (arith, h))
+
+slot_at-set-other : (slots : Slots) (i j : ℕ) (x : Option (List ℕ × StationState)) → (i ≡ j → ⊥) → slot_at (set slots i x) j ≡ slot_at slots j
+slot_at-set-other [] i j x h = refl
+slot_at-set-other (y ∷ slots) zero zero x h = absurd (h refl)
+slot_at-set-other (y ∷ slots) zero (suc j) x h = refl
+slot_at-set-other (y ∷ slots) (suc i) zero x h = refl
+slot_at-set-other (y ∷ slots) (suc i) (suc j) x h = slot_at-set-other slots i j x (λ e. h (ap (λ n. suc n) e))
+
+slot_at-before : (slots more : Slots) (i : ℕ) → i < length slots → slot_at (slots ++ more) i ≡ slot_at slots i
+slot_at-before [] more i h = absurd (omega (arith, h))
+slot_at-before (y ∷ slots) more zero h = refl
+slot_at-before (y ∷ slots) more (suc i) h = slot_at-before slots more i (omega (arith, h))
+
+slot_at-last : (slots : Slots) (x : Option (List ℕ × StationState)) → slot_at (slots ++ x ∷ []) (length slots) ≡ x
+slot_at-last [] x = refl
+slot_at-last (y ∷ slots) x = slot_at-last slots x
+
+-- ---- a station stands in one slot
+
+apart-rest : (x : Option (List ℕ × StationState)) (slots : Slots) → AreApart (stations_in (x ∷ slots)) → AreApart (stations_in slots)
+apart-rest None slots h = h
+apart-rest (Some e) slots h = h.1
+
+unknown-rest : (addr : List ℕ) (x : Option (List ℕ × StationState)) (slots : Slots) → state_of addr (stations_in (x ∷ slots)) ≡ None → state_of addr (stations_in slots) ≡ None
+unknown-rest addr None slots h = h
+unknown-rest addr (Some e) slots h = (not-here (bytes_eq addr e.0) e.1 (state_of addr (stations_in slots)) h).1
+
+known-first : (station : List ℕ × StationState) (slots : Slots) → is_some (state_of station.0 (stations_in (Some station ∷ slots))) ≡ true
+known-first station slots = let here : bytes_eq station.0 station.0 ≡ true = equal_addr station.0 in rw here refl
+
+one_slot : (slots : Slots) (m n : ℕ) (station : List ℕ × StationState) (state : StationState) → AreApart (stations_in slots) → slice_get slots m ≡ Some (Some station) → slot_at slots n ≡ Some (station.0, state) → n ≡ m
+one_slot [] m n station state apart at other = absurd (cc)
+one_slot (x ∷ slots) zero zero station state apart at other = refl
+one_slot (x ∷ slots) zero (suc n) station state apart at other =
+    let first : x ≡ Some station = cc in
+    let none : state_of station.0 (stations_in slots) ≡ None = (subst (λ (y : Option (List ℕ × StationState)). AreApart (stations_in (y ∷ slots))) first apart).0 in
+    absurd (both_ways (is_some (state_of station.0 (stations_in slots))) (ap is_some none) (known-at slots n (station.0, state) (slot_at-some slots n (station.0, state) other)))
+one_slot (x ∷ slots) (suc m) zero station state apart at other =
+    let none : state_of station.0 (stations_in slots) ≡ None = (subst (λ (y : Option (List ℕ × StationState)). AreApart (stations_in (y ∷ slots))) other apart).0 in
+    absurd (both_ways (is_some (state_of station.0 (stations_in slots))) (ap is_some none) (known-at slots m station at))
+one_slot (x ∷ slots) (suc m) (suc n) station state apart at other = ap (λ k. suc k) (one_slot slots m n station state (apart-rest x slots apart) at other)
+
+pub slot_of-here : (slots : Slots) (i : ℕ) (station : List ℕ × StationState) → AreApart (stations_in slots) → slice_get slots i ≡ Some (Some station) → slot_of station.0 slots ≡ Some i
+slot_of-here slots i station apart h = by (slot_of station.0 slots) refl
+  where
+    by : (o : Option ℕ) → slot_of station.0 slots ≡ o → slot_of station.0 slots ≡ Some i
+    by None is = absurd (both_ways (is_some (slot_of station.0 slots)) (ap is_some is) (slot_of-known station.0 slots ∙ known-at slots i station h))
+    by (Some j) is =
+        let found = slot_of-at station.0 slots j is in
+        is ∙ ap (λ n. Some n) (one_slot slots i j station found.0 apart h (slot_at-get slots j (Some (station.0, found.0)) found.1.slot))
+
+-- ---- a row
+
+pub listed-get : (row : List ℕ) (slots : Slots) (q i : ℕ) → slice_get row q ≡ Some i → slice_get (listed row slots) q ≡ Some (slot_at slots i)
+listed-get [] slots q i h = absurd (cc)
+listed-get (r ∷ row) slots zero i h = let same : r ≡ i = cc in ap (λ n. Some (slot_at slots n)) same
+listed-get (r ∷ row) slots (suc q) i h = listed-get row slots q i h
+
+listed-at : (row : List ℕ) (slots : Slots) (q : ℕ) (station : List ℕ × StationState) → slice_get (listed row slots) q ≡ Some (Some station) → (i : ℕ) × (slice_get row q ≡ Some i) × (slot_at slots i ≡ Some station)
+listed-at [] slots q station h = absurd (cc)
+listed-at (r ∷ row) slots zero station h = let same : slot_at slots r ≡ Some station = cc in (r, refl, same)
+listed-at (r ∷ row) slots (suc q) station h = listed-at row slots q station h
+
+pub listed-len : (row : List ℕ) (slots : Slots) → length (listed row slots) ≡ length row
+listed-len [] slots = refl
+listed-len (r ∷ row) slots = ap (λ n. suc n) (listed-len row slots)
+
+-- a slot that the row doesn't have
+listed-away : (row : List ℕ) (slots : Slots) (i : ℕ) (x : Option (List ℕ × StationState)) (station : List ℕ × StationState) → slice_get slots i ≡ Some (Some station) → state_of station.0 (stations_in (listed row slots)) ≡ None → listed row (set slots i x) ≡ listed row slots
+listed-away [] slots i x station at none = refl
+listed-away (r ∷ row) slots i x station at none = elim (same_or_not i r) [
+  | inl same ↦
+      let here : slot_at slots r ≡ Some station = ap (slot_at slots) (sym same) ∙ slot_at-get slots i (Some station) at in
+      let gone : state_of station.0 (stations_in (Some station ∷ listed row slots)) ≡ None = ap (λ (y : Option (List ℕ × StationState)). state_of station.0 (stations_in (y ∷ listed row slots))) (sym here) ∙ none in
+      absurd (both_ways (is_some (state_of station.0 (stations_in (Some station ∷ listed row slots)))) (ap is_some gone) (known-first station (listed row slots)))
+  | inr other ↦
+      let first : slot_at (set slots i x) r ≡ slot_at slots r = slot_at-set-other slots i r x other in
+      let rest : listed row (set slots i x) ≡ listed row slots = listed-away row slots i x station at (unknown-rest station.0 (slot_at slots r) (listed row slots) none) in
+      ap (λ (y : Option (List ℕ × StationState)). y ∷ listed row (set slots i x)) first ∙ ap (λ (s : Slots). slot_at slots r ∷ s) rest
+]
+
+-- a slot that it has at a place
+pub listed-set : (row : List ℕ) (slots : Slots) (q i : ℕ) (x : Option (List ℕ × StationState)) (station : List ℕ × StationState) → AreApart (stations_in (listed row slots)) → slice_get row q ≡ Some i → slice_get slots i ≡ Some (Some station) → listed row (set slots i x) ≡ set (listed row slots) q x
+listed-set [] slots q i x station apart at slot = absurd (cc)
+listed-set (r ∷ row) slots zero i x station apart at slot =
+    let same : i ≡ r = cc in
+    let here : slot_at slots r ≡ Some station = ap (slot_at slots) (sym same) ∙ slot_at-get slots i (Some station) slot in
+    let none : state_of station.0 (stations_in (listed row slots)) ≡ None = (subst (λ (y : Option (List ℕ × StationState)). AreApart (stations_in (y ∷ listed row slots))) here apart).0 in
+    let first : slot_at (set slots i x) r ≡ x = ap (slot_at (set slots i x)) (sym same) ∙ slot_at-set slots i x (slice_get_within slots i (Some station) slot) in
+    ap (λ (y : Option (List ℕ × StationState)). y ∷ listed row (set slots i x)) first ∙ ap (λ (s : Slots). x ∷ s) (listed-away row slots i x station slot none)
+listed-set (r ∷ row) slots (suc q) i x station apart at slot = elim (same_or_not i r) [
+  | inl same ↦
+      let here : slot_at slots r ≡ Some station = ap (slot_at slots) (sym same) ∙ slot_at-get slots i (Some station) slot in
+      let none : state_of station.0 (stations_in (listed row slots)) ≡ None = (subst (λ (y : Option (List ℕ × StationState)). AreApart (stations_in (y ∷ listed row slots))) here apart).0 in
+      let again : slice_get (listed row slots) q ≡ Some (Some station) = listed-get row slots q i at ∙ ap (λ (y : Option (List ℕ × StationState)). Some y) (slot_at-get slots i (Some station) slot) in
+      absurd (both_ways (is_some (state_of station.0 (stations_in (listed row slots)))) (ap is_some none) (known-at (listed row slots) q station again))
+  | inr other ↦
+      let first : slot_at (set slots i x) r ≡ slot_at slots r = slot_at-set-other slots i r x other in
+      let rest : listed row (set slots i x) ≡ set (listed row slots) q x = listed-set row slots q i x station (apart-rest (slot_at slots r) (listed row slots) apart) at slot in
+      ap (λ (y : Option (List ℕ × StationState)). y ∷ listed row (set slots i x)) first ∙ ap (λ (s : Slots). slot_at slots r ∷ s) rest
+]
+
+-- each slot that has a station is in the row
+pub place-of : (row : List ℕ) (slots : Slots) (i : ℕ) (station : List ℕ × StationState) → AreApart (stations_in slots) → stations_in (listed row slots) ≡ stations_in slots → slice_get slots i ≡ Some (Some station) → (q : ℕ) × (slice_get row q ≡ Some i)
+place-of row slots i station apart same at = by (slot_of station.0 (listed row slots)) refl
+  where
+    known : is_some (slot_of station.0 (listed row slots)) ≡ true
+    known = slot_of-known station.0 (listed row slots) ∙ ap (λ (t : Table). is_some (state_of station.0 t)) same ∙ known-at slots i station at
+
+    by : (o : Option ℕ) → slot_of station.0 (listed row slots) ≡ o → (q : ℕ) × (slice_get row q ≡ Some i)
+    by None is = absurd (both_ways (is_some (slot_of station.0 (listed row slots))) (ap is_some is) known)
+    by (Some q) is =
+        let found = slot_of-at station.0 (listed row slots) q is in
+        let there = listed-at row slots q (station.0, found.0) found.1.slot in
+        let one : slot_of station.0 slots ≡ Some there.0 = slot_of-here slots there.0 (station.0, found.0) apart (slot_at-some slots there.0 (station.0, found.0) there.2) in
+        let two : slot_of station.0 slots ≡ Some i = slot_of-here slots i station apart at in
+        let equal : there.0 ≡ i = cc in
+        (q, there.1 ∙ ap (λ n. Some n) equal)
+
+pub listed-append : (row : List ℕ) (slots : Slots) (x : Option (List ℕ × StationState)) → AllByRecursion (λ i. i < length slots) row → listed (row ++ length slots ∷ []) (slots ++ x ∷ []) ≡ listed row slots ++ x ∷ []
+listed-append [] slots x h = ap (λ (y : Option (List ℕ × StationState)). y ∷ []) (slot_at-last slots x)
+listed-append (r ∷ row) slots x h =
+    ap (λ (y : Option (List ℕ × StationState)). y ∷ listed (row ++ length slots ∷ []) (slots ++ x ∷ [])) (slot_at-before slots (x ∷ []) r h.0)
+    ∙ ap (λ (s : Slots). slot_at slots r ∷ s) (listed-append row slots x h.1)
+
+pub listed-filter : (row : List ℕ) (slots : Slots) → listed (filter (λ i. is_some (slot_at slots i)) row) slots ≡ filter is_some (listed row slots)
+listed-filter [] slots = refl
+listed-filter (r ∷ row) slots = by (slot_at slots r) refl (listed-filter row slots)
+  where
+    by : (x : Option (List ℕ × StationState)) → slot_at slots r ≡ x → listed (filter (λ i. is_some (slot_at slots i)) row) slots ≡ filter is_some (listed row slots)
+        → listed (filter (λ i. is_some (slot_at slots i)) (r ∷ row)) slots ≡ filter is_some (listed (r ∷ row) slots)
+    by None is rest = rw is rest
+    by (Some e) is rest = rw is (ap (λ (y : Option (List ℕ × StationState)). y ∷ listed (filter (λ i. is_some (slot_at slots i)) row) slots) is ∙ ap (λ (s : Slots). Some e ∷ s) rest)
+
+listed-behind : (n m : ℕ) (x : Option (List ℕ × StationState)) (slots : Slots) → listed (range_with_len (suc n) m) (x ∷ slots) ≡ listed (range_with_len n m) slots
+listed-behind n zero x slots = refl
+listed-behind n (suc m) x slots =
+    let next : suc n + 1 ≡ suc (n + 1) = omega arith in
+    ap (λ (s : Slots). slot_at slots n ∷ s) (ap (λ k. listed (range_with_len k m) (x ∷ slots)) next ∙ listed-behind (n + 1) m x slots)
+
+pub listed-all : (slots : Slots) → listed (range_with_len 0 (length slots)) slots ≡ slots
+listed-all [] = refl
+listed-all (x ∷ slots) = ap (λ (s : Slots). x ∷ s) (listed-behind 0 (length slots) x slots ∙ listed-all slots)
+
+-- ---- the numbers of slots
+
+pub within-more : (row : List ℕ) (n m : ℕ) → n ≤ m → AllByRecursion (λ i. i < n) row → AllByRecursion (λ i. i < m) row
+within-more [] n m le h = tt
+within-more (r ∷ row) n m le h = (omega (arith, le, h.0), within-more row n m le h.1)
+
+pub within-append : (row : List ℕ) (n : ℕ) → AllByRecursion (λ i. i < n) row → AllByRecursion (λ i. i < suc n) (row ++ n ∷ [])
+within-append [] n h = (omega arith, tt)
+within-append (r ∷ row) n h = (omega (arith, h.0), within-append row n h.1)
+
+pub within-filter : (p : ℕ → Bool) (row : List ℕ) (n : ℕ) → AllByRecursion (λ i. i < n) row → AllByRecursion (λ i. i < n) (filter p row)
+within-filter p [] n h = tt
+within-filter p (r ∷ row) n h = by (p r) refl (within-filter p row n h.1)
+  where
+    by : (b : Bool) → p r ≡ b → AllByRecursion (λ i. i < n) (filter p row) → AllByRecursion (λ i. i < n) (filter p (r ∷ row))
+    by true is rest = rw is (h.0, rest)
+    by false is rest = rw is rest
+
+pub within-range : (a m n : ℕ) → a + m ≤ n → AllByRecursion (λ i. i < n) (range_with_len a m)
+within-range a zero n h = tt
+within-range a (suc m) n h = (omega (arith, h), within-range (a + 1) m n (omega (arith, h)))
+
+-- ---- the places that are gone
+
+holes-behind : (n m : ℕ) (slots : Slots) → n < m → (place : ℕ) → place ≤ n → with_place place (holes_from m slots) ≡ place ∷ holes_from m slots
+holes-behind n m [] low place h = refl
+holes-behind n m (None ∷ slots) low place h = let behind : nat_lt m place ≡ false = le-ltb m place (omega (arith, low, h)) in rw behind refl
+holes-behind n m (Some e ∷ slots) low place h = holes-behind n (suc m) slots (omega (arith, low)) place h
+
+pub holes-out : (n q : ℕ) (slots : Slots) (station : List ℕ × StationState) → slice_get slots q ≡ Some (Some station) → holes_from n (set slots q None) ≡ with_place (n + q) (holes_from n slots)
+holes-out n q [] station h = absurd (cc)
+holes-out n zero (None ∷ slots) station h = absurd (cc)
+holes-out n (suc q) (None ∷ slots) station h =
+    let before : nat_lt n (n + suc q) ≡ true = lt-ltb n (n + suc q) (omega arith) in
+    let same : suc n + q ≡ n + suc q = omega arith in
+    rw before (ap (λ (places : List ℕ). n ∷ places) (holes-out (suc n) q slots station h ∙ ap (λ k. with_place k (holes_from (suc n) slots)) same))
+holes-out n zero (Some e ∷ slots) station h =
+    let here : n + 0 ≡ n = omega arith in
+    sym (ap (λ k. with_place k (holes_from (suc n) slots)) here ∙ holes-behind n (suc n) slots (omega arith) n (omega arith))
+holes-out n (suc q) (Some e ∷ slots) station h =
+    let same : suc n + q ≡ n + suc q = omega arith in
+    holes-out (suc n) q slots station h ∙ ap (λ k. with_place k (holes_from (suc n) slots)) same
+
+pub holes-set : (n q : ℕ) (slots : Slots) (station new : List ℕ × StationState) → slice_get slots q ≡ Some (Some station) → holes_from n (set slots q (Some new)) ≡ holes_from n slots
+holes-set n q [] station new h = absurd (cc)
+holes-set n zero (None ∷ slots) station new h = absurd (cc)
+holes-set n (suc q) (None ∷ slots) station new h = ap (λ (places : List ℕ). n ∷ places) (holes-set (suc n) q slots station new h)
+holes-set n zero (Some e ∷ slots) station new h = refl
+holes-set n (suc q) (Some e ∷ slots) station new h = holes-set (suc n) q slots station new h
+
+pub holes-kept : (n : ℕ) (slots : Slots) → holes_from n (filter is_some slots) ≡ []
+holes-kept n [] = refl
+holes-kept n (None ∷ slots) = holes-kept n slots
+holes-kept n (Some e ∷ slots) = holes-kept (suc n) slots
+
+pub holes-last : (n : ℕ) (slots : Slots) (station : List ℕ × StationState) → holes_from n (slots ++ Some station ∷ []) ≡ holes_from n slots
+holes-last n [] station = refl
+holes-last n (None ∷ slots) station = ap (λ (places : List ℕ). n ∷ places) (holes-last (suc n) slots station)
+holes-last n (Some e ∷ slots) station = holes-last (suc n) slots station
+
+pub holes-count : (n : ℕ) (slots : Slots) → length (stations_in slots) + length (holes_from n slots) ≡ length slots
+holes-count n [] = refl
+holes-count n (None ∷ slots) = let rest = holes-count (suc n) slots in omega (arith, rest)
+holes-count n (Some e ∷ slots) = let rest = holes-count (suc n) slots in omega (arith, rest)
+
+past-behind : (n m : ℕ) (slots : Slots) → n < m → past (holes_from m slots) n ≡ n
+past-behind n m [] h = refl
+past-behind n m (None ∷ slots) h = let low : nat_lt n m ≡ true = lt-ltb n m h in rw low refl
+past-behind n m (Some e ∷ slots) h = past-behind n (suc m) slots (omega (arith, h))
+
+-- past the holes stands the station of that place among the stations
+pub past-at : (n i : ℕ) (slots : Slots) → (k : ℕ) × (past (holes_from n slots) (n + i) ≡ n + k) × (slot_at slots k ≡ slice_get (stations_in slots) i)
+past-at n i [] = (i, refl, refl)
+past-at n i (None ∷ slots) =
+    let behind : nat_lt (n + i) n ≡ false = le-ltb (n + i) n (omega arith) in
+    let rest = past-at (suc n) i slots in
+    let start : suc (n + i) ≡ suc n + i = omega arith in
+    let end : suc n + rest.0 ≡ n + suc rest.0 = omega arith in
+    (suc rest.0, rw behind (ap (past (holes_from (suc n) slots)) start ∙ rest.1 ∙ end), rest.2)
+past-at n zero (Some e ∷ slots) =
+    let here : n + 0 ≡ n = omega arith in
+    (0, ap (past (holes_from (suc n) slots)) here ∙ past-behind n (suc n) slots (omega arith) ∙ sym here, refl)
+past-at n (suc i) (Some e ∷ slots) =
+    let rest = past-at (suc n) i slots in
+    let start : n + suc i ≡ suc n + i = omega arith in
+    let end : suc n + rest.0 ≡ n + suc rest.0 = omega arith in
+    (suc rest.0, ap (past (holes_from (suc n) slots)) start ∙ rest.1 ∙ end, rest.2)
+
+-- ---- the order after a change
+
+pub order-set : (row gone : List ℕ) (slots : Slots) (i : ℕ) (addr : List ℕ) (before state : StationState) → AreApart (stations_in slots) → IsAt addr slots i before → IsListed row gone slots → IsListed row gone (set slots i (Some (addr, state)))
+order-set row gone slots i addr before state apart at l =
+    let place = place-of row slots i (addr, before) apart l.stations at.slot in
+    let q : ℕ = place.0 in
+    let there : slice_get (listed row slots) q ≡ Some (Some (addr, before)) = listed-get row slots q i place.1 ∙ ap (λ (y : Option (List ℕ × StationState)). Some y) (slot_at-get slots i (Some (addr, before)) at.slot) in
+    let apart' : AreApart (stations_in (listed row slots)) = subst AreApart (sym l.stations) apart in
+    let same : listed row (set slots i (Some (addr, state))) ≡ set (listed row slots) q (Some (addr, state)) = listed-set row slots q i (Some (addr, state)) (addr, before) apart' place.1 at.slot in
+    record {
+      within = subst (λ n. AllByRecursion (λ k. k < n) row) (sym (length-set slots i (Some (addr, state)))) l.within;
+      stations = ap stations_in same ∙ stations-set addr state (listed row slots) q (slot_of-here (listed row slots) q (addr, before) apart' there)
+          ∙ ap (λ (t : Table). set_value (bytes_eq addr) t state) l.stations ∙ sym (stations-set addr state slots i at.place);
+      places = l.places ∙ sym (holes-set 0 q (listed row slots) (addr, before) (addr, state) there) ∙ ap (holes_from 0) (sym same);
+    }
+
+-- the slot of a station that left is a hole, at this place of the row
+pub order-hole : (row gone : List ℕ) (before after : Slots) (q i : ℕ) → slice_get row q ≡ Some i → (t : TakesOut i before after) → IsListed row gone before
+    → (listed row after ≡ set (listed row before) q None) × (stations_in (listed row after) ≡ stations_in after) × (slice_get (listed row before) q ≡ Some (Some t.station))
+order-hole row gone before after q i at t l =
+    let there : slice_get (listed row before) q ≡ Some (Some t.station) = listed-get row before q i at ∙ ap (λ (y : Option (List ℕ × StationState)). Some y) (slot_at-get before i (Some t.station) t.slot) in
+    let apart : AreApart (stations_in (listed row before)) = subst AreApart (sym l.stations) t.apart in
+    let same : listed row after ≡ set (listed row before) q None = ap (listed row) t.hole ∙ listed-set row before q i None t.station apart at t.slot in (
+      same,
+      ap stations_in same ∙ stations-out t.station.0 (listed row before) q (slot_of-here (listed row before) q t.station apart there) ∙ ap (forget t.station.0) l.stations
+          ∙ sym (stations-out t.station.0 before i (slot_of-here before i t.station t.apart t.slot)) ∙ ap stations_in (sym t.hole),
+      there,
+    )
+
+within-after : (row : List ℕ) (i : ℕ) (before after : Slots) → TakesOut i before after → AllByRecursion (λ k. k < length before) row → AllByRecursion (λ k. k < length after) row
+within-after row i before after t h = subst (λ n. AllByRecursion (λ k. k < n) row) (sym (ap length t.hole ∙ length-set before i None)) h
+
+pub order-noted : (row gone new : List ℕ) (before after : Slots) (q i : ℕ) → slice_get row q ≡ Some i → new ≡ with_place q gone → TakesOut i before after → IsListed row gone before → IsListed row new after
+order-noted row gone new before after q i at noted t l =
+    let h = order-hole row gone before after q i at t l in
+    let first : 0 + q ≡ q = omega arith in
+    record {
+      within = within-after row i before after t l.within;
+      stations = h.1;
+      places = noted ∙ ap (with_place q) l.places ∙ ap (λ k. with_place k (holes_from 0 (listed row before))) (sym first) ∙ sym (holes-out 0 q (listed row before) t.station h.2) ∙ ap (holes_from 0) (sym h.0);
+    }
+
+pub order-cleared : (row gone rows none : List ℕ) (before after : Slots) (i : ℕ) → rows ≡ filter (λ k. is_some (slot_at after k)) row → none ≡ [] → TakesOut i before after → IsListed row gone before → IsListed rows none after
+order-cleared row gone rows none before after i kept cleared t l =
+    let place = place-of row before i t.station t.apart l.stations t.slot in
+    let h = order-hole row gone before after place.0 i place.1 t l in
+    let same : listed rows after ≡ filter is_some (listed row after) = ap (λ (r : List ℕ). listed r after) kept ∙ listed-filter row after in
+    record {
+      within = subst (AllByRecursion (λ k. k < length after)) (sym kept) (within-filter (λ k. is_some (slot_at after k)) row (length after) (within-after row i before after t l.within));
+      stations = ap stations_in same ∙ (stations-kept (listed row after)).0 ∙ h.1;
+      places = cleared ∙ sym (holes-kept 0 (listed row after)) ∙ ap (holes_from 0) (sym same);
+    }
+
+pub order-last : (row gone : List ℕ) (slots : Slots) (station : List ℕ × StationState) → IsListed row gone slots → IsListed (row ++ length slots ∷ []) gone (slots ++ Some station ∷ [])
+order-last row gone slots station l =
+    let same = listed-append row slots (Some station) l.within in
+    let more : length (slots ++ Some station ∷ []) ≡ suc (length slots) = omega (arith, length-append slots (Some station ∷ [])) in
+    record {
+      within = subst (λ n. AllByRecursion (λ k. k < n) (row ++ length slots ∷ [])) (sym more) (within-append row (length slots) l.within);
+      stations = ap stations_in same ∙ stations-append (listed row slots) (Some station ∷ []) ∙ ap (λ (t : Table). t ++ station ∷ []) l.stations ∙ sym (stations-append slots (Some station ∷ []));
+      places = l.places ∙ sym (holes-last 0 (listed row slots) station) ∙ ap (holes_from 0) (sym same);
+    }
+
+-- slots without a hole, each at its number
+pub order-numbered : (row gone : List ℕ) (slots : Slots) → row ≡ range_with_len 0 (length slots) → gone ≡ [] → length (stations_in slots) ≡ length slots → IsListed row gone slots
+order-numbered row gone slots numbered cleared full =
+    let same : listed row slots ≡ slots = ap (λ (r : List ℕ). listed r slots) numbered ∙ listed-all slots in
+    let none : length (holes_from 0 slots) ≡ 0 = let count = holes-count 0 slots in omega (arith, count, full) in
+    record {
+      within = subst (AllByRecursion (λ k. k < length slots)) (sym numbered) (within-range 0 (length slots) (length slots) (omega arith));
+      stations = ap stations_in same;
+      places = cleared ∙ sym (empty (holes_from 0 slots) none) ∙ ap (holes_from 0) (sym same);
+    }
+  where
+    empty : (places : List ℕ) → length places ≡ 0 → places ≡ []
+    empty [] h = refl
+    empty (p ∷ places) h = absurd (omega (arith, h))
+
+-- there are no more stations than places in the row
+pub order-few : (row gone : List ℕ) (slots : Slots) → IsListed row gone slots → length (stations_in slots) + length gone ≡ length row
+order-few row gone slots l =
+    let count = holes-count 0 (listed row slots) in
+    let some : length (stations_in (listed row slots)) ≡ length (stations_in slots) = ap length l.stations in
+    let places : length gone ≡ length (holes_from 0 (listed row slots)) = ap length l.places in
+    omega (arith, count, some, places, listed-len row slots)
+
+-- the station at a place
+pub order-at : (row gone : List ℕ) (slots : Slots) (place at : ℕ) → at ≡ past gone place → IsListed row gone slots → slot_at (listed row slots) at ≡ slice_get (stations_in slots) place
+order-at row gone slots place at is l =
+    let there = past-at 0 place (listed row slots) in
+    let first : place ≡ 0 + place = omega arith in
+    let found : at ≡ there.0 = is ∙ ap (λ (places : List ℕ). past places place) l.places ∙ ap (past (holes_from 0 (listed row slots))) first ∙ there.1 ∙ omega arith in
+    ap (slot_at (listed row slots)) found ∙ there.2 ∙ ap (λ (t : Table). slice_get t place) l.stations
+
+-- ---- numbers in order
+
+pub range-more : (a n : ℕ) → range_with_len a (suc n) ≡ range_with_len a n ++ (a + n) ∷ []
+range-more a zero = let here : a ≡ a + 0 = omega arith in ap (λ k. k ∷ []) here
+range-more a (suc n) = let there : a + 1 + n ≡ a + suc n = omega arith in ap (λ (r : List ℕ). a ∷ r) (range-more (a + 1) n ∙ ap (λ k. range_with_len (a + 1) n ++ k ∷ []) there)
+
+pub take-set : (row : List ℕ) (k x : ℕ) → k < length row → take (suc k) (set row k x) ≡ take k row ++ x ∷ []
+take-set [] k x h = absurd (omega (arith, h))
+take-set (r ∷ row) zero x h = refl
+take-set (r ∷ row) (suc k) x h = ap (λ (t : List ℕ). r ∷ t) (take-set row k x (omega (arith, h)))
+
+-- ---- the list after a change
+
+pub list-set : (index : List (List ℕ × ℕ)) (slots : Slots) (row gone : List ℕ) (addr : List ℕ) (i : ℕ) (before state : StationState) → IsStationList index slots row gone → IsAt addr slots i before → IsStationList index (set slots i (Some (addr, state))) row gone
+list-set index slots row gone addr i before state l at = record {
+  apart = subst AreApart (sym (stations-set_state addr slots i before state at)) (apart-set addr state (stations_in slots) l.apart);
+  found = λ q. l.found q ∙ sym (found-set q slots i addr before state at.slot);
+  listed = order-set row gone slots i addr before state l.apart at l.listed;
+}
+
+pub takes-out : (slots : Slots) (addr : List ℕ) (i : ℕ) (before : StationState) → AreApart (stations_in slots) → IsAt addr slots i before → TakesOut i slots (set slots i None)
+takes-out slots addr i before apart at = record { station = (addr, before); apart = apart; slot = at.slot; hole = refl }
+
+pub list-out : (old new : List (List ℕ × ℕ)) (slots : Slots) (row gone row' gone' : List ℕ) (addr : List ℕ) (i : ℕ) (before : StationState) → IsStationList old slots row gone → IsAt addr slots i before
+    → ((q : List ℕ) → lookup (bytes_eq q) new ≡ cond (bytes_eq addr q) None (lookup (bytes_eq q) old)) → IsListed row' gone' (set slots i None) → IsStationList new (set slots i None) row' gone'
+list-out old new slots row gone row' gone' addr i before l at left order = record {
+  apart = subst AreApart (sym (stations-out addr slots i at.place)) (apart-forgotten addr (stations_in slots) l.apart);
+  found = λ q. left q ∙ ap (cond (bytes_eq addr q) None) (l.found q) ∙ sym (found-out q addr slots i l.apart at.place);
+  listed = order;
+}
+
+pub list-last : (old new : List (List ℕ × ℕ)) (slots : Slots) (row gone : List ℕ) (addr : List ℕ) (state : StationState) → IsStationList old slots row gone → state_of addr (stations_in slots) ≡ None
+    → ((q : List ℕ) → lookup (bytes_eq q) new ≡ cond (bytes_eq addr q) (Some (length slots)) (lookup (bytes_eq q) old)) → IsStationList new (slots ++ Some (addr, state) ∷ []) (row ++ length slots ∷ []) gone
+list-last old new slots row gone addr state l unknown put = record {
+  apart = subst AreApart (set_state-unknown addr state (stations_in slots) unknown ∙ sym (stations-last addr state slots)) (apart-set addr state (stations_in slots) l.apart);
+  found = λ q. put q ∙ ap (cond (bytes_eq addr q) (Some (length slots))) (l.found q) ∙ sym (found-last q addr state slots (slot_of-none addr slots unknown));
+  listed = order-last row gone slots (addr, state) l.listed;
+}
