@@ -3,17 +3,13 @@
 ghost use Rattle.std.specs.Prelude.{◌≡◌, ℕ, ◌+◌, ◌*◌, ◌<◌, ◌↔◌, List, length, IsTrue, Some, IfSome};
 ghost use Rattle.mac_frame.specs.Address.{IsAddress, broadcast, is_group, is_parted, octet_at, address_of};
 ghost use Rattle.mac_frame.specs.Address.{address_text, octet_text, first_number, last_number};
-ghost use Rattle.std.specs.Hash as fed;
-ghost use Rattle.std.specs.Cmp.Rules.{hashing};
-ghost use Rattle.std.proofs.Common.{rules};
 ghost use Rattle.hex.specs.Hex.{hex_digit_value};
 
 use std::fmt;
-use std::hash::{Hash, Hasher};
 use std::marker::Model;
 
 /// The address of a station, or of a network, its BSSID (9.2.4.3). Contracts see it as its six octets.
-#[derive(Clone, Copy, Debug, PartialEq, Eq, PartialOrd, Ord)]
+#[derive(Clone, Copy, Debug, PartialEq, Eq, PartialOrd, Ord, Hash)]
 pub struct MacAddr {
     octets: [u8; 6],
 }
@@ -24,21 +20,6 @@ impl Model for MacAddr {
     ghost view = { λ a. a.octets };
 
     ghost inverse = { λ o. record { octets = o } };
-}
-
-/// The six octets as one number, so that a hasher mixes them together.
-impl Hash for MacAddr {
-    ghost use Rattle.mac_frame.specs.Address.{address_number};
-
-    ghost hash_input = { λ a. fed.u64 (address_number a) };
-
-    ghost respects_eq = { Prim.search (hashing, rules) };
-
-    #[inline(always)]
-    fn hash<H: Hasher>(&self, state: &mut H) {
-        let (first, last) = self.parts();
-        state.write_u64(u64::from(first) + u64::from(last) * (1 << 32));
-    }
 }
 
 impl MacAddr {
@@ -75,9 +56,10 @@ impl MacAddr {
         self.parts() == MacAddr::BROADCAST.parts()
     }
 
-    /// Its first four octets and its last two, each as one number, which take a load each.
+    /// Its first four octets and its last two, each as one number, the first of them the lowest: a load each, so that two
+    /// addresses are compared, or one is hashed, in a few steps.
     #[inline(always)]
-    fn parts(self) -> (u32, u16)
+    pub fn parts(self) -> (u32, u16)
         ensures first { result.0 ≡ first_number self }
         ensures last { result.1 ≡ last_number self }
     {

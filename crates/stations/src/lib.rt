@@ -7,6 +7,7 @@
 //! What is answered to a station is left to the crates above.
 #![tactic(auto)]
 
+mod address_key;
 mod keeping;
 mod list;
 mod order;

@@ -11,6 +11,7 @@ ghost use Rattle.stations.specs.Stations.{state_of, set_state, forget, set_mode}
 ghost use Rattle.stations.specs.Sound.{AreApart};
 ghost use Rattle.stations.specs.Slots.{stations_in, IsAt, AreFound, IsListed, Tells};
 
+use crate::address_key::AddressKey;
 use crate::order::Order;
 use crate::table::{StationState, with_mode};
 use address_hash::AddressHashes;
@@ -23,7 +24,7 @@ use std::marker::Model;
 const FEW: usize = 64;
 
 /// The slot of each station.
-type Index = IndexMap<MacAddr, usize, AddressHashes>;
+type Index = IndexMap<AddressKey, usize, AddressHashes>;
 
 /// A station with its state, or the hole where one was.
 pub(crate) type Slot = Option<(MacAddr, StationState)>;
@@ -112,7 +113,7 @@ impl StationList {
         self.order.reserve()?;
         self.slots.reserve(1)?;
         let slot = self.slots.len();
-        self.index.insert(addr, slot)?;
+        self.index.insert(AddressKey { addr }, slot)?;
         // All that may be refused is done.
         self.order.push_reserved(slot);
         self.slots.push_reserved(Some((addr, state)));
@@ -154,7 +155,7 @@ impl StationList {
         ensures old { result ≡ state_of addr self.old }
         ensures stations { self.new ≡ forget addr self.old }
     {
-        let slot = self.index.swap_remove(&addr)?;
+        let slot = self.index.swap_remove(&AddressKey { addr })?;
         let left = self.slots[slot];
         self.slots[slot] = None;
         self.order.leave(self.slots.as_slice(), slot);
@@ -195,7 +196,7 @@ fn find(index: &Index, slots: &[Slot], addr: MacAddr) -> Option<(usize, StationS
     ensures known { IfSome result (λ found. IsAt addr slots.now found.0 found.1) }
     ensures unknown { IfNone result (state_of addr (stations_in slots.now) ≡ None) }
 {
-    let slot = *index.get(&addr)?;
+    let slot = *index.get(&AddressKey { addr })?;
     let (_, state) = slots[slot]?;
     Some((slot, state))
 }
@@ -242,7 +243,7 @@ fn tell(index: &mut Index, slot: &Slot, place: usize)
     let Some((addr, _)) = slot else {
         return;
     };
-    let Some(found) = index.get_mut(addr) else {
+    let Some(found) = index.get_mut(&AddressKey { addr: *addr }) else {
         return;
     };
     *found = place;
