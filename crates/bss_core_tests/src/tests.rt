@@ -7,6 +7,7 @@ use hex::FromHexError;
 use mac_frame::Octets;
 use std::alloc::Global;
 
+mod aging;
 mod one_network;
 mod radio;
 mod runs;

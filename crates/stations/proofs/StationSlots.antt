@@ -1,19 +1,18 @@
 -- The slots of the stations of a network: which stations they have, where each is found, and what the blocks count.
-use Rattle.std.proofs.Common.{◌≡◌, ℕ, zero, suc, ◌+◌, ◌-◌, ◌*◌, ◌<◌, ◌≤◌, Bool, true, false, cond, List, [], ◌∷◌, ◌++◌, length, take, drop, set, get_or, replicate, filter, count_by, slice_get, Option, Some, None, is_some, option_map, refl, sym, ap, subst, ◌∙◌, arith, inl, inr}
+use Rattle.std.proofs.Common.{◌≡◌, ℕ, zero, suc, ◌+◌, ◌<◌, Bool, true, false, cond, List, [], ◌∷◌, ◌++◌, length, take, set, get_or, filter, slice_get, Option, Some, None, is_some, option_map, refl, sym, ap, subst, ◌∙◌, arith}
 use Rattle.std.specs.Prelude.{if◌then◌else◌, IfNone, OnErr}
 use Rattle.std.proofs.Common.{Result, Ok, Err}
 use Rattle.std.specs.Str.{bytes_eq}
 use Rattle.std.specs.Map.{lookup, set_value}
-use Rattle.std.proofs.lemmas.Bool.{both_ways, cases_lt}
-use Rattle.std.proofs.lemmas.List.{length-append, length-set, length-take, length-drop, take-append-drop, take-append-le, drop-append-le, take-set-le, drop-set-lt, drop-set-add, drop-drop, take_all, take_more, drop_more, length-take-le}
+use Rattle.std.proofs.lemmas.Bool.{both_ways}
+use Rattle.std.proofs.lemmas.List.{take_all, take_more, length-take-le}
 use Rattle.std.proofs.lemmas.Option.{slice_get_within, get_or_from_slice_get}
-use Rattle.std.proofs.lemmas.List.Recursion.{is_count_by}
 use Rattle.std.proofs.lemmas.Slice.Eq.{bytes_eq-Decides}
 use Rattle.stations.specs.Stations.{Table, state_of, set_state, forget}
 use Rattle.stations.specs.Sound.{AreApart}
 use Rattle.stations.specs.Slots.{Slots, stations_in, slot_of, IsAt, AreFound, Tells}
-use Rattle.stations.proofs.StationTables.{set_value-is_set_state, set_state-unknown}
-use Rattle.stations.proofs.StationsSound.{apart-set, apart-forgotten, not-here}
+use Rattle.stations.proofs.StationTables.{set_value-is_set_state}
+use Rattle.stations.proofs.StationsSound.{not-here}
 use Rattle.stations.specs.declared.table.StationState.{StationState}
 
 abbrev Station : Type 0

@@ -34,8 +34,6 @@ pub struct Roster {
     // Where units age, the stations that units are kept for, each with a clock up to which none of its units is too
     // old, so that a beacon looks up no other; `None` where the next beacon has to look at all.
     due: Option<Vec<Oldest>>,
-    // how many of these may be told: twice as many as when all were told, and some more
-    most_due: usize,
 }
 
 impl Model for Roster {
@@ -64,7 +62,6 @@ impl Roster {
             kept: Keep::new(alloc, quota),
             traffic: Bitmap::new(),
             due: None,
-            most_due: 0,
         }
     }
 
@@ -112,7 +109,7 @@ impl Roster {
         show(&mut self.traffic, before, after, waits);
         // its listen interval may be another, but at clock 0 nothing is too old
         let whom = Whom::One(addr);
-        tell(&mut self.due, self.most_due, whom, 0);
+        tell(&mut self.due, whom, 0);
         Ok(())
     }
 
@@ -294,7 +291,7 @@ impl Roster {
         set_bit(&mut self.traffic, aid);
         if !told {
             let until = young_until(&self.stations, &whom, at, clock);
-            tell(&mut self.due, self.most_due, whom, until);
+            tell(&mut self.due, whom, until);
         }
         Ok(())
     }

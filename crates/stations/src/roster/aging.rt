@@ -12,10 +12,10 @@ ghost use Rattle.stations.specs.KeptUnits.{is_too_old, is_too_old_for};
 use crate::roster::{Roster, follow};
 use crate::table::{Stations, listen_with};
 use mac_frame::NoMemory;
-use powersave::{Oldest, Whom, parts_stay};
+use powersave::{Keep, Oldest, Whom, parts_stay};
 use tim::Bitmap;
 
-// how many more than twice those for whom units are kept may be told
+// how many more than twice as many as there are queues may be told
 const SPARE: usize = 64;
 
 impl Roster {
@@ -55,26 +55,30 @@ impl Roster {
         let dropped = self.age_each(due.as_mut_slice(), clock);
         // no unit is kept for those whose clock has passed
         due.retain(|one| one.at >= clock);
+        make_room(&mut due, most_due(&self.kept));
         self.due = Some(due);
         Ok(dropped)
     }
 
-    /// Takes out those that are told, or tells all anew where none is. `NoMemory` where memory ran out.
+    /// Takes out those that are told, or tells all anew where none is, or where more are than may be, or had room.
+    /// `NoMemory` where memory ran out.
     fn take_due(&mut self, clock: u32) -> Result<Vec<Oldest>, NoMemory>
         requires { CameBy clock self.old.kept.entries }
         ensures told { IfOk result
             (λ due. AreTold 0 self.old.stations.table due.items self.old.kept.entries) }
         ensures same { self.new ≡ self.old }
     {
+        let most = most_due(&self.kept);
         if let Some(due) = self.due.take() {
-            return Ok(due);
+            if due.len() <= most && due.capacity() / 4 <= most {
+                return Ok(due);
+            }
         }
-        let all = self.tell_all(clock)?;
-        self.most_due = all.len().saturating_mul(2).saturating_add(SPARE);
-        Ok(all)
+        self.tell_all(clock)
     }
 
-    /// Each for whom units are kept, with a clock up to which none of these is too old. `NoMemory` where memory ran out.
+    /// Each for whom units are kept, with a clock up to which none of these is too old. `NoMemory` where memory ran
+    /// out.
     fn tell_all(&self, clock: u32) -> Result<Vec<Oldest>, NoMemory>
         requires { CameBy clock self.now.kept.entries }
         ensures { IfOk result (λ due. AreTold 0 self.now.stations.table due.items self.now.kept.entries) }
@@ -162,8 +166,10 @@ impl Roster {
     {
         let mut bits = self.traffic().copy();
         match &self.due {
-            Some(due) => self.show_each(&mut bits, due.as_slice(), clock),
-            None => {
+            Some(due) if due.len() <= most_due(&self.kept) => {
+                self.show_each(&mut bits, due.as_slice(), clock)
+            }
+            _ => {
                 let due = self.tell_all(clock)?;
                 self.show_each(&mut bits, due.as_slice(), clock);
             }
@@ -236,6 +242,12 @@ pub(crate) fn young_until(stations: &Stations, whom: &Whom, at: u32, clock: u32)
     at.saturating_add(clock.saturating_sub(limit))
 }
 
+/// How many may be told, so that a beacon walks over no more than a multiple of the queues that there are now: one that
+/// is told stays until its clock passes, also where its units or its station have left long before.
+fn most_due(kept: &Keep) -> usize {
+    kept.queue_count().saturating_mul(2).saturating_add(SPARE)
+}
+
 /// Tells of each a clock up to which a unit for it isn't too old that came when the oldest did.
 fn tell_each(stations: &Stations, due: &mut [Oldest], clock: u32)
     ensures { AreYoung stations.now.table due.old due.new }
@@ -245,16 +257,26 @@ fn tell_each(stations: &Stations, due: &mut [Oldest], clock: u32)
     }
 }
 
-/// Tells one that units are kept for, where any are told. None is from then on where memory ran out, or where `most`
-/// are told, as where units came and left often, so that the next beacon tells all anew.
-pub(crate) fn tell(due: &mut Option<Vec<Oldest>>, most: usize, whom: Whom, at: u32)
+/// Makes room for as many as may be told, as far as there is memory: only a beacon asks for it.
+fn make_room(due: &mut Vec<Oldest>, most: usize)
+    ensures { due.new.items ≡ due.old.items }
+{
+    let more = most.saturating_sub(due.len());
+    // where there is none, fewer are told
+    let _ = due.reserve_exact(more);
+}
+
+/// Tells one that units are kept for, where any are told. None is from then on where there is no room for it, as where
+/// units came and left often, so that the next beacon tells all anew. It takes no memory.
+pub(crate) fn tell(due: &mut Option<Vec<Oldest>>, whom: Whom, at: u32)
     ensures { IsTold (record { whom = whom; at = at }) (option_map (λ v. v.items) due.old)
         (option_map (λ v. v.items) due.new) }
 {
     let Some(mut told) = due.take() else {
         return;
     };
-    if told.len() < most && told.push(Oldest { whom, at }).is_ok() {
+    if told.len() < told.capacity() {
+        told.push_reserved(Oldest { whom, at });
         *due = Some(told);
     }
 }

@@ -1,4 +1,4 @@
-use Rattle.std.proofs.Common.{◌≡◌, ℕ, ◌<◌, List, None, Some, option_map, set, ◌∙◌, sym, ap, subst, arith}
+use Rattle.std.proofs.Common.{◌≡◌, ℕ, List, None, Some, option_map, set, ◌∙◌, sym, ap, subst, arith}
 use Rattle.std.proofs.lemmas.Option.{slice_get_within, get_or_from_slice_get}
 use Rattle.stations.specs.Stations.{state_of, forget}
 use Rattle.stations.specs.declared.table.StationState.{StationState}

@@ -1,4 +1,4 @@
-use Rattle.std.proofs.Common.{ℕ, List, filter, is_some, ap, subst, sym, ◌∙◌}
+use Rattle.std.proofs.Common.{filter, is_some, ap, subst, sym, ◌∙◌}
 use Rattle.stations.specs.Slots.{slot_at, IsListed}
 use Rattle.stations.proofs.StationOrder.{order-noted, order-cleared}
 use Rattle.stations.proofs.order.Order.leave.Goals as goal

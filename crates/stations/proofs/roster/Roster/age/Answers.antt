@@ -16,11 +16,12 @@ invariant_of-self c =
     let same : length due ≡ length before.items = omega (arith, c.age_each-dropped.auto.due, ap (λ (os : List Oldest). length os) c.as_mut_slice.ensures.value) in
     let all = written-back before.len due before.items same (omega (arith, c.age_each-dropped.auto.due, c.as_mut_slice.ensures.len)) in
     let kept : c.retain.new.self.items ≡ filter (λ o. leb clock o.at) due = filter_same _ (λ o. leb clock o.at) _ (λ x b f' k. search rules) _ _ c.retain.ensures.filtered ∙ ap (filter (λ (o : Oldest). leb clock o.at)) all in
+    let roomy : c.make_room.new.due.items ≡ filter (λ o. leb clock o.at) due = c.make_room.ensures ∙ kept in
     let told = told-later clock c.take_due.new.self.stations.table due state.kept.entries c.age_each-dropped.ensures.told in
     record {
       roster = c.self.invariant.roster;
       told =
-          subst (λ (r : RosterState). AreTold 0 r.stations.table c.retain.new.self.items r.kept.entries) (sym c.self.view_is)
-          (subst (λ (os : List Oldest). AreTold 0 state.stations.table os state.kept.entries) (sym kept)
+          subst (λ (r : RosterState). AreTold 0 r.stations.table c.make_room.new.due.items r.kept.entries) (sym c.self.view_is)
+          (subst (λ (os : List Oldest). AreTold 0 state.stations.table os state.kept.entries) (sym roomy)
           (subst (λ (k : StationTable). AreTold 0 k.table (filter (λ o. leb clock o.at) due) state.kept.entries) (sym c.age_each-dropped.ensures.stations) told));
     }
