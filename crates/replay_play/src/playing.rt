@@ -13,17 +13,14 @@ ghost use Rattle.workers.specs.Names.{callers_fit};
 use crate::fault::PlayTextFault;
 use crate::reporting::write_in_threads;
 use ap_config::RadioConfig;
-use events::{Line, Section};
-use mac_frame::{List, Octets};
+use events::Line;
+use mac_frame::Octets;
 use std::alloc::{AllocError, Global};
 use std::sync::Wait;
 use std::thread;
 use std::thread::Threads;
 use trace::{ReadFault, Sink, TraceTextFault, read_config, read_trace};
 use workers::{MAX_CALLERS, Played, play_lent};
-
-/// How many threads give memory back at most.
-const MOST_THREADS: usize = 4;
 
 /// Reads a configuration and 1 to 64 traces, plays the traces at once, each as a source with a thread of its own, and
 /// appends the report of all networks to what `out` has taken ([`workers::play`]). For each network by itself it is
@@ -44,34 +41,8 @@ pub fn play_text<R: Threads + Wait + Sync, W: Sink>(
     ensures ends { EndsPlay result config.now traces.now (W.taken out.old) (W.taken out.new) }
     ensures failures { W.failed out.new ≡ W.failed out.old + failures_of play_ending result }
 {
-    let (sources, played) = report_play(rt, alloc, config, traces, out)?;
-    let_go(rt, alloc, sources, played);
+    report_play(rt, alloc, config, traces, out)?;
     Ok(())
-}
-
-/// Gives back the memory of what was played, by several threads, as far as there are any: each line, event and frame
-/// has a piece of its own.
-fn let_go<R: Threads + Sync>(rt: &R, alloc: Global, mut sources: Vec<Vec<Line>>, played: Played) {
-    let mut sections = played.sections.into_vec();
-    thread::for_each_mut(
-        rt,
-        sources.as_mut_slice(),
-        MOST_THREADS,
-        &|_place: usize, lines: &mut Vec<Line>| lines.clear(),
-    );
-    thread::for_each_mut(
-        rt,
-        sections.as_mut_slice(),
-        MOST_THREADS,
-        &|_place: usize, section: &mut Section| empty(alloc, section),
-    );
-}
-
-/// Gives back what a section has of events and frames.
-fn empty(alloc: Global, section: &mut Section) {
-    section.events = List::from_vec(Vec::new(alloc));
-    section.air = List::from_vec(Vec::new(alloc));
-    section.wire = List::from_vec(Vec::new(alloc));
 }
 
 /// Does what [`play_text`] does, and hands out what it played and reported, so that a program that ends then need not
