@@ -233,12 +233,12 @@ impl Bss {
         self.history.reserve(1)?;
         reply.frames.reserve_in(&mut self.waiting)?;
         self.wired.reserve(1)?;
-        let sent = self.network.finish(reply, polled)?;
+        self.network.finish(&mut reply, polled)?;
         // All that may be refused is done.
         let number = self.history.len() as u32;
         self.history.push_reserved(event);
-        sent.air.append_to(&mut self.waiting);
-        put_last(&mut self.wired, sent.wire);
+        reply.frames.append_to(&mut self.waiting);
+        put_last(&mut self.wired, reply.wired);
         self.has_slot = false;
         Ok(number)
     }

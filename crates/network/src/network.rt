@@ -1,7 +1,7 @@
 //! A network as it runs, without its history.
 
 ghost use Rattle.std.specs.Prelude.{◌≡◌, ◌+◌, ◌*◌, ◌<◌, ◌≤◌, ◌^◌, ◌&&◌, nat_lt, ℕ, true, ◌↔◌, None, Some, Err, IfSome};
-ghost use Rattle.std.specs.Prelude.{IfOk, OnOk, OnErr, length, slice_get, option_to_list};
+ghost use Rattle.std.specs.Prelude.{IfOk, OnOk, OnErr, [], length, slice_get, option_to_list};
 ghost use Rattle.ap_config.specs.Configuration.{setting_fault, network_fault};
 ghost use Rattle.beacon.specs.ProbeResponse.{response_elements};
 ghost use Rattle.network.specs.Network.{step, table_of, age_units, announced_at};
@@ -23,9 +23,10 @@ use beacon::ResponseElements;
 use events::{Event, LentEvent, StationRow};
 use mac_frame::{MacAddr, NoMemory, Octets};
 use powersave::{Keep, Whom};
-use stations::{Roster, Stations};
+use stations::{Keeping, Roster, Stations};
 use std::alloc::Global;
 use std::marker::Model;
+use std::mem;
 use tim::Bitmap;
 
 /// Why a network refused an event. Nothing of it has changed then.
@@ -223,7 +224,13 @@ impl Network {
         }
         let mut reply = self.no_reply();
         let polled = self.reply(&mut reply, event)?;
-        Ok(self.finish(reply, polled)?)
+        self.finish(&mut reply, polled)?;
+        // No unit is left in it. With that gone, nothing else is dropped, and what is sent moves out once.
+        drop(reply.keeping);
+        Ok(Sent {
+            air: reply.frames,
+            wire: reply.wired,
+        })
     }
 
     /// Fills in what it does about an event, which can be carried out, and answers whose poll is to be served besides,
@@ -260,75 +267,77 @@ impl Network {
         }
     }
 
-    /// Does what a reply to an event says, or serves a poll, and hands out what is sent. After `NoMemory` nothing has
-    /// changed.
+    /// Does what a reply to an event says, or serves a poll, and leaves in the reply what is sent. After `NoMemory`
+    /// nothing of the network has changed.
     #[inline(always)]
-    pub(crate) fn finish(&mut self, reply: Reply, polled: Option<MacAddr>) -> Result<Sent, NoMemory>
-        requires follows { MayFollow self.old polled (done self.old.setting self.old.network polled reply) }
+    pub(crate) fn finish(
+        &mut self,
+        reply: &mut Reply,
+        polled: Option<MacAddr>,
+    ) -> Result<(), NoMemory>
+        requires follows { MayFollow self.old polled (done self.old.setting self.old.network polled reply.old) }
         requires countable { self.old.events < 2 ^ 62 }
-        requires alone { IfSome polled (λ _. reply ≡ no_reply self.old.network.sequence) }
+        requires alone { IfSome polled (λ _. reply.old ≡ no_reply self.old.network.sequence) }
         ensures after { OnOk result
-            (self.new ≡ carried_out polled (done self.old.setting self.old.network polled reply) self.old) }
-        ensures air { IfOk result (λ sent.
-            sent.air ≡ (done self.old.setting self.old.network polled reply).frames) }
-        ensures wire { IfOk result (λ sent.
-            sent.wire ≡ (done self.old.setting self.old.network polled reply).wired) }
-        ensures few { IfOk result (λ sent.
-            (room : ℕ) → 1 ≤ room → length reply.frames ≤ room → length sent.air ≤ room) }
+            (self.new ≡ carried_out polled (done self.old.setting self.old.network polled reply.old) self.old) }
+        ensures air { OnOk result
+            (reply.new.frames ≡ (done self.old.setting self.old.network polled reply.old).frames) }
+        ensures wire { OnOk result
+            (reply.new.wired ≡ (done self.old.setting self.old.network polled reply.old).wired) }
+        ensures few { OnOk result
+            ((room : ℕ) → 1 ≤ room → length reply.old.frames ≤ room → length reply.new.frames ≤ room) }
         ensures err { OnErr result (self.new ≡ self.old) }
     {
         match polled {
             None => self.carry_out(reply),
-            Some(from) => self.serve_poll(from),
+            Some(from) => self.serve_poll(&mut reply.frames, from),
         }
     }
 
-    /// Serves the poll of a station: sends the unit that was kept first for it, if there is one. After `NoMemory`
-    /// nothing has changed.
-    fn serve_poll(&mut self, from: MacAddr) -> Result<Sent, NoMemory>
+    /// Serves the poll of a station: sends the unit that was kept first for it, if there is one, where nothing else is
+    /// sent. After `NoMemory` nothing of the network has changed.
+    fn serve_poll(&mut self, frames: &mut Frames, from: MacAddr) -> Result<(), NoMemory>
+        requires none { frames.old ≡ [] }
         requires sound { IsSoundNetwork self.old.setting (self.old.events + 1) (2 * (self.old.events + 1))
             (replied (Some from) (serving self.old.setting (units_for (whoms.One from) self.old.network.kept)
             (no_reply self.old.network.sequence)) self.old).network }
         requires countable { self.old.events < 2 ^ 62 }
         ensures after { OnOk result (self.new ≡ replied (Some from) (serving self.old.setting
             (units_for (whoms.One from) self.old.network.kept) (no_reply self.old.network.sequence)) self.old) }
-        ensures air { IfOk result (λ sent. sent.air ≡ (serving self.old.setting
+        ensures air { OnOk result (frames.new ≡ (serving self.old.setting
             (units_for (whoms.One from) self.old.network.kept) (no_reply self.old.network.sequence)).frames) }
-        ensures wire { IfOk result (λ sent. sent.wire ≡ None) }
-        ensures few { IfOk result (λ sent. length sent.air ≤ 1) }
+        ensures few { OnOk result (length frames.new ≤ 1) }
         ensures err { OnErr result (self.new ≡ self.old) }
     {
         let bssid = self.setting.get().network.bssid;
         let sent = self.roster.send_oldest(from, bssid, self.sequence)?;
         self.events += 1;
         let Some(frame) = sent else {
-            return Ok(Sent {
-                air: Frames::new(self.alloc),
-                wire: None,
-            });
+            return Ok(());
         };
         self.sequence = (self.sequence + 1) % SEQUENCE_NUMBERS;
-        Ok(Sent {
-            air: Frames::one(self.alloc, frame),
-            wire: None,
-        })
+        *frames = Frames::one(self.alloc, frame);
+        Ok(())
     }
 
-    /// Does what a reply to an event says, and hands out what is sent. After `NoMemory` nothing has changed.
+    /// Does what a reply to an event says, and leaves in it what is sent. After `NoMemory` nothing of the network has
+    /// changed.
     #[inline(always)]
-    pub(crate) fn carry_out(&mut self, reply: Reply) -> Result<Sent, NoMemory>
-        requires follows { MayFollow self.old None reply }
+    fn carry_out(&mut self, reply: &mut Reply) -> Result<(), NoMemory>
+        requires follows { MayFollow self.old None reply.old }
         requires countable { self.old.events < 2 ^ 62 }
-        ensures after { OnOk result (self.new ≡ carried_out None reply self.old) }
-        ensures sent { IfOk result (λ sent. sent ≡ record { air = reply.frames; wire = reply.wired }) }
+        ensures after { OnOk result (self.new ≡ carried_out None reply.old self.old) }
+        ensures air { reply.new.frames ≡ reply.old.frames }
+        ensures wire { reply.new.wired ≡ reply.old.wired }
         ensures err { OnErr result (self.new ≡ self.old) }
     {
         // the quota is counted by 32 bits
         checked_numbers();
         let ages = units_age(reply.clock, self.setting.get().network.aging);
+        let keeping = mem::replace(&mut reply.keeping, Keeping::nothing());
         let aged = self
             .roster
-            .carry_out(reply.change, reply.keeping, ages, self.clock)?;
+            .carry_out(reply.change, keeping, ages, self.clock)?;
         // All that may be refused is done.
         self.lost += u64::from(aged);
         self.events += 1;
@@ -336,10 +345,7 @@ impl Network {
         self.sequence = reply.sequence;
         self.lost += u64::from(reply.lost);
         self.unread += u64::from(reply.unread);
-        Ok(Sent {
-            air: reply.frames,
-            wire: reply.wired,
-        })
+        Ok(())
     }
 
     /// Its stations.

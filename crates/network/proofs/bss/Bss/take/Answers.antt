@@ -28,14 +28,14 @@ invariant_of-self-2 c =
     let n : NetworkState = c.self.inside.network in
     let es : List Event = c.self.inside.history.items in
     let r : Reply = done n.setting n.network c.in_ok-polled.polled c.reply.new.reply in
-    let network = c.in_ok-sent.ensures.after in
+    let network = c.in_ok-finish.ensures.after in
     let len : c.len.result ≡ length es = c.len.ensures ∙ c.self.inside.history.ok.0 in
     let most : c.config.result.now.max_events ≡ n.setting.network.max_events = ap (λ (k : NetConfig). k.max_events) c.config.ensures ∙ sym (ap (λ (b : BssView). b.setting.network.max_events) c.self.view_is) in
     let room : length es < n.setting.network.max_events = omega (arith, len, most, c.if-len-config.false) in
     let items : c.push_reserved.new.self.items ≡ es ++ c.args.event ∷ [] = c.push_reserved.ensures.items ∙ ap (λ (h : List Event). h ++ c.args.event ∷ []) c.reserve.ensures.items in
     let wire : c.put_last.new.wired.items ≡ c.self.inside.wired.items ++ option_to_list r.wired =
-    c.put_last.ensures ∙ ap (λ (w : List (List ℕ)). w ++ option_to_list c.in_ok-sent.sent.wire) c.in_ok-reserve-2.ensures.items
-    ∙ ap (λ (f : Option (List ℕ)). c.self.inside.wired.items ++ option_to_list f) c.in_ok-sent.ensures.wire in
+    c.put_last.ensures ∙ ap (λ (w : List (List ℕ)). w ++ option_to_list c.finish.new.reply.wired) c.in_ok-reserve-2.ensures.items
+    ∙ ap (λ (f : Option (List ℕ)). c.self.inside.wired.items ++ option_to_list f) c.in_ok-finish.ensures.wire in
     (rw (items, network, wire) (history-push es n c.self.inside.wired.items c.args.event c.in_ok-polled.polled r c.self.invariant.0 room (ap (step n.setting n.network) (sym c.lend.ensures) ∙ c.in_ok-polled.ensures.step)), λ h. absurd cc)
 
 pub returns-clause-waiting : goal.returns-clause-waiting
@@ -46,8 +46,8 @@ returns-clause-waiting c =
     let r : Reply = done n.setting n.network c.in_ok-polled.polled c.reply.new.reply in
     let by : sent_by n.setting es c.args.event ≡ r.frames = sent_by-reply es n c.self.inside.wired.items c.args.event c.in_ok-polled.polled r c.self.invariant.0 (ap (step n.setting n.network) (sym c.lend.ensures) ∙ c.in_ok-polled.ensures.step) in
     let before : c.self.inside.waiting.items ≡ s.waiting = ap (λ (st : BssView). st.waiting) c.self.view_is in
-    c.append_to.ensures ∙ ap (λ (w : List (List ℕ)). w ++ c.in_ok-sent.sent.air) (c.reserve_in.ensures.items ∙ before)
-    ∙ ap (λ (f : List (List ℕ)). s.waiting ++ f) c.in_ok-sent.ensures.air ∙ ap (λ (f : List (List ℕ)). s.waiting ++ f) (sym by)
+    c.append_to.ensures ∙ ap (λ (w : List (List ℕ)). w ++ c.finish.new.reply.frames) (c.reserve_in.ensures.items ∙ before)
+    ∙ ap (λ (f : List (List ℕ)). s.waiting ++ f) c.in_ok-finish.ensures.air ∙ ap (λ (f : List (List ℕ)). s.waiting ++ f) (sym by)
     ∙ ap (λ (st : BssView). s.waiting ++ sent_by st.setting st.history c.args.event) c.self.view_is
 
 pub returns-clause-air : goal.returns-clause-air
@@ -55,7 +55,7 @@ returns-clause-air c =
     let s : Setting = c.self.inside.network.setting in
     let es : List Event = c.self.inside.history.items in
     let items : c.push_reserved.new.self.items ≡ es ++ c.args.event ∷ [] = c.push_reserved.ensures.items ∙ ap (λ (h : List Event). h ++ c.args.event ∷ []) c.reserve.ensures.items in
-    let same : c.finish.new.self.setting ≡ s = ap (λ (n : NetworkState). n.setting) c.in_ok-sent.ensures.after in
+    let same : c.finish.new.self.setting ≡ s = ap (λ (n : NetworkState). n.setting) c.in_ok-finish.ensures.after in
     ap (λ (t : Setting). (alone t c.push_reserved.new.self.items).air) same ∙ ap (λ (h : List Event). (alone s h).air) items ∙ air-push s es c.args.event
     ∙ ap (λ (st : BssView). (network_of st).air ++ sent_by st.setting st.history c.args.event) c.self.view_is
 
@@ -65,7 +65,7 @@ returns-clause-wire c =
     let s : Setting = n.setting in
     let es : List Event = c.self.inside.history.items in
     let items : c.push_reserved.new.self.items ≡ es ++ c.args.event ∷ [] = c.push_reserved.ensures.items ∙ ap (λ (h : List Event). h ++ c.args.event ∷ []) c.reserve.ensures.items in
-    let same : c.finish.new.self.setting ≡ s = ap (λ (k : NetworkState). k.setting) c.in_ok-sent.ensures.after in
+    let same : c.finish.new.self.setting ≡ s = ap (λ (k : NetworkState). k.setting) c.in_ok-finish.ensures.after in
     ap (λ (t : Setting). (alone t c.push_reserved.new.self.items).wire) same ∙ ap (λ (h : List Event). (alone s h).wire) items
     ∙ wire-push es n c.self.inside.wired.items c.args.event c.in_ok-polled.polled (done n.setting n.network c.in_ok-polled.polled c.reply.new.reply) c.self.invariant.0 (ap (step n.setting n.network) (sym c.lend.ensures) ∙ c.in_ok-polled.ensures.step)
     ∙ ap (λ (st : BssView). (network_of st).wire ++ wired_by st.setting st.history c.args.event) c.self.view_is
@@ -76,5 +76,5 @@ append_to-requires c =
     let capacity = deque_capacity c.reserve_in.new.waiting in
     let one : len + 1 ≤ capacity = c.in_ok-reserve_in.ensures.one in
     let all : len + length c.reply.new.reply.frames ≤ capacity = c.in_ok-reserve_in.ensures.room in
-    let few : length c.in_ok-sent.sent.air ≤ capacity - len = c.in_ok-sent.ensures.few (capacity - len) (omega (arith, one)) (omega (arith, all, one)) in
+    let few : length c.finish.new.reply.frames ≤ capacity - len = c.in_ok-finish.ensures.few (capacity - len) (omega (arith, one)) (omega (arith, all, one)) in
     omega (arith, few, one)
