@@ -1,5 +1,5 @@
 -- The order of the slots: which stations a row of them has, which places are gone, and what becomes of both.
-use Rattle.std.proofs.Common.{◌≡◌, ◌⊎◌, ℕ, zero, suc, ◌+◌, ◌<◌, ◌≤◌, Bool, true, false, List, [], ◌∷◌, ◌++◌, length, set, take, filter, slice_get, Option, Some, None, is_some, refl, sym, ap, subst, ◌∙◌, arith, inl, inr, cond}
+use Rattle.std.proofs.Common.{◌≡◌, ◌⊎◌, ℕ, zero, suc, ◌+◌, ◌<◌, ◌≤◌, Bool, true, false, List, [], ◌∷◌, ◌++◌, length, set, take, remove, min, filter, slice_get, Option, Some, None, is_some, refl, sym, ap, subst, ◌∙◌, arith, inl, inr, cond}
 use Rattle.std.specs.Prelude.{nat_lt}
 use Rattle.std.specs.List.{AllByRecursion, range_with_len}
 use Rattle.std.specs.Map.{lookup, set_value}
@@ -9,7 +9,7 @@ use Rattle.std.proofs.lemmas.List.{length-append, length-set}
 use Rattle.std.proofs.lemmas.Option.{slice_get_within}
 use Rattle.stations.specs.Stations.{Table, state_of, forget}
 use Rattle.stations.specs.Sound.{AreApart}
-use Rattle.stations.specs.Slots.{Slots, stations_in, slot_of, IsAt, slot_at, listed, holes_from, past, with_place, IsListed, TakesOut, IsStationList}
+use Rattle.stations.specs.Slots.{Slots, stations_in, slot_of, IsAt, slot_at, listed, holes_from, past, with_place, IsListed, MayList, TakesOut, IsStationList}
 use Rattle.stations.proofs.StationTables.{set_state-unknown}
 use Rattle.stations.proofs.StationsSound.{apart-set, apart-forgotten, not-here}
 use Rattle.stations.proofs.StationSlots.{equal_addr, slot_of-known, slot_of-none, slot_of-at, known-at, stations-set, stations-set_state, stations-out, found-set, found-out, found-last, stations-last, stations-kept, stations-append}
@@ -283,6 +283,95 @@ past-at n (suc i) (Some e ∷ slots) =
     let end : suc n + rest.0 ≡ n + suc rest.0 = omega arith in
     (suc rest.0, ap (past (holes_from (suc n) slots)) start ∙ rest.1 ∙ end, rest.2)
 
+-- ---- a place that is taken out of the row
+
+holes-none : (m n : ℕ) (slots : Slots) → holes_from m slots ≡ [] → holes_from n slots ≡ []
+holes-none m n [] h = refl
+holes-none m n (None ∷ slots) h = absurd (cc)
+holes-none m n (Some e ∷ slots) h = holes-none (suc m) (suc n) slots h
+
+-- the last hole, and the slots without it
+pub record IsLastHole (n : ℕ) (places : List ℕ) (last : ℕ) (slots : Slots) : Type 0 where
+  pub place : ℕ
+  pub number : last ≡ n + place
+  pub within : place < length slots
+  pub kept : holes_from n (remove slots place) ≡ places
+  pub stations : stations_in (remove slots place) ≡ stations_in slots
+
+pub last-hole : (n : ℕ) (places : List ℕ) (last : ℕ) (slots : Slots) → places ++ last ∷ [] ≡ holes_from n slots → IsLastHole n places last slots
+last-hole n [] last [] h = absurd (cc)
+last-hole n (p ∷ places) last [] h = absurd (cc)
+last-hole n [] last (None ∷ slots) h =
+    let first : last ≡ n = cc in
+    let none : ◌≡◌ {A = List ℕ} [] (holes_from (suc n) slots) = cc in
+    record {
+      place = 0;
+      number = omega (arith, first);
+      within = omega arith;
+      kept = holes-none (suc n) n slots (sym none);
+      stations = refl;
+    }
+last-hole n (p ∷ places) last (None ∷ slots) h =
+    let first : p ≡ n = cc in
+    let rest : places ++ last ∷ [] ≡ holes_from (suc n) slots = cc in
+    let l = last-hole (suc n) places last slots rest in
+    record {
+      place = suc l.place;
+      number = omega (arith, l.number);
+      within = omega (arith, l.within);
+      kept = ap (λ (ps : List ℕ). n ∷ ps) l.kept ∙ ap (λ k. k ∷ places) (sym first);
+      stations = l.stations;
+    }
+last-hole n places last (Some e ∷ slots) h =
+    let l = last-hole (suc n) places last slots h in
+    record {
+      place = suc l.place;
+      number = omega (arith, l.number);
+      within = omega (arith, l.within);
+      kept = l.kept;
+      stations = ap (λ (t : Table). e ∷ t) l.stations;
+    }
+
+listed-remove : (row : List ℕ) (slots : Slots) (i : ℕ) → listed (remove row i) slots ≡ remove (listed row slots) i
+listed-remove [] slots zero = refl
+listed-remove [] slots (suc i) = refl
+listed-remove (r ∷ row) slots zero = refl
+listed-remove (r ∷ row) slots (suc i) = ap (λ (s : Slots). slot_at slots r ∷ s) (listed-remove row slots i)
+
+within-remove : (row : List ℕ) (n i : ℕ) → AllByRecursion (λ k. k < n) row → AllByRecursion (λ k. k < n) (remove row i)
+within-remove [] n zero h = tt
+within-remove [] n (suc i) h = tt
+within-remove (r ∷ row) n zero h = h.1
+within-remove (r ∷ row) n (suc i) h = (h.0, within-remove row n i h.1)
+
+pub order-dropped : (row gone places row' : List ℕ) (last : ℕ) (slots : Slots) → gone ≡ places ++ last ∷ [] → (last < length row → row' ≡ remove row last) → IsListed row gone slots → IsListed row' places slots
+order-dropped row gone places row' last slots popped removed l =
+    let hole = last-hole 0 places last (listed row slots) (sym popped ∙ l.places) in
+    let here : last ≡ hole.place = omega (arith, hole.number) in
+    let low : last < length row = omega (arith, hole.number, hole.within, listed-len row slots) in
+    let same : listed row' slots ≡ remove (listed row slots) hole.place = ap (λ (r : List ℕ). listed r slots) (removed low) ∙ listed-remove row slots last ∙ ap (remove (listed row slots)) here in
+    record {
+      within = subst (AllByRecursion (λ k. k < length slots)) (sym (removed low)) (within-remove row (length slots) last l.within);
+      stations = ap stations_in same ∙ hole.stations ∙ l.stations;
+      places = sym hole.kept ∙ ap (holes_from 0) (sym same);
+    }
+
+-- ---- how many there are
+
+pub count-set : (slots : Slots) (i : ℕ) (station new : List ℕ × StationState) → slice_get slots i ≡ Some (Some station) → length (stations_in (set slots i (Some new))) ≡ length (stations_in slots)
+count-set [] i station new h = absurd (cc)
+count-set (None ∷ slots) zero station new h = absurd (cc)
+count-set (None ∷ slots) (suc i) station new h = count-set slots i station new h
+count-set (Some e ∷ slots) zero station new h = refl
+count-set (Some e ∷ slots) (suc i) station new h = ap (λ n. suc n) (count-set slots i station new h)
+
+pub count-out : (slots : Slots) (i : ℕ) (station : List ℕ × StationState) → slice_get slots i ≡ Some (Some station) → length (stations_in (set slots i None)) + 1 ≡ length (stations_in slots)
+count-out [] i station h = absurd (cc)
+count-out (None ∷ slots) zero station h = absurd (cc)
+count-out (None ∷ slots) (suc i) station h = count-out slots i station h
+count-out (Some e ∷ slots) zero station h = omega arith
+count-out (Some e ∷ slots) (suc i) station h = let rest = count-out slots i station h in omega (arith, rest)
+
 -- ---- the order after a change
 
 pub order-set : (row gone : List ℕ) (slots : Slots) (i : ℕ) (addr : List ℕ) (before state : StationState) → AreApart (stations_in slots) → IsAt addr slots i before → IsListed row gone slots → IsListed row gone (set slots i (Some (addr, state)))
@@ -388,30 +477,71 @@ take-set [] k x h = absurd (omega (arith, h))
 take-set (r ∷ row) zero x h = refl
 take-set (r ∷ row) (suc k) x h = ap (λ (t : List ℕ). r ∷ t) (take-set row k x (omega (arith, h)))
 
+-- ---- a row that may be none
+
+pub some-filtered : (p : ℕ → Bool) (row : List ℕ) → 0 < length (filter p row) → 0 < length row
+some-filtered p [] h = h
+some-filtered p (r ∷ row) h = omega arith
+
+-- all slots that have a station
+pub order-all : (slots : Slots) → IsListed (filter (λ i. is_some (slot_at slots i)) (range_with_len 0 (length slots))) [] slots
+order-all slots =
+    let same : listed (filter (λ i. is_some (slot_at slots i)) (range_with_len 0 (length slots))) slots ≡ filter is_some slots = listed-filter (range_with_len 0 (length slots)) slots ∙ ap (filter is_some) (listed-all slots) in
+    record {
+      within = within-filter (λ i. is_some (slot_at slots i)) (range_with_len 0 (length slots)) (length slots) (within-range 0 (length slots) (length slots) (omega arith));
+      stations = ap stations_in same ∙ (stations-kept slots).0;
+      places = sym (holes-kept 0 slots) ∙ ap (holes_from 0) (sym same);
+    }
+
 -- ---- the list after a change
 
-pub list-set : (index : List (List ℕ × ℕ)) (slots : Slots) (row gone : List ℕ) (addr : List ℕ) (i : ℕ) (before state : StationState) → IsStationList index slots row gone → IsAt addr slots i before → IsStationList index (set slots i (Some (addr, state))) row gone
-list-set index slots row gone addr i before state l at = record {
+pub list-set : (index : List (List ℕ × ℕ)) (slots : Slots) (holes : ℕ) (row gone : List ℕ) (addr : List ℕ) (i : ℕ) (before state : StationState) → IsStationList index slots holes row gone → IsAt addr slots i before → IsStationList index (set slots i (Some (addr, state))) holes row gone
+list-set index slots holes row gone addr i before state l at = record {
   apart = subst AreApart (sym (stations-set_state addr slots i before state at)) (apart-set addr state (stations_in slots) l.apart);
   found = λ q. l.found q ∙ sym (found-set q slots i addr before state at.slot);
-  listed = order-set row gone slots i addr before state l.apart at l.listed;
+  rest = omega (arith, l.rest, count-set slots i (addr, before) (addr, state) at.slot, length-set slots i (Some (addr, state)));
+  listed = λ some. order-set row gone slots i addr before state l.apart at (l.listed some);
 }
 
 pub takes-out : (slots : Slots) (addr : List ℕ) (i : ℕ) (before : StationState) → AreApart (stations_in slots) → IsAt addr slots i before → TakesOut i slots (set slots i None)
 takes-out slots addr i before apart at = record { station = (addr, before); apart = apart; slot = at.slot; hole = refl }
 
-pub list-out : (old new : List (List ℕ × ℕ)) (slots : Slots) (row gone row' gone' : List ℕ) (addr : List ℕ) (i : ℕ) (before : StationState) → IsStationList old slots row gone → IsAt addr slots i before
-    → ((q : List ℕ) → lookup (bytes_eq q) new ≡ cond (bytes_eq addr q) None (lookup (bytes_eq q) old)) → IsListed row' gone' (set slots i None) → IsStationList new (set slots i None) row' gone'
-list-out old new slots row gone row' gone' addr i before l at left order = record {
+pub list-out : (old new : List (List ℕ × ℕ)) (slots : Slots) (holes : ℕ) (row gone row' gone' : List ℕ) (addr : List ℕ) (i : ℕ) (before : StationState) → IsStationList old slots holes row gone → IsAt addr slots i before
+    → ((q : List ℕ) → lookup (bytes_eq q) new ≡ cond (bytes_eq addr q) None (lookup (bytes_eq q) old)) → MayList row' gone' (set slots i None) → IsStationList new (set slots i None) (holes + 1) row' gone'
+list-out old new slots holes row gone row' gone' addr i before l at left order = record {
   apart = subst AreApart (sym (stations-out addr slots i at.place)) (apart-forgotten addr (stations_in slots) l.apart);
   found = λ q. left q ∙ ap (cond (bytes_eq addr q) None) (l.found q) ∙ sym (found-out q addr slots i l.apart at.place);
+  rest = omega (arith, l.rest, count-out slots i (addr, before) at.slot, length-set slots i None);
   listed = order;
 }
 
-pub list-last : (old new : List (List ℕ × ℕ)) (slots : Slots) (row gone : List ℕ) (addr : List ℕ) (state : StationState) → IsStationList old slots row gone → state_of addr (stations_in slots) ≡ None
-    → ((q : List ℕ) → lookup (bytes_eq q) new ≡ cond (bytes_eq addr q) (Some (length slots)) (lookup (bytes_eq q) old)) → IsStationList new (slots ++ Some (addr, state) ∷ []) (row ++ length slots ∷ []) gone
-list-last old new slots row gone addr state l unknown put = record {
+pub list-last : (old new : List (List ℕ × ℕ)) (slots : Slots) (holes : ℕ) (row gone row' gone' : List ℕ) (addr : List ℕ) (state : StationState) → IsStationList old slots holes row gone → state_of addr (stations_in slots) ≡ None
+    → ((q : List ℕ) → lookup (bytes_eq q) new ≡ cond (bytes_eq addr q) (Some (length slots)) (lookup (bytes_eq q) old)) → MayList row' gone' (slots ++ Some (addr, state) ∷ []) → IsStationList new (slots ++ Some (addr, state) ∷ []) holes row' gone'
+list-last old new slots holes row gone row' gone' addr state l unknown put order = record {
   apart = subst AreApart (set_state-unknown addr state (stations_in slots) unknown ∙ sym (stations-last addr state slots)) (apart-set addr state (stations_in slots) l.apart);
   found = λ q. put q ∙ ap (cond (bytes_eq addr q) (Some (length slots))) (l.found q) ∙ sym (found-last q addr state slots (slot_of-none addr slots unknown));
-  listed = order-last row gone slots (addr, state) l.listed;
+  rest = omega (arith, l.rest, ap length (stations-last addr state slots), length-append (stations_in slots) ((addr, state) ∷ []), length-append slots (Some (addr, state) ∷ []));
+  listed = order;
 }
+
+-- one slot more in a row that has some
+pub may-list-last : (row gone row' gone' : List ℕ) (slots : Slots) (station : List ℕ × StationState) → MayList row gone slots → (0 < length row → row' ≡ row ++ length slots ∷ []) → (length row ≡ 0 → row' ≡ []) → gone' ≡ gone → MayList row' gone' (slots ++ Some station ∷ [])
+may-list-last [] gone row' gone' slots station l more none same some =
+    let empty : length row' ≡ 0 = ap length (none refl) in
+    absurd (omega (arith, empty, some))
+may-list-last (r ∷ row) gone row' gone' slots station l more none same some =
+    let long : 0 < length (r ∷ row) = omega arith in
+    subst (λ (g : List ℕ). IsListed row' g (slots ++ Some station ∷ [])) (sym same)
+    (subst (λ (k : List ℕ). IsListed k gone (slots ++ Some station ∷ [])) (sym (more long)) (order-last (r ∷ row) gone slots station (l long)))
+
+-- slots without a hole, where no more are listed than before
+pub may-list-numbered : (row gone row' gone' : List ℕ) (before after : Slots) → MayList row gone before → stations_in after ≡ stations_in before → length (stations_in after) ≡ length after → row' ≡ range_with_len 0 (min (length after) (length row)) → gone' ≡ [] → MayList row' gone' after
+may-list-numbered [] gone row' gone' before after l same full numbered cleared some =
+    let none : min (length after) 0 ≡ 0 = omega arith in
+    let empty : length row' ≡ 0 = ap length (numbered ∙ ap (range_with_len 0) none) in
+    absurd (omega (arith, empty, some))
+may-list-numbered (r ∷ row) gone row' gone' before after l same full numbered cleared some =
+    let few = order-few (r ∷ row) gone before (l (omega arith)) in
+    let count : length (stations_in after) ≡ length (stations_in before) = ap length same in
+    let least : min (length after) (length (r ∷ row)) ≡ length after = omega (arith, few, count, full) in
+    order-numbered row' gone' after (numbered ∙ ap (range_with_len 0) least) cleared full

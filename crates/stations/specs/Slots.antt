@@ -1,5 +1,5 @@
 -- How the stations of a network are kept in order (profile): each has a slot, and one that left left a hole.
-use Rattle.std.specs.Prelude.{ℕ, ◌≡◌, ◌<◌, nat_lt, List, [], ◌∷◌, Option, Some, None, true, is_some, if◌then◌else◌}
+use Rattle.std.specs.Prelude.{ℕ, ◌≡◌, ◌+◌, ◌<◌, nat_lt, List, [], ◌∷◌, Option, Some, None, true, is_some, if◌then◌else◌}
 use Rattle.std.specs.Prelude.{length, slice_get, slice_set, zero, suc}
 use Rattle.std.specs.List.{AllByRecursion}
 use Rattle.std.specs.Option.{option_map}
@@ -78,6 +78,10 @@ pub record IsListed (row gone : List ℕ) (slots : Slots) : Type 0 where
   pub stations : stations_in (listed row slots) ≡ stations_in slots
   pub places : gone ≡ holes_from 0 (listed row slots)
 
+-- so it does, unless it has no slot at all
+abbrev pub MayList : (row gone : List ℕ) → Slots → Type 0
+MayList row gone slots = 0 < length row → IsListed row gone slots
+
 -- a slot had a station, and is a hole now
 pub record TakesOut (i : ℕ) (before after : Slots) : Type 0 where
   pub station : List ℕ × StationState
@@ -85,8 +89,9 @@ pub record TakesOut (i : ℕ) (before after : Slots) : Type 0 where
   pub slot : slice_get before i ≡ Some (Some station)
   pub hole : after ≡ slice_set before i None
 
--- what is kept beside the slots: where each station stands, and the order of the slots
-pub record IsStationList (index : List (List ℕ × ℕ)) (slots : Slots) (row gone : List ℕ) : Type 0 where
+-- what is kept beside the slots: where each station stands, how many slots are holes, and the order of the slots
+pub record IsStationList (index : List (List ℕ × ℕ)) (slots : Slots) (holes : ℕ) (row gone : List ℕ) : Type 0 where
   pub apart : AreApart (stations_in slots)
   pub found : AreFound index slots
-  pub listed : IsListed row gone slots
+  pub rest : length (stations_in slots) + holes ≡ length slots
+  pub listed : MayList row gone slots

@@ -9,7 +9,7 @@ ghost use Rattle.std.specs.Map.{lookup, set_value};
 ghost use Rattle.std.specs.Str.{bytes_eq};
 ghost use Rattle.stations.specs.Stations.{state_of, set_state, forget, set_mode};
 ghost use Rattle.stations.specs.Sound.{AreApart};
-ghost use Rattle.stations.specs.Slots.{stations_in, IsAt, AreFound, IsListed, Tells};
+ghost use Rattle.stations.specs.Slots.{stations_in, IsAt, AreFound, MayList, Tells};
 
 use crate::address_key::AddressKey;
 use crate::order::Order;
@@ -35,6 +35,8 @@ pub(crate) struct StationList {
     // the slot of each station
     index: Index,
     slots: Vec<Slot>,
+    // how many slots are holes
+    holes: usize,
     // the slots that have a station, in their order
     order: Order,
 }
@@ -47,7 +49,8 @@ impl Model for StationList {
 
     ghost view = { λ l. stations_in l.slots.items };
 
-    ghost invariant = { λ l. IsStationList l.index.entries l.slots.items l.order.row.items l.order.gone.items };
+    ghost invariant = { λ l.
+        IsStationList l.index.entries l.slots.items l.holes l.order.row.items l.order.gone.items };
 }
 
 impl StationList {
@@ -58,6 +61,7 @@ impl StationList {
         StationList {
             index: IndexMap::with_hasher(alloc, AddressHashes::new()),
             slots: Vec::new(alloc),
+            holes: 0,
             order: Order::new(alloc),
         }
     }
@@ -66,7 +70,7 @@ impl StationList {
     pub(crate) fn len(&self) -> usize
         ensures { result ≡ length self.now }
     {
-        self.order.len()
+        self.slots.len() - self.holes
     }
 
     /// The station at a place, from 0, with its state.
@@ -110,7 +114,7 @@ impl StationList {
         ensures ok { OnOk result (self.new ≡ self.old ++ (addr, state) ∷ []) }
         ensures err { OnErr result (self.new ≡ self.old) }
     {
-        self.order.reserve()?;
+        self.order.make_room(self.slots.as_slice())?;
         self.slots.reserve(1)?;
         let slot = self.slots.len();
         self.index.insert(AddressKey { addr }, slot)?;
@@ -158,6 +162,7 @@ impl StationList {
         let slot = self.index.swap_remove(&AddressKey { addr })?;
         let left = self.slots[slot];
         self.slots[slot] = None;
+        self.holes += 1;
         self.order.leave(self.slots.as_slice(), slot);
         state_in(left)
     }
@@ -166,9 +171,9 @@ impl StationList {
     fn close_up(&mut self)
         ensures { self.new ≡ self.old }
     {
-        let holes = self.slots.len().saturating_sub(self.order.len());
-        if holes > FEW && holes > self.slots.len() / 3 {
+        if self.holes > FEW && self.holes > self.slots.len() / 3 {
             close_up(&mut self.index, &mut self.slots, &mut self.order);
+            self.holes = 0;
         }
     }
 }
@@ -206,10 +211,11 @@ fn close_up(index: &mut Index, slots: &mut Vec<Slot>, order: &mut Order)
     requires apart { AreApart (stations_in slots.old.items) }
     requires known { (addr : List ℕ) → is_some (lookup (bytes_eq addr) index.old.entries)
         ≡ is_some (state_of addr (stations_in slots.old.items)) }
-    requires listed { IsListed order.old.row.items order.old.gone.items slots.old.items }
+    requires listed { MayList order.old.row.items order.old.gone.items slots.old.items }
     ensures stations { stations_in slots.new.items ≡ stations_in slots.old.items }
+    ensures full { length (stations_in slots.new.items) ≡ length slots.new.items }
     ensures found { AreFound index.new.entries slots.new.items }
-    ensures listed { IsListed order.new.row.items order.new.gone.items slots.new.items }
+    ensures listed { MayList order.new.row.items order.new.gone.items slots.new.items }
 {
     drop_holes(slots);
     mend(index, slots.as_slice());

@@ -1,30 +1,32 @@
 //! The order of the stations' slots, by which a station is found at its place.
 
 ghost use Rattle.std.specs.Prelude.{◌≡◌, ◌<◌, ◌≤◌, ◌+◌, ◌-◌, ◌^◌, ◌++◌, ◌∷◌, [], ℕ, List, length, is_some, slice_get};
-ghost use Rattle.std.specs.Prelude.{false, filter, insert, vec_len, vec_capacity, IsTrue, Some, OnOk};
+ghost use Rattle.std.specs.Prelude.{filter, insert, min, vec_len, vec_capacity, IsTrue, Some, OnOk};
 ghost use Rattle.std.specs.List.{range_with_len};
-ghost use Rattle.stations.specs.Slots.{Slots, slot_at, stations_in, past, with_place, IsListed, TakesOut};
+ghost use Rattle.stations.specs.Slots.{Slots, slot_at, stations_in, past, with_place, IsListed, MayList, TakesOut};
 
 use crate::list::Slot;
 use crate::table::StationState;
-use arrayvec::ArrayVec;
 use mac_frame::{MacAddr, NoMemory};
 use std::alloc::Global;
 
 /// How many places of a row may be gone.
 const MOST_GONE: usize = 64;
 
+/// How many slots are looked at one after another, where no row of them is kept.
+const FEW: usize = 64;
+
 /// The slots that have a station, in their order.
 ///
-/// They stand in a row. Where a station leaves, its slot stays in the row and its place there is noted as gone, so that
-/// nothing moves; where as many are gone as may be, they are taken out of the row together. So a place among the
-/// stations is found by a look at the few places that are gone.
+/// They stand in a row, once there are more than a few. Where a station leaves, its slot stays in the row and its place
+/// there is noted as gone; where too many are gone, the last of them is taken out of the row, so that no more moves than
+/// what stands after the one that leaves. A place among the stations is found by a look at the few that are gone.
 #[derive(Drop)]
 pub(crate) struct Order {
-    // the slots, in ascending order, as long as no place is gone those that have a station
+    // the slots, in ascending order, as long as no place is gone those that have a station; none where they are few
     pub(crate) row: Vec<usize>,
     // the places in the row whose slots have no station any more, in ascending order
-    pub(crate) gone: ArrayVec<usize, MOST_GONE>,
+    pub(crate) gone: Vec<usize>,
 }
 
 impl Order {
@@ -35,67 +37,97 @@ impl Order {
     {
         Order {
             row: Vec::new(alloc),
-            gone: ArrayVec::new(),
+            gone: Vec::new(alloc),
         }
     }
 
-    /// How many stations there are.
-    pub(crate) fn len(&self) -> usize
-        ensures { (slots : Slots) → IsListed self.now.row.items self.now.gone.items slots
-            → result ≡ length (stations_in slots) }
-    {
-        self.row.len().saturating_sub(self.gone.len())
-    }
-
-    /// The station at a place, from 0, if there are so many.
+    /// The station at a place, from 0.
     pub(crate) fn station_at(&self, slots: &[Slot], place: usize) -> Option<(MacAddr, StationState)>
-        requires listed { IsListed self.now.row.items self.now.gone.items slots.now }
+        requires listed { MayList self.now.row.items self.now.gone.items slots.now }
         requires place { place < length (stations_in slots.now) }
         ensures { result ≡ slice_get (stations_in slots.now) place }
     {
         let row = self.row.as_slice();
+        if row.len() == 0 {
+            return nth(slots, place);
+        }
         let slot = *row.get(past(self.gone.as_slice(), place))?;
         station_in(slots, slot)
     }
 
-    /// Makes room for one slot more. After `NoMemory` nothing has changed.
-    pub(crate) fn reserve(&mut self) -> Result<(), NoMemory>
-        ensures row { self.new.row.items ≡ self.old.row.items }
-        ensures gone { self.new.gone ≡ self.old.gone }
-        ensures room { OnOk result (vec_len self.new.row < vec_capacity self.new.row) }
+    /// Makes room for one slot more, and lists all where they are few no longer. After `NoMemory` nothing has changed.
+    pub(crate) fn make_room(&mut self, slots: &[Slot]) -> Result<(), NoMemory>
+        ensures listed { MayList self.old.row.items self.old.gone.items slots.now
+            → MayList self.new.row.items self.new.gone.items slots.now }
+        ensures room { OnOk result (0 < length self.new.row.items → vec_len self.new.row < vec_capacity self.new.row) }
     {
+        if self.row.is_empty() {
+            if slots.len() < FEW {
+                return Ok(());
+            }
+            self.list_all(slots)?;
+        }
         self.row.reserve(1)?;
         Ok(())
     }
 
-    /// Lists a slot after the others.
+    /// Lists all slots that have a station, where none is listed. After `NoMemory` nothing has changed.
+    fn list_all(&mut self, slots: &[Slot]) -> Result<(), NoMemory>
+        requires { self.old.row.items ≡ [] }
+        ensures { MayList self.new.row.items self.new.gone.items slots.now }
+    {
+        // so that a station leaves without memory
+        self.gone.reserve(MOST_GONE)?;
+        self.row.resize(slots.len(), 0)?;
+        self.number(slots.len());
+        self.list_stations(slots);
+        Ok(())
+    }
+
+    /// Lists a slot after the others, if any are listed.
     pub(crate) fn push_reserved(&mut self, slot: usize)
-        requires { vec_len self.old.row < vec_capacity self.old.row }
-        ensures row { self.new.row.items ≡ self.old.row.items ++ slot ∷ [] }
+        requires { 0 < length self.old.row.items → vec_len self.old.row < vec_capacity self.old.row }
+        ensures some { 0 < length self.old.row.items → self.new.row.items ≡ self.old.row.items ++ slot ∷ [] }
+        ensures none { length self.old.row.items ≡ 0 → self.new.row.items ≡ [] }
         ensures gone { self.new.gone ≡ self.old.gone }
     {
-        self.row.push_reserved(slot);
+        if !self.row.is_empty() {
+            self.row.push_reserved(slot);
+        }
     }
 
     /// A station left a slot, which is a hole among these slots.
     pub(crate) fn leave(&mut self, slots: &[Slot], slot: usize)
         ensures { (before : Slots) → TakesOut slot before slots.now
-            → IsListed self.old.row.items self.old.gone.items before
-            → IsListed self.new.row.items self.new.gone.items slots.now }
+            → MayList self.old.row.items self.old.gone.items before
+            → MayList self.new.row.items self.new.gone.items slots.now }
     {
         let at = self.row.as_slice().partition_point(|listed| *listed < slot);
         if !self.note(at, slot) {
             self.list_stations(slots);
+        } else if self.gone.len() >= MOST_GONE {
+            self.drop_last();
         }
     }
 
-    /// Notes the place of a slot in the row as gone, and answers whether it did: not where it isn't there, or where too
-    /// many are gone.
+    /// Takes the last place that is gone out of the row.
+    fn drop_last(&mut self)
+        ensures { (slots : Slots) → IsListed self.old.row.items self.old.gone.items slots
+            → IsListed self.new.row.items self.new.gone.items slots }
+    {
+        if let Some(last) = self.gone.pop() {
+            if last < self.row.len() {
+                self.row.remove(last);
+            }
+        }
+    }
+
+    /// Notes the place of a slot in the row as gone, and answers whether it did: not where it isn't there, or where there
+    /// is no room.
     fn note(&mut self, at: usize, slot: usize) -> bool
         ensures row { self.new.row ≡ self.old.row }
         ensures place { IsTrue result → slice_get self.old.row.items at ≡ Some slot }
         ensures noted { IsTrue result → self.new.gone.items ≡ with_place at self.old.gone.items }
-        ensures full { result ≡ false → self.new ≡ self.old }
     {
         match self.row.get(at) {
             Some(listed) if *listed == slot => add_place(&mut self.gone, at),
@@ -112,16 +144,31 @@ impl Order {
         self.gone.clear();
     }
 
-    /// Lists the slots of so many stations, each of which has the slot of its place. There were as many before.
+    /// Lists the slots of so many stations, each of which has the slot of its place, if any are listed.
     pub(crate) fn number(&mut self, len: usize)
-        requires { len ≤ length self.old.row.items }
-        ensures row { self.new.row.items ≡ range_with_len 0 len }
+        ensures row { self.new.row.items ≡ range_with_len 0 (min len (length self.old.row.items)) }
         ensures gone { self.new.gone.items ≡ [] }
     {
         self.row.truncate(len);
         number(self.row.as_mut_slice());
         self.gone.clear();
     }
+}
+
+/// The station that `n` others stand before.
+fn nth(slots: &[Slot], n: usize) -> Option<(MacAddr, StationState)>
+    ensures { result ≡ slice_get (stations_in slots.now) n }
+{
+    let mut left = n;
+    for slot in slots {
+        if let Some(station) = slot {
+            if left == 0 {
+                return Some(*station);
+            }
+            left -= 1;
+        }
+    }
+    None
 }
 
 /// The station in the slot of a number, if there is one.
@@ -147,13 +194,15 @@ fn past(gone: &[usize], place: usize) -> usize
     at
 }
 
-/// Puts a place among others, which stand in ascending order, unless these are too many, and answers whether it did.
-fn add_place(places: &mut ArrayVec<usize, MOST_GONE>, place: usize) -> bool
-    ensures yes { IsTrue result → places.new.items ≡ with_place place places.old.items }
-    ensures no { result ≡ false → places.new ≡ places.old }
+/// Puts a place among others, which stand in ascending order, if there is room, and answers whether it did.
+fn add_place(places: &mut Vec<usize>, place: usize) -> bool
+    ensures { IsTrue result → places.new.items ≡ with_place place places.old.items }
 {
+    if places.len() >= places.capacity() {
+        return false;
+    }
     let before = count_before(places.as_slice(), place);
-    places.try_insert(before, place).is_ok()
+    places.insert(before, place).is_ok()
 }
 
 /// How many places stand before one, the lowest first, up to the first that doesn't.

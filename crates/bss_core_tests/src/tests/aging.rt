@@ -99,9 +99,12 @@ fn poll_all(alloc: Global, network: &mut Network) -> Result<u32, Fail> {
     Ok(sent)
 }
 
-/// The last octet of the beacon for a beacon interval that begins, which shows the stations 1 to 7 that units are kept
-/// for (9.4.2.6), and how many units are kept and were lost then.
-fn tick(network: &mut Network) -> Result<(Option<u8>, u32, u64), Fail> {
+/// The last octet of a beacon, which shows the stations 1 to 7 that units are kept for (9.4.2.6), and how many units
+/// are kept and were lost then.
+type Told = (Option<u8>, u32, u64);
+
+/// A beacon interval begins: what its beacon tells.
+fn tick(network: &mut Network) -> Result<Told, Fail> {
     let sent = take(network, LentEvent::Tick)?;
     let shown = match sent.air.parts().0 {
         Some(beacon) => beacon.as_slice().last().copied(),
@@ -110,35 +113,57 @@ fn tick(network: &mut Network) -> Result<(Option<u8>, u32, u64), Fail> {
     Ok((shown, network.kept_len(), network.lost()))
 }
 
-/// How many units are sent in nine rounds, in which units come and are polled, after twenty beacons and with one before
-/// every fourth; what five beacons tell after a unit came for station 1 and one for station 2, and the others left; and
-/// whether then a unit is sent to each of the two.
-type Answers = (u32, Vec<(Option<u8>, u32, u64)>, [bool; 2]);
+/// As many beacons as are asked for: what each tells.
+fn ticks(alloc: Global, network: &mut Network, count: u8) -> Result<Vec<Told>, Fail> {
+    let mut told = Vec::new(alloc);
+    for _ in 0..count {
+        told.push(tick(network)?)?;
+    }
+    Ok(told)
+}
+
+/// How many units are sent in three rounds after a beacon, in each of which a unit comes for each station, which polls.
+fn three_rounds(alloc: Global, network: &mut Network) -> Result<u32, Fail> {
+    tick(network)?;
+    let mut sent = 0u32;
+    for _ in 0..3u8 {
+        sent = sent.saturating_add(poll_all(alloc, network)?);
+    }
+    Ok(sent)
+}
+
+/// How many units are sent in nine such rounds, once all joined after twenty beacons.
+fn nine_rounds(alloc: Global, network: &mut Network) -> Result<u32, Fail> {
+    ticks(alloc, network, 20)?;
+    join_all(alloc, network)?;
+    let mut sent = 0u32;
+    for _ in 0..3u8 {
+        sent = sent.saturating_add(three_rounds(alloc, network)?);
+    }
+    Ok(sent)
+}
+
+/// A unit comes for station 1 and one for station 2, and the others leave.
+fn leave_two(alloc: Global, network: &mut Network) -> Result<(), Fail> {
+    give(alloc, network, 1)?;
+    give(alloc, network, 2)?;
+    for station in 3..=8u8 {
+        hear(alloc, network, DEAUTHENTICATION, &[(15, station)])?;
+    }
+    Ok(())
+}
+
+/// How many units are sent in the rounds, what five beacons tell once two stations are left, and whether a unit is sent
+/// to each of these two then.
+type Answers = (u32, Vec<Told>, [bool; 2]);
 
 fn answers(alloc: Global) -> Result<Answers, Fail> {
     let mut network = opened(alloc)?;
-    for _ in 0..20u8 {
-        tick(&mut network)?;
-    }
-    join_all(alloc, &mut network)?;
-    let mut sent = 0u32;
-    for round in 0..9u8 {
-        if round & 3 == 0 {
-            tick(&mut network)?;
-        }
-        sent = sent.saturating_add(poll_all(alloc, &mut network)?);
-    }
-    give(alloc, &mut network, 1)?;
-    give(alloc, &mut network, 2)?;
-    for station in 3..=8u8 {
-        hear(alloc, &mut network, DEAUTHENTICATION, &[(15, station)])?;
-    }
-    let mut told = Vec::new(alloc);
-    for _ in 0..5u8 {
-        told.push(tick(&mut network)?)?;
-    }
-    let polled = [poll(alloc, &mut network, 1)?, poll(alloc, &mut network, 2)?];
-    Ok((sent, told, polled))
+    let sent = nine_rounds(alloc, &mut network)?;
+    leave_two(alloc, &mut network)?;
+    let told = ticks(alloc, &mut network, 5)?;
+    let first = poll(alloc, &mut network, 1)?;
+    Ok((sent, told, [first, poll(alloc, &mut network, 2)?]))
 }
 
 /// A unit is kept as long as the listen interval of its station says, also where most of those that units were kept

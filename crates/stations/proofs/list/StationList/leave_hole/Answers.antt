@@ -2,7 +2,7 @@ use Rattle.std.proofs.Common.{◌≡◌, ℕ, List, None, Some, option_map, set,
 use Rattle.std.proofs.lemmas.Option.{slice_get_within, get_or_from_slice_get}
 use Rattle.stations.specs.Stations.{state_of, forget}
 use Rattle.stations.specs.declared.table.StationState.{StationState}
-use Rattle.stations.specs.Slots.{Slots, slot_of, stations_in, TakesOut, IsListed}
+use Rattle.stations.specs.Slots.{Slots, slot_of, stations_in, TakesOut, MayList}
 use Rattle.stations.proofs.StationTables.{forget-unknown}
 use Rattle.stations.proofs.StationSlots.{read-found, unknown-where, stations-out}
 use Rattle.stations.proofs.StationOrder.{takes-out, list-out}
@@ -55,10 +55,11 @@ invariant_of-self-2 c =
     let i : ℕ = c.in_ok-slot.slot in
     let row : List ℕ = c.self.inside.order.row.items in
     let gone : List ℕ = c.self.inside.order.gone.items in
+    let rows : List ℕ = c.leave.new.self.row.items in
+    let places : List ℕ = c.leave.new.self.gone.items in
     let old : List (List ℕ × ℕ) = c.self.inside.index.entries in
     let new : List (List ℕ × ℕ) = c.swap_remove.new.self.entries in
     let found = read-found c.args.addr old slots i c.self.invariant.found (sym c.in_ok-slot.ensures.value) in
     let out : TakesOut i slots c.as_slice.result.now = subst (TakesOut i slots) (sym c.as_slice.ensures.value) (takes-out slots c.args.addr i found.0 c.self.invariant.apart found.1) in
-    let order : IsListed c.leave.new.self.row.items c.leave.new.self.gone.items (set slots i None) =
-    subst (IsListed c.leave.new.self.row.items c.leave.new.self.gone.items) c.as_slice.ensures.value (c.leave.ensures slots out c.self.invariant.listed) in
-    list-out old new slots row gone c.leave.new.self.row.items c.leave.new.self.gone.items c.args.addr i found.0 c.self.invariant found.1 (λ q. c.in_ok-slot.ensures.updates.0 q) order
+    let order : MayList rows places (set slots i None) = subst (MayList rows places) c.as_slice.ensures.value (c.leave.ensures slots out c.self.invariant.listed) in
+    list-out old new slots c.self.inside.holes row gone rows places c.args.addr i found.0 c.self.invariant found.1 (λ q. c.in_ok-slot.ensures.updates.0 q) order

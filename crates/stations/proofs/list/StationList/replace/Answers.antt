@@ -23,8 +23,8 @@ pub invariant_of-self : goal.invariant_of-self
 invariant_of-self c =
     let at : IsAt c.args.addr c.self.inside.slots.items c.in_ok-slot.slot c.in_ok-slot.before = subst (λ (s : Slots). IsAt c.args.addr s c.in_ok-slot.slot c.in_ok-slot.before) c.as_slice.ensures.value c.in_ok-slot.ensures.known in
     let put : c.put_state.new.slot ≡ Some (c.args.addr, c.args.state) = put-at c.args.addr c.self.inside.slots.items c.in_ok-slot.slot c.in_ok-slot.before c.args.state c.index_mut.result.now c.put_state.new.slot at c.index_mut.ensures.value c.put_state.ensures in
-    subst (λ x. IsStationList c.self.inside.index.entries (set c.self.inside.slots.items c.in_ok-slot.slot x) c.self.inside.order.row.items c.self.inside.order.gone.items) (sym put)
-    (list-set c.self.inside.index.entries c.self.inside.slots.items c.self.inside.order.row.items c.self.inside.order.gone.items c.args.addr c.in_ok-slot.slot c.in_ok-slot.before c.args.state c.self.invariant at)
+    subst (λ x. IsStationList c.self.inside.index.entries (set c.self.inside.slots.items c.in_ok-slot.slot x) c.self.inside.holes c.self.inside.order.row.items c.self.inside.order.gone.items) (sym put)
+    (list-set c.self.inside.index.entries c.self.inside.slots.items c.self.inside.holes c.self.inside.order.row.items c.self.inside.order.gone.items c.args.addr c.in_ok-slot.slot c.in_ok-slot.before c.args.state c.self.invariant at)
 
 pub returns-clause-stations : goal.returns-clause-stations
 returns-clause-stations c =
