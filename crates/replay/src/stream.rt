@@ -163,7 +163,7 @@ fn take_stream<R: Source, T: TakeLines>(
 }
 
 /// Lets the networks take the lines that end in a piece.
-pub fn take_piece<T: TakeLines>(
+fn take_piece<T: TakeLines>(
     lines: &mut LineReader,
     networks: &mut T,
     piece: &[u8],
@@ -217,7 +217,7 @@ fn take_rest<T: TakeLines>(
 }
 
 /// Lets the networks take the last line.
-pub fn end_lines<T: TakeLines>(
+fn end_lines<T: TakeLines>(
     mut lines: LineReader,
     networks: &mut T,
 ) -> Result<(), TraceTextFault>

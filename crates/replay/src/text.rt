@@ -16,13 +16,10 @@ use crate::fault::TextFault;
 use crate::line_by_line::Replay;
 use crate::lines::take_all;
 use crate::logs::Logs;
-use crate::stream::{end_lines, take_piece};
 use ap_config::RadioConfig;
 use events::Section;
 use std::alloc::Global;
-use trace::{
-    LineReader, Sink, TraceTextFault, piece_by_piece, read_config, read_trace, write_report,
-};
+use trace::{Sink, TraceTextFault, read_config, read_trace, write_report};
 
 /// Reads a configuration and a trace, lets each network take what it hears of the trace's lines, in order, and
 /// lets every frame leave as soon as it waits; then appends the report of all networks to what `out` has taken.
@@ -83,17 +80,16 @@ fn replay_text(
     Ok(replay.into_sections()?)
 }
 
-/// The networks without their histories, which took what they hear of the lines of a trace, one line after another.
+/// The networks without their histories, which took what they hear of the lines of a trace. All lines are read before
+/// any network takes one, so that a trace with a fault is refused before anything is done about it.
 fn log_text(alloc: Global, config: RadioConfig, trace: &[u8]) -> Result<Logs, TraceTextFault>
     requires { fault_of config ≡ None }
     ensures { MatchResult result
         (λ logs. AreTaken config trace.now (λ said. logs.networks.items ≡ logs_of_lines config said))
         (λ fault. IsFaultOf (lines_of config trace.now) (read_ending fault)) }
 {
-    piece_by_piece();
-    let mut lines = LineReader::new(alloc, &config)?;
+    let lines = read_trace(alloc, &config, trace)?;
     let mut logs = Logs::new(alloc, config)?;
-    take_piece(&mut lines, &mut logs, trace)?;
-    end_lines(lines, &mut logs)?;
+    take_all(&mut logs, lines)?;
     Ok(logs)
 }
