@@ -204,20 +204,6 @@ fn each_for_whom_units_are_kept_is_told_with_its_oldest(rt: HostRuntime) -> Resu
     tells(&rt, &keep, 2, [Some(2), None, Some(5), None])
 }
 
-/// A queue that has become empty is there until the units for its station are dropped.
-#[test]
-fn there_are_as_many_queues_as_were_needed_and_not_dropped(rt: HostRuntime) -> Result<(), Fail> {
-    let mut keep = Keep::new(rt.alloc(), 9);
-    assert_eq!(rt; keep.queue_count(), 0);
-    put_in_turn(&rt, rt.alloc(), &mut keep)?;
-    assert_eq!(rt; keep.queue_count(), 3);
-    keep.oldest(station(1));
-    assert_eq!(rt; keep.queue_count(), 3);
-    keep.drop_for(station(1));
-    assert_eq!(rt; keep.queue_count(), 2);
-    Ok(())
-}
-
 /// These counts of units must be kept for the stations 1 and 2 and for the group, and the first for station 1 must have
 /// come at this clock.
 fn holds(rt: &impl Abort, keep: &Keep, counts: [usize; 3], first: Option<u32>) {

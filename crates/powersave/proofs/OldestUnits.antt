@@ -1,5 +1,5 @@
 -- The oldest unit for each: the first of its queue.
-use Rattle.std.proofs.Common.{◌≡◌, ◌≤◌, ℕ, Bool, true, false, cond, List, [], ◌∷◌, ◌++◌, length, map, Option, Some, None, refl, sym, ap, arith, ◌∙◌}
+use Rattle.std.proofs.Common.{◌≡◌, ℕ, Bool, true, false, cond, List, [], ◌∷◌, ◌++◌, map, Option, Some, None, refl, sym, ap, ◌∙◌}
 use Rattle.std.specs.List.{IsDistinct}
 use Rattle.std.specs.Map.{keys_of, lookup}
 use Rattle.std.specs.Option.{option_map, unwrap_or}
@@ -59,12 +59,3 @@ told-once (q ∷ queues) apart = by q.1.items (told-once queues (IsDistinct-tail
     by [] rest = rest
     by (a ∷ queue) rest =
         (none-told q.0 queues (none_named q.0 q.0 queues (is_same-refl q.0) (IsDistinct-head is_whom q.0 (keys_of queues) apart)), rest)
-
--- as many as there are queues at most
-pub told-within : (queues : Queues) → length (oldest_in queues) ≤ length queues
-told-within [] = omega arith
-told-within (q ∷ queues) = by q.1.items (told-within queues)
-  where
-    by : (queue : List Arrived) → length (oldest_in queues) ≤ length queues → length (oldest_of q.0 queue ++ oldest_in queues) ≤ length (q ∷ queues)
-    by [] rest = omega (arith, rest)
-    by (a ∷ queue) rest = omega (arith, rest)

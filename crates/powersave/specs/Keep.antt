@@ -1,7 +1,7 @@
 -- The units that a network keeps for stations that doze (IEEE Std 802.11-2016, 11.2.3): one list, of which a part is
 -- for each.
 use Rattle.std.specs.Prelude.{ℕ, ◌≡◌, ◌≤◌, nat_lt, Bool, true, false, not, ◌&&◌, List, [], ◌∷◌, ◌++◌}
-use Rattle.std.specs.Prelude.{map, filter, length, Option, Some, None, if◌then◌else◌}
+use Rattle.std.specs.Prelude.{map, filter, Option, Some, None, if◌then◌else◌}
 use Rattle.std.specs.List.{AllByRecursion}
 use Rattle.std.specs.Str.{bytes_eq}
 use Rattle.mac_frame.specs.Data.{data_header}
@@ -92,10 +92,6 @@ AreOldest oldest entries = (whom : Whom) → oldest_at whom oldest ≡ first_clo
 abbrev pub AreToldOnce : List Oldest → Type 0
 AreToldOnce [] = Unit {0}
 AreToldOnce (o ∷ os) = (oldest_at o.whom os ≡ None) × AreToldOnce os
-
--- units are kept for no more than this many: a list that tells each of them once is no longer
-abbrev pub AreAtMost : ℕ → List Entry → Type 0
-AreAtMost most entries = (oldest : List Oldest) × AreOldest oldest entries × AreToldOnce oldest × (length oldest ≤ most)
 
 -- ---- the first unit for one as a Data frame (9.3.2.1)
 

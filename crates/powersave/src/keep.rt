@@ -6,8 +6,7 @@ ghost use Rattle.std.specs.Option.{option_copied};
 ghost use Rattle.powersave.specs.declared.unit.Whom.{Whom};
 ghost use Rattle.powersave.specs.declared.unit.Unit.{Unit as Msdu};
 ghost use Rattle.powersave.specs.Keep.{Entry, units_for, without_oldest, without_all, room_beside, first_frame};
-ghost use Rattle.powersave.specs.Keep.{is_older, without_older, first_is_older, CameInOrder};
-ghost use Rattle.powersave.specs.Keep.{AreOldest, AreToldOnce, AreAtMost};
+ghost use Rattle.powersave.specs.Keep.{is_older, without_older, first_is_older, CameInOrder, AreOldest, AreToldOnce};
 
 use crate::queues::{Arrived, Queues};
 use crate::unit::{Oldest, Unit, Whom};
@@ -230,15 +229,6 @@ impl Keep {
             return Ok(Vec::new(self.queues.alloc()));
         }
         self.queues.oldest_of_each()
-    }
-
-    /// How many queues [`oldest_of_each`](Keep::oldest_of_each) walks over, so that a caller can tell what that costs:
-    /// at least as many as those for whom units are kept, and more where some have become empty.
-    pub fn queue_count(&self) -> usize
-        ensures each { AreAtMost result self.now.entries }
-        ensures none { result ≡ 0 → self.now.entries ≡ [] }
-    {
-        self.queues.count()
     }
 
     /// Appends a unit for `whom` to a list that is not full and has seen fewer than 2^62 puts. Its queue is found once,

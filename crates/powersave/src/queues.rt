@@ -45,13 +45,6 @@ impl Queues {
         self.alloc
     }
 
-    /// How many queues there are, those that have become empty among them.
-    pub(crate) fn count(&self) -> usize
-        ensures { result ≡ length self.now.map.entries }
-    {
-        self.map.len()
-    }
-
     /// How many units the queue for `whom` has.
     pub(crate) fn count_for(&self, whom: &Whom) -> usize
         ensures { result ≡ length (queue_for whom.now self.now.map.entries) }

@@ -8,7 +8,9 @@ use Rattle.powersave.specs.declared.unit.Whom.TheVariants.{One, Group}
 use Rattle.powersave.specs.declared.unit.Unit.{Unit as DataUnit}
 use Rattle.stations.specs.Sound.{CameBy}
 use Rattle.stations.specs.Roster.{is_aged}
-use Rattle.stations.specs.Stations.{Table}
+use Rattle.stations.specs.Stations.{Table, changed}
+use Rattle.stations.specs.declared.table.Change.{Change}
+use Rattle.stations.specs.declared.table.Change.TheVariants as changes
 use Rattle.stations.specs.KeptUnits.{is_too_old_for, is_too_old}
 
 -- ---- units that came one after the other
@@ -91,6 +93,11 @@ group-young clock t e h = by e.0 h
     by : (w : Whom) → is_same w Group ≡ true → is_too_old_for clock t w e.1.at ≡ false
     by (One addr) same = absurd (cc)
     by Group same = refl
+
+-- where one begins, no station changes
+pub same-aged : (ages : Bool) (clock : ℕ) (change : Change) (t : Table) → (ages ≡ true → change ≡ changes.Nothing) → is_aged ages clock (changed change t) ≡ is_aged ages clock t
+same-aged true clock change t still = ap (λ (k : Change). is_aged true clock (changed k t)) (still refl)
+same-aged false clock change t still = refl
 
 -- where no units age, all stay
 pub young : (ages : Bool) (clock : ℕ) (t : Table) (es : List Entry) → ages ≡ false → (filter (λ e. not (is_aged ages clock t e)) es ≡ es) × (filter (is_aged ages clock t) es ≡ [])

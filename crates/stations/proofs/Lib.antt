@@ -6,5 +6,4 @@ pub mod UnitsKept
 pub mod RosterAging
 pub mod WaitedFor
 pub mod Aging
-pub mod StationsDue
 pub mod UnitsLeft

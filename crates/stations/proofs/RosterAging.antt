@@ -1,21 +1,19 @@
 -- Units that are too old, those for one after those for another.
-use Rattle.std.proofs.Common.{◌≡◌, ℕ, zero, suc, ◌+◌, ◌-◌, ◌≤◌, leb, Bool, true, false, not, ◌&&◌, ◌||◌, cond, List, [], ◌∷◌, length, Some, refl, sym, ap, subst, ◌∙◌, arith}
+use Rattle.std.proofs.Common.{◌≡◌, ℕ, zero, suc, ◌+◌, ◌-◌, ◌<◌, ◌≤◌, leb, Bool, true, false, not, ◌&&◌, cond, List, [], ◌∷◌, length, Option, Some, refl, sym, ap, subst, ◌∙◌, arith}
 use Rattle.std.specs.Prelude.{filter, map, nat_lt}
 use Rattle.std.specs.Cmp.Lexicographic.{bytes_decides}
-use Rattle.std.specs.List.{AllByRecursion, list_any, slice_get}
+use Rattle.std.specs.List.{AllByRecursion, slice_get}
 use Rattle.std.specs.Option.{IsSomeAnd}
 use Rattle.std.proofs.lemmas.Bool.{lt-ltb, le-ltb, ltb-true, ltb-false, le-leb, lt-leb, true≢false}
-use Rattle.powersave.specs.Keep.{Entry, is_for, is_same, is_older, units_for, without_older, first_clock, CameInOrder}
+use Rattle.powersave.specs.Keep.{Entry, is_for, is_same, is_older, units_for, without_older, oldest_at, first_clock, CameInOrder, AreOldest}
 use Rattle.powersave.specs.declared.unit.Oldest.{Oldest}
 use Rattle.powersave.specs.declared.unit.Whom.{Whom}
 use Rattle.powersave.specs.declared.unit.Whom.TheVariants.{One, Group}
 use Rattle.powersave.specs.declared.unit.Unit.{Unit as DataUnit}
-use Rattle.stations.specs.Due.{tells, AreTold}
 use Rattle.stations.specs.Roster.{limit_for, stays}
 use Rattle.stations.specs.Sound.{CameBy}
 use Rattle.stations.specs.Stations.{Table, state_of, listen_with}
 use Rattle.stations.specs.KeptUnits.{is_too_old_for, is_too_old}
-use Rattle.stations.proofs.Aging.{group-young}
 
 -- ---- the same one
 
@@ -25,7 +23,7 @@ same_whom (One a) Group e = cc
 same_whom Group (One b) e = cc
 same_whom Group Group e = refl
 
-pub itself : (a : Whom) → is_same a a ≡ true
+itself : (a : Whom) → is_same a a ≡ true
 itself (One a) = (bytes_decides a a).1 refl
 itself Group = refl
 
@@ -100,9 +98,13 @@ module _ (clock : ℕ) (t : Table) where
         by true is rest = ap (λ b. length (cond b (e ∷ filter old es) (filter old es))) is ∙ one-more ∙ some (leaves e) is rest
         by false is rest = rw (leaves-old e is) (rw is rest)
 
-  -- ---- the first for each
+  -- ---- those that are too old are among some
 
-  abbrev pub FirstOf : List Entry → Entry → Type 0
+  -- whoever one that is too old is kept for is among these, with a clock that is no later
+  abbrev pub AreAmong : List Oldest → List Entry → Type 0
+  AreAmong os es = AllByRecursion (λ e. old e ≡ true → IsSomeAnd (oldest_at e.0 os) (λ at. at ≤ e.1.at)) es
+
+  abbrev FirstOf : List Entry → Entry → Type 0
   FirstOf es e = IsSomeAnd (first_clock (units_for e.0 es)) (λ at. at ≤ e.1.at)
 
   -- the first for the same one came no later
@@ -114,30 +116,23 @@ module _ (clock : ℕ) (t : Table) where
       by true le some = le
       by false le some = some
 
-  pub firsts : (es : List Entry) → CameBy clock es → AllByRecursion (FirstOf es) es
+  firsts : (es : List Entry) → CameBy clock es → AllByRecursion (FirstOf es) es
   firsts [] came = tt
   firsts (e ∷ es) came = (rw (itself e.0) (omega arith), one-more e es es came.1 (firsts es came.2))
 
-  -- ---- those that are too old are among some
-
-  -- one tells of each that is too old
-  abbrev pub AreAmong : List Oldest → List Entry → Type 0
-  AreAmong os es = AllByRecursion (λ e. old e ≡ true → list_any (tells 0 t e) os ≡ true) es
-
-  pub among-all : (os : List Oldest) (es : List Entry) → AreTold 0 t os es → AreAmong os es
-  among-all os [] told = tt
-  among-all os (e ∷ es) told = ((λ is. by is (is_for Group e) refl), among-all os es told.1)
+  pub among-all : (os : List Oldest) (es : List Entry) → AreOldest os es → CameBy clock es → AreAmong os es
+  among-all os es told came = by es (firsts es came)
     where
-      by : old e ≡ true → (b : Bool) → is_for Group e ≡ b → list_any (tells 0 t e) os ≡ true
-      by is true group = absurd (true≢false (sym is ∙ group-young clock t e group))
-      by is false station = told.0 station
+      by : (fs : List Entry) → AllByRecursion (FirstOf es) fs → AreAmong os fs
+      by [] first = tt
+      by (f ∷ fs) first = ((λ is. subst (λ (o : Option ℕ). IsSomeAnd o (λ at. at ≤ f.1.at)) (sym (told f.0)) first.0), by fs first.1)
 
   -- once those for one have left, the others are among the rest
   pub among-aged : (o : Oldest) (os : List Oldest) (es : List Entry) → AreAmong (o ∷ os) es → AreAmong os (gone o.whom es)
   among-aged o os [] among = tt
   among-aged o os (e ∷ es) among = by (leaves o.whom e) refl (among-aged o os es among.1)
     where
-      other : leaves o.whom e ≡ false → old e ≡ true → (b : Bool) → is_same o.whom e.0 ≡ b → ((b && (not (nat_lt o.at 0) && not (is_too_old o.at t e))) || list_any (tells 0 t e) os) ≡ true → list_any (tells 0 t e) os ≡ true
+      other : leaves o.whom e ≡ false → old e ≡ true → (b : Bool) → is_same o.whom e.0 ≡ b → IsSomeAnd (cond b (Some o.at) (oldest_at e.0 os)) (λ at. at ≤ e.1.at) → IsSomeAnd (oldest_at e.0 os) (λ at. at ≤ e.1.at)
       other stays is true here some =
           let for_it : is_for o.whom e ≡ true = subst (λ (w : Whom). is_same e.0 w ≡ true) (sym (same_whom o.whom e.0 here)) (itself e.0) in
           absurd (true≢false (sym (older-is o.whom e ∙ ap (λ b. b && old e) for_it ∙ is) ∙ stays))
@@ -147,25 +142,17 @@ module _ (clock : ℕ) (t : Table) where
       by true leave rest = rest
       by false stays rest = ((λ is. other stays is (is_same o.whom e.0) refl (among.0 is)), rest)
 
-  -- one whose clock has not passed tells of none that is too old
-  pub among-young : (o : Oldest) (os : List Oldest) (es : List Entry) → clock ≤ o.at → AreAmong (o ∷ os) es → AreAmong os es
+  -- one whose first unit came no earlier than its limit has none that is too old
+  pub among-young : (o : Oldest) (os : List Oldest) (es : List Entry) → limit_for clock t o.whom ≤ o.at → AreAmong (o ∷ os) es → AreAmong os es
   among-young o os [] young among = tt
-  among-young o os (e ∷ es) young among = ((λ is. by is (is_too_old o.at t e) refl (among.0 is)), among-young o os es young among.1)
+  among-young o os (e ∷ es) young among = ((λ is. by is (is_same o.whom e.0) refl (among.0 is)), among-young o os es young among.1)
     where
-      never : (a b : Bool) → (a && (b && false)) ≡ false
-      never true true = refl
-      never true false = refl
-      never false b = refl
-
-      by : old e ≡ true → (b : Bool) → is_too_old o.at t e ≡ b → ((is_same o.whom e.0 && (not (nat_lt o.at 0) && not b)) || list_any (tells 0 t e) os) ≡ true → list_any (tells 0 t e) os ≡ true
-      by is true late some = sym (ap (λ b. b || list_any (tells 0 t e) os) (never (is_same o.whom e.0) (not (nat_lt o.at 0)))) ∙ some
-      by is false early some = absurd (true≢false (sym is ∙ earlier e.0 early))
-        where
-          earlier : (w : Whom) → is_too_old_for o.at t w e.1.at ≡ false → is_too_old_for clock t w e.1.at ≡ false
-          earlier (One addr) till =
-              let le = ltb-false (e.1.at + listen_with (state_of addr t)) o.at till in
-              le-ltb (e.1.at + listen_with (state_of addr t)) clock (omega (arith, le, young))
-          earlier Group till = refl
+      by : old e ≡ true → (b : Bool) → is_same o.whom e.0 ≡ b → IsSomeAnd (cond b (Some o.at) (oldest_at e.0 os)) (λ at. at ≤ e.1.at) → IsSomeAnd (oldest_at e.0 os) (λ at. at ≤ e.1.at)
+      by is true here le =
+          let late : e.1.at < limit_for clock t e.0 = ltb-true e.1.at (limit_for clock t e.0) (sym (old-for clock t e.0 e.1.at) ∙ is) in
+          let limit = ap (limit_for clock t) (same_whom o.whom e.0 here) in
+          absurd (omega (arith, late, limit, young, le))
+      by is false apart some = some
 
   -- where none is left, none is too old
   pub none-among : (es : List Entry) → AreAmong [] es → (filter (λ e. not (old e)) es ≡ es) × (filter old es ≡ [])
@@ -177,7 +164,7 @@ module _ (clock : ℕ) (t : Table) where
     where
       is-young : (b : Bool) → old e ≡ b → old e ≡ false
       is-young false is = is
-      is-young true is = absurd (true≢false (sym (among.0 is)))
+      is-young true is = absurd (among.0 is)
 
   -- ---- the units that stay for one
 

@@ -11,7 +11,6 @@ use Rattle.tim.specs.Tim.{IsAid}
 use Rattle.powersave.specs.Keep.{Entry, units_for}
 use Rattle.powersave.specs.declared.unit.Whom.{Whom}
 use Rattle.powersave.specs.declared.unit.Whom.TheVariants.{One, Group}
-use Rattle.stations.specs.Due.{has_number}
 use Rattle.stations.specs.Keeping.{aid_for}
 use Rattle.stations.specs.Roster.{RosterState, IsRoster, AreWaitedFor, StayBeside, is_number, renumbered}
 use Rattle.stations.specs.Sound.{AreApart}
@@ -177,19 +176,6 @@ pub identifier-range : (whom : Whom) (t : Table) (o : Option ℕ) → o ≡ aid_
 identifier-range whom t None is sound = tt
 identifier-range (One addr) t (Some aid) is sound = range-of_associated addr t aid (sym is) sound
 identifier-range Group t (Some aid) is sound = absurd (cc)
-
--- units are kept for a station whose bit is set
-
-pub kept-where_bit : (addr : List ℕ) (t : Table) (es : List Entry) (numbers : Numbers) (aid : Option ℕ) → AreIdentifiers (identifiers t) → AreWaitedFor numbers t es → aid ≡ aid_of addr t → has_number numbers aid ≡ true → has_unit addr es ≡ true
-kept-where_bit addr t es numbers None sound told is bit = absurd (both_ways false refl bit)
-kept-where_bit addr t es numbers (Some aid) sound told is bit =
-    let waits : is_waited_for t es aid ≡ true = sym (told aid (range-of_associated addr t aid (sym is) sound)) ∙ bit in
-    one (has_unit addr es) (is_number (aid_of addr t) aid)
-    (ap (λ b. (has_unit addr es && is_number (aid_of addr t) aid) || b) (sym (rest-none addr t es aid (sym is) sound)) ∙ sym (waited-parted addr t es aid) ∙ waits)
-  where
-    one : (a b : Bool) → ((a && b) || false) ≡ true → a ≡ true
-    one true b h = refl
-    one false b h = h
 
 -- ---- one station changes
 

@@ -5,4 +5,3 @@ pub mod Sound
 pub mod Slots
 pub mod Keeping
 pub mod Roster
-pub mod Due

@@ -1,10 +1,11 @@
 -- The stations of a network with the units that are kept for them (IEEE Std 802.11-2016, 11.2.3), and the association
 -- identifiers of those that units are kept for.
-use Rattle.std.specs.Prelude.{ℕ, ◌-◌, ◌≤◌, ◌≡◌, ◌≢◌, ◌==◌, ◌&&◌, nat_lt, Bool, false, not, List, [], length, Option}
+use Rattle.std.specs.Prelude.{ℕ, ◌-◌, ◌≤◌, ◌≡◌, ◌≢◌, ◌==◌, ◌&&◌, nat_lt, Bool, true, false, not, List, [], length, Option}
 use Rattle.std.specs.Prelude.{Some, None}
 use Rattle.std.specs.FinSet as set
 use Rattle.std.specs.Ordering.{nat_cmp}
-use Rattle.powersave.specs.Keep.{Entry, Kept, units_for}
+use Rattle.powersave.specs.Keep.{Entry, Kept, units_for, AreOldest}
+use Rattle.powersave.specs.declared.unit.Oldest.{Oldest}
 use Rattle.powersave.specs.declared.unit.Whom.{Whom}
 use Rattle.powersave.specs.declared.unit.Whom.TheVariants.{One, Group}
 use Rattle.powersave.specs.declared.unit.Unit.{Unit as DataUnit}
@@ -68,6 +69,11 @@ Follows stations whom waits old new =
 -- where units age, one that is too old
 abbrev pub is_aged : Bool → ℕ → Table → Entry → Bool
 is_aged ages clock table entry = ages && is_too_old clock table entry
+
+-- where units age, those for whom units are kept are told, and else none
+abbrev pub AgesBy : Bool → Option (List Oldest) → List Entry → Type 0
+AgesBy ages None kept = ages ≡ false
+AgesBy ages (Some oldest) kept = (ages ≡ true) × AreOldest oldest kept
 
 -- those for one that came before this clock
 abbrev pub limit_for : ℕ → Table → Whom → ℕ

@@ -6,7 +6,6 @@ ghost use Rattle.std.specs.FinSet as set;
 ghost use Rattle.powersave.specs.Keep.{Entry, units_for, without_all, without_oldest, room_beside, first_frame};
 ghost use Rattle.powersave.specs.declared.unit.Whom.TheVariants as whoms;
 ghost use Rattle.tim.specs.Tim.{IsAid};
-ghost use Rattle.stations.specs.Due.{has_number, IsNoOlder};
 ghost use Rattle.stations.specs.Keeping.{without, room_after, kept_after, entry_of, aid_for, IsWithin};
 ghost use Rattle.stations.specs.Roster.{empty_roster, is_aged, is_number, renumbered, AreWaitedFor, Follows};
 ghost use Rattle.stations.specs.Sound.{AreSound, CameBy};
@@ -15,10 +14,9 @@ ghost use Rattle.stations.specs.Stations.{with_table, changed, IsAllowed, IsMode
 mod aging;
 
 use crate::keeping::{Arriving, Keeping, Leaving};
-use crate::roster::aging::{tell, young_until};
 use crate::table::{Change, Stations};
 use mac_frame::{MAX_AID, MacAddr, NoMemory, Octets};
-use powersave::{Keep, Oldest, Whom, parts_stay};
+use powersave::{Keep, Whom, parts_stay};
 use std::alloc::Global;
 use std::marker::Model;
 use tim::Bitmap;
@@ -31,22 +29,16 @@ pub struct Roster {
     kept: Keep,
     // the identifiers of the stations that units are kept for
     traffic: Bitmap,
-    // Where units age, the stations that units are kept for, each with a clock up to which none of its units is too
-    // old, so that a beacon looks up no other; `None` where the next beacon has to look at all.
-    due: Option<Vec<Oldest>>,
 }
 
 impl Model for Roster {
-    ghost use Rattle.std.specs.Prelude.{option_map};
-    ghost use Rattle.stations.specs.Due.{IsAgingRoster};
-    ghost use Rattle.stations.specs.Roster.{RosterState};
+    ghost use Rattle.stations.specs.Roster.{RosterState, IsRoster};
 
     ghost Value = { RosterState };
 
     ghost view = { λ r. record { stations = r.stations; kept = r.kept } };
 
-    ghost invariant = { λ r. IsAgingRoster r.traffic (option_map (λ v. v.items) r.due)
-        (record { stations = r.stations; kept = r.kept }) };
+    ghost invariant = { λ r. IsRoster r.traffic (record { stations = r.stations; kept = r.kept }) };
 }
 
 impl Roster {
@@ -61,7 +53,6 @@ impl Roster {
             stations: Stations::new(alloc, most),
             kept: Keep::new(alloc, quota),
             traffic: Bitmap::new(),
-            due: None,
         }
     }
 
@@ -107,9 +98,6 @@ impl Roster {
         self.stations.change(change)?;
         let after = self.stations.aid_of(addr);
         show(&mut self.traffic, before, after, waits);
-        // its listen interval may be another, but at clock 0 nothing is too old
-        let whom = Whom::One(addr);
-        tell(&mut self.due, whom, 0);
         Ok(())
     }
 
@@ -145,12 +133,13 @@ impl Roster {
             if is_settled(&change, &leaving, ages) {
                 return Ok(0);
             }
-            let dropped = self.age_if(ages, clock)?;
+            let oldest = self.oldest_if(ages)?;
             self.change(change)?;
+            let dropped = self.age_if(ages, &oldest, clock);
             self.leave(&leaving);
             return Ok(dropped);
         };
-        self.keep(change, &leaving, arriving, clock)?;
+        self.keep(change, &leaving, arriving)?;
         Ok(0)
     }
 
@@ -161,12 +150,10 @@ impl Roster {
         change: Change,
         leaving: &Leaving,
         arriving: Arriving,
-        clock: u32,
     ) -> Result<(), NoMemory>
         requires allowed { IsAllowed self.old.stations.most change self.old.stations.table }
         requires within { IsWithin self.old.kept.quota change leaving.now self.old.stations.table
             self.old.kept.entries (Some arriving) }
-        requires came { CameBy clock self.old.kept.entries }
         requires countable { self.old.kept.puts < 2 ^ 62 }
         ensures ok { OnOk result (self.new ≡ record {
           stations = with_table self.old.stations (changed change self.old.stations.table);
@@ -179,7 +166,7 @@ impl Roster {
         ensures err { OnErr result (self.new ≡ self.old) }
     {
         if matches!(leaving, Leaving::Nothing) {
-            self.put(arriving, clock)?;
+            self.put(arriving)?;
             // A mode is set without memory.
             self.change(change).unwrap();
             return Ok(());
@@ -188,7 +175,7 @@ impl Roster {
         // All that may be refused is done.
         self.change(change).unwrap();
         self.leave(leaving);
-        self.put(arriving, clock).unwrap();
+        self.put(arriving).unwrap();
         Ok(())
     }
 
@@ -267,10 +254,9 @@ impl Roster {
 
     /// Keeps a unit, which comes with the association identifier of its station, so that none is looked up. After
     /// `NoMemory` nothing has changed.
-    fn put(&mut self, arriving: Arriving, clock: u32) -> Result<(), NoMemory>
+    fn put(&mut self, arriving: Arriving) -> Result<(), NoMemory>
         requires not_full { length self.old.kept.entries < self.old.kept.quota }
         requires countable { self.old.kept.puts < 2 ^ 62 }
-        requires came { CameBy clock self.old.kept.entries }
         requires aid { arriving.aid ≡ aid_for arriving.whom self.old.stations.table }
         ensures ok { OnOk result (self.new ≡ record self.old {
           kept = record self.old.kept {
@@ -285,14 +271,8 @@ impl Roster {
         // the units for the others stay
         parts_stay();
         let Arriving { whom, aid, unit } = arriving;
-        let at = unit.at;
-        let told = self.due.is_none() || is_no_older(&self.traffic, &whom, aid, at >= clock);
         self.kept.put(whom, unit)?;
         set_bit(&mut self.traffic, aid);
-        if !told {
-            let until = young_until(&self.stations, &whom, at, clock);
-            tell(&mut self.due, whom, until);
-        }
         Ok(())
     }
 }
@@ -351,29 +331,6 @@ fn clear_bit(traffic: &mut Bitmap, aid: Option<u16>)
 {
     if let Some(aid) = aid {
         traffic.clear(aid);
-    }
-}
-
-/// Whether a unit can't be the first for its station that is too old: some that came by a clock are kept for it, by the
-/// bit of its identifier, and this one came no earlier. Those for the group don't age.
-fn is_no_older(traffic: &Bitmap, whom: &Whom, aid: Option<u16>, is_later: bool) -> bool
-    requires { IfSome aid IsAid }
-    ensures { IsTrue result → IsNoOlder whom.now is_later (has_number traffic.now aid) }
-{
-    match whom {
-        Whom::One(_) => is_later && has_bit(traffic, aid),
-        Whom::Group => true,
-    }
-}
-
-/// Whether a bitmap has the bit of an identifier, if there is one.
-fn has_bit(traffic: &Bitmap, aid: Option<u16>) -> bool
-    requires { IfSome aid IsAid }
-    ensures { result ≡ has_number traffic.now aid }
-{
-    match aid {
-        Some(aid) => traffic.has(aid),
-        None => false,
     }
 }
 

@@ -167,7 +167,7 @@ fn answers(alloc: Global) -> Result<Answers, Fail> {
 }
 
 /// A unit is kept as long as the listen interval of its station says, also where most of those that units were kept
-/// for before polled them and left, so that the beacon tells anew for whom units are kept.
+/// for before polled them and left.
 #[test]
 fn units_age_where_most_stations_polled_and_left(rt: HostRuntime) -> Result<(), Fail> {
     let (sent, told, polled) = answers(rt.alloc())?;

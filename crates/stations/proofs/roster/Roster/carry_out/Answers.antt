@@ -5,9 +5,10 @@ use Rattle.std.proofs.lemmas.Option.{none-some}
 use Rattle.powersave.specs.Keep.{Entry}
 use Rattle.stations.specs.Keeping.{without, kept_after, entry_of}
 use Rattle.stations.specs.Roster.{RosterState, is_aged}
+use Rattle.stations.specs.Stations.{Table}
 use Rattle.stations.specs.declared.keeping.Arriving.{Arriving}
 use Rattle.stations.specs.declared.keeping.Leaving.{Leaving}
-use Rattle.stations.proofs.Aging.{young}
+use Rattle.stations.proofs.Aging.{same-aged, young}
 use Rattle.stations.proofs.roster.Roster.carry_out.Goals as goal
 
 -- where one comes, none ages
@@ -17,12 +18,18 @@ not-aging false o a comes still = refl
 
 pub returns-in_default-clause-entries : goal.returns-in_default-clause-entries
 returns-in_default-clause-entries c =
+    let ages = c.args.ages in
+    let clock = c.args.clock in
     let leaving = c.args.keeping.leaving in
+    let t : Table = c.args.self.now.stations.table in
     let es : List Entry = c.args.self.now.kept.entries in
-    let young_ones : List Entry = filter (λ e. not (is_aged c.args.ages c.args.clock c.args.self.now.stations.table e)) es in
+    let young_ones : List Entry = filter (λ e. not (is_aged ages clock t e)) es in
+    let left =
+    c.age_if-dropped.ensures.entries
+    ∙ ap (λ (r : RosterState). filter (λ e. not (is_aged ages clock r.stations.table e)) r.kept.entries) c.in_ok-change.ensures.ok
+    ∙ ap (λ (p : Entry → Bool). filter (λ e. not (p e)) es) (same-aged ages clock c.args.change t (λ on. (c.requires.still on).0)) in
     ap (λ (r : RosterState). r.kept.entries) c.leave.ensures
-    ∙ ap (λ (r : RosterState). without leaving r.kept.entries) c.in_ok-change.ensures.ok
-    ∙ ap (without leaving) c.in_ok-dropped.ensures.entries
+    ∙ ap (without leaving) left
     ∙ sym (append-nil (without leaving young_ones))
     ∙ ap (λ (a : Option Arriving). without leaving young_ones ++ option_to_list (option_map entry_of a)) (sym c.in_default.is)
 

@@ -4,10 +4,7 @@ use Rattle.stations.proofs.roster.Roster.new.Goals as goal
 
 pub invariant_of-result : goal.invariant_of-result
 invariant_of-result c = rw (c.new.ensures, c.new-2.ensures, c.new-3.ensures) (record {
-  roster = record {
-    limit = c.requires.few;
-    sound = record { addresses = tt; aids = tt; associated = omega arith };
-    traffic = λ n aid. contains-empty nat_cmp n;
-  };
-  told = tt;
+  limit = c.requires.few;
+  sound = record { addresses = tt; aids = tt; associated = omega arith };
+  traffic = λ n aid. contains-empty nat_cmp n;
 })

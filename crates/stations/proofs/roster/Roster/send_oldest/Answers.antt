@@ -1,12 +1,10 @@
 use Rattle.std.proofs.Common.{◌≡◌, ◌∙◌, ℕ, Bool, false, List, [], ◌∷◌, length, drop, Option, Some, None, refl, sym, ap, subst, arith}
-use Rattle.std.specs.Prelude.{nat_lt, option_map, IfSome}
+use Rattle.std.specs.Prelude.{nat_lt}
 use Rattle.std.proofs.lemmas.Bool.{lt-ltb}
-use Rattle.powersave.specs.Keep.{Entry, is_for, units_for, without_oldest, first_frame, others_follow}
+use Rattle.powersave.specs.Keep.{Entry, units_for, without_oldest, first_frame, others_follow}
 use Rattle.powersave.specs.declared.unit.Unit.{Unit as DataUnit}
 use Rattle.powersave.specs.declared.unit.Whom.TheVariants.{One}
-use Rattle.stations.specs.Due.{AreTold}
 use Rattle.stations.specs.Roster.{AreWaitedFor}
-use Rattle.stations.proofs.StationsDue.{told-left, all-without_first}
 use Rattle.stations.proofs.roster.Roster.send_oldest.Goals as goal
 
 abbrev told : Option (List ℕ × Bool) → Bool
@@ -23,31 +21,21 @@ left_of bss sequence [] = refl
 left_of bss sequence (u ∷ us) = some_follow us
 
 pub invariant_of-self-in_default : goal.invariant_of-self-in_default
-invariant_of-self-in_default c =
-    let same = sym (c.in_ok-sent.ensures.none c.in_default.is) in
-    let h = c.self.invariant in
-    record {
-      roster = record {
-        limit = h.roster.limit;
-        sound = h.roster.sound;
-        traffic = subst (AreWaitedFor c.self.inside.traffic c.self.inside.stations.table) same h.roster.traffic;
-      };
-      told = subst (λ (es : List Entry). IfSome (option_map (λ v. v.items) c.self.inside.due) (λ os. AreTold 0 c.self.inside.stations.table os es)) same h.told;
-    }
+invariant_of-self-in_default c = record {
+  limit = c.self.invariant.limit;
+  sound = c.self.invariant.sound;
+  traffic = subst (AreWaitedFor c.self.inside.traffic c.self.inside.stations.table) (sym (c.in_ok-sent.ensures.none c.in_default.is)) c.self.invariant.traffic;
+}
 
 pub invariant_of-self-2 : goal.invariant_of-self-2
 invariant_of-self-2 c =
     let whom = One c.args.addr in
     let es : List Entry = c.self.inside.kept.entries in
     let first : Some (c.in-Some.frame, c.in-Some.waits) ≡ first_frame c.args.bss c.args.seq (units_for whom es) = sym c.in-Some.is ∙ c.in_ok-sent.ensures.sent in
-    let h = c.self.invariant.roster in
     rw c.in_ok-sent.ensures.after (record {
-      roster = record {
-        limit = h.limit;
-        sound = h.sound;
-        traffic =
-            c.follow.ensures h.sound es (without_oldest whom es) (λ other apart. c.parts_stay.ensures.others_oldest whom other es apart)
-            (ap told first ∙ left_of c.args.bss c.args.seq (units_for whom es) ∙ sym (ap (λ us. nat_lt 0 (length us)) (c.parts_stay.ensures.oldest whom es))) h.traffic;
-      };
-      told = told-left c.self.inside.stations.table es (without_oldest whom es) (λ P of_each. all-without_first P (is_for whom) es of_each) (option_map (λ v. v.items) c.self.inside.due) c.self.invariant.told;
+      limit = c.self.invariant.limit;
+      sound = c.self.invariant.sound;
+      traffic =
+          c.follow.ensures c.self.invariant.sound es (without_oldest whom es) (λ other apart. c.parts_stay.ensures.others_oldest whom other es apart)
+          (ap told first ∙ left_of c.args.bss c.args.seq (units_for whom es) ∙ sym (ap (λ us. nat_lt 0 (length us)) (c.parts_stay.ensures.oldest whom es))) c.self.invariant.traffic;
     })

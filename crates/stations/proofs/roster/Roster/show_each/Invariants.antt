@@ -11,5 +11,5 @@ abbrev pub invariant-loop-one : goal.invariant-loop-one
 invariant-loop-one l =
     (es : List Entry)
     × (filter (λ e. not (is_too_old l.clock l.self.stations.table e)) es ≡ filter (λ e. not (is_too_old l.clock l.self.stations.table e)) l.self.kept.entries)
-    × AreAmong l.clock l.self.stations.table (drop l.one-index l.due) es
+    × AreAmong l.clock l.self.stations.table (drop l.one-index l.oldest) es
     × AreWaitedFor l.bits l.self.stations.table es

@@ -28,7 +28,6 @@ returns-in-Some c =
     let order = subst (λ (r : RosterState). CameInOrder (units_for whom r.kept.entries)) (sym c.self.view_is) c.requires in
     last-stays c.limit_for-limit.result us place unit order len here
     ∙ ap (λ (limit : ℕ). nat_lt 0 (length (filter (λ (v : DataUnit). not (nat_lt v.at limit)) us))) c.limit_for-limit.ensures
-    ∙ ap (λ (r : RosterState). nat_lt 0 (length (filter (stays clock r.stations.table whom) us))) c.self.view_is
     ∙ ap (λ (r : RosterState). nat_lt 0 (length (filter (stays clock table whom) (units_for whom r.kept.entries)))) c.self.view_is
 
 pub returns-in-None : goal.returns-in-None

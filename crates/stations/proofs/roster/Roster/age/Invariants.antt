@@ -1,16 +1,16 @@
-use Rattle.std.proofs.Common.{◌≡◌, ◌+◌, not, length, take, drop}
+use Rattle.std.proofs.Common.{◌≡◌, ◌+◌, not, length, drop}
 use Rattle.std.specs.Prelude.{filter}
 use Rattle.stations.specs.Sound.{CameBy}
 use Rattle.stations.specs.KeptUnits.{is_too_old}
-use Rattle.stations.proofs.StationsDue.{AreStillTold}
-use Rattle.stations.proofs.roster.Roster.age_each.Given as goal
+use Rattle.stations.proofs.RosterAging.{AreAmong}
+use Rattle.stations.proofs.roster.Roster.age.Given as goal
 
--- the units that are kept are told of by those that were looked at, or by those to come
+-- those that are too old and still kept are kept for some of those to come
 abbrev pub invariant-loop-one : goal.invariant-loop-one
 invariant-loop-one l = record {
   left : filter (λ e. not (is_too_old l.clock l.fn.self.stations.table e)) l.self.kept.entries ≡ filter (λ e. not (is_too_old l.clock l.fn.self.stations.table e)) l.fn.self.kept.entries;
   count : l.dropped + length (filter (is_too_old l.clock l.fn.self.stations.table) l.self.kept.entries) ≡ length (filter (is_too_old l.clock l.fn.self.stations.table) l.fn.self.kept.entries);
-  told : AreStillTold l.clock l.fn.self.stations.table (take l.one-index l.due) (drop l.one-index l.due) l.self.kept.entries;
+  among : AreAmong l.clock l.fn.self.stations.table (drop l.one-index l.oldest) l.self.kept.entries;
   came : CameBy l.clock l.self.kept.entries;
   stations : l.self.stations ≡ l.fn.self.stations;
   quota : l.self.kept.quota ≡ l.fn.self.kept.quota;
