@@ -1,11 +1,12 @@
 -- The order of the slots: which stations a row of them has, which places are gone, and what becomes of both.
-use Rattle.std.proofs.Common.{◌≡◌, ◌⊎◌, ℕ, zero, suc, ◌+◌, ◌<◌, ◌≤◌, Bool, true, false, List, [], ◌∷◌, ◌++◌, length, set, take, remove, min, filter, slice_get, Option, Some, None, is_some, refl, sym, ap, subst, ◌∙◌, arith, inl, inr, cond}
+use Rattle.std.proofs.Common.{◌≡◌, ◌⊎◌, ℕ, zero, suc, ◌+◌, ◌-◌, ◌<◌, ◌≤◌, Bool, true, false, List, [], ◌∷◌, ◌++◌, length, get_or, set, take, drop, min, filter, slice_get, Option, Some, None, is_some, refl, sym, ap, subst, ◌∙◌, arith, inl, inr, cond}
 use Rattle.std.specs.Prelude.{nat_lt}
 use Rattle.std.specs.List.{AllByRecursion, range_with_len}
 use Rattle.std.specs.Map.{lookup, set_value}
 use Rattle.std.specs.Str.{bytes_eq}
 use Rattle.std.proofs.lemmas.Bool.{both_ways, cases_lt, le-ltb, lt-ltb}
-use Rattle.std.proofs.lemmas.List.{length-append, length-set}
+use Rattle.std.proofs.lemmas.List.{length-append, length-set, append-nil, get_or-drop, drop-drop, take_more}
+use Rattle.std.proofs.lemmas.List.Elements.{filter-append}
 use Rattle.std.proofs.lemmas.Option.{slice_get_within}
 use Rattle.stations.specs.Stations.{Table, state_of, forget}
 use Rattle.stations.specs.Sound.{AreApart}
@@ -283,79 +284,6 @@ past-at n (suc i) (Some e ∷ slots) =
     let end : suc n + rest.0 ≡ n + suc rest.0 = omega arith in
     (suc rest.0, ap (past (holes_from (suc n) slots)) start ∙ rest.1 ∙ end, rest.2)
 
--- ---- a place that is taken out of the row
-
-holes-none : (m n : ℕ) (slots : Slots) → holes_from m slots ≡ [] → holes_from n slots ≡ []
-holes-none m n [] h = refl
-holes-none m n (None ∷ slots) h = absurd (cc)
-holes-none m n (Some e ∷ slots) h = holes-none (suc m) (suc n) slots h
-
--- the last hole, and the slots without it
-pub record IsLastHole (n : ℕ) (places : List ℕ) (last : ℕ) (slots : Slots) : Type 0 where
-  pub place : ℕ
-  pub number : last ≡ n + place
-  pub within : place < length slots
-  pub kept : holes_from n (remove slots place) ≡ places
-  pub stations : stations_in (remove slots place) ≡ stations_in slots
-
-pub last-hole : (n : ℕ) (places : List ℕ) (last : ℕ) (slots : Slots) → places ++ last ∷ [] ≡ holes_from n slots → IsLastHole n places last slots
-last-hole n [] last [] h = absurd (cc)
-last-hole n (p ∷ places) last [] h = absurd (cc)
-last-hole n [] last (None ∷ slots) h =
-    let first : last ≡ n = cc in
-    let none : ◌≡◌ {A = List ℕ} [] (holes_from (suc n) slots) = cc in
-    record {
-      place = 0;
-      number = omega (arith, first);
-      within = omega arith;
-      kept = holes-none (suc n) n slots (sym none);
-      stations = refl;
-    }
-last-hole n (p ∷ places) last (None ∷ slots) h =
-    let first : p ≡ n = cc in
-    let rest : places ++ last ∷ [] ≡ holes_from (suc n) slots = cc in
-    let l = last-hole (suc n) places last slots rest in
-    record {
-      place = suc l.place;
-      number = omega (arith, l.number);
-      within = omega (arith, l.within);
-      kept = ap (λ (ps : List ℕ). n ∷ ps) l.kept ∙ ap (λ k. k ∷ places) (sym first);
-      stations = l.stations;
-    }
-last-hole n places last (Some e ∷ slots) h =
-    let l = last-hole (suc n) places last slots h in
-    record {
-      place = suc l.place;
-      number = omega (arith, l.number);
-      within = omega (arith, l.within);
-      kept = l.kept;
-      stations = ap (λ (t : Table). e ∷ t) l.stations;
-    }
-
-listed-remove : (row : List ℕ) (slots : Slots) (i : ℕ) → listed (remove row i) slots ≡ remove (listed row slots) i
-listed-remove [] slots zero = refl
-listed-remove [] slots (suc i) = refl
-listed-remove (r ∷ row) slots zero = refl
-listed-remove (r ∷ row) slots (suc i) = ap (λ (s : Slots). slot_at slots r ∷ s) (listed-remove row slots i)
-
-within-remove : (row : List ℕ) (n i : ℕ) → AllByRecursion (λ k. k < n) row → AllByRecursion (λ k. k < n) (remove row i)
-within-remove [] n zero h = tt
-within-remove [] n (suc i) h = tt
-within-remove (r ∷ row) n zero h = h.1
-within-remove (r ∷ row) n (suc i) h = (h.0, within-remove row n i h.1)
-
-pub order-dropped : (row gone places row' : List ℕ) (last : ℕ) (slots : Slots) → gone ≡ places ++ last ∷ [] → (last < length row → row' ≡ remove row last) → IsListed row gone slots → IsListed row' places slots
-order-dropped row gone places row' last slots popped removed l =
-    let hole = last-hole 0 places last (listed row slots) (sym popped ∙ l.places) in
-    let here : last ≡ hole.place = omega (arith, hole.number) in
-    let low : last < length row = omega (arith, hole.number, hole.within, listed-len row slots) in
-    let same : listed row' slots ≡ remove (listed row slots) hole.place = ap (λ (r : List ℕ). listed r slots) (removed low) ∙ listed-remove row slots last ∙ ap (remove (listed row slots)) here in
-    record {
-      within = subst (AllByRecursion (λ k. k < length slots)) (sym (removed low)) (within-remove row (length slots) last l.within);
-      stations = ap stations_in same ∙ hole.stations ∙ l.stations;
-      places = sym hole.kept ∙ ap (holes_from 0) (sym same);
-    }
-
 -- ---- how many there are
 
 pub count-set : (slots : Slots) (i : ℕ) (station new : List ℕ × StationState) → slice_get slots i ≡ Some (Some station) → length (stations_in (set slots i (Some new))) ≡ length (stations_in slots)
@@ -465,6 +393,125 @@ order-at row gone slots place at is l =
     let first : place ≡ 0 + place = omega arith in
     let found : at ≡ there.0 = is ∙ ap (λ (places : List ℕ). past places place) l.places ∙ ap (past (holes_from 0 (listed row slots))) first ∙ there.1 ∙ omega arith in
     ap (slot_at (listed row slots)) found ∙ there.2 ∙ ap (λ (t : Table). slice_get t place) l.stations
+
+-- ---- a row whose gone places are taken out
+
+-- what stands at a place is alike where all from it on is
+pub same-from : (q : ℕ) (xs ys : List ℕ) → drop q xs ≡ drop q ys → get_or xs q 0 ≡ get_or ys q 0
+same-from q xs ys same =
+    let first : q ≡ q + 0 = omega arith in
+    ap (λ k. get_or xs k 0) first ∙ sym (get_or-drop q xs 0 0) ∙ ap (λ (r : List ℕ). get_or r 0 0) same ∙ get_or-drop q ys 0 0 ∙ ap (λ k. get_or ys k 0) (sym first)
+
+pub drop_more-same : (q : ℕ) (xs ys : List ℕ) → drop q xs ≡ drop q ys → drop (q + 1) xs ≡ drop (q + 1) ys
+drop_more-same q xs ys same = sym (drop-drop 1 q xs) ∙ ap (drop 1) same ∙ drop-drop 1 q ys
+
+-- one more that is kept
+pub kept-more : (p : ℕ → Bool) (row : List ℕ) (q x : ℕ) → q < length row → x ≡ get_or row q 0 → p x ≡ true → filter p (take q row) ++ x ∷ [] ≡ filter p (take (q + 1) row)
+kept-more p row q x within is some =
+    let one : filter p (x ∷ []) ≡ x ∷ [] = rw some refl in
+    sym (ap (filter p) (take_more row q 0 within ∙ ap (λ k. take q row ++ k ∷ []) (sym is)) ∙ filter-append p (take q row) (x ∷ []) ∙ ap (λ (r : List ℕ). filter p (take q row) ++ r) one)
+
+-- and one that isn't
+pub kept-same : (p : ℕ → Bool) (row : List ℕ) (q x : ℕ) → q < length row → x ≡ get_or row q 0 → p x ≡ false → filter p (take q row) ≡ filter p (take (q + 1) row)
+kept-same p row q x within is none =
+    let one : filter p (x ∷ []) ≡ [] = rw none refl in
+    sym (ap (filter p) (take_more row q 0 within ∙ ap (λ k. take q row ++ k ∷ []) (sym is)) ∙ filter-append p (take q row) (x ∷ []) ∙ ap (λ (r : List ℕ). filter p (take q row) ++ r) one ∙ append-nil (filter p (take q row)))
+
+pub first-of : (places : List ℕ) → 0 < length places → places ≡ get_or places 0 0 ∷ drop 1 places
+first-of [] some = absurd (omega (arith, some))
+first-of (p ∷ places) some = refl
+
+-- before the first place that is gone each slot has a station
+pub before-first : (n : ℕ) (row : List ℕ) (slots : Slots) (first : ℕ) (rest : List ℕ) (k : ℕ) → first ∷ rest ≡ holes_from n (listed row slots) → n + k ≡ first
+    → filter (λ i. is_some (slot_at slots i)) (take k row) ≡ take k row
+before-first n row slots first rest zero gone is = refl
+before-first n [] slots first rest (suc k) gone is = refl
+before-first n (r ∷ row) slots first rest (suc k) gone is = by (slot_at slots r) refl gone (λ behind. before-first (suc n) row slots first rest k behind (omega (arith, is)))
+  where
+    by : (x : Option (List ℕ × StationState)) → slot_at slots r ≡ x → first ∷ rest ≡ holes_from n (x ∷ listed row slots)
+        → (first ∷ rest ≡ holes_from (suc n) (listed row slots) → filter (λ i. is_some (slot_at slots i)) (take k row) ≡ take k row)
+        → filter (λ i. is_some (slot_at slots i)) (take (suc k) (r ∷ row)) ≡ take (suc k) (r ∷ row)
+    by None here gone others = let at : first ≡ n = cc in absurd (omega (arith, at, is))
+    by (Some e) here gone others = rw here (ap (λ (t : List ℕ). r ∷ t) (others gone))
+
+pub order-kept : (row gone rows none : List ℕ) (slots : Slots) → rows ≡ filter (λ k. is_some (slot_at slots k)) row → none ≡ [] → IsListed row gone slots → IsListed rows none slots
+order-kept row gone rows none slots kept cleared l =
+    let same : listed rows slots ≡ filter is_some (listed row slots) = ap (λ (r : List ℕ). listed r slots) kept ∙ listed-filter row slots in
+    record {
+      within = subst (AllByRecursion (λ k. k < length slots)) (sym kept) (within-filter (λ k. is_some (slot_at slots k)) row (length slots) l.within);
+      stations = ap stations_in same ∙ (stations-kept (listed row slots)).0 ∙ l.stations;
+      places = cleared ∙ sym (holes-kept 0 (listed row slots)) ∙ ap (holes_from 0) (sym same);
+    }
+
+-- ---- a place that is looked for by halves
+
+-- numbers that rise, from this one on
+abbrev pub Rises : ℕ → List ℕ → Type 0
+Rises n [] = Unit {0}
+Rises n (x ∷ xs) = (n ≤ x) × Rises (suc x) xs
+
+rises-from : (n m : ℕ) (xs : List ℕ) → n ≤ m → Rises m xs → Rises n xs
+rises-from n m [] le h = tt
+rises-from n m (x ∷ xs) le h = (omega (arith, le, h.0), h.1)
+
+pub holes-rise : (n : ℕ) (slots : Slots) → Rises n (holes_from n slots)
+holes-rise n [] = tt
+holes-rise n (None ∷ slots) = (omega arith, holes-rise (suc n) slots)
+holes-rise n (Some e ∷ slots) = rises-from n (suc n) (holes_from (suc n) slots) (omega arith) (holes-rise (suc n) slots)
+
+rises-at : (n : ℕ) (xs : List ℕ) (i : ℕ) → i < length xs → Rises n xs → n + i ≤ get_or xs i 0
+rises-at n [] i low h = absurd (omega (arith, low))
+rises-at n (x ∷ xs) zero low h = omega (arith, h.0)
+rises-at n (x ∷ xs) (suc i) low h = let rest = rises-at (suc x) xs i (omega (arith, low)) h.1 in omega (arith, rest, h.0)
+
+-- past so many places, where the last of them isn't behind what stands there and the next one is
+pub past-is : (n : ℕ) (gone : List ℕ) (place k : ℕ) → Rises n gone → k ≤ length gone → (0 < k → get_or gone (k - 1) 0 < place + k) → (k < length gone → place + k < get_or gone k 0) → past gone place ≡ place + k
+past-is n [] place k up few below above = omega (arith, few)
+past-is n (x ∷ gone) place zero up few below above =
+    let high : place + 0 < x = above (omega arith) in
+    let low : nat_lt place x ≡ true = lt-ltb place x (omega (arith, high)) in
+    rw low (omega arith)
+past-is n (x ∷ gone) place (suc k) up few below above =
+    let low : x ≤ place = first k few below in
+    let behind : nat_lt place x ≡ false = le-ltb place x low in
+    let end : suc place + k ≡ place + suc k = omega arith in
+    rw behind (past-is (suc x) gone (suc place) k up.1 (omega (arith, few)) (rest k below) (λ more. next (above (omega (arith, more)))) ∙ end)
+  where
+    first : (k : ℕ) → suc k ≤ length (x ∷ gone) → (0 < suc k → get_or (x ∷ gone) (suc k - 1) 0 < place + suc k) → x ≤ place
+    first zero few below =
+        let at : suc 0 - 1 ≡ 0 = omega arith in
+        let here : x < place + 1 = subst (λ k. get_or (x ∷ gone) k 0 < place + 1) at (below (omega arith)) in
+        omega (arith, here)
+    first (suc j) few below =
+        let at : suc (suc j) - 1 ≡ suc j = omega arith in
+        let here : get_or gone j 0 < place + suc (suc j) = subst (λ k. get_or (x ∷ gone) k 0 < place + suc (suc j)) at (below (omega arith)) in
+        let rest : suc x + j ≤ get_or gone j 0 = rises-at (suc x) gone j (omega (arith, few)) up.1 in
+        omega (arith, here, rest)
+
+    rest : (k : ℕ) → (0 < suc k → get_or (x ∷ gone) (suc k - 1) 0 < place + suc k) → 0 < k → get_or gone (k - 1) 0 < suc place + k
+    rest zero below some = absurd (omega (arith, some))
+    rest (suc j) below some =
+        let at : suc (suc j) - 1 ≡ suc j = omega arith in
+        let before : j ≡ suc j - 1 = omega arith in
+        let here : get_or gone j 0 < place + suc (suc j) = subst (λ k. get_or (x ∷ gone) k 0 < place + suc (suc j)) at (below (omega arith)) in
+        subst (λ k. get_or gone k 0 < suc place + suc j) before (omega (arith, here))
+
+    next : place + suc k < get_or gone k 0 → suc place + k < get_or gone k 0
+    next high = omega (arith, high)
+
+-- where no slot is a hole each station stands in the slot of its place
+pub full-at : (slots : Slots) (place : ℕ) → length (stations_in slots) ≡ length slots → slot_at slots place ≡ slice_get (stations_in slots) place
+full-at slots place full =
+    let there = past-at 0 place slots in
+    let none : holes_from 0 slots ≡ [] = empty (holes_from 0 slots) (let count = holes-count 0 slots in omega (arith, count, full)) in
+    let first : 0 + place ≡ place = omega arith in
+    let at : 0 + place ≡ 0 + there.0 = ap (λ (places : List ℕ). past places (0 + place)) (sym none) ∙ there.1 in
+    let here : place ≡ there.0 = omega (arith, at) in
+    ap (slot_at slots) here ∙ there.2
+  where
+    empty : (places : List ℕ) → length places ≡ 0 → places ≡ []
+    empty [] h = refl
+    empty (p ∷ places) h = absurd (omega (arith, h))
 
 -- ---- numbers in order
 

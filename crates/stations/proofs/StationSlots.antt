@@ -1,4 +1,4 @@
--- The slots of the stations of a network: which stations they have, where each is found, and what the blocks count.
+-- The slots of the stations of a network: which stations they have, and where each is found.
 use Rattle.std.proofs.Common.{◌≡◌, ℕ, zero, suc, ◌+◌, ◌<◌, Bool, true, false, cond, List, [], ◌∷◌, ◌++◌, length, take, set, get_or, filter, slice_get, Option, Some, None, is_some, option_map, refl, sym, ap, subst, ◌∙◌, arith}
 use Rattle.std.specs.Prelude.{if◌then◌else◌, IfNone, OnErr}
 use Rattle.std.proofs.Common.{Result, Ok, Err}

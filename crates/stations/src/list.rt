@@ -12,7 +12,7 @@ ghost use Rattle.stations.specs.Sound.{AreApart};
 ghost use Rattle.stations.specs.Slots.{stations_in, IsAt, AreFound, MayList, Tells};
 
 use crate::address_key::AddressKey;
-use crate::order::Order;
+use crate::order::{Order, station_in};
 use crate::table::{StationState, with_mode};
 use address_hash::AddressHashes;
 use indexmap::IndexMap;
@@ -78,7 +78,19 @@ impl StationList {
         requires { place < length self.now }
         ensures { slice_get self.now place ≡ Some result }
     {
-        self.order.station_at(self.slots.as_slice(), place).unwrap()
+        self.station_at(place).unwrap()
+    }
+
+    /// The same, where there is one. It stands in the slot of its place where none is a hole.
+    fn station_at(&self, place: usize) -> Option<(MacAddr, StationState)>
+        requires { place < length self.now }
+        ensures { result ≡ slice_get self.now place }
+    {
+        let slots = self.slots.as_slice();
+        if self.holes == 0 {
+            return station_in(slots, place);
+        }
+        self.order.station_at(slots, place)
     }
 
     /// The state of a station, or `None` where it is not known.

@@ -1,9 +1,9 @@
 //! The order of the stations' slots, by which a station is found at its place.
 
 ghost use Rattle.std.specs.Prelude.{◌≡◌, ◌<◌, ◌≤◌, ◌+◌, ◌-◌, ◌^◌, ◌++◌, ◌∷◌, [], ℕ, List, length, is_some, slice_get};
-ghost use Rattle.std.specs.Prelude.{filter, insert, min, vec_len, vec_capacity, IsTrue, Some, OnOk};
+ghost use Rattle.std.specs.Prelude.{filter, insert, min, take, vec_len, vec_capacity, IsTrue, Some, OnOk};
 ghost use Rattle.std.specs.List.{range_with_len};
-ghost use Rattle.stations.specs.Slots.{Slots, slot_at, stations_in, past, with_place, IsListed, MayList, TakesOut};
+ghost use Rattle.stations.specs.Slots.{Slots, slot_at, stations_in, holes_from, past, with_place, IsListed, MayList, TakesOut};
 
 use crate::list::Slot;
 use crate::table::StationState;
@@ -14,13 +14,14 @@ use std::alloc::Global;
 const MOST_GONE: usize = 64;
 
 /// How many slots are looked at one after another, where no row of them is kept.
-const FEW: usize = 64;
+const FEW: usize = 16;
 
 /// The slots that have a station, in their order.
 ///
 /// They stand in a row, once there are more than a few. Where a station leaves, its slot stays in the row and its place
-/// there is noted as gone; where too many are gone, the last of them is taken out of the row, so that no more moves than
-/// what stands after the one that leaves. A place among the stations is found by a look at the few that are gone.
+/// there is noted as gone; where too many are gone, all are taken out of the row at once, from the first of them on. So
+/// no more moves than what stands after one that left, and that once for all that are gone. A place among the stations
+/// is found by a search of the few that are gone.
 #[derive(Drop)]
 pub(crate) struct Order {
     // the slots, in ascending order, as long as no place is gone those that have a station; none where they are few
@@ -106,20 +107,22 @@ impl Order {
         if !self.note(at, slot) {
             self.list_stations(slots);
         } else if self.gone.len() >= MOST_GONE {
-            self.drop_last();
+            self.drop_gone(slots);
         }
     }
 
-    /// Takes the last place that is gone out of the row.
-    fn drop_last(&mut self)
-        ensures { (slots : Slots) → IsListed self.old.row.items self.old.gone.items slots
-            → IsListed self.new.row.items self.new.gone.items slots }
+    /// Takes all places that are gone out of the row.
+    fn drop_gone(&mut self, slots: &[Slot])
+        ensures { IsListed self.old.row.items self.old.gone.items slots.now
+            → IsListed self.new.row.items self.new.gone.items slots.now }
     {
-        if let Some(last) = self.gone.pop() {
-            if last < self.row.len() {
-                self.row.remove(last);
-            }
-        }
+        let Some(first) = self.gone.first() else {
+            return;
+        };
+        let first = *first;
+        let len = move_together(self.row.as_mut_slice(), slots, first);
+        self.row.truncate(len);
+        self.gone.clear();
     }
 
     /// Notes the place of a slot in the row as gone, and answers whether it did: not where it isn't there, or where there
@@ -172,7 +175,7 @@ fn nth(slots: &[Slot], n: usize) -> Option<(MacAddr, StationState)>
 }
 
 /// The station in the slot of a number, if there is one.
-fn station_in(slots: &[Slot], slot: usize) -> Option<(MacAddr, StationState)>
+pub(crate) fn station_in(slots: &[Slot], slot: usize) -> Option<(MacAddr, StationState)>
     ensures { result ≡ slot_at slots.now slot }
 {
     *slots.get(slot)?
@@ -180,18 +183,44 @@ fn station_in(slots: &[Slot], slot: usize) -> Option<(MacAddr, StationState)>
 
 /// The place in a row of what stands at a place among those that are not gone, where these places are gone, the lowest
 /// first.
+///
+/// It is past so many of them as have no more others before them than make up for their distance to the place, which is
+/// found by halves.
 fn past(gone: &[usize], place: usize) -> usize
-    requires { place + length gone.now < 2 ^ 64 }
+    requires few { place + length gone.now < 2 ^ 64 }
+    requires holes { (slots : Slots) × (gone.now ≡ holes_from 0 slots) }
     ensures { result ≡ past gone.now place }
 {
-    let mut at = place;
-    for other in gone {
-        if at < *other {
-            break;
+    let mut low = 0;
+    let mut high = gone.len();
+    while low < high {
+        let middle = low + (high - low) / 2;
+        if gone[middle] <= place + middle {
+            low = middle + 1;
+        } else {
+            high = middle;
         }
-        at += 1;
     }
-    at
+    place + low
+}
+
+/// Moves the slots that have a station to the front of a row, from a place on, before which each has one, and answers
+/// how many these are.
+fn move_together(row: &mut [usize], slots: &[Slot], first: usize) -> usize
+    ensures len { length row.new ≡ length row.old }
+    ensures few { result ≤ length row.new }
+    ensures kept { filter (λ slot. is_some (slot_at slots.now slot)) (take first row.old) ≡ take first row.old
+        → take result row.new ≡ filter (λ slot. is_some (slot_at slots.now slot)) row.old }
+{
+    let mut kept = first.min(row.len());
+    for place in kept..row.len() {
+        let slot = row[place];
+        if station_in(slots, slot).is_some() {
+            row[kept] = slot;
+            kept += 1;
+        }
+    }
+    kept
 }
 
 /// Puts a place among others, which stand in ascending order, if there is room, and answers whether it did.

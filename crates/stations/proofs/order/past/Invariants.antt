@@ -1,10 +1,14 @@
-use Rattle.std.proofs.Common.{◌≡◌, ◌+◌, drop}
-use Rattle.stations.specs.Slots.{past}
+use Rattle.std.proofs.Common.{◌-◌, ◌<◌, ◌≤◌, ◌+◌, length, slice_index}
 use Rattle.stations.proofs.order.past.Given as goal
 
--- the places before it stand at the place or before it, and the rest is past the others
-abbrev pub invariant-loop-other : goal.invariant-loop-other
-invariant-loop-other l = record {
-  at : l.at ≡ l.place + l.other-index;
-  rest : past (drop l.other-index l.gone) l.at ≡ past l.gone l.place;
+-- what is past the places before the low one is past their number more, and what is past one from the high one on isn't
+abbrev pub invariant-loop-low : goal.invariant-loop-low
+invariant-loop-low l = record {
+  order : l.low ≤ l.high;
+  within : l.high ≤ length l.gone;
+  below : 0 < l.low → slice_index l.gone (l.low - 1) < l.place + l.low;
+  above : l.high < length l.gone → l.place + l.high < slice_index l.gone l.high;
 }
+
+abbrev pub decreases-loop-low : goal.decreases-loop-low
+decreases-loop-low l = l.high - l.low

@@ -18,7 +18,7 @@ returns-then-len-ge-MOST_GONE c before t l some =
     let there : slice_get row at ≡ Some c.args.slot = c.note.ensures.place c.if-not-note.false in
     let within = slice_get_within row at c.args.slot there in
     let long : 0 < length row = omega (arith, within) in
-    c.drop_last.ensures c.args.slots.now
+    c.drop_gone.ensures
     (subst (λ r. IsListed r.items c.note.new.self.gone.items c.args.slots.now) (sym c.note.ensures.row)
     (order-noted row c.args.self.now.gone.items c.note.new.self.gone.items before c.args.slots.now at c.args.slot there (c.note.ensures.noted c.if-not-note.false) t (l long)))
 

@@ -4,12 +4,17 @@ use Rattle.stations.specs.Slots.{Slots, listed, slot_at, past}
 use Rattle.stations.proofs.StationOrder.{order-at, order-few, listed-get, listed-len, slot_at-get, slot_at-beyond}
 use Rattle.stations.proofs.order.Order.station_at.Goals as goal
 
-pub past-requires : goal.past-requires
-past-requires c =
+pub past-requires-clause-few : goal.past-requires-clause-few
+past-requires-clause-few c =
     let some : 0 < length c.args.self.now.row.items = omega (arith, c.if-row-eq0.false, ap length c.as_slice-row.ensures.value) in
     let few = order-few c.args.self.now.row.items c.args.self.now.gone.items c.args.slots.now (c.requires.listed some) in
     let gone = ap length c.as_slice.ensures.value in
     omega (arith, few, gone, c.requires.place, c.as_slice-row.ensures.len, ap length c.as_slice-row.ensures.value)
+
+pub past-requires-clause-holes : goal.past-requires-clause-holes
+past-requires-clause-holes c =
+    let some : 0 < length c.args.self.now.row.items = omega (arith, c.if-row-eq0.false, ap length c.as_slice-row.ensures.value) in
+    (listed c.args.self.now.row.items c.args.slots.now, c.as_slice.ensures.value ∙ (c.requires.listed some).places)
 
 pub returns-in_err-slot : goal.returns-in_err-slot
 returns-in_err-slot c =
