@@ -2,7 +2,7 @@
 //!
 //! A [`LineReader`] gives the lines that end in each piece; the pieces may be cut anywhere.
 
-ghost use Rattle.std.specs.Prelude.{◌≡◌, ◌+◌, ◌<◌, ◌≤◌, ◌++◌, ◌∷◌, [], length, Err, IfOk, IfSome, OnOk, OnErr};
+ghost use Rattle.std.specs.Prelude.{◌≡◌, ◌+◌, ◌<◌, ◌≤◌, ◌++◌, ◌∷◌, [], length, Err, IfOk, IfSome, IsTrue, OnOk, OnErr};
 ghost use Rattle.std.specs.Option.{option_to_list};
 ghost use Rattle.std.specs.Str.Lines.{strip_carriage_return};
 ghost use Rattle.trace.specs.Endings.{Gives};
@@ -25,6 +25,10 @@ use std::marker::Model;
 
 /// The most lines of a text.
 const MAX_LINES: u32 = 1_000_000;
+
+/// The most octets for which room is made to join a line in place: about what a stream reads at once. The reader keeps
+/// that room, so it makes none for a longer end.
+const MOST_JOINED: usize = 4096;
 
 /// Reads a trace text that comes in pieces, which may be cut anywhere: within a line, or between the CR and the LF that
 /// end it. Contracts see the addresses of the networks in order of place, how many lines have ended, the octets of the
@@ -197,10 +201,10 @@ impl LineReader {
         ensures ok { OnOk result (self.new ≡ record self.old { unfinished = self.new.unfinished }) }
         ensures err { OnErr result (self.new ≡ self.old) }
     {
-        if self.unfinished.is_empty() {
-            self.read_ended(octets)
-        } else {
+        if self.joins_in_place(octets.len()) {
             self.read_joined(octets)
+        } else {
+            self.read_ended(octets)
         }
     }
 
@@ -226,6 +230,16 @@ impl LineReader {
             self.unfinished.truncate(len);
         }
         read
+    }
+
+    /// Whether the unfinished line has begun, and is joined in its own memory with so many octets that end it: where
+    /// they fit into the room that is there, or are few enough to make room for.
+    #[inline(always)]
+    fn joins_in_place(&self, count: usize) -> bool
+        ensures { IsTrue result → 0 < length self.now.unfinished }
+    {
+        let begun = self.unfinished.len();
+        begun > 0 && (count <= MOST_JOINED || count <= self.unfinished.capacity() - begun)
     }
 
     /// What the unfinished line says, which ends with these octets and an LF, as a list.
