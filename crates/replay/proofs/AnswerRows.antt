@@ -4,12 +4,8 @@ use Rattle.std.specs.Fmt.{digits}
 use Rattle.hex.specs.Hex.{encode_with}
 use Rattle.network.specs.Network.{alone}
 use Rattle.events.specs.declared.section.Section.{Section}
-use Rattle.events.specs.declared.event.Event.TheVariants.{Air}
 use Rattle.network.proofs.NetworkRows.{the_section_of_one_probe, the_section_of_a_short_history}
 use Rattle.network.proofs.NetworkRows.{the_section_of_a_probe_for_another}
-use Rattle.ap_config.specs.Samples.{setting}
-use Rattle.beacon.specs.ProbeResponse.{timestamp, fixed_fields, network_elements}
-use Rattle.elements.specs.Elements.{elements_of, elements_within}
 use Rattle.ap_config.specs.Configuration.{of_radio}
 use Rattle.trace.specs.Report.{report_text, section_text, network_line, counts_line, frame_line}
 use Rattle.replay.specs.Answer.{answer_of}

@@ -217,10 +217,7 @@ fn take_rest<T: TakeLines>(
 }
 
 /// Lets the networks take the last line.
-fn end_lines<T: TakeLines>(
-    mut lines: LineReader,
-    networks: &mut T,
-) -> Result<(), TraceTextFault>
+fn end_lines<T: TakeLines>(mut lines: LineReader, networks: &mut T) -> Result<(), TraceTextFault>
     ensures { (c : RadioConfig) (text : List ℕ)
         → HasReplayed c text lines (λ said. T.has_taken c said networks.old) → MatchResult result
         (λ _. AreTaken c text (λ said. T.has_taken c said networks.new))
