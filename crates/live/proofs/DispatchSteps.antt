@@ -1,6 +1,8 @@
 -- What networks reply to a line, one place after the other.
-use Rattle.std.proofs.Common.{◌≡◌, ℕ, suc, ◌+◌, ◌<◌, ◌≤◌, List, [], ◌∷◌, ◌++◌, Option, Some, None, length, map, take, drop, get_or, set, refl, sym, ap, subst, ◌∙◌, arith, append_assoc, append-nil, length-take}
-use Rattle.std.proofs.lemmas.List.{take_more, take_all, drop_more, drop_all}
+use Rattle.std.proofs.Common.{◌≡◌, ℕ, zero, suc, ◌+◌, ◌-◌, ◌<◌, ◌≤◌, Bool, true, false, not, slice_index_or, inl, inr, List, [], ◌∷◌, ◌++◌, Option, Some, None, length, map, take, drop, get_or, set, refl, sym, ap, subst, ◌∙◌, arith, append_assoc, append-nil, length-take}
+use Rattle.std.specs.Str.{bytes_eq}
+use Rattle.std.proofs.lemmas.Bool.{cases_lt}
+use Rattle.std.proofs.lemmas.List.{take_more, take_all, drop_more, drop_all, get_or_default, set-get_or}
 use Rattle.std.proofs.Math.Seq.{get_or-append_seam, set-append_seam}
 use Rattle.network.specs.NetworkView.{NetworkState}
 use Rattle.events.specs.declared.event.Event.{Event}
@@ -178,3 +180,75 @@ replied-one taken failed face place number said n next e reply old new one may a
   after = after ∙ sym (ap (λ (o : Option Event). after_if n (taken_if o (Some reply))) one);
   puts = puts;
 }
+
+-- ---- networks to which a line is no event
+
+-- one more of them is left as it is
+replies-past : {W : Type 0} (taken : W → Option (List ℕ)) (failed : W → ℕ) (face : Face) (place number : ℕ) (said : Line)
+    (ns now : List NetworkState) (old mid : Buffered W) (n : NetworkState)
+    → ReplySoFar taken failed face place number said ns now old mid → place < length ns → n ≡ get_or ns place n
+    → event_at place n said ≡ None → ReplySoFar taken failed face (place + 1) number said ns now old mid
+replies-past taken failed face place number said ns now old mid n s within is none =
+    let there : n ≡ get_or now place n =
+    is ∙ sym (network-there taken failed face place number said ns now old mid n s within) in
+    let same : set now place n ≡ now = ap (set now place) there ∙ set-get_or now place n in
+    subst (λ (ms : List NetworkState). ReplySoFar taken failed face (place + 1) number said ns ms old mid) same
+    (replies-more taken failed face place number said ns now old mid mid n n s within there
+    (replied-none taken failed face place number said n mid s.replied.puts.can_write none))
+
+-- so many more of them are
+pub replies-skip : {W : Type 0} (taken : W → Option (List ℕ)) (failed : W → ℕ) (face : Face) (place number : ℕ) (said : Line)
+    (ns now : List NetworkState) (old mid : Buffered W) (k : ℕ)
+    → ReplySoFar taken failed face place number said ns now old mid → place + k ≤ length ns
+    → ((j : ℕ) (n : NetworkState) → place ≤ j → j < place + k → n ≡ get_or ns j n → event_at j n said ≡ None)
+    → ReplySoFar taken failed face (place + k) number said ns now old mid
+replies-skip taken failed face place number said ns now old mid zero s within none =
+    let here : place ≡ place + 0 = omega arith in
+    subst (λ (p : ℕ). ReplySoFar taken failed face p number said ns now old mid) here s
+replies-skip {W} taken failed face place number said ns now old mid (suc k) s within none =
+    by ns refl
+    (λ n is. subst (λ (p : ℕ). ReplySoFar taken failed face p number said ns now old mid) there
+    (replies-skip taken failed face (place + 1) number said ns now old mid k
+    (replies-past taken failed face place number said ns now old mid n s (omega (arith, within)) is
+    (none place n (omega arith) (omega arith) is))
+    (omega (arith, within))
+    (λ j m low high at. none j m (omega (arith, low)) (omega (arith, high)) at)))
+  where
+    there : place + 1 + k ≡ place + suc k
+    there = omega arith
+
+    by : (ms : List NetworkState) → ns ≡ ms
+        → ((n : NetworkState) → n ≡ get_or ns place n → ReplySoFar taken failed face (place + suc k) number said ns now old mid)
+        → ReplySoFar taken failed face (place + suc k) number said ns now old mid
+    by [] same go = absurd (omega (arith, within, ap length same))
+    by (m ∷ ms) same go =
+        go (get_or ns place m) (get_or_default ns place m (get_or ns place m) (omega (arith, within)))
+
+-- ---- networks without an address
+
+pub is-another : (b : Bool) → not b ≡ true → b ≡ false
+is-another true h = absurd (cc)
+is-another false h = refl
+
+-- one more before them is without it, or one more behind
+pub before-more : (to : List ℕ) (bssids : List (List ℕ)) (k : ℕ)
+    → ((j : ℕ) → j < k → bytes_eq to (slice_index_or bssids j []) ≡ false)
+    → bytes_eq to (slice_index_or bssids k []) ≡ false
+    → (j : ℕ) → j < k + 1 → bytes_eq to (slice_index_or bssids j []) ≡ false
+before-more to bssids k before here j low = elim (cases_lt j k) [
+  | inl less ↦ before j less
+  | inr high ↦
+      let same : k ≡ j = omega (arith, low, high) in
+      subst (λ (i : ℕ). bytes_eq to (slice_index_or bssids i []) ≡ false) same here
+]
+
+pub after-one-more : (to : List ℕ) (bssids : List (List ℕ)) (k : ℕ)
+    → ((j : ℕ) → k ≤ j → j < length bssids → bytes_eq to (slice_index_or bssids j []) ≡ false)
+    → bytes_eq to (slice_index_or bssids (k - 1) []) ≡ false
+    → (j : ℕ) → k - 1 ≤ j → j < length bssids → bytes_eq to (slice_index_or bssids j []) ≡ false
+after-one-more to bssids k after here j low within = elim (cases_lt j k) [
+  | inl less ↦
+      let same : k - 1 ≡ j = omega (arith, low, less) in
+      subst (λ (i : ℕ). bytes_eq to (slice_index_or bssids i []) ≡ false) same here
+  | inr high ↦ after j high within
+]

@@ -1,7 +1,8 @@
 //! Each event to the networks to which it is one, and their replies.
 
-ghost use Rattle.std.specs.Prelude.{◌≡◌, ◌<◌, ◌^◌, Some};
+ghost use Rattle.std.specs.Prelude.{◌≡◌, ◌<◌, ◌≤◌, ◌^◌, [], false, length, map, slice_index_or, Some, ℕ};
 ghost use Rattle.std.specs.List.{AllByRecursion};
+ghost use Rattle.std.specs.Str.{bytes_eq};
 ghost use Rattle.trace.specs.Buffers.{CanWrite, Puts};
 ghost use Rattle.events.specs.LentEvents.{event_of};
 ghost use Rattle.live_answers.specs.Dispatch.{line_as};
@@ -78,6 +79,30 @@ pub(crate) enum Audience {
 }
 
 impl Audience {
+    /// Two places between which all of them stand, of networks with these addresses: the first, and that after the last.
+    #[inline(always)]
+    fn places(&self, bssids: &[MacAddr]) -> (usize, usize)
+        ensures order { result.0 ≤ result.1 }
+        ensures few { result.1 ≤ length bssids.now }
+        ensures before { (place : ℕ) → place < result.0
+            → is_in self.now place (slice_index_or bssids.now place []) ≡ false }
+        ensures after { (place : ℕ) → result.1 ≤ place → place < length bssids.now
+            → is_in self.now place (slice_index_or bssids.now place []) ≡ false }
+    {
+        match self {
+            Audience::Nobody => (0, 0),
+            Audience::All => (0, bssids.len()),
+            Audience::Addressed(to) => {
+                let first = first_with(*to, bssids);
+                (first, end_with(*to, bssids).max(first))
+            }
+            Audience::At(named) => {
+                let first = (*named).min(bssids.len());
+                (first, named.saturating_add(1).min(bssids.len()))
+            }
+        }
+    }
+
     /// Whether the network with this place and this BSSID is one of them.
     #[inline(always)]
     fn has(&self, place: usize, bssid: MacAddr) -> bool
@@ -92,22 +117,51 @@ impl Audience {
     }
 }
 
+/// The place of the first network that has an address, or how many there are, where none has it.
+fn first_with(to: MacAddr, bssids: &[MacAddr]) -> usize
+    ensures few { result ≤ length bssids.now }
+    ensures before { (place : ℕ) → place < result → bytes_eq to (slice_index_or bssids.now place []) ≡ false }
+{
+    let mut place = 0;
+    while place < bssids.len() && to != bssids[place] {
+        place += 1;
+    }
+    place
+}
+
+/// The place after the last network that has an address, or 0, where none has it.
+fn end_with(to: MacAddr, bssids: &[MacAddr]) -> usize
+    ensures few { result ≤ length bssids.now }
+    ensures after { (place : ℕ) → result ≤ place → place < length bssids.now
+        → bytes_eq to (slice_index_or bssids.now place []) ≡ false }
+{
+    let mut end = bssids.len();
+    while end > 0 && to != bssids[end - 1] {
+        end -= 1;
+    }
+    end
+}
+
 /// Has each network, in order of place, take the line of a number where it is an event to it, and puts its reply before
-/// the next is asked. One that refuses it doesn't keep the next from it. Each took fewer than 2^62 events before.
+/// the next is asked. One that refuses it doesn't keep the next from it. Each took fewer than 2^62 events before. They
+/// have these addresses, so that no network is looked at which stands before or after all that hear the line.
 pub fn reply_all<W: Sink>(
     face: Face,
+    bssids: &[MacAddr],
     networks: &mut [Network],
     line: &LineEvent<'_>,
     number: u64,
     out: &mut Buffered<'_, W>,
 )
+    requires addresses { bssids.now ≡ map bssid_of networks.old }
     requires countable { AllByRecursion (λ n. n.events < 2 ^ 62) networks.old }
     requires can_write { CanWrite W.failed out.old }
     ensures { HaveReplied (through face (watch W.taken W.failed) out.old out.new)
         (numbered number (line_as line.now.place (event_of line.now.event))) networks.old networks.new }
 {
     let audience = line.audience();
-    for place in 0..networks.len() {
+    let (first, end) = audience.places(bssids);
+    for place in first..end {
         reply_at(
             face,
             &mut networks[place],

@@ -1,11 +1,11 @@
 //! The networks of a configuration, which answer one line or record after another.
 
-ghost use Rattle.std.specs.Prelude.{◌≡◌, ◌+◌, ◌<◌, ◌^◌, ◌∷◌, [], ℕ, None, IfOk, option_map};
+ghost use Rattle.std.specs.Prelude.{◌≡◌, ◌+◌, ◌<◌, ◌^◌, ◌∷◌, [], ℕ, None, IfOk, map, option_map};
 ghost use Rattle.std.specs.List.{AllByRecursion};
 ghost use Rattle.ap_config.specs.Configuration.{fault_of};
 ghost use Rattle.trace.specs.Buffers.{CanWrite, Puts};
 ghost use Rattle.live_answers.specs.Asked.{Asked, asked_in};
-ghost use Rattle.live_answers.specs.Moments.{bssids_at, first_moment};
+ghost use Rattle.live_answers.specs.Moments.{bssid_of, bssids_at, first_moment};
 ghost use Rattle.live.specs.Output.{AreAnswered, through, watch};
 ghost use Rattle.live.specs.PartialLine.{line_in};
 ghost use Rattle.live.specs.Readings.{IsReading};
@@ -106,7 +106,14 @@ impl Networks {
     {
         self.lines += 1;
         let number = self.lines;
-        answer_reading(face, self.networks.as_mut_slice(), reading, number, out);
+        answer_reading(
+            face,
+            self.bssids.as_slice(),
+            self.networks.as_mut_slice(),
+            reading,
+            number,
+            out,
+        );
     }
 
     /// Puts the table of each network, in order of place.
@@ -121,11 +128,13 @@ impl Networks {
 /// Answers what was read of the line or record of a number.
 fn answer_reading<W: Sink>(
     face: Face,
+    bssids: &[MacAddr],
     networks: &mut [Network],
     reading: Reading<'_>,
     number: u64,
     out: &mut Buffered<'_, W>,
 )
+    requires addresses { bssids.now ≡ map bssid_of networks.old }
     requires countable { AllByRecursion (λ n. n.events < 2 ^ 62) networks.old }
     requires can_write { CanWrite W.failed out.old }
     ensures { (lines : ℕ) (said : Asked) → number ≡ lines + 1 → IsReading reading.entry said
@@ -135,8 +144,10 @@ fn answer_reading<W: Sink>(
 {
     match reading {
         Reading::Nothing => {}
-        Reading::Line(line) => reply_all(face, networks, &LineEvent::of(&line), number, out),
-        Reading::Record(event) => reply_all(face, networks, &event, number, out),
+        Reading::Line(line) => {
+            reply_all(face, bssids, networks, &LineEvent::of(&line), number, out)
+        }
+        Reading::Record(event) => reply_all(face, bssids, networks, &event, number, out),
         Reading::Tables => put_tables(face, out, networks),
         Reading::Fault(fault) => put_fault(face, out, fault, number),
         Reading::Unread => put_unread(face, out, number),
