@@ -15,7 +15,7 @@ use crate::face::Face;
 use crate::written::{put_refusal, put_sent};
 use events::{LentEvent, Line};
 use mac_frame::{MacAddr, addressed};
-use network::Network;
+use network::{Network, Spare};
 use trace::{Buffered, Sink};
 
 /// A line or a record as an event of the networks that hear it, whose octets stay where they are.
@@ -144,13 +144,15 @@ fn end_with(to: MacAddr, bssids: &[MacAddr]) -> usize
 
 /// Has each network, in order of place, take the line of a number where it is an event to it, and puts its reply before
 /// the next is asked. One that refuses it doesn't keep the next from it. Each took fewer than 2^62 events before. They
-/// have these addresses, so that no network is looked at which stands before or after all that hear the line.
+/// have these addresses, so that no network is looked at which stands before or after all that hear the line. Frames are
+/// built in spare memory.
 pub fn reply_all<W: Sink>(
     face: Face,
     bssids: &[MacAddr],
     networks: &mut [Network],
     line: &LineEvent<'_>,
     number: u64,
+    spare: &mut Spare,
     out: &mut Buffered<'_, W>,
 )
     requires addresses { bssids.now ≡ map bssid_of networks.old }
@@ -169,6 +171,7 @@ pub fn reply_all<W: Sink>(
             &audience,
             place,
             number,
+            spare,
             out,
         );
     }
@@ -183,6 +186,7 @@ fn reply_at<W: Sink>(
     audience: &Audience,
     place: usize,
     number: u64,
+    spare: &mut Spare,
     out: &mut Buffered<'_, W>,
 )
     requires audience { IsAudience audience.now (line_as line.now.place (event_of line.now.event))
@@ -194,7 +198,7 @@ fn reply_at<W: Sink>(
 {
     let bssid = network.setting().network.bssid;
     if audience.has(place, bssid) {
-        reply(face, network, line.event, number, out);
+        reply(face, network, line.event, number, spare, out);
     }
 }
 
@@ -205,6 +209,7 @@ fn reply<W: Sink>(
     network: &mut Network,
     event: LentEvent<'_>,
     number: u64,
+    spare: &mut Spare,
     out: &mut Buffered<'_, W>,
 )
     requires countable { network.old.events < 2 ^ 62 }
@@ -214,8 +219,11 @@ fn reply<W: Sink>(
         × Puts W.taken W.failed out.old out.new (written_reply face number (bssid_of network.old) reply) }
 {
     let bssid = network.setting().network.bssid;
-    match network.take_lent(event) {
-        Ok(sent) => put_sent(face, out, bssid, &sent),
+    match network.take_lent_in(event, spare) {
+        Ok(sent) => {
+            put_sent(face, out, bssid, &sent);
+            spare.keep(sent);
+        }
         Err(why) => put_refusal(face, out, why, bssid, number),
     }
 }

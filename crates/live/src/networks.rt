@@ -19,7 +19,7 @@ use crate::reading::{Reading, read_line, read_record};
 use crate::written::{put_fault, put_tables, put_unread};
 use ap_config::{RadioConfig, checked_networks};
 use mac_frame::{MacAddr, NoMemory};
-use network::{Network, open_networks};
+use network::{Network, Spare, open_networks};
 use std::alloc::Global;
 use std::marker::Model;
 use trace::{Buffered, Sink, bssids_of};
@@ -31,6 +31,7 @@ pub struct Networks {
     bssids: Vec<MacAddr>,
     networks: Vec<Network>,
     lines: u64,
+    spare: Spare,
 }
 
 impl Model for Networks {
@@ -63,6 +64,7 @@ impl Networks {
             bssids,
             networks: open_networks::<Network>(alloc, channel, interval, networks)?,
             lines: 0,
+            spare: Spare::new(alloc),
         })
     }
 
@@ -112,6 +114,7 @@ impl Networks {
             self.networks.as_mut_slice(),
             reading,
             number,
+            &mut self.spare,
             out,
         );
     }
@@ -132,6 +135,7 @@ fn answer_reading<W: Sink>(
     networks: &mut [Network],
     reading: Reading<'_>,
     number: u64,
+    spare: &mut Spare,
     out: &mut Buffered<'_, W>,
 )
     requires addresses { bssids.now ≡ map bssid_of networks.old }
@@ -145,9 +149,17 @@ fn answer_reading<W: Sink>(
     match reading {
         Reading::Nothing => {}
         Reading::Line(line) => {
-            reply_all(face, bssids, networks, &LineEvent::of(&line), number, out)
+            reply_all(
+                face,
+                bssids,
+                networks,
+                &LineEvent::of(&line),
+                number,
+                spare,
+                out,
+            )
         }
-        Reading::Record(event) => reply_all(face, bssids, networks, &event, number, out),
+        Reading::Record(event) => reply_all(face, bssids, networks, &event, number, spare, out),
         Reading::Tables => put_tables(face, out, networks),
         Reading::Fault(fault) => put_fault(face, out, fault, number),
         Reading::Unread => put_unread(face, out, number),

@@ -14,7 +14,7 @@ use Rattle.association.specs.Joining.{association_response, is_ssid}
 use Rattle.beacon.specs.Beacon.{beacon, dtim_count}
 use Rattle.beacon.specs.ProbeResponse.{probe_response}
 use Rattle.bridge.specs.Ethernet.{Ethernet, ethernet_of}
-use Rattle.bridge.specs.Encapsulation.{on_air, on_wire}
+use Rattle.bridge.specs.Encapsulation.{on_wire}
 use Rattle.aid_pool.specs.LeastFree.{least_free, is_among}
 use Rattle.powersave.specs.Keep.{Entry, is_same, is_for, units_for, without_all, without_oldest}
 use Rattle.powersave.specs.declared.unit.Whom.{Whom}
@@ -22,9 +22,8 @@ use Rattle.powersave.specs.declared.unit.Whom.TheVariants.{One, Group}
 use Rattle.powersave.specs.declared.unit.Unit.{Unit as DataUnit}
 use Rattle.station_state.specs.declared.class.Class.TheVariants.{One as ClassOne, Two as ClassTwo, Three as ClassThree}
 use Rattle.station_state.specs.ClassFault.{class_fault}
-use Rattle.station_state.specs.declared.Standing.{Standing}
 use Rattle.station_state.specs.declared.class.Notice.{Notice}
-use Rattle.stations.specs.Stations.{Table, state_of, standing_with, aid_with, identifier_of, identifiers, is_associated, listen_of, dozes, dozes_with, with_mode, may_associate, next_aid, set_state, authenticate, associate, disassociate, forget, set_mode, is_dozing, aid_of}
+use Rattle.stations.specs.Stations.{Table, state_of, standing_with, aid_with, identifier_of, identifiers, is_associated, listen_of, dozes, dozes_with, with_mode, may_associate, next_aid, set_state, authenticate, associate, disassociate, forget, set_mode, is_dozing}
 use Rattle.stations.specs.KeptUnits.{group_is_kept, has_aid, is_waited_for}
 use Rattle.stations.specs.declared.table.StationState.{StationState}
 use Rattle.stations.specs.declared.table.StationState.TheVariants.{Authenticated, Associated}

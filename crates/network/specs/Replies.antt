@@ -28,6 +28,7 @@ no_reply sequence = record {
   lost = 0;
   unread = 0;
   clock = 0;
+  spare = tt;
 }
 
 -- the units that stay where the poll of a station is served besides, if one is: the first for it leaves (11.2.3.6)

@@ -24,4 +24,4 @@ pub use bss::{Bss, Refusal};
 pub use laws::{first_version, one_step, reachable, sent_frames, steps_append};
 pub use network::{Network, NetworkRefusal, Sent};
 pub use opening::{Open, open_networks};
-pub use reply::Frames;
+pub use reply::{Frames, Spare};

@@ -16,7 +16,7 @@ ghost use Rattle.powersave.specs.Keep.{units_for};
 ghost use Rattle.powersave.specs.declared.unit.Whom.TheVariants as whoms;
 
 use crate::announced_setting::AnnouncedSetting;
-use crate::reply::{Frames, Reply, SEQUENCE_NUMBERS};
+use crate::reply::{Frames, Reply, SEQUENCE_NUMBERS, Spare};
 use crate::shown::row_of;
 use ap_config::{Setting, checked_numbers};
 use beacon::ResponseElements;
@@ -219,12 +219,34 @@ impl Network {
             ↔ ((event_of event.entry ≡ events.Tick) × (self.old.network.clock ≡ 4294967295)) }
         ensures err { OnErr result (self.new ≡ self.old) }
     {
+        self.take_lent_in(event, &mut Spare::new(self.alloc))
+    }
+
+    /// Takes an event as [`Network::take_lent`] does, and builds the first of the frames in spare memory, if there is
+    /// any; that is gone after an error (*profile*).
+    pub fn take_lent_in(
+        &mut self,
+        event: LentEvent<'_>,
+        spare: &mut Spare,
+    ) -> Result<Sent, NetworkRefusal>
+        requires countable { self.old.events < 2 ^ 62 }
+        ensures after { OnOk result (self.new ≡ took_event (event_of event.entry) self.old) }
+        ensures air { IfOk result (λ sent.
+            sent.air ≡ (step self.old.setting self.old.network (event_of event.entry)).air) }
+        ensures wire { IfOk result (λ sent.
+            option_to_list sent.wire ≡ (step self.old.setting self.old.network (event_of event.entry)).wire) }
+        ensures clock { (result ≡ Err NetworkRefusal.Clock)
+            ↔ ((event_of event.entry ≡ events.Tick) × (self.old.network.clock ≡ 4294967295)) }
+        ensures err { OnErr result (self.new ≡ self.old) }
+    {
         if matches!(event, LentEvent::Tick) && self.clock == u32::MAX {
             return Err(NetworkRefusal::Clock);
         }
         let mut reply = self.no_reply();
+        mem::swap(&mut reply.spare, spare);
         let polled = self.reply(&mut reply, event)?;
         self.finish(&mut reply, polled)?;
+        mem::swap(&mut reply.spare, spare);
         // No unit is left in it. With that gone, nothing else is dropped, and what is sent moves out once.
         drop(reply.keeping);
         Ok(Sent {

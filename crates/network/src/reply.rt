@@ -8,11 +8,13 @@ ghost use Rattle.network.specs.Units.{unit_frame};
 ghost use Rattle.powersave.specs.declared.unit.Whom.TheVariants as whoms;
 
 mod frames;
+mod spare;
 mod unit;
 
 pub use frames::Frames;
 use mac_frame::{HEADER_LEN, MacAddr, NoMemory, Octets, write_msdu};
 use powersave::{Unit, Whom};
+pub use spare::Spare;
 use stations::{Change, Keeping, Leaving};
 use std::alloc::Global;
 pub use unit::{Arrival, Body, Delivery};
@@ -39,6 +41,8 @@ pub struct Reply {
     pub unread: u32,
     /// How many beacon intervals begin.
     pub clock: u32,
+    /// The memory in which its first frame is built.
+    pub spare: Spare,
 }
 
 impl Reply {
@@ -55,6 +59,7 @@ impl Reply {
             lost: 0,
             unread: 0,
             clock: 0,
+            spare: Spare::new(alloc),
         }
     }
 
@@ -101,7 +106,7 @@ impl Reply {
         }) }
         ensures err { OnErr result (self.new ≡ self.old) }
     {
-        let mut frame = Octets::new(alloc);
+        let mut frame = self.spare.blank(alloc);
         frame.reserve(HEADER_LEN + unit.body.room())?;
         write_msdu(&mut frame, unit.to, bssid, unit.source, self.sequence, more)?;
         unit.body.append_to(&mut frame)?;

@@ -12,7 +12,7 @@ use crate::frame_log::FrameLog;
 use ap_config::{Setting, checked_numbers};
 use events::Event;
 use mac_frame::{MacAddr, NoMemory};
-use network::{Network, NetworkRefusal, Open, Sent, one_step, reachable};
+use network::{Network, NetworkRefusal, Open, Sent, Spare, one_step, reachable};
 use std::alloc::Global;
 use trace::{
     Buffered, Sink, Totals, put_counts_line, put_end_line, put_network_line, put_station_line,
@@ -47,8 +47,9 @@ impl LoggedNetwork {
         self.network.setting().network.bssid
     }
 
-    /// Takes an event, unless it took as many as its history might have, and keeps the frames that it sends.
-    pub fn take(&mut self, event: &Event) -> Result<(), NoMemory>
+    /// Takes an event, unless it took as many as its history might have, and keeps the frames that it sends, which are
+    /// built in spare memory.
+    pub fn take(&mut self, event: &Event, spare: &mut Spare) -> Result<(), NoMemory>
         ensures { (s : Setting) (es : List Event) → self.old ≡ log_of s es
             → OnOk result (self.new ≡ log_of s (es ++ taken_next s es event.now)) }
     {
@@ -59,25 +60,27 @@ impl LoggedNetwork {
         if self.network.events() >= u64::from(self.network.setting().network.max_events) {
             return Ok(());
         }
-        match self.network.take(event) {
-            Ok(sent) => self.keep(&sent),
+        match self.network.take_lent_in(event.lend(), spare) {
+            Ok(sent) => self.keep(sent, spare),
             Err(NetworkRefusal::NoMemory) => Err(NoMemory),
             // its clock counts more beacon intervals than it may take events
             Err(NetworkRefusal::Clock) => Ok(()),
         }
     }
 
-    /// Keeps the frames that it sent for an event.
-    fn keep(&mut self, sent: &Sent) -> Result<(), NoMemory>
+    /// Keeps the frames that it sent for an event, whose memory is spare then.
+    fn keep(&mut self, sent: Sent, spare: &mut Spare) -> Result<(), NoMemory>
         ensures { OnOk result (self.new ≡ record self.old {
-          air = self.old.air ++ sent.now.air;
-          wire = self.old.wire ++ option_to_list sent.now.wire;
+          air = self.old.air ++ sent.air;
+          wire = self.old.wire ++ option_to_list sent.wire;
         }) }
     {
         let (first, others) = sent.air.parts();
         self.air.push_if(first)?;
         self.air.push_all(others)?;
-        self.wire.push_if(sent.wire.as_ref())
+        self.wire.push_if(sent.wire.as_ref())?;
+        spare.keep(sent);
+        Ok(())
     }
 
     /// Puts its section of a report: its name, its counts, its stations, its frames, and `end`.

@@ -15,7 +15,7 @@ use crate::logged_network::LoggedNetwork;
 use ap_config::{RadioConfig, checked_networks};
 use events::{Event, Line, hears};
 use mac_frame::{MacAddr, NoMemory, Octets};
-use network::open_networks;
+use network::{Spare, open_networks};
 use std::alloc::Global;
 use trace::{Buffered, Failed, ReportFault, Sink};
 
@@ -27,13 +27,14 @@ const PIECE_LEN: usize = 65536;
 #[derive(Drop)]
 pub struct Logs {
     networks: Vec<LoggedNetwork>,
+    spare: Spare,
 }
 
 impl TakeLines for Logs {
     ghost has_taken = { λ c said logs. logs.networks.items ≡ logs_of_lines c said };
 
     fn take_line(&mut self, line: Line) -> Result<(), NoMemory> {
-        take_line(self.networks.as_mut_slice(), line)
+        take_line(self.networks.as_mut_slice(), line, &mut self.spare)
     }
 }
 
@@ -51,7 +52,10 @@ impl Logs {
             networks,
         } = config;
         let networks = open_networks::<LoggedNetwork>(alloc, channel, interval, networks)?;
-        Ok(Logs { networks })
+        Ok(Logs {
+            networks,
+            spare: Spare::new(alloc),
+        })
     }
 
     /// Has the sink take the report of all networks, whole.
@@ -89,35 +93,39 @@ fn write_through<W: Sink>(
 }
 
 /// Has each network that hears a line take it, in order of place. It is lent to them, and nothing of it is copied.
-fn take_line(networks: &mut [LoggedNetwork], line: Line) -> Result<(), NoMemory>
+fn take_line(networks: &mut [LoggedNetwork], line: Line, spare: &mut Spare) -> Result<(), NoMemory>
     ensures { OnOk result (LogsLine line networks.old networks.new) }
 {
     match line {
-        Line::Air(octets) => take_heard(networks, &Event::Air(octets)),
-        Line::Wire { place, octets } => take_wired(networks, place, octets),
-        Line::Tick => take_heard(networks, &Event::Tick),
+        Line::Air(octets) => take_heard(networks, &Event::Air(octets), spare),
+        Line::Wire { place, octets } => take_wired(networks, place, octets, spare),
+        Line::Tick => take_heard(networks, &Event::Tick, spare),
     }
 }
 
 /// Has each network that hears an event take it, in order of place.
-fn take_heard(networks: &mut [LoggedNetwork], event: &Event) -> Result<(), NoMemory>
+fn take_heard(
+    networks: &mut [LoggedNetwork],
+    event: &Event,
+    spare: &mut Spare,
+) -> Result<(), NoMemory>
     ensures { (line : Line) → SaysToEach line event.now → OnOk result (LogsLine line networks.old networks.new) }
 {
     for place in 0..networks.len() {
-        take_at(&mut networks[place], event)?;
+        take_at(&mut networks[place], event, spare)?;
     }
     Ok(())
 }
 
 /// Has a network take an event, if it hears it.
-fn take_at(network: &mut LoggedNetwork, event: &Event) -> Result<(), NoMemory>
+fn take_at(network: &mut LoggedNetwork, event: &Event, spare: &mut Spare) -> Result<(), NoMemory>
     ensures { (s : Setting) (es : List Event) → network.old ≡ log_of s es
         → OnOk result (network.new ≡ log_of s (es ++ heard_next s es event.now)) }
 {
     if !is_heard_by(network.bssid(), event) {
         return Ok(());
     }
-    network.take(event)
+    network.take(event, spare)
 }
 
 /// Whether a network with this address hears an event that comes to all.
@@ -131,11 +139,16 @@ fn is_heard_by(bssid: MacAddr, event: &Event) -> bool
 }
 
 /// Has the network at a place take a frame that came over the wire. Nothing happens where there is no network.
-fn take_wired(networks: &mut [LoggedNetwork], place: usize, octets: Octets) -> Result<(), NoMemory>
+fn take_wired(
+    networks: &mut [LoggedNetwork],
+    place: usize,
+    octets: Octets,
+    spare: &mut Spare,
+) -> Result<(), NoMemory>
     ensures { OnOk result (LogsLine (lines.Wire place octets) networks.old networks.new) }
 {
     if place >= networks.len() {
         return Ok(());
     }
-    networks[place].take(&Event::Wire(octets))
+    networks[place].take(&Event::Wire(octets), spare)
 }

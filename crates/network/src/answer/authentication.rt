@@ -8,7 +8,7 @@ ghost use Rattle.stations.specs.Stations.{state_of};
 use crate::network::Network;
 use crate::reply::Reply;
 use association::{SUCCESS, auth_status, write_auth};
-use mac_frame::{MacAddr, NoMemory, Octets};
+use mac_frame::{MacAddr, NoMemory};
 use stations::{Change, StationState};
 
 impl Network {
@@ -30,7 +30,7 @@ impl Network {
             ≡ after_reply reply.new self.now.network) }
     {
         let status = auth_status(algorithm, step, self.may_be_known(state));
-        let mut frame = Octets::new(self.alloc());
+        let mut frame = reply.spare.blank(self.alloc());
         let bssid = self.setting().network.bssid;
         write_auth(&mut frame, from, bssid, reply.sequence, algorithm, status)?;
         reply.send(frame)?;

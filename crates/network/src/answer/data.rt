@@ -14,7 +14,7 @@ ghost use Rattle.network.specs.Units.{unit, goes_on_wire};
 use crate::network::Network;
 use crate::reply::{Arrival, Body, Reply};
 use bridge::to_wire;
-use mac_frame::{MacAddr, NoMemory, Octets};
+use mac_frame::{MacAddr, NoMemory};
 use powersave::Whom;
 use stations::{Change, StationState, dozes_with, is_associated};
 
@@ -147,7 +147,7 @@ impl Network {
         ensures change { reply.new.change ≡ reply.old.change }
         ensures keeping { reply.new.keeping ≡ reply.old.keeping }
     {
-        let mut frame = Octets::new(self.alloc());
+        let mut frame = reply.spare.blank(self.alloc());
         if to_wire(&mut frame, to, source, body)? {
             reply.wired = Some(frame);
         } else {

@@ -10,7 +10,7 @@ use crate::network::Network;
 use crate::reply::Reply;
 use association::{SUCCESS, assoc_status, write_assoc};
 use elements::Elements;
-use mac_frame::{MacAddr, NoMemory, Octets};
+use mac_frame::{MacAddr, NoMemory};
 use stations::{Change, StationState};
 
 impl Network {
@@ -39,7 +39,7 @@ impl Network {
         let aid = self.stations().next_aid(from, state);
         let status = assoc_status(network.ssid.as_slice(), rates, aid.is_some(), elements);
         let aid = aid.unwrap_or(0);
-        let mut frame = Octets::new(self.alloc());
+        let mut frame = reply.spare.blank(self.alloc());
         let sequence = reply.sequence;
         write_assoc(
             &mut frame,

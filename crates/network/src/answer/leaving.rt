@@ -10,7 +10,7 @@ ghost use Rattle.stations.specs.Stations.{disassociate, forget};
 use crate::network::Network;
 use crate::reply::Reply;
 use association::write_notice;
-use mac_frame::{MacAddr, NoMemory, Octets};
+use mac_frame::{MacAddr, NoMemory};
 use station_state::Notice;
 use stations::Change;
 
@@ -51,7 +51,7 @@ impl Network {
             send (λ sequence. notice_frame from self.now.setting.network.bssid sequence notice) self.now.network
             ≡ after_reply reply.new self.now.network) }
     {
-        let mut frame = Octets::new(self.alloc());
+        let mut frame = reply.spare.blank(self.alloc());
         let bssid = self.setting().network.bssid;
         write_notice(&mut frame, from, bssid, reply.sequence, notice)?;
         reply.send(frame)

@@ -8,7 +8,7 @@ use crate::network::Network;
 use crate::reply::Reply;
 use crate::shown::announcement;
 use beacon::write_response_with;
-use mac_frame::{MacAddr, NoMemory, Octets};
+use mac_frame::{MacAddr, NoMemory};
 
 impl Network {
     /// The reply to a probe: a probe response, where the probe asks for this network.
@@ -29,7 +29,7 @@ impl Network {
         if !asks_for(setting.network.ssid.as_slice(), ssid) {
             return Ok(());
         }
-        let mut frame = Octets::new(self.alloc());
+        let mut frame = reply.spare.blank(self.alloc());
         let advert = announcement(setting, self.clock(), reply.sequence);
         write_response_with(&mut frame, &advert, self.response_elements(), from)?;
         reply.send(frame)

@@ -11,7 +11,7 @@ use crate::reply::Reply;
 use crate::shown::announcement;
 use ap_config::checked_numbers;
 use beacon::{dtim_count, write_beacon};
-use mac_frame::{NoMemory, Octets};
+use mac_frame::NoMemory;
 use powersave::Whom;
 use stations::Leaving;
 use tim::{Bitmap, one_tim};
@@ -75,7 +75,7 @@ impl Network {
         let setting = self.setting();
         let group = self.group_is_kept();
         let advert = announcement(setting, clock, reply.sequence);
-        let mut frame = Octets::new(self.alloc());
+        let mut frame = reply.spare.blank(self.alloc());
         write_beacon(&mut frame, &advert, setting.network.dtim, group, bits)?;
         reply.send(frame)?;
         Ok(())

@@ -71,6 +71,11 @@ impl Frames {
         (self.first.as_ref(), self.others.as_slice())
     }
 
+    /// The first frame, if there is one. The others are gone.
+    pub(crate) fn into_first(self) -> Option<Octets> {
+        self.first
+    }
+
     /// Makes room for the frames, and for one at least, after those that wait, which stay as they are. `NoMemory` where
     /// memory ran out.
     #[inline(always)]

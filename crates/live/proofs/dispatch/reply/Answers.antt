@@ -11,8 +11,8 @@ pub returns-in-Ok : goal.returns-in-Ok
 returns-in-Ok g c =
     let sent = c.in-Ok.sent in (
       Sends sent.air (option_to_list sent.wire),
-      sends-may c.args.network.now (event_of c.args.event) c.take_lent.result sent c.in-Ok.is c.in-Ok.ensures.air c.in-Ok.ensures.wire
-          c.take_lent.ensures.clock,
+      sends-may c.args.network.now (event_of c.args.event) c.take_lent_in.result sent c.in-Ok.is c.in-Ok.ensures.air c.in-Ok.ensures.wire
+          c.take_lent_in.ensures.clock,
       c.in-Ok.ensures.after,
       Puts-same
           (ap
@@ -25,7 +25,7 @@ pub returns-in-Err : goal.returns-in-Err
 returns-in-Err g c =
     let why = c.in-Err.why in (
       Refuses why,
-      refuses-may c.args.network.now (event_of c.args.event) c.take_lent.result why c.in-Err.is c.take_lent.ensures.clock,
+      refuses-may c.args.network.now (event_of c.args.event) c.take_lent_in.result why c.in-Err.is c.take_lent_in.ensures.clock,
       c.in-Err.ensures.err,
       Puts-same
           (ap (λ s. written_reply c.args.face c.args.number s.network.bssid (Refuses why)) c.setting.ensures.setting)

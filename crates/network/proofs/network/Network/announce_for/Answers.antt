@@ -21,7 +21,7 @@ returns-clause-ok c =
     let advert : announced c.announcement-advert.result ≡ announced_at s c.args.clock = c.announcement-advert.ensures.network ∙ ap (λ (t : Setting). announced_at t c.args.clock) c.setting-setting.ensures.setting in
     let written : c.write_beacon.new.out ≡ beacon_frame s c.args.clock n.stations aged.kept r.sequence =
     c.in_ok-write_beacon.ensures.ok
-    ∙ ap (λ (o : List ℕ). o ++ beacon (announced c.announcement-advert.result) c.announcement-advert.result.seq c.setting-setting.result.now.network.dtim c.group_is_kept-group.result members) c.new-frame.ensures
+    ∙ ap (λ (o : List ℕ). o ++ beacon (announced c.announcement-advert.result) c.announcement-advert.result.seq c.setting-setting.result.now.network.dtim c.group_is_kept-group.result members) c.blank-frame.ensures
     ∙ ap (λ (a : Announced). beacon a c.announcement-advert.result.seq c.setting-setting.result.now.network.dtim c.group_is_kept-group.result members) advert
     ∙ ap (λ (q : ℕ). beacon (announced_at s c.args.clock) q c.setting-setting.result.now.network.dtim c.group_is_kept-group.result members) c.announcement-advert.ensures.sequence
     ∙ ap (λ (t : Setting). beacon (announced_at s c.args.clock) r.sequence t.network.dtim c.group_is_kept-group.result members) c.setting-setting.ensures.setting

@@ -1,4 +1,4 @@
-use Rattle.std.proofs.Common.{◌∙◌, Result, Ok, Err, None, sym, ap, subst}
+use Rattle.std.proofs.Common.{◌∙◌, Result, Ok, Err, None, ap, subst}
 use Rattle.std.specs.Prelude.{IfOk}
 use Rattle.bridge.specs.Ethernet.{ethernet_of}
 use Rattle.association.specs.Request.{request_of}

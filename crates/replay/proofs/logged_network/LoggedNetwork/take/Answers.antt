@@ -19,6 +19,7 @@ returns-in-Ok c s es h =
       ap (λ (n : LoggedNetwork). n.network.events) h,
     ) in
     on_ok c.keep.result
-    (log-kept s es c.args.event.now c.args.self.now c.keep.new.self c.take.new.self sent.air (option_to_list sent.wire)
-    h room c.in-Ok.ensures.after c.in-Ok.ensures.air c.in-Ok.ensures.wire)
+    (log-kept s es c.args.event.now c.args.self.now c.keep.new.self c.take_lent_in.new.self sent.air (option_to_list sent.wire)
+    h room (rw c.lend.ensures at c.in-Ok.ensures.after) (rw c.lend.ensures at c.in-Ok.ensures.air)
+    (rw c.lend.ensures at c.in-Ok.ensures.wire))
     c.keep.ensures
