@@ -8,7 +8,8 @@ use std::alloc::Global;
 use std::marker::Model;
 use std::mem;
 
-/// The memory of one frame that was sent, in which the next may be built, or none. Contracts see nothing of it.
+/// The memory of one frame that was sent, in which the next may be built, or none (*profile*). Contracts see nothing of
+/// it.
 #[derive(Debug, Drop)]
 pub struct Spare {
     octets: Octets,
@@ -28,7 +29,8 @@ impl Spare {
         }
     }
 
-    /// Lets go what was sent, and keeps of it the memory of one frame: the first on the air, or that on the wire.
+    /// Lets go what was sent, and keeps of it the memory of one frame: the first on the air, or that on the wire
+    /// (*profile*).
     #[inline(always)]
     pub fn keep(&mut self, sent: Sent) {
         let Sent { air, wire } = sent;
