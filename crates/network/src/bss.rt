@@ -228,6 +228,7 @@ impl Bss {
         if self.history.len() >= self.config().max_events as usize {
             return Err(Refusal::HistoryFull);
         }
+        self.network.look_up_due(matches!(event, Event::Tick));
         let mut reply = self.network.no_reply();
         let polled = self.network.reply(&mut reply, event.lend())?;
         self.history.reserve(1)?;

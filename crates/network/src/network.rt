@@ -239,9 +239,11 @@ impl Network {
             ↔ ((event_of event.entry ≡ events.Tick) × (self.old.network.clock ≡ 4294967295)) }
         ensures err { OnErr result (self.new ≡ self.old) }
     {
-        if matches!(event, LentEvent::Tick) && self.clock == u32::MAX {
+        let begins = matches!(event, LentEvent::Tick);
+        if begins && self.clock == u32::MAX {
             return Err(NetworkRefusal::Clock);
         }
+        self.look_up_due(begins);
         let mut reply = self.no_reply();
         mem::swap(&mut reply.spare, spare);
         let polled = self.reply(&mut reply, event)?;
@@ -253,6 +255,16 @@ impl Network {
             air: reply.frames,
             wire: reply.wired,
         })
+    }
+
+    /// Where units age, looks up whose may be too old before a beacon interval begins, so that the reply to it, and what
+    /// carries it out, find those alone whose are.
+    pub(crate) fn look_up_due(&mut self, begins: bool)
+        ensures { self.new ≡ self.old }
+    {
+        if begins && self.setting.get().network.aging {
+            self.roster.look_up_due(self.clock);
+        }
     }
 
     /// Fills in what it does about an event, which can be carried out, and answers whose poll is to be served besides,

@@ -10,7 +10,7 @@ use Rattle.powersave.specs.declared.unit.Oldest.{Oldest}
 use Rattle.powersave.specs.declared.unit.Whom.{Whom}
 use Rattle.powersave.specs.declared.unit.Whom.TheVariants.{One, Group}
 use Rattle.powersave.specs.declared.unit.Unit.{Unit as DataUnit}
-use Rattle.stations.specs.Roster.{limit_for, stays}
+use Rattle.stations.specs.Roster.{AreAmong, limit_for, stays}
 use Rattle.stations.specs.Sound.{CameBy}
 use Rattle.stations.specs.Stations.{Table, state_of, listen_with}
 use Rattle.stations.specs.KeptUnits.{is_too_old_for, is_too_old}
@@ -100,11 +100,7 @@ module _ (clock : ℕ) (t : Table) where
 
   -- ---- those that are too old are among some
 
-  -- whoever one that is too old is kept for is among these, with a clock that is no later
-  abbrev pub AreAmong : List Oldest → List Entry → Type 0
-  AreAmong os es = AllByRecursion (λ e. old e ≡ true → IsSomeAnd (oldest_at e.0 os) (λ at. at ≤ e.1.at)) es
-
-  abbrev FirstOf : List Entry → Entry → Type 0
+  abbrev pub FirstOf : List Entry → Entry → Type 0
   FirstOf es e = IsSomeAnd (first_clock (units_for e.0 es)) (λ at. at ≤ e.1.at)
 
   -- the first for the same one came no later
@@ -116,19 +112,19 @@ module _ (clock : ℕ) (t : Table) where
       by true le some = le
       by false le some = some
 
-  firsts : (es : List Entry) → CameBy clock es → AllByRecursion (FirstOf es) es
+  pub firsts : (es : List Entry) → CameBy clock es → AllByRecursion (FirstOf es) es
   firsts [] came = tt
   firsts (e ∷ es) came = (rw (itself e.0) (omega arith), one-more e es es came.1 (firsts es came.2))
 
-  pub among-all : (os : List Oldest) (es : List Entry) → AreOldest os es → CameBy clock es → AreAmong os es
+  pub among-all : (os : List Oldest) (es : List Entry) → AreOldest os es → CameBy clock es → AreAmong clock t os es
   among-all os es told came = by es (firsts es came)
     where
-      by : (fs : List Entry) → AllByRecursion (FirstOf es) fs → AreAmong os fs
+      by : (fs : List Entry) → AllByRecursion (FirstOf es) fs → AreAmong clock t os fs
       by [] first = tt
       by (f ∷ fs) first = ((λ is. subst (λ (o : Option ℕ). IsSomeAnd o (λ at. at ≤ f.1.at)) (sym (told f.0)) first.0), by fs first.1)
 
   -- once those for one have left, the others are among the rest
-  pub among-aged : (o : Oldest) (os : List Oldest) (es : List Entry) → AreAmong (o ∷ os) es → AreAmong os (gone o.whom es)
+  pub among-aged : (o : Oldest) (os : List Oldest) (es : List Entry) → AreAmong clock t (o ∷ os) es → AreAmong clock t os (gone o.whom es)
   among-aged o os [] among = tt
   among-aged o os (e ∷ es) among = by (leaves o.whom e) refl (among-aged o os es among.1)
     where
@@ -138,12 +134,12 @@ module _ (clock : ℕ) (t : Table) where
           absurd (true≢false (sym (older-is o.whom e ∙ ap (λ b. b && old e) for_it ∙ is) ∙ stays))
       other stays is false apart some = some
 
-      by : (d : Bool) → leaves o.whom e ≡ d → AreAmong os (gone o.whom es) → AreAmong os (cond (not d) (e ∷ gone o.whom es) (gone o.whom es))
+      by : (d : Bool) → leaves o.whom e ≡ d → AreAmong clock t os (gone o.whom es) → AreAmong clock t os (cond (not d) (e ∷ gone o.whom es) (gone o.whom es))
       by true leave rest = rest
       by false stays rest = ((λ is. other stays is (is_same o.whom e.0) refl (among.0 is)), rest)
 
   -- one whose first unit came no earlier than its limit has none that is too old
-  pub among-young : (o : Oldest) (os : List Oldest) (es : List Entry) → limit_for clock t o.whom ≤ o.at → AreAmong (o ∷ os) es → AreAmong os es
+  pub among-young : (o : Oldest) (os : List Oldest) (es : List Entry) → limit_for clock t o.whom ≤ o.at → AreAmong clock t (o ∷ os) es → AreAmong clock t os es
   among-young o os [] young among = tt
   among-young o os (e ∷ es) young among = ((λ is. by is (is_same o.whom e.0) refl (among.0 is)), among-young o os es young among.1)
     where
@@ -155,7 +151,7 @@ module _ (clock : ℕ) (t : Table) where
       by is false apart some = some
 
   -- where none is left, none is too old
-  pub none-among : (es : List Entry) → AreAmong [] es → (filter (λ e. not (old e)) es ≡ es) × (filter old es ≡ [])
+  pub none-among : (es : List Entry) → AreAmong clock t [] es → (filter (λ e. not (old e)) es ≡ es) × (filter old es ≡ [])
   none-among [] among = (refl, refl)
   none-among (e ∷ es) among =
       let rest = none-among es among.1 in

@@ -1,5 +1,5 @@
 -- Who has units waiting: one station, and the others.
-use Rattle.std.proofs.Common.{◌≡◌, ◌≢◌, ℕ, Bool, true, false, not, ◌||◌, ◌&&◌, List, [], ◌∷◌, ◌++◌, length, Option, Some, None, Result, Ok, Err, OnOk, OnErr, IfSome, is_some, refl, sym, ap, subst, ◌∙◌}
+use Rattle.std.proofs.Common.{◌≡◌, ◌≢◌, ℕ, Bool, true, false, not, ◌||◌, ◌&&◌, List, [], ◌∷◌, ◌++◌, length, Option, Some, None, IfSome, is_some, refl, sym, ap, subst, ◌∙◌}
 use Rattle.std.specs.Prelude.{◌==◌, nat_lt, nat_eq}
 use Rattle.std.specs.FinSet as set
 use Rattle.std.specs.Str.{bytes_eq}
@@ -12,16 +12,16 @@ use Rattle.powersave.specs.Keep.{Entry, units_for}
 use Rattle.powersave.specs.declared.unit.Whom.{Whom}
 use Rattle.powersave.specs.declared.unit.Whom.TheVariants.{One, Group}
 use Rattle.stations.specs.Keeping.{aid_for}
-use Rattle.stations.specs.Roster.{RosterState, IsRoster, AreWaitedFor, StayBeside, is_number, renumbered}
+use Rattle.stations.specs.Roster.{AreWaitedFor, StayBeside, is_number, renumbered}
 use Rattle.stations.specs.Sound.{AreApart}
-use Rattle.stations.specs.Stations.{Table, StationTable, with_table, IsAllowed, state_of, aid_of, aid_with, identifiers, identifier_of, AreIdentifiers, set_state, forget, disassociate, set_mode, with_mode, changed}
+use Rattle.stations.specs.Stations.{Table, state_of, aid_of, aid_with, identifiers, identifier_of, AreIdentifiers, set_state, forget, disassociate, set_mode, with_mode, changed}
 use Rattle.stations.specs.KeptUnits.{has_aid, has_unit, is_waited_for}
 use Rattle.stations.specs.declared.table.Change.{Change}
 use Rattle.stations.specs.declared.table.Change.TheVariants as changes
 use Rattle.stations.specs.declared.table.StationState.{StationState}
 use Rattle.stations.specs.declared.table.StationState.TheVariants.{Authenticated, Associated}
 use Rattle.stations.proofs.StationTables.{Numbers, eqb-flip, neither, numbers-of_associated, range-of_associated, without, forget-unknown}
-use Rattle.stations.proofs.StationsSound.{not-here, changed-sound}
+use Rattle.stations.proofs.StationsSound.{not-here}
 use Rattle.stations.proofs.UnitsKept.{some-for}
 
 -- ---- truth values
@@ -86,7 +86,7 @@ not-waited (e ∷ t) kept n h = by e.1 h (not-waited t kept n)
         rw other (later both.1)
 
 -- the identifier of a station is no other's
-rest-none : (addr : List ℕ) (t : Table) (kept : List Entry) (aid : ℕ) → aid_of addr t ≡ Some aid → AreIdentifiers (identifiers t) → is_waited_for (forget addr t) kept aid ≡ false
+pub rest-none : (addr : List ℕ) (t : Table) (kept : List Entry) (aid : ℕ) → aid_of addr t ≡ Some aid → AreIdentifiers (identifiers t) → is_waited_for (forget addr t) kept aid ≡ false
 rest-none addr t kept aid h sound =
     let n = numbers-of_associated addr t aid h in
     let parts = without n.0 n.1 aid (subst AreIdentifiers n.2 sound) in
@@ -220,51 +220,3 @@ waited-renumbered_not (changes.Associate a listen) t kept n is = absurd (cc)
 waited-renumbered_not (changes.Disassociate a) t kept n is = absurd (cc)
 waited-renumbered_not (changes.Forget a) t kept n is = absurd (cc)
 waited-renumbered_not (changes.SetMode a doze) t kept n is = waited-moded a doze t kept n
-
--- ---- the stations with their units, after a change of one
-
-pub roster-renumbered_not : {A E : Type 0} (result : Result A E) (numbers : Numbers) (r : RosterState) (change : Change) (s : StationTable) → renumbered change ≡ None → IsAllowed r.stations.most change r.stations.table → IsRoster numbers r
-    → OnOk result (s ≡ with_table r.stations (changed change r.stations.table)) → OnErr result (s ≡ r.stations) → IsRoster numbers (record { stations = s; kept = r.kept })
-roster-renumbered_not (Ok value) numbers r change s not_renumbered allowed h is refused = rw is (record {
-  limit = h.limit;
-  sound = changed-sound r.stations.most change r.stations.table h.limit allowed h.sound;
-  traffic = λ n aid. h.traffic n aid ∙ sym (waited-renumbered_not change r.stations.table r.kept.entries n not_renumbered);
-})
-roster-renumbered_not (Err fault) numbers r change s not_renumbered allowed h is refused = rw refused (record { limit = h.limit; sound = h.sound; traffic = h.traffic })
-
--- one that no units are kept for isn't waited for, whatever its identifier becomes
-waited-unkept : (change : Change) (addr : List ℕ) (t : Table) (kept : List Entry) (n : ℕ) → renumbered change ≡ Some addr → AreApart t → has_unit addr kept ≡ false
-    → is_waited_for (changed change t) kept n ≡ is_waited_for t kept n
-waited-unkept change addr t kept n is apart none =
-    waited-parted addr (changed change t) kept n
-    ∙ ap (λ b. (b && is_number (aid_of addr (changed change t)) n) || is_waited_for (forget addr (changed change t)) kept n) none
-    ∙ ap (λ (u : Table). is_waited_for u kept n) (forgotten-changed change addr t is apart)
-    ∙ ap (λ b. (b && is_number (aid_of addr t) n) || is_waited_for (forget addr t) kept n) (sym none)
-    ∙ sym (waited-parted addr t kept n)
-
-pub roster-unkept : {A E : Type 0} (result : Result A E) (numbers : Numbers) (r : RosterState) (change : Change) (addr : List ℕ) (s : StationTable) → renumbered change ≡ Some addr → IsAllowed r.stations.most change r.stations.table → IsRoster numbers r
-    → false ≡ nat_lt 0 (length (units_for (One addr) r.kept.entries)) → OnOk result (s ≡ with_table r.stations (changed change r.stations.table)) → OnErr result (s ≡ r.stations)
-    → IsRoster numbers (record { stations = s; kept = r.kept })
-roster-unkept (Ok value) numbers r change addr s renumbers allowed h none is refused = rw is (record {
-  limit = h.limit;
-  sound = changed-sound r.stations.most change r.stations.table h.limit allowed h.sound;
-  traffic =
-      λ n aid. h.traffic n aid ∙ sym (waited-unkept change addr r.stations.table r.kept.entries n renumbers h.sound.addresses (some-for (One addr) r.kept.entries ∙ sym none));
-})
-roster-unkept (Err fault) numbers r change addr s renumbers allowed h none is refused = rw refused (record { limit = h.limit; sound = h.sound; traffic = h.traffic })
-
-pub roster-renumbered : (numbers new : Numbers) (r : RosterState) (change : Change) (addr : List ℕ) (s : StationTable) (before after : Option ℕ) (waits : Bool) → renumbered change ≡ Some addr → IsAllowed r.stations.most change r.stations.table → IsRoster numbers r
-    → s ≡ with_table r.stations (changed change r.stations.table) → before ≡ aid_of addr r.stations.table → after ≡ aid_of addr s.table → waits ≡ nat_lt 0 (length (units_for (One addr) r.kept.entries))
-    → AreShown before after waits numbers new → IsRoster new (record { stations = s; kept = r.kept })
-roster-renumbered numbers new r change addr s before after waits is allowed h same had has some now =
-    let t : Table = r.stations.table in
-    let u : Table = changed change t in
-    let has_after : after ≡ aid_of addr u = has ∙ ap (λ (k : StationTable). aid_of addr k.table) same in
-    let shown : AreShown (aid_of addr t) (aid_of addr u) waits numbers new = subst (λ (o : Option ℕ). AreShown o (aid_of addr u) waits numbers new) had (subst (λ (o : Option ℕ). AreShown before o waits numbers new) has_after now) in
-    rw same (record {
-      limit = h.limit;
-      sound = changed-sound r.stations.most change t h.limit allowed h.sound;
-      traffic =
-          waited-one addr t u r.kept.entries r.kept.entries numbers new waits h.sound.aids
-          (λ n. ap (λ (v : Table). is_waited_for v r.kept.entries n) (forgotten-changed change addr t is h.sound.addresses)) some shown h.traffic;
-    })

@@ -5,3 +5,4 @@ pub mod Sound
 pub mod Slots
 pub mod Keeping
 pub mod Roster
+pub mod AgingClocks

@@ -4,12 +4,16 @@ use Rattle.std.specs.Prelude.{ℕ, ◌-◌, ◌≤◌, ◌≡◌, ◌≢◌, ◌
 use Rattle.std.specs.Prelude.{Some, None}
 use Rattle.std.specs.FinSet as set
 use Rattle.std.specs.Ordering.{nat_cmp}
-use Rattle.powersave.specs.Keep.{Entry, Kept, units_for, AreOldest}
+use Rattle.std.specs.List.{AllByRecursion}
+use Rattle.std.specs.Option.{IsSomeAnd}
+use Rattle.powersave.specs.Keep.{Entry, Kept, units_for, oldest_at}
 use Rattle.powersave.specs.declared.unit.Oldest.{Oldest}
 use Rattle.powersave.specs.declared.unit.Whom.{Whom}
 use Rattle.powersave.specs.declared.unit.Whom.TheVariants.{One, Group}
 use Rattle.powersave.specs.declared.unit.Unit.{Unit as DataUnit}
 use Rattle.tim.specs.Tim.{SameNumbers}
+use Rattle.stations.specs.AgingClocks.{HaveClocks}
+use Rattle.stations.specs.declared.aging_clocks.AgingClock.{AgingClock}
 use Rattle.stations.specs.Sound.{AreSound}
 use Rattle.stations.specs.Stations.{Table, StationTable, state_of, listen_with}
 use Rattle.stations.specs.KeptUnits.{is_waited_for, is_too_old}
@@ -32,12 +36,14 @@ empty_roster most quota = record {
 abbrev pub AreWaitedFor : set.FinSet nat_cmp → Table → List Entry → Type 0
 AreWaitedFor numbers table kept = SameNumbers (set.contains numbers) (is_waited_for table kept)
 
--- what is kept of the identifiers beside the stations and the units
-pub record IsRoster (numbers : set.FinSet nat_cmp) (r : RosterState) : Type 0 where
+-- what is kept of the identifiers, and of the clocks where they are complete, beside the stations and the units
+pub record IsRoster (numbers : set.FinSet nat_cmp) (complete : Bool) (clocks : List AgingClock) (aids : List ℕ)
+    (r : RosterState) : Type 0 where
   -- association identifiers (IEEE Std 802.11-2016, 9.4.1.8)
   pub limit : r.stations.most ≤ 2007
   pub sound : AreSound r.stations.most r.stations.table
   pub traffic : AreWaitedFor numbers r.stations.table r.kept.entries
+  pub aging : complete ≡ true → HaveClocks clocks aids r.stations.table r.kept.entries
 
 -- a number is this one, if there is one
 abbrev pub is_number : Option ℕ → ℕ → Bool
@@ -70,10 +76,15 @@ Follows stations whom waits old new =
 abbrev pub is_aged : Bool → ℕ → Table → Entry → Bool
 is_aged ages clock table entry = ages && is_too_old clock table entry
 
--- where units age, those for whom units are kept are told, and else none
-abbrev pub AgesBy : Bool → Option (List Oldest) → List Entry → Type 0
-AgesBy ages None kept = ages ≡ false
-AgesBy ages (Some oldest) kept = (ages ≡ true) × AreOldest oldest kept
+-- whoever one that is too old is kept for is among these, with a clock that is no later
+abbrev pub AreAmong : ℕ → Table → List Oldest → List Entry → Type 0
+AreAmong clock table oldest kept = AllByRecursion (λ entry. is_too_old clock table entry ≡ true
+    → IsSomeAnd (oldest_at entry.0 oldest) (λ at. at ≤ entry.1.at)) kept
+
+-- where units age, those are told for whom one may be too old, and else none
+abbrev pub AgesBy : Bool → ℕ → Table → Option (List Oldest) → List Entry → Type 0
+AgesBy ages clock table None kept = ages ≡ false
+AgesBy ages clock table (Some oldest) kept = (ages ≡ true) × AreAmong clock table oldest kept
 
 -- those for one that came before this clock
 abbrev pub limit_for : ℕ → Table → Whom → ℕ

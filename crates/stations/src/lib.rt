@@ -8,6 +8,7 @@
 #![tactic(auto)]
 
 mod address_key;
+mod aging_clocks;
 mod keeping;
 mod list;
 mod order;

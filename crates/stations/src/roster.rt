@@ -13,6 +13,7 @@ ghost use Rattle.stations.specs.Stations.{with_table, changed, IsAllowed, IsMode
 
 mod aging;
 
+use crate::aging_clocks::AgingClocks;
 use crate::keeping::{Arriving, Keeping, Leaving};
 use crate::table::{Change, Stations};
 use mac_frame::{MAX_AID, MacAddr, NoMemory, Octets};
@@ -21,14 +22,16 @@ use std::alloc::Global;
 use std::marker::Model;
 use tim::Bitmap;
 
-/// The stations of a network, the units that it keeps, and the association identifiers of the stations that units are
-/// kept for, so that no beacon walks over the stations (11.2.3.3). Contracts see the stations and the units.
+/// The stations of a network, the units that it keeps, the association identifiers of the stations that units are kept
+/// for, so that no beacon walks over the stations (11.2.3.3), and up to which clock none of these units is too old.
+/// Contracts see the stations and the units.
 #[derive(Drop)]
 pub struct Roster {
     stations: Stations,
     kept: Keep,
     // the identifiers of the stations that units are kept for
     traffic: Bitmap,
+    clocks: AgingClocks,
 }
 
 impl Model for Roster {
@@ -38,7 +41,8 @@ impl Model for Roster {
 
     ghost view = { λ r. record { stations = r.stations; kept = r.kept } };
 
-    ghost invariant = { λ r. IsRoster r.traffic (record { stations = r.stations; kept = r.kept }) };
+    ghost invariant = { λ r. IsRoster r.traffic r.clocks.complete r.clocks.clocks.items r.clocks.aids.items
+        (record { stations = r.stations; kept = r.kept }) };
 }
 
 impl Roster {
@@ -53,6 +57,7 @@ impl Roster {
             stations: Stations::new(alloc, most),
             kept: Keep::new(alloc, quota),
             traffic: Bitmap::new(),
+            clocks: AgingClocks::new(alloc),
         }
     }
 
@@ -97,6 +102,7 @@ impl Roster {
         let before = self.stations.aid_of(addr);
         self.stations.change(change)?;
         let after = self.stations.aid_of(addr);
+        self.clocks.lose_one();
         show(&mut self.traffic, before, after, waits);
         Ok(())
     }
@@ -133,7 +139,7 @@ impl Roster {
             if is_settled(&change, &leaving, ages) {
                 return Ok(0);
             }
-            let oldest = self.oldest_if(ages)?;
+            let oldest = self.oldest_if(ages, clock)?;
             self.change(change)?;
             let dropped = self.age_if(ages, &oldest, clock);
             self.leave(&leaving);
@@ -271,7 +277,9 @@ impl Roster {
         // the units for the others stay
         parts_stay();
         let Arriving { whom, aid, unit } = arriving;
+        let at = unit.at;
         self.kept.put(whom, unit)?;
+        self.clocks.arrive(&self.traffic, &whom, aid, at);
         set_bit(&mut self.traffic, aid);
         Ok(())
     }

@@ -1,8 +1,8 @@
 //! Units that are too old for the station that they are kept for (*profile*).
 
 ghost use Rattle.std.specs.Prelude.{◌≡◌, ◌<◌, ◌≤◌, ◌^◌, ◌&&◌, filter, length, nat_lt, not, option_map, IfOk};
-ghost use Rattle.powersave.specs.Keep.{units_for, is_older, without_older, room_beside, CameInOrder, AreOldest};
-ghost use Rattle.stations.specs.Roster.{AreWaitedFor, Follows, AgesBy, limit_for, stays};
+ghost use Rattle.powersave.specs.Keep.{units_for, is_older, without_older, room_beside, CameInOrder};
+ghost use Rattle.stations.specs.Roster.{AreWaitedFor, AreAmong, Follows, AgesBy, limit_for, stays};
 ghost use Rattle.stations.specs.Sound.{CameBy};
 ghost use Rattle.stations.specs.KeptUnits.{is_too_old};
 
@@ -13,14 +13,49 @@ use powersave::{Oldest, Whom, parts_stay};
 use tim::Bitmap;
 
 impl Roster {
-    /// Where units age, those for whom units are kept, with the clock at which the oldest of them came. `NoMemory`
-    /// where memory ran out.
-    pub(crate) fn oldest_if(&self, ages: bool) -> Result<Option<Vec<Oldest>>, NoMemory>
-        ensures { IfOk result (λ oldest.
-            AgesBy ages (option_map (λ v. v.items) oldest) self.now.kept.entries) }
+    /// Looks up the stations of which a unit may be too old at this clock, and notes from which clock on one may be the
+    /// next time. What asks for this clock looks up those alone then of which a unit is too old. Contracts see no
+    /// change (*profile*).
+    #[inline(never)]
+    pub fn look_up_due(&mut self, clock: u32)
+        requires { CameBy clock self.old.kept.entries }
+        ensures { self.new ≡ self.old }
+    {
+        if self.kept.is_empty() {
+            return;
+        }
+        if self.clocks.are_complete() {
+            self.clocks
+                .look_up_due(&self.stations, &self.kept, &self.traffic, clock);
+            return;
+        }
+        // where memory runs out, all are looked up by what asks
+        if let Ok(oldest) = self.kept.oldest_of_each() {
+            self.clocks.list(&self.stations, oldest.as_slice());
+        }
+    }
+
+    /// Those of whom a unit may be too old at this clock, each with a clock that none of its units came before.
+    /// `NoMemory` where memory ran out.
+    fn due(&self, clock: u32) -> Result<Vec<Oldest>, NoMemory>
+        requires { CameBy clock self.now.kept.entries }
+        ensures { IfOk result (λ due. AreAmong clock self.now.stations.table due.items self.now.kept.entries) }
+    {
+        if self.clocks.are_complete() && !self.kept.is_empty() {
+            self.clocks.due(clock)
+        } else {
+            Ok(self.kept.oldest_of_each()?)
+        }
+    }
+
+    /// Where units age, those of whom one may be too old at this clock. `NoMemory` where memory ran out.
+    pub(crate) fn oldest_if(&self, ages: bool, clock: u32) -> Result<Option<Vec<Oldest>>, NoMemory>
+        requires { CameBy clock self.now.kept.entries }
+        ensures { IfOk result (λ oldest. AgesBy ages clock self.now.stations.table
+            (option_map (λ v. v.items) oldest) self.now.kept.entries) }
     {
         if ages {
-            Ok(Some(self.kept.oldest_of_each()?))
+            Ok(Some(self.due(clock)?))
         } else {
             Ok(None)
         }
@@ -28,7 +63,8 @@ impl Roster {
 
     /// Does as [`Roster::age`] where units age, and else nothing. `oldest` are those that [`Roster::oldest_if`] told.
     pub(crate) fn age_if(&mut self, ages: bool, oldest: &Option<Vec<Oldest>>, clock: u32) -> u32
-        requires oldest { AgesBy ages (option_map (λ v. v.items) oldest.now) self.old.kept.entries }
+        requires oldest { AgesBy ages clock self.old.stations.table (option_map (λ v. v.items) oldest.now)
+            self.old.kept.entries }
         requires came { CameBy clock self.old.kept.entries }
         requires countable { length self.old.kept.entries < 2 ^ 32 }
         ensures count { result
@@ -47,10 +83,10 @@ impl Roster {
 
     /// Takes out each unit that is too old at this clock, which counts the beacon intervals that began: more began
     /// since it came than the listen interval of the station that it is kept for (IEEE Std 802.11-2016, 9.4.1.6).
-    /// Answers how many units these were. `oldest` tells those for whom units are kept: the units of one are only
-    /// looked for where the oldest of them is too old. It takes no memory.
+    /// Answers how many units these were. `oldest` tells those of whom a unit may be too old: the units of one are only
+    /// looked for where that may be by its clock. It takes no memory.
     fn age(&mut self, oldest: &[Oldest], clock: u32) -> u32
-        requires oldest { AreOldest oldest.now self.old.kept.entries }
+        requires oldest { AreAmong clock self.old.stations.table oldest.now self.old.kept.entries }
         requires came { CameBy clock self.old.kept.entries }
         requires countable { length self.old.kept.entries < 2 ^ 32 }
         ensures count { result
@@ -120,15 +156,15 @@ impl Roster {
         ensures { IfOk result (λ bits. AreWaitedFor bits self.now.stations.table
             (filter (λ entry. not (is_too_old clock self.now.stations.table entry)) self.now.kept.entries)) }
     {
-        let oldest = self.kept.oldest_of_each()?;
+        let due = self.due(clock)?;
         let mut bits = self.traffic().copy();
-        self.show_each(&mut bits, oldest.as_slice(), clock);
+        self.show_each(&mut bits, due.as_slice(), clock);
         Ok(bits)
     }
 
     /// Shows in a bitmap, which has those that units are kept for, for whom units stay at this clock.
     fn show_each(&self, bits: &mut Bitmap, oldest: &[Oldest], clock: u32)
-        requires oldest { AreOldest oldest.now self.now.kept.entries }
+        requires oldest { AreAmong clock self.now.stations.table oldest.now self.now.kept.entries }
         requires came { CameBy clock self.now.kept.entries }
         requires bits { AreWaitedFor bits.old self.now.stations.table self.now.kept.entries }
         ensures { AreWaitedFor bits.new self.now.stations.table

@@ -5,12 +5,12 @@ use Rattle.std.proofs.lemmas.List.{drop_more, drop_all}
 use Rattle.powersave.specs.Keep.{Entry, is_older, without_older, room_beside}
 use Rattle.powersave.specs.declared.unit.Oldest.{Oldest}
 use Rattle.powersave.specs.declared.unit.Whom.{Whom}
-use Rattle.stations.specs.Roster.{RosterState, limit_for}
+use Rattle.stations.specs.Roster.{RosterState, AreAmong, limit_for}
 use Rattle.stations.specs.Sound.{CameBy}
 use Rattle.stations.specs.Stations.{Table, StationTable}
 use Rattle.stations.specs.KeptUnits.{is_too_old}
 use Rattle.stations.proofs.Aging.{came-filtered, in-order}
-use Rattle.stations.proofs.RosterAging.{AreAmong, left-young, left-count, among-all, among-aged, among-young, none-among}
+use Rattle.stations.proofs.RosterAging.{left-young, left-count, among-aged, among-young, none-among}
 use Rattle.stations.proofs.UnitsKept.{length-filtered}
 use Rattle.stations.proofs.roster.Roster.age.Goals as goal
 
@@ -77,7 +77,7 @@ pub loop-one-init : goal.loop-one-init
 loop-one-init c = record {
   left = refl;
   count = omega arith;
-  among = among-all c.args.clock c.args.self.now.stations.table c.args.oldest.now c.args.self.now.kept.entries c.requires.oldest c.requires.came;
+  among = c.requires.oldest;
   came = c.requires.came;
   stations = refl;
   quota = refl;

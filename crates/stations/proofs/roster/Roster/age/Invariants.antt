@@ -2,7 +2,7 @@ use Rattle.std.proofs.Common.{◌≡◌, ◌+◌, not, length, drop}
 use Rattle.std.specs.Prelude.{filter}
 use Rattle.stations.specs.Sound.{CameBy}
 use Rattle.stations.specs.KeptUnits.{is_too_old}
-use Rattle.stations.proofs.RosterAging.{AreAmong}
+use Rattle.stations.specs.Roster.{AreAmong}
 use Rattle.stations.proofs.roster.Roster.age.Given as goal
 
 -- those that are too old and still kept are kept for some of those to come

@@ -1,6 +1,8 @@
 use Rattle.std.proofs.Common.{◌≡◌, List, length, not, sym, ap, arith}
 use Rattle.std.specs.Prelude.{nat_lt}
 use Rattle.powersave.specs.Keep.{Entry, Kept, is_for, without_all}
+use Rattle.stations.specs.AgingClocks.{HasClock}
+use Rattle.stations.proofs.ClocksKept.{each-filtered}
 use Rattle.stations.proofs.UnitsLeft.{all-pass}
 use Rattle.stations.proofs.roster.Roster.drop_for.Goals as goal
 
@@ -13,6 +15,7 @@ invariant_of-self c =
       traffic =
           c.follow.ensures c.self.invariant.sound es (without_all c.args.whom.now es) (λ other apart. c.parts_stay.ensures.others_dropped c.args.whom.now other es apart)
           (sym (ap (λ us. nat_lt 0 (length us)) (c.parts_stay.ensures.dropped c.args.whom.now es))) c.self.invariant.traffic;
+      aging = λ all. each-filtered (λ e. HasClock c.self.inside.clocks.clocks.items c.self.inside.clocks.aids.items c.self.inside.stations.table e.0 e.1.at) (λ entry. not (is_for c.args.whom.now entry)) es (c.self.invariant.aging all);
     })
 
 pub invariant_of-self-else-len-before : goal.invariant_of-self-else-len-before
@@ -28,4 +31,5 @@ invariant_of-self-else-len-before c =
       limit = c.self.invariant.limit;
       sound = c.self.invariant.sound;
       traffic = c.self.invariant.traffic;
+      aging = c.self.invariant.aging;
     })

@@ -7,4 +7,5 @@ invariant_of-result c = rw (c.new.ensures, c.new-2.ensures, c.new-3.ensures) (re
   limit = c.requires.few;
   sound = record { addresses = tt; aids = tt; associated = omega arith };
   traffic = λ n aid. contains-empty nat_cmp n;
+  aging = λ all. tt;
 })

@@ -1,10 +1,12 @@
 use Rattle.std.proofs.Common.{◌≡◌, ◌∙◌, ℕ, Bool, false, List, [], ◌∷◌, length, drop, Option, Some, None, refl, sym, ap, subst, arith}
 use Rattle.std.specs.Prelude.{nat_lt}
 use Rattle.std.proofs.lemmas.Bool.{lt-ltb}
-use Rattle.powersave.specs.Keep.{Entry, units_for, without_oldest, first_frame, others_follow}
+use Rattle.powersave.specs.Keep.{Entry, is_for, units_for, without_oldest, first_frame, others_follow}
 use Rattle.powersave.specs.declared.unit.Unit.{Unit as DataUnit}
 use Rattle.powersave.specs.declared.unit.Whom.TheVariants.{One}
+use Rattle.stations.specs.AgingClocks.{HasClock, HaveClocks}
 use Rattle.stations.specs.Roster.{AreWaitedFor}
+use Rattle.stations.proofs.ClocksKept.{each-without_first}
 use Rattle.stations.proofs.roster.Roster.send_oldest.Goals as goal
 
 abbrev told : Option (List ℕ × Bool) → Bool
@@ -25,6 +27,7 @@ invariant_of-self-in_default c = record {
   limit = c.self.invariant.limit;
   sound = c.self.invariant.sound;
   traffic = subst (AreWaitedFor c.self.inside.traffic c.self.inside.stations.table) (sym (c.in_ok-sent.ensures.none c.in_default.is)) c.self.invariant.traffic;
+  aging = λ all. subst (HaveClocks c.self.inside.clocks.clocks.items c.self.inside.clocks.aids.items c.self.inside.stations.table) (sym (c.in_ok-sent.ensures.none c.in_default.is)) (c.self.invariant.aging all);
 }
 
 pub invariant_of-self-2 : goal.invariant_of-self-2
@@ -38,4 +41,5 @@ invariant_of-self-2 c =
       traffic =
           c.follow.ensures c.self.invariant.sound es (without_oldest whom es) (λ other apart. c.parts_stay.ensures.others_oldest whom other es apart)
           (ap told first ∙ left_of c.args.bss c.args.seq (units_for whom es) ∙ sym (ap (λ us. nat_lt 0 (length us)) (c.parts_stay.ensures.oldest whom es))) c.self.invariant.traffic;
+      aging = λ all. each-without_first (λ e. HasClock c.self.inside.clocks.clocks.items c.self.inside.clocks.aids.items c.self.inside.stations.table e.0 e.1.at) (is_for whom) es (c.self.invariant.aging all);
     })

@@ -6,18 +6,15 @@ use Rattle.powersave.specs.Keep.{Entry, units_for, without_older}
 use Rattle.powersave.specs.declared.unit.Oldest.{Oldest}
 use Rattle.powersave.specs.declared.unit.Whom.{Whom}
 use Rattle.powersave.specs.declared.unit.Unit.{Unit as DataUnit}
-use Rattle.stations.specs.Roster.{AreWaitedFor, limit_for, stays}
+use Rattle.stations.specs.Roster.{AreWaitedFor, AreAmong, limit_for, stays}
 use Rattle.stations.specs.Stations.{Table}
 use Rattle.stations.specs.KeptUnits.{is_too_old}
 use Rattle.stations.proofs.Aging.{in-order}
-use Rattle.stations.proofs.RosterAging.{AreAmong, left-young, among-all, among-aged, among-young, none-among, young-units}
+use Rattle.stations.proofs.RosterAging.{left-young, among-aged, among-young, none-among, young-units}
 use Rattle.stations.proofs.roster.Roster.show_each.Goals as goal
 
 pub loop-one-init : goal.loop-one-init
-loop-one-init c =
-    let t : Table = c.args.self.now.stations.table in
-    let es : List Entry = c.args.self.now.kept.entries in
-    (es, refl, among-all c.args.clock t c.args.oldest.now es c.requires.oldest c.requires.came, c.requires.bits)
+loop-one-init c = (c.args.self.now.kept.entries, refl, c.requires.oldest, c.requires.bits)
 
 pub show_one-requires : goal.show_one-requires
 show_one-requires c = in-order c.one-item.result.whom c.args.clock c.args.self.now.kept.entries c.requires.came

@@ -2,8 +2,7 @@ use Rattle.std.proofs.Common.{◌≡◌, not, List, drop}
 use Rattle.std.specs.Prelude.{filter}
 use Rattle.powersave.specs.Keep.{Entry}
 use Rattle.stations.specs.KeptUnits.{is_too_old}
-use Rattle.stations.specs.Roster.{AreWaitedFor}
-use Rattle.stations.proofs.RosterAging.{AreAmong}
+use Rattle.stations.specs.Roster.{AreWaitedFor, AreAmong}
 use Rattle.stations.proofs.roster.Roster.show_each.Given as goal
 
 -- the identifiers of those that units are kept for, once those for some are without the units that are too old
