@@ -8,7 +8,7 @@ use Rattle.std.proofs.lemmas.Slice.Eq.{bytes_eq-Decides}
 use borrow.Author.Tests.{eqb-true}
 use Rattle.aid_pool.specs.LeastFree.{is_among}
 use Rattle.tim.specs.Tim.{IsAid}
-use Rattle.powersave.specs.Keep.{Entry, units_for}
+use Rattle.powersave.specs.Keep.{Entry, is_same, units_for}
 use Rattle.powersave.specs.declared.unit.Whom.{Whom}
 use Rattle.powersave.specs.declared.unit.Whom.TheVariants.{One, Group}
 use Rattle.stations.specs.Keeping.{aid_for}
@@ -20,6 +20,7 @@ use Rattle.stations.specs.declared.table.Change.{Change}
 use Rattle.stations.specs.declared.table.Change.TheVariants as changes
 use Rattle.stations.specs.declared.table.StationState.{StationState}
 use Rattle.stations.specs.declared.table.StationState.TheVariants.{Authenticated, Associated}
+use Rattle.stations.proofs.RosterAging.{same_whom}
 use Rattle.stations.proofs.StationTables.{Numbers, eqb-flip, neither, numbers-of_associated, range-of_associated, without, forget-unknown}
 use Rattle.stations.proofs.StationsSound.{not-here}
 use Rattle.stations.proofs.UnitsKept.{some-for}
@@ -156,6 +157,25 @@ pub followed : (addr : List ℕ) (t : Table) (before after : List Entry) (old ne
     → AreShown (aid_of addr t) (aid_of addr t) waits old new → AreWaitedFor old t before → AreWaitedFor new t after
 followed addr t before after old new waits apart sound stay is now told =
     waited-one addr t t before after old new waits sound (λ n. others-stay addr (forget addr t) before after n (forgotten addr t apart) stay) is now told
+
+-- where units for one left, and some stay, nothing of it changes
+same-waiting : (whom : Whom) (t : Table) (before after : List Entry) (n : ℕ) → StayBeside whom before after → nat_lt 0 (length (units_for whom before)) ≡ true → nat_lt 0 (length (units_for whom after)) ≡ true
+    → is_waited_for t after n ≡ is_waited_for t before n
+same-waiting whom [] before after n stay some left = refl
+same-waiting whom (e ∷ t) before after n stay some left =
+    ap (λ b. (has_aid n e.1 && b) || is_waited_for t after n) (by (is_same whom (One e.0)) refl)
+    ∙ ap (λ b. (has_aid n e.1 && has_unit e.0 before) || b) (same-waiting whom t before after n stay some left)
+  where
+    by : (b : Bool) → is_same whom (One e.0) ≡ b → has_unit e.0 after ≡ has_unit e.0 before
+    by true is =
+        let same : whom ≡ One e.0 = same_whom whom (One e.0) is in
+        some-for (One e.0) after ∙ ap (λ (w : Whom). nat_lt 0 (length (units_for w after))) (sym same) ∙ left
+        ∙ sym some ∙ ap (λ (w : Whom). nat_lt 0 (length (units_for w before))) same ∙ sym (some-for (One e.0) before)
+    by false other = unit-stays whom before after e.0 stay (λ is. both_ways (is_same whom (One e.0)) other (ap (λ (w : Whom). is_same w (One e.0)) is ∙ (bytes_eq-Decides e.0 e.0).1 refl))
+
+pub still-shown : (whom : Whom) (t : Table) (before after : List Entry) (numbers : Numbers) → StayBeside whom before after → (nat_lt 0 (length (units_for whom after)) ≡ true → nat_lt 0 (length (units_for whom before)) ≡ true)
+    → nat_lt 0 (length (units_for whom after)) ≡ true → AreWaitedFor numbers t before → AreWaitedFor numbers t after
+still-shown whom t before after numbers stay some left told = λ n aid. told n aid ∙ sym (same-waiting whom t before after n stay (some left) left)
 
 -- a unit came for one, and its bit is set
 

@@ -70,6 +70,14 @@ Follows stations whom waits old new =
     (before after : List Entry) → StayBeside whom before after → waits ≡ nat_lt 0 (length (units_for whom after))
     → AreWaitedFor old stations.table before → AreWaitedFor new stations.table after
 
+-- so it is where units for one left at most: some stay only where some were kept
+abbrev pub FollowsLoss : StationTable → Whom → (waits : Bool) → (old new : set.FinSet nat_cmp) → Type 0
+FollowsLoss stations whom waits old new =
+    (before after : List Entry) → StayBeside whom before after
+    → (nat_lt 0 (length (units_for whom after)) ≡ true → nat_lt 0 (length (units_for whom before)) ≡ true)
+    → waits ≡ nat_lt 0 (length (units_for whom after))
+    → AreWaitedFor old stations.table before → AreWaitedFor new stations.table after
+
 -- ---- units that are too old
 
 -- where units age, one that is too old

@@ -4,7 +4,8 @@
 //! A clock stands at each association identifier that units wait for. A unit that comes sets it without a look-up, and
 //! the beacon that finds it due looks its station up and sets it anew.
 
-ghost use Rattle.std.specs.Prelude.{◌≡◌, ◌<◌, ℕ, List, true, false, IsTrue, IfOk, IfSome, filter, length};
+ghost use Rattle.std.specs.Prelude.{◌≡◌, ◌<◌, ◌++◌, ◌∷◌, [], ℕ, List, true, false, IsTrue, IfOk, OnOk, IfSome};
+ghost use Rattle.std.specs.Prelude.{filter, length};
 ghost use Rattle.std.specs.FinSet as set;
 ghost use Rattle.aid_pool.specs.LeastFree.{is_among};
 ghost use Rattle.powersave.specs.Keep.{Entry, units_for, first_clock, AreOldest, AreToldOnce};
@@ -250,10 +251,7 @@ impl AgingClocks {
         for aid in self.aids.as_slice() {
             if let Some(one) = self.clocks.get(usize::from(*aid)) {
                 if one.is_due(clock) {
-                    due.push(Oldest {
-                        whom: Whom::One(one.addr),
-                        at: 0,
-                    })?;
+                    add_due(&mut due, one.addr, self.aids.len())?;
                 }
             }
         }
@@ -282,6 +280,20 @@ impl AgingClock {
             self.listen = listen_with(stations.state_of(self.addr));
         }
     }
+}
+
+/// Adds a station, whenever the units for it came, to a list that has room for so many from the first on.
+fn add_due(due: &mut Vec<Oldest>, addr: MacAddr, room: usize) -> Result<(), NoMemory>
+    ensures { OnOk result (due.new.items ≡ due.old.items ++ record { whom = One addr; at = 0 } ∷ []) }
+{
+    if due.is_empty() {
+        due.reserve(room)?;
+    }
+    due.push(Oldest {
+        whom: Whom::One(addr),
+        at: 0,
+    })?;
+    Ok(())
 }
 
 /// Whether a set has an identifier.

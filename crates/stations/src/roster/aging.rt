@@ -2,7 +2,7 @@
 
 ghost use Rattle.std.specs.Prelude.{◌≡◌, ◌<◌, ◌≤◌, ◌^◌, ◌&&◌, filter, length, nat_lt, not, option_map, IfOk};
 ghost use Rattle.powersave.specs.Keep.{units_for, is_older, without_older, room_beside, CameInOrder};
-ghost use Rattle.stations.specs.Roster.{AreWaitedFor, AreAmong, Follows, AgesBy, limit_for, stays};
+ghost use Rattle.stations.specs.Roster.{AreWaitedFor, AreAmong, FollowsLoss, AgesBy, limit_for, stays};
 ghost use Rattle.stations.specs.Sound.{CameBy};
 ghost use Rattle.stations.specs.KeptUnits.{is_too_old};
 
@@ -144,8 +144,9 @@ impl Roster {
         // the units for the others stay
         parts_stay();
         let dropped = self.kept.drop_older(*whom, limit);
-        let waits = self.kept.count_for(*whom) > 0;
-        follow(&mut self.traffic, &self.stations, whom, waits);
+        if self.kept.count_for(*whom) == 0 {
+            follow(&mut self.traffic, &self.stations, whom, false);
+        }
         dropped
     }
 
@@ -181,24 +182,23 @@ impl Roster {
     fn show_one(&self, bits: &mut Bitmap, one: &Oldest, clock: u32)
         requires { CameInOrder (units_for one.now.whom self.now.kept.entries) }
         ensures old { one.now.at < limit_for clock self.now.stations.table one.now.whom →
-            Follows self.now.stations one.now.whom (nat_lt 0 (length
+            FollowsLoss self.now.stations one.now.whom (nat_lt 0 (length
             (filter (stays clock self.now.stations.table one.now.whom)
             (units_for one.now.whom self.now.kept.entries)))) bits.old bits.new }
         ensures young { limit_for clock self.now.stations.table one.now.whom ≤ one.now.at → bits.new ≡ bits.old }
     {
-        if one.at < self.limit_for(&one.whom, clock) {
-            let stays = self.some_stay(&one.whom, clock);
-            follow(bits, &self.stations, &one.whom, stays);
+        let limit = self.limit_for(&one.whom, clock);
+        if one.at < limit && !self.some_stay(&one.whom, limit) {
+            follow(bits, &self.stations, &one.whom, false);
         }
     }
 
-    /// Whether units stay for one at this clock: the one that came last does.
-    fn some_stay(&self, whom: &Whom, clock: u32) -> bool
+    /// Whether units for one stay that came at a clock or later: the one that came last does.
+    fn some_stay(&self, whom: &Whom, limit: u32) -> bool
         requires { CameInOrder (units_for whom.now self.now.kept.entries) }
-        ensures { result ≡ nat_lt 0 (length (filter (stays clock self.now.stations.table whom.now)
+        ensures { result ≡ nat_lt 0 (length (filter (λ unit. not (nat_lt unit.at limit))
             (units_for whom.now self.now.kept.entries))) }
     {
-        let limit = self.limit_for(whom, clock);
         let count = self.kept.count_for(*whom);
         match self.kept.nth(*whom, count.saturating_sub(1)) {
             Some(unit) => unit.at >= limit,

@@ -6,7 +6,7 @@ use Rattle.powersave.specs.declared.unit.Whom.TheVariants.{One}
 use Rattle.stations.specs.AgingClocks.{is_due, due_with, due_at}
 use Rattle.stations.specs.declared.aging_clocks.AgingClock.{AgingClock}
 use Rattle.stations.proofs.aging_clocks.AgingClocks.due.Goals as goal
-use Rattle.stations.proofs.aging_clocks.AgingClocks.due.Goals.{in-Some+then-is_due+in_ok-push, in-Some+else-is_due, in_default}
+use Rattle.stations.proofs.aging_clocks.AgingClocks.due.Goals.{in-Some+then-is_due+in_ok-add_due, in-Some+else-is_due, in_default}
 
 -- what stands at a place
 found_at : (read clocks : List AgingClock) (k n : ℕ) (one : AgingClock) → read ≡ clocks → k ≡ n → k < length read → one ≡ get_or read k one → slice_get clocks n ≡ Some one
@@ -36,10 +36,10 @@ loop-aid-preserved c =
     let within : i < length aids = omega (arith, c.loop-aid-test.true, ap length same) in
     let n : c.from.result ≡ get_or aids i 0 = c.from.ensures ∙ ap (λ (ns : List ℕ). get_or ns i 0) same in
     elim c.match-get.branch [
-      | in-Some+then-is_due+in_ok-push w ↦
+      | in-Some+then-is_due+in_ok-add_due w ↦
           let found : slice_get clocks (get_or aids i 0) ≡ Some w.in-Some.one.now = found_at c.deref.result.now clocks c.from.result (get_or aids i 0) w.in-Some.one.now c.deref.ensures.value n (search rules) (search rules) in
           let due : is_due clock w.in-Some.one.now ≡ true = sym w.is_due.ensures ∙ w.if-is_due.true in
-          step clock i clocks aids c.loop-aid.due.items c.match-get.due.items _ (Some w.in-Some.one.now) within found (ap (λ v. v.items) w.due-is ∙ w.in_ok-push.ensures.items ∙ ap (λ b. c.loop-aid.due.items ++ cond b (record { whom = One w.in-Some.one.now.addr; at = 0 } ∷ []) []) (sym due)) c.loop-aid.invariant
+          step clock i clocks aids c.loop-aid.due.items c.match-get.due.items _ (Some w.in-Some.one.now) within found (ap (λ v. v.items) w.due-is ∙ w.in_ok-add_due.ensures ∙ ap (λ b. c.loop-aid.due.items ++ cond b (record { whom = One w.in-Some.one.now.addr; at = 0 } ∷ []) []) (sym due)) c.loop-aid.invariant
       | in-Some+else-is_due w ↦
           let found : slice_get clocks (get_or aids i 0) ≡ Some w.in-Some.one.now = found_at c.deref.result.now clocks c.from.result (get_or aids i 0) w.in-Some.one.now c.deref.ensures.value n (search rules) (search rules) in
           let young : is_due clock w.in-Some.one.now ≡ false = sym w.is_due.ensures ∙ w.if-is_due.false in

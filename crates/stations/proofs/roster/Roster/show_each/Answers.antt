@@ -11,6 +11,7 @@ use Rattle.stations.specs.Stations.{Table}
 use Rattle.stations.specs.KeptUnits.{is_too_old}
 use Rattle.stations.proofs.Aging.{in-order}
 use Rattle.stations.proofs.RosterAging.{left-young, among-aged, among-young, none-among, young-units}
+use Rattle.stations.proofs.UnitsLeft.{some-before}
 use Rattle.stations.proofs.roster.Roster.show_each.Goals as goal
 
 pub loop-one-init : goal.loop-one-init
@@ -38,7 +39,7 @@ loop-one-preserved c =
         without_older whom (limit_for clock t whom) es,
         left-young clock t whom es ∙ left,
         among-aged clock t one later es among,
-        c.show_one.ensures.old lt es (without_older whom (limit_for clock t whom) es) (λ other apart. c.parts_stay.ensures.others_older whom other (limit_for clock t whom) es apart) (ap (λ (us : List DataUnit). nat_lt 0 (length us)) waits) h.3,
+        c.show_one.ensures.old lt es (without_older whom (limit_for clock t whom) es) (λ other apart. c.parts_stay.ensures.others_older whom other (limit_for clock t whom) es apart) (some-before (limit_for clock t whom) (units_for whom es) (units_for whom (without_older whom (limit_for clock t whom) es)) (c.parts_stay.ensures.older whom (limit_for clock t whom) es)) (ap (λ (us : List DataUnit). nat_lt 0 (length us)) waits) h.3,
       )
       | inr ge ↦ (
         es,

@@ -18,26 +18,23 @@ none-last (u ∷ us) k at none = let some = slice_get-get_or (u ∷ us) k u (ome
 pub returns-in-Some : goal.returns-in-Some
 returns-in-Some c =
     let whom = c.args.whom.now in
-    let clock = c.args.clock in
-    let table = c.args.self.now.stations.table in
+    let limit = c.args.limit in
     let us : List DataUnit = units_for whom c.self.inside.kept.entries in
     let place : ℕ = c.saturating_sub.result in
     let unit : DataUnit = c.in-Some.unit.now in
     let here : slice_get us place ≡ Some unit = sym c.nth.ensures ∙ ap option_copied c.in-Some.is in
     let len : place + 1 ≡ length us = omega (arith, slice_get_within us place unit here, c.saturating_sub.ensures, c.count_for-count.ensures) in
     let order = subst (λ (r : RosterState). CameInOrder (units_for whom r.kept.entries)) (sym c.self.view_is) c.requires in
-    last-stays c.limit_for-limit.result us place unit order len here
-    ∙ ap (λ (limit : ℕ). nat_lt 0 (length (filter (λ (v : DataUnit). not (nat_lt v.at limit)) us))) c.limit_for-limit.ensures
-    ∙ ap (λ (r : RosterState). nat_lt 0 (length (filter (stays clock table whom) (units_for whom r.kept.entries)))) c.self.view_is
+    last-stays limit us place unit order len here
+    ∙ ap (λ (r : RosterState). nat_lt 0 (length (filter (λ (v : DataUnit). not (nat_lt v.at limit)) (units_for whom r.kept.entries)))) c.self.view_is
 
 pub returns-in-None : goal.returns-in-None
 returns-in-None c =
     let whom = c.args.whom.now in
-    let clock = c.args.clock in
-    let table = c.args.self.now.stations.table in
+    let limit = c.args.limit in
     let us : List DataUnit = units_for whom c.self.inside.kept.entries in
     let place : ℕ = c.saturating_sub.result in
     let none : us ≡ [] = none-last us place (omega (arith, c.saturating_sub.ensures, c.count_for-count.ensures)) (sym c.nth.ensures ∙ ap option_copied c.in-None.is) in
     sym (le-ltb 0 0 (omega arith))
-    ∙ ap (λ (vs : List DataUnit). nat_lt 0 (length (filter (stays clock table whom) vs))) (sym none)
-    ∙ ap (λ (r : RosterState). nat_lt 0 (length (filter (stays clock table whom) (units_for whom r.kept.entries)))) c.self.view_is
+    ∙ ap (λ (vs : List DataUnit). nat_lt 0 (length (filter (λ (v : DataUnit). not (nat_lt v.at limit)) vs))) (sym none)
+    ∙ ap (λ (r : RosterState). nat_lt 0 (length (filter (λ (v : DataUnit). not (nat_lt v.at limit)) (units_for whom r.kept.entries)))) c.self.view_is
