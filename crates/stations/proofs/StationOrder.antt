@@ -1,19 +1,21 @@
 -- The order of the slots: which stations a row of them has, which places are gone, and what becomes of both.
 use Rattle.std.proofs.Common.{◌≡◌, ◌⊎◌, ℕ, zero, suc, ◌+◌, ◌-◌, ◌<◌, ◌≤◌, Bool, true, false, List, [], ◌∷◌, ◌++◌, length, get_or, set, take, drop, min, filter, slice_get, Option, Some, None, is_some, refl, sym, ap, subst, ◌∙◌, arith, inl, inr, cond}
 use Rattle.std.specs.Prelude.{nat_lt}
-use Rattle.std.specs.List.{AllByRecursion, range_with_len}
+use Rattle.std.specs.List.{AllByRecursion, insert, range_with_len}
+use Rattle.std.specs.List.Sorted.{IsPartitionPoint}
 use Rattle.std.specs.Map.{lookup, set_value}
 use Rattle.std.specs.Str.{bytes_eq}
 use Rattle.std.proofs.lemmas.Bool.{both_ways, cases_lt, le-ltb, lt-ltb}
-use Rattle.std.proofs.lemmas.List.{length-append, length-set, append-nil, get_or-drop, drop-drop, take_more}
+use Rattle.std.proofs.lemmas.List.{append_cancel_right, length-append, length-set, length-take, append-nil, get_or-drop, drop-drop, take_all, take_more}
 use Rattle.std.proofs.lemmas.List.Elements.{filter-append}
-use Rattle.std.proofs.lemmas.Option.{slice_get_within}
+use Rattle.std.proofs.lemmas.Option.{slice_get_within, get_or_from_slice_get}
+use Rattle.std.proofs.Math.Seq.{take-append_seam}
 use Rattle.stations.specs.Stations.{Table, state_of, forget}
 use Rattle.stations.specs.Sound.{AreApart}
-use Rattle.stations.specs.Slots.{Slots, stations_in, slot_of, IsAt, slot_at, listed, holes_from, past, with_place, IsListed, MayList, TakesOut, IsStationList}
+use Rattle.stations.specs.Slots.{Slots, stations_in, slot_of, IsAt, slot_at, listed, holes_from, past, with_place, EndsWith, IsListed, MayList, TakesOut, IsStationList}
 use Rattle.stations.proofs.StationTables.{set_state-unknown}
 use Rattle.stations.proofs.StationsSound.{apart-set, apart-forgotten, not-here}
-use Rattle.stations.proofs.StationSlots.{equal_addr, slot_of-known, slot_of-none, slot_of-at, known-at, stations-set, stations-set_state, stations-out, found-set, found-out, found-last, stations-last, stations-kept, stations-append}
+use Rattle.stations.proofs.StationSlots.{equal_addr, slot_of-known, slot_of-none, slot_of-at, known-at, stations-set, stations-set_state, stations-out, found-set, found-out, found-hole, found-last, first-at, taken-at, unknown-where, stations-last, stations-kept, stations-append}
 use Rattle.stations.specs.declared.table.StationState.{StationState}
 
 abbrev Station : Type 0
@@ -119,6 +121,10 @@ pub listed-len : (row : List ℕ) (slots : Slots) → length (listed row slots) 
 listed-len [] slots = refl
 listed-len (r ∷ row) slots = ap (λ n. suc n) (listed-len row slots)
 
+listed-split : (row : List ℕ) (i : ℕ) (slots : Slots) → listed (row ++ i ∷ []) slots ≡ listed row slots ++ slot_at slots i ∷ []
+listed-split [] i slots = refl
+listed-split (r ∷ row) i slots = ap (λ (s : Slots). slot_at slots r ∷ s) (listed-split row i slots)
+
 -- a slot that the row doesn't have
 listed-away : (row : List ℕ) (slots : Slots) (i : ℕ) (x : Option (List ℕ × StationState)) (station : List ℕ × StationState) → slice_get slots i ≡ Some (Some station) → state_of station.0 (stations_in (listed row slots)) ≡ None → listed row (set slots i x) ≡ listed row slots
 listed-away [] slots i x station at none = refl
@@ -205,6 +211,10 @@ within-more (r ∷ row) n m le h = (omega (arith, le, h.0), within-more row n m 
 pub within-append : (row : List ℕ) (n : ℕ) → AllByRecursion (λ i. i < n) row → AllByRecursion (λ i. i < suc n) (row ++ n ∷ [])
 within-append [] n h = (omega arith, tt)
 within-append (r ∷ row) n h = (omega (arith, h.0), within-append row n h.1)
+
+within-front : (row : List ℕ) (i n : ℕ) → AllByRecursion (λ k. k < n) (row ++ i ∷ []) → AllByRecursion (λ k. k < n) row
+within-front [] i n h = tt
+within-front (r ∷ row) i n h = (h.0, within-front row i n h.1)
 
 pub within-filter : (p : ℕ → Bool) (row : List ℕ) (n : ℕ) → AllByRecursion (λ i. i < n) row → AllByRecursion (λ i. i < n) (filter p row)
 within-filter p [] n h = tt
@@ -459,10 +469,30 @@ holes-rise n [] = tt
 holes-rise n (None ∷ slots) = (omega arith, holes-rise (suc n) slots)
 holes-rise n (Some e ∷ slots) = rises-from n (suc n) (holes_from (suc n) slots) (omega arith) (holes-rise (suc n) slots)
 
-rises-at : (n : ℕ) (xs : List ℕ) (i : ℕ) → i < length xs → Rises n xs → n + i ≤ get_or xs i 0
-rises-at n [] i low h = absurd (omega (arith, low))
-rises-at n (x ∷ xs) zero low h = omega (arith, h.0)
-rises-at n (x ∷ xs) (suc i) low h = let rest = rises-at (suc x) xs i (omega (arith, low)) h.1 in omega (arith, rest, h.0)
+rises-at : (n : ℕ) (xs : List ℕ) (i d : ℕ) → i < length xs → Rises n xs → n + i ≤ get_or xs i d
+rises-at n [] i d low h = absurd (omega (arith, low))
+rises-at n (x ∷ xs) zero d low h = omega (arith, h.0)
+rises-at n (x ∷ xs) (suc i) d low h = let rest = rises-at (suc x) xs i d (omega (arith, low)) h.1 in omega (arith, rest, h.0)
+
+pub rises-order : (n : ℕ) (xs : List ℕ) → Rises n xs → (i j : ℕ) (d : ℕ) → i ≤ j → j < length xs → get_or xs i d ≤ get_or xs j d
+rises-order n [] h i j d le low = absurd (omega (arith, low))
+rises-order n (x ∷ xs) h zero zero d le low = omega arith
+rises-order n (x ∷ xs) h zero (suc j) d le low = let rest = rises-at (suc x) xs j d (omega (arith, low)) h.1 in omega (arith, rest)
+rises-order n (x ∷ xs) h (suc i) zero d le low = absurd (omega (arith, le))
+rises-order n (x ∷ xs) h (suc i) (suc j) d le low = rises-order (suc x) xs h.1 i j d (omega (arith, le)) (omega (arith, low))
+
+-- a place comes after the lower ones
+pub with_place-insert : (place : ℕ) (xs : List ℕ) (k : ℕ) → k ≤ length xs → IsPartitionPoint (λ y. nat_lt y place ≡ true) (λ y. nat_lt y place ≡ false) xs k → with_place place xs ≡ insert xs k place
+with_place-insert place [] zero few h = refl
+with_place-insert place [] (suc k) few h = absurd (omega (arith, few))
+with_place-insert place (x ∷ xs) zero few h = let behind : nat_lt x place ≡ false = h.1 0 0 (omega arith) (omega arith) in rw behind refl
+with_place-insert place (x ∷ xs) (suc k) few h =
+    let before : nat_lt x place ≡ true = h.0 0 0 (omega arith) (omega arith) in
+    let rest = with_place-insert place xs k (omega (arith, few)) (
+      λ i d low high. h.0 (suc i) d (omega arith) (omega (arith, high)),
+      λ i d low high. h.1 (suc i) d (omega (arith, low)) (omega (arith, high)),
+    ) in
+    rw before (ap (λ (t : List ℕ). x ∷ t) rest)
 
 -- past so many places, where the last of them isn't behind what stands there and the next one is
 pub past-is : (n : ℕ) (gone : List ℕ) (place k : ℕ) → Rises n gone → k ≤ length gone → (0 < k → get_or gone (k - 1) 0 < place + k) → (k < length gone → place + k < get_or gone k 0) → past gone place ≡ place + k
@@ -485,7 +515,7 @@ past-is n (x ∷ gone) place (suc k) up few below above =
     first (suc j) few below =
         let at : suc (suc j) - 1 ≡ suc j = omega arith in
         let here : get_or gone j 0 < place + suc (suc j) = subst (λ k. get_or (x ∷ gone) k 0 < place + suc (suc j)) at (below (omega arith)) in
-        let rest : suc x + j ≤ get_or gone j 0 = rises-at (suc x) gone j (omega (arith, few)) up.1 in
+        let rest : suc x + j ≤ get_or gone j 0 = rises-at (suc x) gone j 0 (omega (arith, few)) up.1 in
         omega (arith, here, rest)
 
     rest : (k : ℕ) → (0 < suc k → get_or (x ∷ gone) (suc k - 1) 0 < place + suc k) → 0 < k → get_or gone (k - 1) 0 < suc place + k
@@ -524,6 +554,61 @@ take-set [] k x h = absurd (omega (arith, h))
 take-set (r ∷ row) zero x h = refl
 take-set (r ∷ row) (suc k) x h = ap (λ (t : List ℕ). r ∷ t) (take-set row k x (omega (arith, h)))
 
+-- ---- the last slot goes with its station
+
+slot_at-hole : (slots : Slots) (i : ℕ) → slot_at (slots ++ None ∷ []) i ≡ slot_at slots i
+slot_at-hole [] zero = refl
+slot_at-hole [] (suc i) = refl
+slot_at-hole (y ∷ slots) zero = refl
+slot_at-hole (y ∷ slots) (suc i) = slot_at-hole slots i
+
+listed-hole : (row : List ℕ) (slots : Slots) → listed row (slots ++ None ∷ []) ≡ listed row slots
+listed-hole [] slots = refl
+listed-hole (r ∷ row) slots =
+    ap (λ (y : Option (List ℕ × StationState)). y ∷ listed row (slots ++ None ∷ [])) (slot_at-hole slots r) ∙ ap (λ (s : Slots). slot_at slots r ∷ s) (listed-hole row slots)
+
+pub stations-hole : (slots : Slots) → stations_in (slots ++ None ∷ []) ≡ stations_in slots
+stations-hole slots = stations-append slots (None ∷ []) ∙ append-nil (stations_in slots)
+
+pub set-last : (slots : Slots) (x y : Option (List ℕ × StationState)) → set (slots ++ x ∷ []) (length slots) y ≡ slots ++ y ∷ []
+set-last [] x y = refl
+set-last (z ∷ slots) x y = ap (λ (s : Slots). z ∷ s) (set-last slots x y)
+
+pub get-last : (slots : Slots) (x : Option (List ℕ × StationState)) → slice_get (slots ++ x ∷ []) (length slots) ≡ Some x
+get-last [] x = refl
+get-last (y ∷ slots) x = get-last slots x
+
+-- slots of which none is the last one
+within-away : (row : List ℕ) (slots : Slots) (station : List ℕ × StationState) → AllByRecursion (λ i. i < length (slots ++ Some station ∷ [])) row → state_of station.0 (stations_in (listed row (slots ++ Some station ∷ []))) ≡ None → AllByRecursion (λ i. i < length slots) row
+within-away [] slots station h none = tt
+within-away (r ∷ row) slots station h none = elim (same_or_not (length slots) r) [
+  | inl same ↦
+      let here : slot_at (slots ++ Some station ∷ []) r ≡ Some station = ap (slot_at (slots ++ Some station ∷ [])) (sym same) ∙ slot_at-last slots (Some station) in
+      let gone : state_of station.0 (stations_in (Some station ∷ listed row (slots ++ Some station ∷ []))) ≡ None = ap (λ (y : Option (List ℕ × StationState)). state_of station.0 (stations_in (y ∷ listed row (slots ++ Some station ∷ [])))) (sym here) ∙ none in
+      absurd (both_ways (is_some (state_of station.0 (stations_in (Some station ∷ listed row (slots ++ Some station ∷ []))))) (ap is_some gone) (known-first station (listed row (slots ++ Some station ∷ []))))
+  | inr other ↦
+      let more : length (slots ++ Some station ∷ []) ≡ suc (length slots) = omega (arith, length-append slots (Some station ∷ [])) in
+      let low : r < length slots = elim (cases_lt r (length slots)) [ inl low ↦ low | inr high ↦ absurd (other (omega (arith, high, h.0, more))) ] in
+      (low, within-away row slots station h.1 (unknown-rest station.0 (slot_at (slots ++ Some station ∷ []) r) (listed row (slots ++ Some station ∷ [])) none))
+]
+
+-- the row without the last slot, whose station left
+pub order-popped : (row gone rows : List ℕ) (slots : Slots) (station : List ℕ × StationState) → AreApart (stations_in (slots ++ Some station ∷ [])) → row ≡ rows ++ length slots ∷ [] → IsListed row gone (slots ++ Some station ∷ []) → IsListed rows gone slots
+order-popped row gone rows slots station apart last l =
+    let before : Slots = slots ++ Some station ∷ [] in
+    let at : slice_get before (length slots) ≡ Some (Some station) = get-last slots (Some station) in
+    let split : listed row before ≡ listed rows before ++ Some station ∷ [] = ap (λ (r : List ℕ). listed r before) last ∙ listed-split rows (length slots) before ∙ ap (λ (y : Option (List ℕ × StationState)). listed rows before ++ y ∷ []) (slot_at-last slots (Some station)) in
+    let same : stations_in (listed rows before) ≡ stations_in slots = append_cancel_right (stations_in (listed rows before)) (stations_in slots) (station ∷ [])
+    (sym (stations-append (listed rows before) (Some station ∷ [])) ∙ ap stations_in (sym split) ∙ l.stations ∙ stations-append slots (Some station ∷ [])) in
+    let none : state_of station.0 (stations_in slots) ≡ None = unknown-where station.0 slots (ap (slot_of station.0) (sym (take-append_seam slots (Some station ∷ []))) ∙ first-at before (length slots) station apart at) in
+    let away : state_of station.0 (stations_in (listed rows before)) ≡ None = ap (state_of station.0) same ∙ none in
+    let alike : listed rows slots ≡ listed rows before = sym (listed-hole rows slots) ∙ ap (listed rows) (sym (set-last slots (Some station) None)) ∙ listed-away rows before (length slots) None station at away in
+    record {
+      within = within-away rows slots station (within-front rows (length slots) (length before) (subst (AllByRecursion (λ k. k < length before)) last l.within)) away;
+      stations = ap stations_in alike ∙ same;
+      places = l.places ∙ ap (holes_from 0) split ∙ holes-last 0 (listed rows before) station ∙ ap (holes_from 0) (sym alike);
+    }
+
 -- ---- a row that may be none
 
 pub some-filtered : (p : ℕ → Bool) (row : List ℕ) → 0 < length (filter p row) → 0 < length row
@@ -561,6 +646,54 @@ list-out old new slots holes row gone row' gone' addr i before l at left order =
   rest = omega (arith, l.rest, count-out slots i (addr, before) at.slot, length-set slots i None);
   listed = order;
 }
+
+-- no slot is left where none had a station
+pub list-cleared : (index : List (List ℕ × ℕ)) (slots none : Slots) (holes : ℕ) (row gone row' gone' : List ℕ) → IsStationList index slots holes row gone → stations_in slots ≡ [] → none ≡ [] → row' ≡ [] → IsStationList index none 0 row' gone'
+list-cleared index slots none holes row gone row' gone' l empty cleared unlisted = record {
+  apart = subst (λ (s : Slots). AreApart (stations_in s)) (sym cleared) tt;
+  found = λ q. l.found q ∙ slot_of-none q slots (ap (state_of q) empty) ∙ ap (slot_of q) (sym cleared);
+  rest = subst (λ (s : Slots). length (stations_in s) + 0 ≡ length s) (sym cleared) refl;
+  listed = λ some. let long : length row' ≡ 0 = ap length unlisted in absurd (omega (arith, long, some));
+}
+
+-- the last slot that is listed goes with its station
+row-popped : (row : List ℕ) (i : ℕ) → 0 < length row → slice_get row (length row - 1) ≡ Some i → row ≡ take (length row - 1) row ++ i ∷ []
+row-popped row i some at =
+    let k : ℕ = length row - 1 in
+    let within : k < length row = omega arith in
+    sym (take_all (k + 1) row (omega arith)) ∙ take_more row k 0 within ∙ ap (λ n. take k row ++ n ∷ []) (get_or_from_slice_get row k i 0 at)
+
+pub may-list-popped : (row gone rows : List ℕ) (slots : Slots) (station : List ℕ × StationState) → AreApart (stations_in (slots ++ Some station ∷ [])) → EndsWith (length slots) row → rows ≡ take (length row - 1) row → MayList row gone (slots ++ Some station ∷ []) → MayList rows gone slots
+may-list-popped row gone rows slots station apart ends is l some =
+    let fewer : length rows ≡ min (length row - 1) (length row) = ap length is ∙ length-take (length row - 1) row in
+    let long : 0 < length row = omega (arith, fewer, some) in
+    order-popped row gone rows slots station apart (row-popped row (length slots) long (ends long) ∙ ap (λ (r : List ℕ). r ++ length slots ∷ []) (sym is)) (l long)
+
+-- the station in the last slot left, and the slot is gone
+
+pub slots-popped : (slots front : Slots) (i k : ℕ) (x : Option (List ℕ × StationState)) → slice_get slots i ≡ Some x → i + 1 ≡ length slots → i ≡ k → front ≡ take k slots → (slots ≡ front ++ x ∷ []) × (i ≡ length front)
+slots-popped slots front i k x at last is cut =
+    let here : front ≡ take i slots = cut ∙ ap (λ n. take n slots) (sym is) in (
+      sym (take_all (i + 1) slots (omega arith)) ∙ taken-at slots i x at ∙ ap (λ (s : Slots). s ++ x ∷ []) (sym here),
+      omega (arith, ap length here, length-take i slots),
+    )
+
+out-popped : (slots front : Slots) (i : ℕ) (x : Option (List ℕ × StationState)) → slots ≡ front ++ x ∷ [] → i ≡ length front → set slots i None ≡ front ++ None ∷ []
+out-popped slots front i x is last = ap (λ (s : Slots). set s i None) is ∙ ap (λ n. set (front ++ x ∷ []) n None) last ∙ set-last front x None
+
+pub stations-popped : (addr : List ℕ) (slots front : Slots) (i : ℕ) (x : Option (List ℕ × StationState)) → slot_of addr slots ≡ Some i → slots ≡ front ++ x ∷ [] → i ≡ length front → stations_in front ≡ forget addr (stations_in slots)
+stations-popped addr slots front i x place is last = sym (ap stations_in (out-popped slots front i x is last) ∙ stations-hole front) ∙ stations-out addr slots i place
+
+pub list-popped : (old new : List (List ℕ × ℕ)) (slots front : Slots) (holes : ℕ) (row gone row' gone' : List ℕ) (addr : List ℕ) (i : ℕ) (before : StationState) → IsStationList old slots holes row gone → IsAt addr slots i before → slots ≡ front ++ Some (addr, before) ∷ [] → i ≡ length front
+    → ((q : List ℕ) → lookup (bytes_eq q) new ≡ cond (bytes_eq addr q) None (lookup (bytes_eq q) old)) → EndsWith i row → row' ≡ take (length row - 1) row → gone' ≡ gone → IsStationList new front holes row' gone'
+list-popped old new slots front holes row gone row' gone' addr i before l at is last left ends popped same =
+    let left-out : stations_in front ≡ forget addr (stations_in slots) = stations-popped addr slots front i (Some (addr, before)) at.place is last in
+    record {
+      apart = subst AreApart (sym left-out) (apart-forgotten addr (stations_in slots) l.apart);
+      found = λ q. left q ∙ ap (cond (bytes_eq addr q) None) (l.found q) ∙ sym (found-out q addr slots i l.apart at.place) ∙ ap (slot_of q) (out-popped slots front i (Some (addr, before)) is last) ∙ found-hole q front;
+      rest = omega (arith, l.rest, count-out slots i (addr, before) at.slot, ap length (stations-out addr slots i at.place), ap length left-out, ap length is, length-append front (Some (addr, before) ∷ []));
+      listed = subst (λ (g : List ℕ). MayList row' g front) (sym same) (may-list-popped row gone row' front (addr, before) (subst (λ (s : Slots). AreApart (stations_in s)) is l.apart) (subst (λ n. EndsWith n row) last ends) popped (subst (MayList row gone) is l.listed));
+    }
 
 pub list-last : (old new : List (List ℕ × ℕ)) (slots : Slots) (holes : ℕ) (row gone row' gone' : List ℕ) (addr : List ℕ) (state : StationState) → IsStationList old slots holes row gone → state_of addr (stations_in slots) ≡ None
     → ((q : List ℕ) → lookup (bytes_eq q) new ≡ cond (bytes_eq addr q) (Some (length slots)) (lookup (bytes_eq q) old)) → MayList row' gone' (slots ++ Some (addr, state) ∷ []) → IsStationList new (slots ++ Some (addr, state) ∷ []) holes row' gone'

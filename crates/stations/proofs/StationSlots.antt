@@ -287,7 +287,7 @@ found-hole b [] = refl
 found-hole b (None ∷ slots) = ap (option_map (λ n. suc n)) (found-hole b slots)
 found-hole b (Some e ∷ slots) = ap (λ (o : Option ℕ). if bytes_eq b e.0 then Some 0 else option_map (λ n. suc n) o) (found-hole b slots)
 
-taken-at : (slots : Slots) (k : ℕ) (x : Option (List ℕ × StationState)) → slice_get slots k ≡ Some x → take (k + 1) slots ≡ take k slots ++ x ∷ []
+pub taken-at : (slots : Slots) (k : ℕ) (x : Option (List ℕ × StationState)) → slice_get slots k ≡ Some x → take (k + 1) slots ≡ take k slots ++ x ∷ []
 taken-at slots k x h =
     let within : k < length slots = slice_get_within slots k x h in
     take_more slots k x within ∙ ap (λ (y : Option (List ℕ × StationState)). take k slots ++ y ∷ []) (get_or_from_slice_get slots k x x h)

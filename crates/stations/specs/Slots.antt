@@ -1,5 +1,5 @@
 -- How the stations of a network are kept in order (profile): each has a slot, and one that left left a hole.
-use Rattle.std.specs.Prelude.{ℕ, ◌≡◌, ◌+◌, ◌<◌, nat_lt, List, [], ◌∷◌, Option, Some, None, true, is_some, if◌then◌else◌}
+use Rattle.std.specs.Prelude.{ℕ, ◌≡◌, ◌+◌, ◌-◌, ◌<◌, nat_lt, List, [], ◌∷◌, Option, Some, None, true, is_some, if◌then◌else◌}
 use Rattle.std.specs.Prelude.{length, slice_get, slice_set, zero, suc}
 use Rattle.std.specs.List.{AllByRecursion}
 use Rattle.std.specs.Option.{option_map}
@@ -71,6 +71,10 @@ abbrev pub with_place : ℕ → List ℕ → List ℕ
 with_place place [] = place ∷ []
 with_place place (other ∷ places) =
     if nat_lt other place then other ∷ with_place place places else place ∷ other ∷ places
+
+-- a slot stands last in a row, unless none does
+abbrev pub EndsWith : ℕ → (row : List ℕ) → Type 0
+EndsWith i row = 0 < length row → slice_get row (length row - 1) ≡ Some i
 
 -- a row of slots has each that has a station, in their order, and others that are holes, of which these are the places
 pub record IsListed (row gone : List ℕ) (slots : Slots) : Type 0 where

@@ -1,7 +1,8 @@
 //! The stations of a network in order of first authentication, each found by its address.
 //!
-//! A station stands in a slot, in that order, and leaves a hole where it is taken out, so that no other moves. Where
-//! holes are many the stations are moved together: that takes no memory, and a few steps for each station that left.
+//! A station stands in a slot, in that order. Where the one in the last slot is taken out the slot goes with it, and any
+//! other leaves a hole, so that no station moves. Where holes are many the stations are moved together: that takes no
+//! memory, and a few steps for each station that left.
 
 ghost use Rattle.std.specs.Prelude.{◌≡◌, ◌<◌, ◌≤◌, ◌++◌, ◌∷◌, [], ℕ, List, length, slice_get, is_some, Some, None};
 ghost use Rattle.std.specs.Prelude.{OnOk, OnErr, IfOk, IfSome, IfNone, option_map};
@@ -20,8 +21,8 @@ use mac_frame::{MacAddr, NoMemory};
 use std::alloc::Global;
 use std::marker::Model;
 
-/// How many holes are few, whatever the number of slots.
-const FEW: usize = 64;
+/// How many holes are few, unless no slot has a station.
+const FEW_HOLES: usize = 64;
 
 /// The slot of each station.
 type Index = IndexMap<AddressKey, usize, AddressHashes>;
@@ -74,7 +75,7 @@ impl StationList {
     }
 
     /// The station at a place, from 0, with its state.
-    pub(crate) fn row(&self, place: usize) -> (MacAddr, StationState)
+    pub(crate) fn station(&self, place: usize) -> (MacAddr, StationState)
         requires { place < length self.now }
         ensures { slice_get self.now place ≡ Some result }
     {
@@ -161,32 +162,51 @@ impl StationList {
         ensures old { result ≡ state_of addr self.old }
         ensures stations { self.new ≡ forget addr self.old }
     {
-        let before = self.leave_hole(addr);
+        let before = self.take_out(addr);
         self.close_up();
         before
     }
 
-    /// Takes out a station, which leaves a hole, and answers the state that it had.
-    fn leave_hole(&mut self, addr: MacAddr) -> Option<StationState>
+    /// Takes out a station, and answers the state that it had. Its slot goes too where it is the last one, and else stays
+    /// as a hole.
+    fn take_out(&mut self, addr: MacAddr) -> Option<StationState>
         ensures old { result ≡ state_of addr self.old }
         ensures stations { self.new ≡ forget addr self.old }
     {
         let slot = self.index.swap_remove(&AddressKey { addr })?;
-        let left = self.slots[slot];
+        let before = state_in(self.slots[slot]);
+        if slot + 1 == self.slots.len() && self.order.ends_with(slot) {
+            self.slots.pop();
+            self.order.pop();
+            return before;
+        }
         self.slots[slot] = None;
         self.holes += 1;
         self.order.leave(self.slots.as_slice(), slot);
-        state_in(left)
+        before
     }
 
-    /// Moves the stations together where holes are many: more than a few, and than a third of all slots.
+    /// Takes holes away where they are many: all, where no slot has a station, and else where they are more than a few
+    /// and than a third of all slots.
     fn close_up(&mut self)
         ensures { self.new ≡ self.old }
     {
-        if self.holes > FEW && self.holes > self.slots.len() / 3 {
+        if self.holes == self.slots.len() {
+            self.clear();
+        } else if self.holes > FEW_HOLES && self.holes > self.slots.len() / 3 {
             close_up(&mut self.index, &mut self.slots, &mut self.order);
             self.holes = 0;
         }
+    }
+
+    /// Takes all slots away, where none has a station.
+    fn clear(&mut self)
+        requires { self.old ≡ [] }
+        ensures { self.new ≡ [] }
+    {
+        self.slots.clear();
+        self.holes = 0;
+        self.order.clear();
     }
 }
 

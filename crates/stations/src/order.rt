@@ -3,7 +3,8 @@
 ghost use Rattle.std.specs.Prelude.{◌≡◌, ◌<◌, ◌≤◌, ◌+◌, ◌-◌, ◌^◌, ◌++◌, ◌∷◌, [], ℕ, List, length, is_some, slice_get};
 ghost use Rattle.std.specs.Prelude.{filter, insert, min, take, vec_len, vec_capacity, IsTrue, Some, OnOk};
 ghost use Rattle.std.specs.List.{range_with_len};
-ghost use Rattle.stations.specs.Slots.{Slots, slot_at, stations_in, holes_from, past, with_place, IsListed, MayList, TakesOut};
+ghost use Rattle.stations.specs.Slots.{Slots, slot_at, stations_in, holes_from, past, with_place, EndsWith, IsListed};
+ghost use Rattle.stations.specs.Slots.{MayList, TakesOut};
 
 use crate::list::Slot;
 use crate::table::StationState;
@@ -13,8 +14,8 @@ use std::alloc::Global;
 /// How many places of a row may be gone.
 const MOST_GONE: usize = 64;
 
-/// How many slots are looked at one after another, where no row of them is kept.
-const FEW: usize = 16;
+/// How many slots are looked at one after another at most: where there are more, a row of them is kept.
+const FEW_SLOTS: usize = 16;
 
 /// The slots that have a station, in their order.
 ///
@@ -63,7 +64,7 @@ impl Order {
         ensures room { OnOk result (0 < length self.new.row.items → vec_len self.new.row < vec_capacity self.new.row) }
     {
         if self.row.is_empty() {
-            if slots.len() < FEW {
+            if slots.len() < FEW_SLOTS {
                 return Ok(());
             }
             self.list_all(slots)?;
@@ -95,6 +96,33 @@ impl Order {
         if !self.row.is_empty() {
             self.row.push_reserved(slot);
         }
+    }
+
+    /// Whether a slot stands last in the row, or none does.
+    pub(crate) fn ends_with(&self, slot: usize) -> bool
+        ensures { IsTrue result → EndsWith slot self.now.row.items }
+    {
+        match self.row.last() {
+            Some(listed) => *listed == slot,
+            None => true,
+        }
+    }
+
+    /// The slot that stands last in the row, if any does, is there no more.
+    pub(crate) fn pop(&mut self)
+        ensures row { self.new.row.items ≡ take (length self.old.row.items - 1) self.old.row.items }
+        ensures gone { self.new.gone ≡ self.old.gone }
+    {
+        self.row.pop();
+    }
+
+    /// No slot is there any more.
+    pub(crate) fn clear(&mut self)
+        ensures row { self.new.row.items ≡ [] }
+        ensures gone { self.new.gone.items ≡ [] }
+    {
+        self.row.clear();
+        self.gone.clear();
     }
 
     /// A station left a slot, which is a hole among these slots.
@@ -130,7 +158,8 @@ impl Order {
     fn note(&mut self, at: usize, slot: usize) -> bool
         ensures row { self.new.row ≡ self.old.row }
         ensures place { IsTrue result → slice_get self.old.row.items at ≡ Some slot }
-        ensures noted { IsTrue result → self.new.gone.items ≡ with_place at self.old.gone.items }
+        ensures noted { IsTrue result → (slots : Slots) → self.old.gone.items ≡ holes_from 0 slots
+            → self.new.gone.items ≡ with_place at self.old.gone.items }
     {
         match self.row.get(at) {
             Some(listed) if *listed == slot => add_place(&mut self.gone, at),
@@ -225,7 +254,8 @@ fn move_together(row: &mut [usize], slots: &[Slot], first: usize) -> usize
 
 /// Puts a place among others, which stand in ascending order, if there is room, and answers whether it did.
 fn add_place(places: &mut Vec<usize>, place: usize) -> bool
-    ensures { IsTrue result → places.new.items ≡ with_place place places.old.items }
+    ensures { IsTrue result → (slots : Slots) → places.old.items ≡ holes_from 0 slots
+        → places.new.items ≡ with_place place places.old.items }
 {
     if places.len() >= places.capacity() {
         return false;
@@ -234,19 +264,13 @@ fn add_place(places: &mut Vec<usize>, place: usize) -> bool
     places.insert(before, place).is_ok()
 }
 
-/// How many places stand before one, the lowest first, up to the first that doesn't.
+/// How many places stand before one, where they stand in ascending order.
 fn count_before(places: &[usize], place: usize) -> usize
     ensures within { result ≤ length places.now }
-    ensures place { with_place place places.now ≡ insert places.now result place }
+    ensures place { (slots : Slots) → places.now ≡ holes_from 0 slots
+        → with_place place places.now ≡ insert places.now result place }
 {
-    let mut before = 0;
-    for other in places {
-        if *other >= place {
-            break;
-        }
-        before += 1;
-    }
-    before
+    places.partition_point(|other| *other < place)
 }
 
 /// Gives each element its place, from 0.

@@ -105,7 +105,7 @@ impl Stations {
         requires { place < length self.now.table }
         ensures { slice_get self.now.table place ≡ Some result }
     {
-        self.states.row(place)
+        self.states.station(place)
     }
 
     /// The state of a station, or `None` where it is not known.

@@ -1,6 +1,6 @@
 use Rattle.std.proofs.Common.{◌≡◌, ◌<◌, ℕ, List, length, filter, slice_get, Some, is_some, ap, subst, sym, ◌∙◌, arith}
 use Rattle.std.proofs.lemmas.Option.{slice_get_within}
-use Rattle.stations.specs.Slots.{slot_at, IsListed}
+use Rattle.stations.specs.Slots.{listed, slot_at, IsListed}
 use Rattle.stations.proofs.StationOrder.{order-noted, order-cleared, some-filtered}
 use Rattle.stations.proofs.order.Order.leave.Goals as goal
 
@@ -20,7 +20,7 @@ returns-then-len-ge-MOST_GONE c before t l some =
     let long : 0 < length row = omega (arith, within) in
     c.drop_gone.ensures
     (subst (λ r. IsListed r.items c.note.new.self.gone.items c.args.slots.now) (sym c.note.ensures.row)
-    (order-noted row c.args.self.now.gone.items c.note.new.self.gone.items before c.args.slots.now at c.args.slot there (c.note.ensures.noted c.if-not-note.false) t (l long)))
+    (order-noted row c.args.self.now.gone.items c.note.new.self.gone.items before c.args.slots.now at c.args.slot there (c.note.ensures.noted c.if-not-note.false (listed row before) (l long).places) t (l long)))
 
 pub returns-else-len-ge-MOST_GONE : goal.returns-else-len-ge-MOST_GONE
 returns-else-len-ge-MOST_GONE c before t l some =
@@ -30,4 +30,4 @@ returns-else-len-ge-MOST_GONE c before t l some =
     let within = slice_get_within row at c.args.slot there in
     let long : 0 < length row = omega (arith, within) in
     subst (λ r. IsListed r.items c.note.new.self.gone.items c.args.slots.now) (sym c.note.ensures.row)
-    (order-noted row c.args.self.now.gone.items c.note.new.self.gone.items before c.args.slots.now at c.args.slot there (c.note.ensures.noted c.if-not-note.false) t (l long))
+    (order-noted row c.args.self.now.gone.items c.note.new.self.gone.items before c.args.slots.now at c.args.slot there (c.note.ensures.noted c.if-not-note.false (listed row before) (l long).places) t (l long))

@@ -6,7 +6,7 @@ use Rattle.std.proofs.lemmas.Bool.{le-ltb}
 use Rattle.std.proofs.lemmas.Option.{slice_get_within, slice_get-get_or}
 use Rattle.powersave.specs.Keep.{units_for, CameInOrder}
 use Rattle.powersave.specs.declared.unit.Unit.{Unit as DataUnit}
-use Rattle.stations.specs.Roster.{RosterState, stays}
+use Rattle.stations.specs.Roster.{RosterState}
 use Rattle.stations.proofs.RosterAging.{last-stays}
 use Rattle.stations.proofs.roster.Roster.some_stay.Goals as goal
 

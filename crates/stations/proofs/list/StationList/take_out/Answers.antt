@@ -5,8 +5,8 @@ use Rattle.stations.specs.declared.table.StationState.{StationState}
 use Rattle.stations.specs.Slots.{Slots, slot_of, stations_in, TakesOut, MayList}
 use Rattle.stations.proofs.StationTables.{forget-unknown}
 use Rattle.stations.proofs.StationSlots.{read-found, unknown-where, stations-out}
-use Rattle.stations.proofs.StationOrder.{takes-out, list-out}
-use Rattle.stations.proofs.list.StationList.leave_hole.Goals as goal
+use Rattle.stations.proofs.StationOrder.{takes-out, list-out, slots-popped, stations-popped, list-popped}
+use Rattle.stations.proofs.list.StationList.take_out.Goals as goal
 
 pub returns-in_err-slot-clause-old : goal.returns-in_err-slot-clause-old
 returns-in_err-slot-clause-old c =
@@ -20,8 +20,8 @@ returns-in_err-slot-clause-stations c =
     let none : slot_of c.args.addr slots ≡ None = sym (c.self.invariant.found c.args.addr) ∙ sym c.in_err-slot.ensures.value in
     sym (forget-unknown c.args.addr (stations_in slots) (unknown-where c.args.addr slots none)) ∙ ap (forget c.args.addr) c.self.view_is
 
-pub index-left-requires : goal.index-left-requires
-index-left-requires c =
+pub index-requires : goal.index-requires
+index-requires c =
     let slots : Slots = c.self.inside.slots.items in
     let found = read-found c.args.addr c.self.inside.index.entries slots c.in_ok-slot.slot c.self.invariant.found (sym c.in_ok-slot.ensures.value) in
     let within = slice_get_within slots c.in_ok-slot.slot (Some (c.args.addr, found.0)) found.1.slot in
@@ -34,12 +34,48 @@ index_mut-requires c =
     let within = slice_get_within slots c.in_ok-slot.slot (Some (c.args.addr, found.0)) found.1.slot in
     omega (arith, within)
 
+pub overflow_add-slot : goal.overflow_add-slot
+overflow_add-slot c =
+    let slots : Slots = c.self.inside.slots.items in
+    let found = read-found c.args.addr c.self.inside.index.entries slots c.in_ok-slot.slot c.self.invariant.found (sym c.in_ok-slot.ensures.value) in
+    let within = slice_get_within slots c.in_ok-slot.slot (Some (c.args.addr, found.0)) found.1.slot in
+    omega (arith, within)
+
+pub returns-then-ends_with-clause-old : goal.returns-then-ends_with-clause-old
+returns-then-ends_with-clause-old c =
+    let slots : Slots = c.self.inside.slots.items in
+    let i : ℕ = c.in_ok-slot.slot in
+    let found = read-found c.args.addr c.self.inside.index.entries slots i c.self.invariant.found (sym c.in_ok-slot.ensures.value) in
+    c.state_in-before.ensures ∙ ap (option_map (λ (station : List ℕ × StationState). station.1)) (c.index.ensures ∙ get_or_from_slice_get slots i (Some (c.args.addr, found.0)) c.index.result.now found.1.slot)
+    ∙ sym found.1.known ∙ ap (state_of c.args.addr) c.self.view_is
+
+pub returns-then-ends_with-clause-stations : goal.returns-then-ends_with-clause-stations
+returns-then-ends_with-clause-stations c =
+    let slots : Slots = c.self.inside.slots.items in
+    let i : ℕ = c.in_ok-slot.slot in
+    let found = read-found c.args.addr c.self.inside.index.entries slots i c.self.invariant.found (sym c.in_ok-slot.ensures.value) in
+    let front : Slots = c.pop.new.self.items in
+    let last = slots-popped slots front i _ (Some (c.args.addr, found.0)) found.1.slot (omega (arith, c.if-slot-len.true, c.len.ensures)) (omega (arith, c.if-slot-len.true, c.len.ensures)) c.pop.ensures.rest in
+    stations-popped c.args.addr slots front i (Some (c.args.addr, found.0)) found.1.place last.0 last.1 ∙ ap (forget c.args.addr) c.self.view_is
+
+pub invariant_of-self-then-ends_with : goal.invariant_of-self-then-ends_with
+invariant_of-self-then-ends_with c =
+    let slots : Slots = c.self.inside.slots.items in
+    let i : ℕ = c.in_ok-slot.slot in
+    let found = read-found c.args.addr c.self.inside.index.entries slots i c.self.invariant.found (sym c.in_ok-slot.ensures.value) in
+    let front : Slots = c.pop.new.self.items in
+    let last = slots-popped slots front i _ (Some (c.args.addr, found.0)) found.1.slot (omega (arith, c.if-slot-len.true, c.len.ensures)) (omega (arith, c.if-slot-len.true, c.len.ensures)) c.pop.ensures.rest in
+    let row : List ℕ = c.self.inside.order.row.items in
+    let gone : List ℕ = c.self.inside.order.gone.items in
+    list-popped c.self.inside.index.entries c.swap_remove.new.self.entries slots front c.self.inside.holes row gone c.pop-then-ends_with.new.self.row.items c.pop-then-ends_with.new.self.gone.items c.args.addr i found.0
+    c.self.invariant found.1 last.0 last.1 (λ q. c.in_ok-slot.ensures.updates.0 q) (c.ends_with.ensures c.if-ends_with.true) c.pop-then-ends_with.ensures.row (ap (λ g. g.items) c.pop-then-ends_with.ensures.gone)
+
 pub returns-clause-old : goal.returns-clause-old
 returns-clause-old c =
     let slots : Slots = c.self.inside.slots.items in
     let i : ℕ = c.in_ok-slot.slot in
     let found = read-found c.args.addr c.self.inside.index.entries slots i c.self.invariant.found (sym c.in_ok-slot.ensures.value) in
-    c.state_in.ensures ∙ ap (option_map (λ (station : List ℕ × StationState). station.1)) (c.index-left.ensures ∙ get_or_from_slice_get slots i (Some (c.args.addr, found.0)) c.index-left.result.now found.1.slot)
+    c.state_in-before.ensures ∙ ap (option_map (λ (station : List ℕ × StationState). station.1)) (c.index.ensures ∙ get_or_from_slice_get slots i (Some (c.args.addr, found.0)) c.index.result.now found.1.slot)
     ∙ sym found.1.known ∙ ap (state_of c.args.addr) c.self.view_is
 
 pub returns-clause-stations : goal.returns-clause-stations
