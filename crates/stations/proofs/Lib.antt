@@ -1,6 +1,7 @@
 pub mod StationTables
 pub mod StationSlots
 pub mod StationOrder
+pub mod IndexMended
 pub mod StationsSound
 pub mod UnitsKept
 pub mod RosterAging

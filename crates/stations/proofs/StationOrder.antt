@@ -12,7 +12,7 @@ use Rattle.std.proofs.lemmas.Option.{slice_get_within, get_or_from_slice_get}
 use Rattle.std.proofs.Math.Seq.{take-append_seam}
 use Rattle.stations.specs.Stations.{Table, state_of, forget}
 use Rattle.stations.specs.Sound.{AreApart}
-use Rattle.stations.specs.Slots.{Slots, stations_in, slot_of, IsAt, slot_at, listed, holes_from, past, with_place, EndsWith, IsListed, MayList, TakesOut, IsStationList}
+use Rattle.stations.specs.Slots.{Slots, stations_in, slot_of, IsAt, slot_at, listed, holes_from, past, with_place, Rises, EndsWith, IsListed, MayList, TakesOut, IsStationList}
 use Rattle.stations.proofs.StationTables.{set_state-unknown}
 use Rattle.stations.proofs.StationsSound.{apart-set, apart-forgotten, not-here}
 use Rattle.stations.proofs.StationSlots.{equal_addr, slot_of-known, slot_of-none, slot_of-at, known-at, stations-set, stations-set_state, stations-out, found-set, found-out, found-hole, found-last, first-at, taken-at, unknown-where, stations-last, stations-kept, stations-append}
@@ -84,7 +84,7 @@ unknown-rest addr (Some e) slots h = (not-here (bytes_eq addr e.0) e.1 (state_of
 known-first : (station : List ℕ × StationState) (slots : Slots) → is_some (state_of station.0 (stations_in (Some station ∷ slots))) ≡ true
 known-first station slots = let here : bytes_eq station.0 station.0 ≡ true = equal_addr station.0 in rw here refl
 
-one_slot : (slots : Slots) (m n : ℕ) (station : List ℕ × StationState) (state : StationState) → AreApart (stations_in slots) → slice_get slots m ≡ Some (Some station) → slot_at slots n ≡ Some (station.0, state) → n ≡ m
+pub one_slot : (slots : Slots) (m n : ℕ) (station : List ℕ × StationState) (state : StationState) → AreApart (stations_in slots) → slice_get slots m ≡ Some (Some station) → slot_at slots n ≡ Some (station.0, state) → n ≡ m
 one_slot [] m n station state apart at other = absurd (cc)
 one_slot (x ∷ slots) zero zero station state apart at other = refl
 one_slot (x ∷ slots) zero (suc n) station state apart at other =
@@ -455,12 +455,7 @@ order-kept row gone rows none slots kept cleared l =
 
 -- ---- a place that is looked for by halves
 
--- numbers that rise, from this one on
-abbrev pub Rises : ℕ → List ℕ → Type 0
-Rises n [] = Unit {0}
-Rises n (x ∷ xs) = (n ≤ x) × Rises (suc x) xs
-
-rises-from : (n m : ℕ) (xs : List ℕ) → n ≤ m → Rises m xs → Rises n xs
+pub rises-from : (n m : ℕ) (xs : List ℕ) → n ≤ m → Rises m xs → Rises n xs
 rises-from n m [] le h = tt
 rises-from n m (x ∷ xs) le h = (omega (arith, le, h.0), h.1)
 

@@ -5,12 +5,12 @@ use Rattle.std.proofs.Common.{Result, Ok, Err}
 use Rattle.std.specs.Str.{bytes_eq}
 use Rattle.std.specs.Map.{lookup, set_value}
 use Rattle.std.proofs.lemmas.Bool.{both_ways}
-use Rattle.std.proofs.lemmas.List.{take_all, take_more, length-take-le}
+use Rattle.std.proofs.lemmas.List.{take_more}
 use Rattle.std.proofs.lemmas.Option.{slice_get_within, get_or_from_slice_get}
 use Rattle.std.proofs.lemmas.Slice.Eq.{bytes_eq-Decides}
 use Rattle.stations.specs.Stations.{Table, state_of, set_state, forget}
 use Rattle.stations.specs.Sound.{AreApart}
-use Rattle.stations.specs.Slots.{Slots, stations_in, slot_of, IsAt, AreFound, Tells}
+use Rattle.stations.specs.Slots.{Slots, stations_in, slot_of, IsAt, AreFound}
 use Rattle.stations.proofs.StationTables.{set_value-is_set_state}
 use Rattle.stations.proofs.StationsSound.{not-here}
 use Rattle.stations.specs.declared.table.StationState.{StationState}
@@ -29,7 +29,7 @@ same_addr a b h = (bytes_eq-Decides a b).0 h
 pub equal_addr : (a : List ℕ) → bytes_eq a a ≡ true
 equal_addr a = (bytes_eq-Decides a a).1 refl
 
-other_addr : (a b : List ℕ) → bytes_eq a b ≡ false → bytes_eq b a ≡ false
+pub other_addr : (a b : List ℕ) → bytes_eq a b ≡ false → bytes_eq b a ≡ false
 other_addr a b h = by (bytes_eq b a) refl
   where
     by : (r : Bool) → bytes_eq b a ≡ r → bytes_eq b a ≡ false
@@ -259,28 +259,7 @@ stations-kept [] = (refl, refl)
 stations-kept (None ∷ slots) = stations-kept slots
 stations-kept (Some e ∷ slots) = let rest = stations-kept slots in (ap (λ (t : Table). e ∷ t) rest.0, ap (λ n. suc n) rest.1)
 
--- ---- the index is mended
-
--- the first of two slots that is there
-abbrev pub or_else : Option ℕ → Option ℕ → Option ℕ
-or_else None o = o
-or_else (Some n) o = Some n
-
--- the stations before a slot have their slots in the index, and the others those that they had
-abbrev pub IsMendedTo : ℕ → Slots → (old new : List (List ℕ × ℕ)) → Type 0
-IsMendedTo k slots old new = (addr : List ℕ) → lookup (bytes_eq addr) new ≡ or_else (slot_of addr (take k slots)) (lookup (bytes_eq addr) old)
-
--- an index has the stations of these slots, wherever it says that they are
-abbrev pub HasStations : List (List ℕ × ℕ) → Slots → Type 0
-HasStations index slots = (addr : List ℕ) → is_some (lookup (bytes_eq addr) index) ≡ is_some (state_of addr (stations_in slots))
-
-or_else-cond : (b : Bool) (o p q : Option ℕ) (n : ℕ) → o ≡ Some n → or_else (cond b o p) q ≡ cond b o (or_else p q)
-or_else-cond true o p q n h = rw h refl
-or_else-cond false o p q n h = refl
-
-or_else-some : (o p : Option ℕ) → is_some p ≡ true → is_some (or_else o p) ≡ true
-or_else-some None p h = h
-or_else-some (Some n) p h = refl
+-- ---- a slot more
 
 pub found-hole : (b : List ℕ) (slots : Slots) → slot_of b (slots ++ None ∷ []) ≡ slot_of b slots
 found-hole b [] = refl
@@ -291,39 +270,6 @@ pub taken-at : (slots : Slots) (k : ℕ) (x : Option (List ℕ × StationState))
 taken-at slots k x h =
     let within : k < length slots = slice_get_within slots k x h in
     take_more slots k x within ∙ ap (λ (y : Option (List ℕ × StationState)). take k slots ++ y ∷ []) (get_or_from_slice_get slots k x x h)
-
--- the index has each station that it is told of
-pub mended-has : (slots : Slots) (k : ℕ) (old now : List (List ℕ × ℕ)) (station : List ℕ × StationState) → slice_get slots k ≡ Some (Some station) → HasStations old slots → IsMendedTo k slots old now → is_some (lookup (bytes_eq station.0) now) ≡ true
-mended-has slots k old now station at has h =
-    ap is_some (h station.0) ∙ or_else-some (slot_of station.0 (take k slots)) (lookup (bytes_eq station.0) old) (has station.0 ∙ known-at slots k station at)
-
-pub mended-past_hole : (slots : Slots) (k : ℕ) (old new : List (List ℕ × ℕ)) → slice_get slots k ≡ Some None → IsMendedTo k slots old new → IsMendedTo (k + 1) slots old new
-mended-past_hole slots k old new at h addr =
-    h addr ∙ ap (λ (o : Option ℕ). or_else o (lookup (bytes_eq addr) old)) (sym (ap (slot_of addr) (taken-at slots k None at) ∙ found-hole addr (take k slots)))
-
-pub mended-more : (slots : Slots) (k : ℕ) (old now new : List (List ℕ × ℕ)) (station : List ℕ × StationState) → AreApart (stations_in slots) → slice_get slots k ≡ Some (Some station)
-    → ((q : List ℕ) → lookup (bytes_eq q) new ≡ cond (bytes_eq station.0 q) (Some k) (lookup (bytes_eq q) now)) → IsMendedTo k slots old now → IsMendedTo (k + 1) slots old new
-mended-more slots k old now new station apart at written h addr =
-    let within : k < length slots = slice_get_within slots k (Some station) at in
-    let len : length (take k slots) ≡ k = length-take-le k slots (omega (arith, within)) in
-    let here : slot_of addr (take (k + 1) slots) ≡ cond (bytes_eq station.0 addr) (Some k) (slot_of addr (take k slots)) =
-    ap (slot_of addr) (taken-at slots k (Some station) at) ∙ found-last addr station.0 station.1 (take k slots) (first-at slots k station apart at)
-    ∙ ap (λ n. cond (bytes_eq station.0 addr) (Some n) (slot_of addr (take k slots))) len in
-    written addr ∙ ap (cond (bytes_eq station.0 addr) (Some k)) (h addr) ∙ sym (or_else-cond (bytes_eq station.0 addr) (Some k) (slot_of addr (take k slots)) (lookup (bytes_eq addr) old) k refl)
-    ∙ ap (λ (o : Option ℕ). or_else o (lookup (bytes_eq addr) old)) (sym here)
-
-pub mended-step : (x : Option (List ℕ × StationState)) (slots : Slots) (k : ℕ) (old now new : List (List ℕ × ℕ)) → slice_get slots k ≡ Some x → AreApart (stations_in slots) → HasStations old slots → Tells x k now new → IsMendedTo k slots old now → IsMendedTo (k + 1) slots old new
-mended-step None slots k old now new at apart has told h = mended-past_hole slots k old new at (subst (IsMendedTo k slots old) (sym told) h)
-mended-step (Some station) slots k old now new at apart has told h =
-    mended-more slots k old now new station apart at (told (mended-has slots k old now station at has h)) h
-
-pub mended-all : (slots : Slots) (old new : List (List ℕ × ℕ)) → HasStations old slots → IsMendedTo (length slots) slots old new → AreFound new slots
-mended-all slots old new has h addr =
-    h addr ∙ ap (λ (s : Slots). or_else (slot_of addr s) (lookup (bytes_eq addr) old)) (take_all (length slots) slots (omega arith)) ∙ by (slot_of addr slots) refl
-  where
-    by : (o : Option ℕ) → slot_of addr slots ≡ o → or_else o (lookup (bytes_eq addr) old) ≡ slot_of addr slots
-    by None is = none-from (lookup (bytes_eq addr) old) (has addr ∙ sym (slot_of-known addr slots) ∙ ap is_some is) ∙ sym is
-    by (Some n) is = sym is
 
 -- ---- what is read
 

@@ -1,6 +1,6 @@
 -- How the stations of a network are kept in order (profile): each has a slot, and one that left left a hole.
-use Rattle.std.specs.Prelude.{ℕ, ◌≡◌, ◌+◌, ◌-◌, ◌<◌, nat_lt, List, [], ◌∷◌, Option, Some, None, true, is_some, if◌then◌else◌}
-use Rattle.std.specs.Prelude.{length, slice_get, slice_set, zero, suc}
+use Rattle.std.specs.Prelude.{ℕ, ◌≡◌, ◌+◌, ◌-◌, ◌<◌, ◌≤◌, nat_lt, nat_eq, List, [], ◌∷◌, Option, Some, None, if◌then◌else◌}
+use Rattle.std.specs.Prelude.{length, slice_get, slice_set, map, zero, suc, IfSome}
 use Rattle.std.specs.List.{AllByRecursion}
 use Rattle.std.specs.Option.{option_map}
 use Rattle.std.specs.Map.{lookup}
@@ -35,13 +35,6 @@ pub record IsAt (addr : List ℕ) (slots : Slots) (i : ℕ) (state : StationStat
 abbrev pub AreFound : List (List ℕ × ℕ) → Slots → Type 0
 AreFound index slots = (addr : List ℕ) → lookup (bytes_eq addr) index ≡ slot_of addr slots
 
--- an index is told in which slot a station stands that it has, and the others stay where they are
-abbrev pub Tells : Option (List ℕ × StationState) → ℕ → (old new : List (List ℕ × ℕ)) → Type 0
-Tells None place old new = new ≡ old
-Tells (Some station) place old new = is_some (lookup (bytes_eq station.0) old) ≡ true
-    → (other : List ℕ) → lookup (bytes_eq other) new
-    ≡ (if bytes_eq station.0 other then Some place else lookup (bytes_eq other) old)
-
 -- ---- the order of the slots
 
 -- a slot; where there is none of this number it is a hole
@@ -71,6 +64,24 @@ abbrev pub with_place : ℕ → List ℕ → List ℕ
 with_place place [] = place ∷ []
 with_place place (other ∷ places) =
     if nat_lt other place then other ∷ with_place place places else place ∷ other ∷ places
+
+-- numbers that rise, from this one on
+abbrev pub Rises : ℕ → List ℕ → Type 0
+Rises n [] = Unit {0}
+Rises n (x ∷ xs) = (n ≤ x) × Rises (suc x) xs
+
+-- the place of a slot in a row
+abbrev pub place_in : (row : List ℕ) → ℕ → ℕ
+place_in [] i = 0
+place_in (other ∷ row) i = if nat_eq other i then 0 else suc (place_in row i)
+
+-- the slots that an index has stand in a row
+abbrev pub AreIn : (row : List ℕ) → List (List ℕ × ℕ) → Type 0
+AreIn row index = (addr : List ℕ) → IfSome (lookup (bytes_eq addr) index) (λ i. slice_get row (place_in row i) ≡ Some i)
+
+-- an index with the place of each slot in a row in place of the slot
+abbrev pub with_places : (row : List ℕ) → List (List ℕ × ℕ) → List (List ℕ × ℕ)
+with_places row index = map (λ (e : List ℕ × ℕ). (e.0, place_in row e.1)) index
 
 -- a slot stands last in a row, unless none does
 abbrev pub EndsWith : ℕ → (row : List ℕ) → Type 0

@@ -10,7 +10,8 @@ ghost use Rattle.std.specs.Map.{lookup, set_value};
 ghost use Rattle.std.specs.Str.{bytes_eq};
 ghost use Rattle.stations.specs.Stations.{state_of, set_state, forget, set_mode};
 ghost use Rattle.stations.specs.Sound.{AreApart};
-ghost use Rattle.stations.specs.Slots.{stations_in, IsAt, AreFound, MayList, Tells};
+ghost use Rattle.stations.specs.Slots.{stations_in, IsAt, AreFound, IsListed, MayList, Rises, AreIn};
+ghost use Rattle.stations.specs.Slots.{with_places};
 
 use crate::address_key::AddressKey;
 use crate::order::{Order, station_in};
@@ -193,7 +194,10 @@ impl StationList {
     {
         if self.holes == self.slots.len() {
             self.clear();
-        } else if self.holes > FEW_HOLES && self.holes > self.slots.len() / 3 {
+        } else if self.holes > FEW_HOLES
+            && self.holes > self.slots.len() / 3
+            && self.order.has_row()
+        {
             close_up(&mut self.index, &mut self.slots, &mut self.order);
             self.holes = 0;
         }
@@ -241,17 +245,29 @@ fn find(index: &Index, slots: &[Slot], addr: MacAddr) -> Option<(usize, StationS
 /// Moves the stations together, so that no slot is a hole, and tells the index and the order where each stands then.
 fn close_up(index: &mut Index, slots: &mut Vec<Slot>, order: &mut Order)
     requires apart { AreApart (stations_in slots.old.items) }
-    requires known { (addr : List ℕ) → is_some (lookup (bytes_eq addr) index.old.entries)
-        ≡ is_some (state_of addr (stations_in slots.old.items)) }
-    requires listed { MayList order.old.row.items order.old.gone.items slots.old.items }
+    requires found { AreFound index.old.entries slots.old.items }
+    requires listed { IsListed order.old.row.items order.old.gone.items slots.old.items }
     ensures stations { stations_in slots.new.items ≡ stations_in slots.old.items }
     ensures full { length (stations_in slots.new.items) ≡ length slots.new.items }
     ensures found { AreFound index.new.entries slots.new.items }
     ensures listed { MayList order.new.row.items order.new.gone.items slots.new.items }
 {
+    order.list_stations(slots.as_slice());
+    mend(index, order.row.as_slice());
     drop_holes(slots);
-    mend(index, slots.as_slice());
     order.number(slots.len());
+}
+
+/// Tells an index the place in a row of each slot that it has, which is found by halves. It asks for no hash.
+fn mend(index: &mut Index, row: &[usize])
+    requires rising { Rises 0 row.now }
+    requires listed { AreIn row.now index.old.entries }
+    ensures { index.new.entries ≡ with_places row.now index.old.entries }
+{
+    for at in 0..index.len() {
+        let place = row.binary_search(&index[at]).unwrap();
+        index[at] = place;
+    }
 }
 
 /// Moves the stations together, so that no slot is a hole.
@@ -260,29 +276,4 @@ fn drop_holes(slots: &mut Vec<Slot>)
     ensures full { length (stations_in slots.new.items) ≡ length slots.new.items }
 {
     slots.retain(|slot| slot.is_some());
-}
-
-/// Tells the index of some stations the slot in which each of them stands.
-fn mend(index: &mut Index, slots: &[Slot])
-    requires apart { AreApart (stations_in slots.now) }
-    requires known { (addr : List ℕ) → is_some (lookup (bytes_eq addr) index.old.entries)
-        ≡ is_some (state_of addr (stations_in slots.now)) }
-    ensures { AreFound index.new.entries slots.now }
-{
-    for (place, slot) in slots.iter().enumerate() {
-        tell(index, slot, place);
-    }
-}
-
-/// Tells the index where the station in a slot stands, if there is one.
-fn tell(index: &mut Index, slot: &Slot, place: usize)
-    ensures { Tells slot.now place index.old.entries index.new.entries }
-{
-    let Some((addr, _)) = slot else {
-        return;
-    };
-    let Some(found) = index.get_mut(&AddressKey { addr: *addr }) else {
-        return;
-    };
-    *found = place;
 }

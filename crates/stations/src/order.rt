@@ -1,6 +1,6 @@
 //! The order of the stations' slots, by which a station is found at its place.
 
-ghost use Rattle.std.specs.Prelude.{◌≡◌, ◌<◌, ◌≤◌, ◌+◌, ◌-◌, ◌^◌, ◌++◌, ◌∷◌, [], ℕ, List, length, is_some, slice_get};
+ghost use Rattle.std.specs.Prelude.{◌≡◌, ◌<◌, ◌≤◌, ◌+◌, ◌-◌, ◌^◌, ◌++◌, ◌∷◌, ◌↔◌, [], ℕ, List, length, is_some, slice_get};
 ghost use Rattle.std.specs.Prelude.{filter, insert, min, take, vec_len, vec_capacity, IsTrue, Some, OnOk};
 ghost use Rattle.std.specs.List.{range_with_len};
 ghost use Rattle.stations.specs.Slots.{Slots, slot_at, stations_in, holes_from, past, with_place, EndsWith, IsListed};
@@ -98,6 +98,13 @@ impl Order {
         }
     }
 
+    /// Whether the slots stand in a row: they do where there are more than a few.
+    pub(crate) fn has_row(&self) -> bool
+        ensures { IsTrue result ↔ (0 < length self.now.row.items) }
+    {
+        !self.row.is_empty()
+    }
+
     /// Whether a slot stands last in the row, or none does.
     pub(crate) fn ends_with(&self, slot: usize) -> bool
         ensures { IsTrue result → EndsWith slot self.now.row.items }
@@ -168,7 +175,7 @@ impl Order {
     }
 
     /// Takes out of the row the slots that have no station.
-    fn list_stations(&mut self, slots: &[Slot])
+    pub(crate) fn list_stations(&mut self, slots: &[Slot])
         ensures row { self.new.row.items ≡ filter (λ slot. is_some (slot_at slots.now slot)) self.old.row.items }
         ensures gone { self.new.gone.items ≡ [] }
     {

@@ -1,13 +1,43 @@
-use Rattle.std.proofs.Common.{◌≡◌, ℕ, length, min, List, ap, ◌∙◌, arith}
+use Rattle.std.proofs.Common.{◌≡◌, ℕ, [], length, min, List, filter, is_some, refl, sym, subst, ap, ◌∙◌, arith}
 use Rattle.std.specs.List.{range_with_len}
-use Rattle.stations.specs.Slots.{Slots}
-use Rattle.stations.proofs.StationOrder.{may-list-numbered}
+use Rattle.stations.specs.Slots.{Slots, slot_at, Rises, AreIn, AreFound, IsListed, with_places}
+use Rattle.stations.proofs.StationOrder.{order-kept, may-list-numbered}
+use Rattle.stations.proofs.IndexMended.{row-rises, slots-in, found-moved}
 use Rattle.stations.proofs.list.close_up.Goals as goal
+
+pub mend-requires-clause-rising : goal.mend-requires-clause-rising
+mend-requires-clause-rising c =
+    let slots : Slots = c.args.slots.now.items in
+    let row : List ℕ = c.list_stations.new.self.row.items in
+    let cut : row ≡ filter (λ k. is_some (slot_at slots k)) c.args.order.now.row.items = c.list_stations.ensures.row ∙ ap (λ (s : Slots). filter (λ k. is_some (slot_at s k)) c.args.order.now.row.items) c.as_slice.ensures.value in
+    let kept : IsListed row [] slots = order-kept c.args.order.now.row.items c.args.order.now.gone.items row [] slots cut refl c.requires.listed in
+    subst (Rises 0) (sym c.as_slice-2.ensures.value) (row-rises row slots c.requires.apart kept)
+
+pub mend-requires-clause-listed : goal.mend-requires-clause-listed
+mend-requires-clause-listed c =
+    let slots : Slots = c.args.slots.now.items in
+    let row : List ℕ = c.list_stations.new.self.row.items in
+    let cut : row ≡ filter (λ k. is_some (slot_at slots k)) c.args.order.now.row.items = c.list_stations.ensures.row ∙ ap (λ (s : Slots). filter (λ k. is_some (slot_at s k)) c.args.order.now.row.items) c.as_slice.ensures.value in
+    let kept : IsListed row [] slots = order-kept c.args.order.now.row.items c.args.order.now.gone.items row [] slots cut refl c.requires.listed in
+    let listed : AreIn row c.args.index.now.entries = slots-in c.args.index.now.entries row slots c.requires.apart c.requires.found kept in
+    subst (λ (r : List ℕ). AreIn r c.args.index.now.entries) (sym c.as_slice-2.ensures.value) listed
+
+pub returns-clause-found : goal.returns-clause-found
+returns-clause-found c =
+    let slots : Slots = c.args.slots.now.items in
+    let row : List ℕ = c.list_stations.new.self.row.items in
+    let cut : row ≡ filter (λ k. is_some (slot_at slots k)) c.args.order.now.row.items = c.list_stations.ensures.row ∙ ap (λ (s : Slots). filter (λ k. is_some (slot_at s k)) c.args.order.now.row.items) c.as_slice.ensures.value in
+    let kept : IsListed row [] slots = order-kept c.args.order.now.row.items c.args.order.now.gone.items row [] slots cut refl c.requires.listed in
+    let moved : AreFound (with_places row c.args.index.now.entries) c.drop_holes.new.slots.items = found-moved c.args.index.now.entries row slots c.drop_holes.new.slots.items c.requires.apart c.requires.found kept c.drop_holes.ensures.stations c.drop_holes.ensures.full in
+    subst (λ (es : List (List ℕ × ℕ)). AreFound es c.drop_holes.new.slots.items) (sym (c.mend.ensures ∙ ap (λ (r : List ℕ). with_places r c.args.index.now.entries) c.as_slice-2.ensures.value)) moved
 
 pub returns-clause-listed : goal.returns-clause-listed
 returns-clause-listed c =
-    let slots : Slots = c.drop_holes.new.slots.items in
-    let row : List ℕ = c.args.order.now.row.items in
-    let count : c.len.result ≡ length slots = omega (arith, c.len.ensures) in
-    may-list-numbered row c.args.order.now.gone.items c.number.new.self.row.items c.number.new.self.gone.items c.args.slots.now.items slots c.requires.listed c.drop_holes.ensures.stations c.drop_holes.ensures.full
+    let slots : Slots = c.args.slots.now.items in
+    let after : Slots = c.drop_holes.new.slots.items in
+    let row : List ℕ = c.list_stations.new.self.row.items in
+    let cut : row ≡ filter (λ k. is_some (slot_at slots k)) c.args.order.now.row.items = c.list_stations.ensures.row ∙ ap (λ (s : Slots). filter (λ k. is_some (slot_at s k)) c.args.order.now.row.items) c.as_slice.ensures.value in
+    let kept : IsListed row [] slots = order-kept c.args.order.now.row.items c.args.order.now.gone.items row [] slots cut refl c.requires.listed in
+    let count : c.len.result ≡ length after = omega (arith, c.len.ensures) in
+    may-list-numbered row [] c.number.new.self.row.items c.number.new.self.gone.items slots after (λ some. kept) c.drop_holes.ensures.stations c.drop_holes.ensures.full
     (c.number.ensures.row ∙ ap (λ n. range_with_len 0 (min n (length row))) count) c.number.ensures.gone

@@ -1,7 +1,8 @@
 use Rattle.std.proofs.Common.{ℕ, List, ltb, sym, subst, rules}
 use Rattle.std.specs.List.Sorted.{IsPartitionedBy}
 use Rattle.std.proofs.lemmas.List.Sorted.{IsPartitionedBy-ltb, IsPartitionPoint-from_clause}
-use Rattle.stations.proofs.StationOrder.{Rises, holes-rise, rises-order, with_place-insert}
+use Rattle.stations.specs.Slots.{Rises}
+use Rattle.stations.proofs.StationOrder.{holes-rise, rises-order, with_place-insert}
 use Rattle.stations.proofs.order.count_before.Goals as goal
 
 pub returns-clause-place : goal.returns-clause-place

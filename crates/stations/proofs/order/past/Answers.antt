@@ -1,5 +1,6 @@
 use Rattle.std.proofs.Common.{◌≡◌, ◌<◌, ◌+◌, ◌-◌, ◌/◌, ℕ, List, length, get_or, subst, sym, arith}
-use Rattle.stations.proofs.StationOrder.{Rises, holes-rise, past-is}
+use Rattle.stations.specs.Slots.{Rises}
+use Rattle.stations.proofs.StationOrder.{holes-rise, past-is}
 use Rattle.stations.proofs.order.past.Goals as goal
 
 pub loop-low-init : goal.loop-low-init
