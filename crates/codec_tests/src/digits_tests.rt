@@ -21,6 +21,22 @@ fn reads_as_hex(rt: &impl Abort, alloc: Global, text: &[u8]) {
         (Err(fault), Err(wanted)) => assert_eq!(rt; fault, wanted),
         _ => panic!(rt; "only one of them reads the text"),
     }
+    match (
+        digits::decode_if_digits(alloc, text),
+        hex::decode(alloc, text),
+    ) {
+        (Ok(Some(octets)), Ok(wanted)) => assert_eq!(rt; octets.as_slice(), wanted.as_slice()),
+        (Ok(None), Err(_)) => {}
+        _ => panic!(rt; "the text is of digits alone for one of them"),
+    }
+}
+
+#[test]
+fn octets_of_digits_are_read(rt: HostRuntime) {
+    let octets = digits::decode_if_digits(rt.alloc(), DIGITS).unwrap_or_default();
+    assert_eq!(rt; octets.as_ref().map(Vec::as_slice), Some(OCTETS));
+    let others = digits::decode_if_digits(rt.alloc(), b"1f5489be f3");
+    assert!(rt; matches!(others, Ok(None)));
 }
 
 #[test]

@@ -1,14 +1,15 @@
 -- What is loaded of a text, and what a store leaves.
-use Rattle.std.proofs.Common.{◌≡◌, ℕ, ◌+◌, ◌-◌, ◌*◌, ◌<◌, ◌≤◌, Bool, true, false, eqb, List, [], ◌∷◌, ◌++◌, length}
+use Rattle.std.proofs.Common.{◌≡◌, ℕ, ◌+◌, ◌-◌, ◌*◌, ◌<◌, ◌≤◌, Bool, true, false, eqb, ltb, List, [], ◌∷◌, ◌++◌, length}
 use Rattle.std.proofs.Common.{get_or, refl, sym, ap, ◌∙◌, subst, arith, inl, inr}
-use Rattle.std.proofs.lemmas.Bool.{agree_below_at, cases_lt, eqb-true}
+use Rattle.std.proofs.lemmas.Bool.{agree_below_at, cases_lt, eqb-true, ltb-true}
 use Rattle.std.proofs.lemmas.List.{get_or-map, get_or_append_left, get_or-append_right}
 use Rattle.std.proofs.lemmas.Simd.{get_or-chunk, get_or-put_chunk_at, get_or-put_chunk_below, length-chunk}
 use Rattle.std.proofs.lemmas.Simd.{length-put_chunk, pick_l_left, pick_l-range_with_len}
 use Rattle.std.specs.Bool.{OnTrue}
 use Rattle.std.specs.List.{range_with_len}
 use lib.Lanes.{chunk, pick_l, put_chunk}
-use Rattle.digits.specs.Pairs.{PairReads, PairSpells, ReadsAt, SpellsAt}
+use Rattle.hex.specs.Hex.{is_hex_digit}
+use Rattle.digits.specs.Pairs.{AreDigits, PairReads, PairSpells, ReadsAt, SpellsAt}
 
 -- two loads, one after the other
 pub loaded-two : (xs : List ℕ) (i m : ℕ) → i + 32 ≤ length xs → m < 32
@@ -144,3 +145,34 @@ stored_spells octets new block pairs at n few loaded stored spells k from to =
     let low : get_or new (2 * k + 1) 0 ≡ get_or pairs (2 * j + 1) 0 =
     ap (λ m. get_or new m 0) (omega arith) ∙ stored (2 * j + 1) (omega arith) in
     same_spelling octet (sym high) (sym low) (spells j (omega arith))
+
+-- of a text of digits, the characters that were loaded are digits
+pub loaded_digits : (text xs : List ℕ) (start n : ℕ) → start + n ≤ length text
+    → ((m : ℕ) → m < n → get_or xs m 0 ≡ get_or text (start + m) 0) → AreDigits text
+    → (m : ℕ) → m < n → is_hex_digit (get_or xs m 0) ≡ true
+loaded_digits text xs start n room loaded digits m lt = rw (loaded m lt) (digits (start + m) (omega arith))
+
+-- the same characters twice
+pub twice_digits : (n : ℕ) (xs : List ℕ) → length xs ≡ n → ((m : ℕ) → m < n → is_hex_digit (get_or xs m 0) ≡ true)
+    → (m : ℕ) → m < 2 * n → is_hex_digit (get_or (xs ++ xs) m 0) ≡ true
+twice_digits n xs long digits m lt =
+    elim (cases_lt m n) [
+      | inl early ↦ rw (get_or_append_left xs xs 0 m (omega arith)) (digits m early)
+      | inr late ↦ rw (get_or-append_right xs xs n m 0 long late) (digits (m - n) (omega arith))
+    ]
+
+abbrev is_early : ℕ → Bool
+is_early k = ltb (get_or twice_eight k 0) 8
+
+-- eight characters that were loaded, made 16
+pub picked_digits : (text : List ℕ) (start : ℕ) → start + 8 ≤ length text → AreDigits text → (m : ℕ) → m < 16
+    → is_hex_digit (get_or (pick_l 0 (chunk start 8 text ++ chunk start 8 text) twice_eight) m 0) ≡ true
+picked_digits text start room digits m lt =
+    let few : List ℕ = chunk start 8 text in
+    let at : ℕ = get_or twice_eight m 0 in
+    let early : at < 8 = ltb-true at 8 (agree_below_at is_early (λ _. true) 16 m refl lt) in
+    let is : get_or (pick_l 0 (few ++ few) twice_eight) m 0 ≡ get_or text (start + at) 0 =
+    get_or-map (λ k. get_or (few ++ few) k 0) twice_eight m 0 0 lt
+    ∙ get_or_append_left few few 0 at (omega (arith, length-chunk start 8 text room))
+    ∙ get_or-chunk start 8 text at 0 early in
+    rw is (digits (start + at) (omega arith))

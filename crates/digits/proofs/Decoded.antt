@@ -1,11 +1,14 @@
 -- From the octets at all places to the whole text.
-use Rattle.std.proofs.Common.{◌≡◌, ℕ, suc, ◌+◌, ◌*◌, ◌<◌, ◌≤◌, Bool, true, false, List, [], ◌∷◌, length, get_or, Ok}
-use Rattle.std.proofs.Common.{refl, sym, ap, subst, arith, inl, inr}
+use Rattle.std.proofs.Common.{◌≡◌, ℕ, suc, ◌+◌, ◌*◌, ◌∙◌, ◌<◌, ◌≤◌, Bool, true, false, List, [], ◌∷◌, length, get_or, Ok, Err}
+use Rattle.std.proofs.Common.{Result, IsErr, refl, sym, ap, subst, arith, inl, inr}
 use Rattle.std.proofs.lemmas.Bool.{cases_lt}
 use Rattle.std.specs.Bool.{OnTrue}
-use Rattle.hex.specs.Hex.{IsBytes, decode_pairs, pair_value}
+use Rattle.std.proofs.lemmas.List.Elements.{All-from_get_or, All-get_or}
+use Rattle.hex.specs.Hex.{IsBytes, decode_of, decode_pairs, decode_sized, is_hex_digit, pair_value}
+use Rattle.hex.specs.declared.error.FromHexError.{FromHexError}
+use Rattle.hex.proofs.HexLemmas.{decode_of-digits, decode_of-ok, decode_sized-twice}
 use Rattle.digits.proofs.Blocks.{same_pair}
-use Rattle.digits.specs.Pairs.{PairReads, ReadsAt}
+use Rattle.digits.specs.Pairs.{AreDigits, PairReads, ReadsAt}
 
 -- where each octet is what its characters spell, the text reads as the octets
 pub decoded : (i : ℕ) (text octets : List ℕ) → IsBytes text → length text ≡ 2 * length octets
@@ -40,3 +43,25 @@ covered text old new true seen last n fits len whole over before back keeps =
           (before k (omega arith))
       | inr late ↦ back k late (omega arith)
     ])
+
+-- a text that spells octets is of digits alone
+digits_at : (text octets : List ℕ) → decode_of text ≡ Ok octets → AreDigits text
+digits_at text octets e m lt = All-get_or (λ x. is_hex_digit x ≡ true) text m 0 lt (decode_of-ok text octets e).1
+
+-- where a text that isn't of digits alone is told so, reading it is refused
+refused_as : (text : List ℕ) (read : Result (List ℕ) FromHexError) → decode_of text ≡ read → (AreDigits text → ⊥)
+    → IsErr read
+refused_as text (Ok octets) is other = absurd (other (digits_at text octets is))
+refused_as text (Err fault) is other = refl
+
+pub refused : (text : List ℕ) (are_digits : Bool) → are_digits ≡ false → (AreDigits text → are_digits ≡ true)
+    → IsErr (decode_of text)
+refused text are_digits is all = refused_as text (decode_of text) refl (λ digits. cc (all digits))
+
+-- a text of digits alone reads
+pub all_read : (text : List ℕ) (n : ℕ) → length text ≡ 2 * n → AreDigits text
+    → (octets : List ℕ) × (decode_sized text n ≡ Ok octets)
+all_read text n len digits =
+    let each = All-from_get_or (λ x. is_hex_digit x ≡ true) text 0 digits in
+    let octets = decode_of-digits text (omega arith) each in
+    (octets.0, decode_sized-twice text n len ∙ octets.1)

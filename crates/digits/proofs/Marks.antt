@@ -67,3 +67,35 @@ module _ (xs ys : List ℕ) (p : IsBlock xs) (q : IsBlock ys) where
   pub small_second : OnTrue (all_clear xs ys) ((j : ℕ) → j < 16 → get_or ys j 0 < 16)
   small_second =
       OnTrue_from (all_clear xs ys) ((j : ℕ) → j < 16 → get_or ys j 0 < 16) (λ e j lt. (small_lanes e j lt).1)
+
+-- where no lane has a bit, the fold of them has none
+fold_of_none : (xs : List ℕ) → ((i : ℕ) → i < length xs → get_or xs i 0 ≡ 0) → fold_l bit_or 0 xs ≡ 0
+fold_of_none [] none = refl
+fold_of_none (x ∷ xs) none =
+    let first : x ≡ 0 = none 0 (omega arith) in
+    rw first (fold_of_none xs (λ i lt. none (suc i) (omega arith)))
+
+-- an octet below 16 has no upper bit
+abbrev has_none : ℕ → Bool
+has_none n = eqb (bit_and n 240) 0
+
+no_upper_bit : (n : ℕ) → n < 16 → bit_and n 240 ≡ 0
+no_upper_bit n lt = eqb-true (bit_and n 240) 0 (agree_below_at has_none (λ _. true) 16 n refl lt)
+
+-- lanes below 16 are all clear
+pub clear_where_small : (xs ys : List ℕ) → length xs ≡ 16 → length ys ≡ 16
+    → ((j : ℕ) → j < 16 → get_or xs j 0 < 16) → ((j : ℕ) → j < 16 → get_or ys j 0 < 16) → all_clear xs ys ≡ true
+clear_where_small xs ys p q first second =
+    let either : List ℕ = zip2 bit_or xs ys in
+    let long : length either ≡ 16 = length-zip2 bit_or xs ys (p ∙ sym q) ∙ p in
+    let whole : length (zip2 bit_and either (replicate 16 240)) ≡ 16 =
+    length-zip2 bit_and either (replicate 16 240) long ∙ long in
+    let none : (i : ℕ) → i < length (zip2 bit_and either (replicate 16 240))
+    → get_or (zip2 bit_and either (replicate 16 240)) i 0 ≡ 0 = λ i lt.
+    let below : i < 16 = omega arith in
+    get_or-zip2 bit_and either (replicate 16 240) i 0 240 0 (omega arith) below
+    ∙ (λ k. bit_and (get_or-zip2 bit_or xs ys i 0 0 0 (omega arith) (omega arith) k)
+    (get_or-replicate 16 i 240 240 below k))
+    ∙ no_upper_bit (bit_or (get_or xs i 0) (get_or ys i 0))
+    (or_lt 4 (get_or xs i 0) (get_or ys i 0) (first i below) (second i below)) in
+    eq-eqb _ 0 (fold_of_none (zip2 bit_and either (replicate 16 240)) none)

@@ -7,7 +7,7 @@ use Rattle.std.proofs.lemmas.Nat.{or_shifted}
 use Rattle.std.proofs.lemmas.Simd.{get_or-replicate, get_or-zip2, length-zip2}
 use Rattle.std.specs.Bool.{OnTrue}
 use lib.Lanes.{pick_l, zip2}
-use Rattle.hex.specs.Hex.{digit_or_error, hex_digit_value, pair_value, value_at}
+use Rattle.hex.specs.Hex.{digit_or_error, hex_digit_value, is_hex_digit, pair_value, value_at}
 use Rattle.digits.specs.Pairs.{PairReads}
 
 -- the places of the first of each pair, and of the second
@@ -84,3 +84,15 @@ pairs_read xs high low true p q vh vl h l = λ j lt i fits_a fits_b.
     subst (λ x. hex_digit_value x ≡ Some (get_or low j 0)) b (vl j lt (omega (arith, b)) (l j lt)) in
     pair_reads (get_or xs (2 * j) 0) (get_or xs (2 * j + 1) 0) _ _ first second i
     ∙ ap Ok (sym (get_or-octets_l high low j p q lt (h j lt) (l j lt)))
+
+-- the value that the lane of each digit among these characters has
+abbrev pub HaveValues : List ℕ → List ℕ → List ℕ → Type 0
+HaveValues xs places values =
+    (j : ℕ) → j < 16 → is_hex_digit (get_or (pick_l 0 xs places) j 0) ≡ true → get_or values j 0 < 16
+
+pub all_pairs : (xs high low : List ℕ) (clear : Bool) → HaveValues xs evens high → HaveValues xs odds low
+    → (((j : ℕ) → j < 16 → get_or high j 0 < 16) → ((j : ℕ) → j < 16 → get_or low j 0 < 16) → clear ≡ true)
+    → ((m : ℕ) → m < 32 → is_hex_digit (get_or xs m 0) ≡ true) → clear ≡ true
+all_pairs xs high low clear first second both digits =
+    both (λ j lt. first j lt (rw (get_or-evens xs j lt) (digits (2 * j) (omega arith))))
+    (λ j lt. second j lt (rw (get_or-odds xs j lt) (digits (2 * j + 1) (omega arith))))

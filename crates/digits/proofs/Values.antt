@@ -1,10 +1,10 @@
 -- The values of digits, as the vectors compute them.
 use Rattle.std.proofs.Common.{◌≡◌, ℕ, ◌<◌, ◌||◌, Bool, true, not, eqb, ltb, List, map, length, get_or, replicate}
 use Rattle.std.proofs.Common.{bit_and, Option, Some, None, unwrap_or, refl, ap, ◌∙◌, subst, arith, lt-ltb}
-use Rattle.std.proofs.lemmas.Bool.{agree_below, agree_below_at, eqb-true}
+use Rattle.std.proofs.lemmas.Bool.{agree_below, agree_below_at, eqb-true, ltb-true}
 use Rattle.std.proofs.lemmas.List.{get_or-map}
 use Rattle.std.proofs.lemmas.Simd.{zip2_of_maps, splat_is_map}
-use Rattle.hex.specs.Hex.{hex_digit_value}
+use Rattle.hex.specs.Hex.{hex_digit_value, is_hex_digit}
 use Rattle.digits.proofs.Lanes.{add, less, smaller, saturating_less, smaller_l, saturating_less_l, itself, smaller_is}
 use Rattle.digits.proofs.Lanes.{saturating_less_is}
 use lib.Lanes.{zip2}
@@ -63,3 +63,19 @@ value_at v j long lt fits small =
     let test = agree_below_at reads (λ _. true) 256 c all_read fits in
     let below : value_of c < 16 = subst (λ x. x < 16) is small in
     rw is (some_below (hex_digit_value c) (value_of c) below (second (value_of c) _ below test))
+
+-- a digit has a value below 16
+abbrev has_value : ℕ → Bool
+has_value c = not (is_hex_digit c) || ltb (value_of c) 16
+
+all_have_values : agree_below has_value (λ _. true) 256 ≡ true
+all_have_values = refl
+
+pub below_16_at : (v : List ℕ) (j : ℕ) → length v ≡ 16 → j < 16 → get_or v j 0 < 256
+    → is_hex_digit (get_or v j 0) ≡ true → get_or (values_of v) j 0 < 16
+below_16_at v j long lt fits digit =
+    let c : ℕ = get_or v j 0 in
+    let is : get_or (values_of v) j 0 ≡ value_of c =
+    ap (λ l. get_or l j 0) (values_are v long) ∙ get_or-map value_of v j 0 0 (omega arith) in
+    let test = agree_below_at has_value (λ _. true) 256 c all_have_values fits in
+    rw is (ltb-true (value_of c) 16 (rw digit at test))

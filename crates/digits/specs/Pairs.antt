@@ -1,6 +1,10 @@
 -- Octets and their pairs of digits, place by place.
-use Rattle.std.specs.Prelude.{◌≡◌, ℕ, ◌+◌, ◌*◌, ◌/◌, ◌%◌, ◌<◌, List, slice_index, Ok}
-use Rattle.hex.specs.Hex.{lower_digits, pair_value}
+use Rattle.std.specs.Prelude.{◌≡◌, ℕ, ◌+◌, ◌*◌, ◌/◌, ◌%◌, ◌<◌, true, List, length, slice_index, Ok}
+use Rattle.hex.specs.Hex.{is_hex_digit, lower_digits, pair_value}
+
+-- all characters of a text are digits, of either case
+abbrev pub AreDigits : List ℕ → Type 0
+AreDigits text = (m : ℕ) → m < length text → is_hex_digit (slice_index text m) ≡ true
 
 -- the characters high and low, octets both, are the digits of this octet
 abbrev pub PairReads : ℕ → ℕ → ℕ → Type 0

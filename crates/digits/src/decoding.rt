@@ -1,17 +1,18 @@
 //! Octets of digits, a block of them at a time.
 
 ghost use Rattle.std.specs.Bool.{OnTrue};
-ghost use Rattle.std.specs.Prelude.{◌≡◌, ℕ, ◌+◌, ◌*◌, ◌≤◌, ◌<◌, ◌++◌, length, slice_index, Some};
-ghost use Rattle.hex.specs.Hex.{decode_pairs, hex_digit_value};
-ghost use Rattle.digits.specs.Pairs.{ReadsAt};
+ghost use Rattle.std.specs.Prelude.{◌≡◌, ℕ, ◌+◌, ◌*◌, ◌≤◌, ◌<◌, ◌++◌, true, length, slice_index, Some, IsTrue};
+ghost use Rattle.hex.specs.Hex.{decode_pairs, hex_digit_value, is_hex_digit};
+ghost use Rattle.digits.specs.Pairs.{AreDigits, ReadsAt};
 
 use std::simd::prelude::*;
 
-/// Reads digits, two for each octet. `true` comes only where all characters are digits; else what the octets then are
-/// is not specified.
+/// Reads digits, two for each octet. `true` comes exactly where all characters are digits; else what the octets then
+/// are is not specified.
 pub(crate) fn decode_digits(text: &[u8], octets: &mut [u8]) -> bool
     requires { length text.now ≡ 2 * length octets.old }
-    ensures { OnTrue result (decode_pairs 0 text.now ≡ Ok octets.new) }
+    ensures reads { OnTrue result (decode_pairs 0 text.now ≡ Ok octets.new) }
+    ensures all { AreDigits text.now → IsTrue result }
 {
     let len = octets.len();
     if len >= 16 {
@@ -30,7 +31,8 @@ pub(crate) fn decode_digits(text: &[u8], octets: &mut [u8]) -> bool
 fn decode_blocks(text: &[u8], octets: &mut [u8]) -> bool
     requires fits { length text.now ≡ 2 * length octets.old }
     requires a_block { 16 ≤ length octets.old }
-    ensures { OnTrue result (decode_pairs 0 text.now ≡ Ok octets.new) }
+    ensures reads { OnTrue result (decode_pairs 0 text.now ≡ Ok octets.new) }
+    ensures all { AreDigits text.now → IsTrue result }
 {
     let last = octets.len() - 16;
     let mut at = 0;
@@ -50,6 +52,7 @@ fn decode_sixteen(text: &[u8], octets: &mut [u8], at: usize) -> bool
     requires within { at + 16 ≤ length octets.old }
     ensures reads { OnTrue result ((k : ℕ) → at ≤ k → k < at + 16 → ReadsAt text.now octets.new k) }
     ensures keeps { (k : ℕ) → k < at → slice_index octets.new k ≡ slice_index octets.old k }
+    ensures all { AreDigits text.now → IsTrue result }
 {
     let front = u8x16::from_slice(&text[2 * at..]);
     let back = u8x16::from_slice(&text[2 * at + 16..]);
@@ -65,6 +68,7 @@ fn decode_eight(text: &[u8], octets: &mut [u8], at: usize) -> bool
     requires within { at + 8 ≤ length octets.old }
     ensures reads { OnTrue result ((k : ℕ) → at ≤ k → k < at + 8 → ReadsAt text.now octets.new k) }
     ensures keeps { (k : ℕ) → k < at → slice_index octets.new k ≡ slice_index octets.old k }
+    ensures all { AreDigits text.now → IsTrue result }
 {
     let pairs = u8x16::from_slice(&text[2 * at..]);
     let (block, are_digits) = read_pairs(pairs, pairs);
@@ -79,6 +83,7 @@ fn decode_four(text: &[u8], octets: &mut [u8], at: usize) -> bool
     requires within { at + 4 ≤ length octets.old }
     ensures reads { OnTrue result ((k : ℕ) → at ≤ k → k < at + 4 → ReadsAt text.now octets.new k) }
     ensures keeps { (k : ℕ) → k < at → slice_index octets.new k ≡ slice_index octets.old k }
+    ensures all { AreDigits text.now → IsTrue result }
 {
     let few = u8x8::from_slice(&text[2 * at..]);
     let pairs = few.swizzle([0, 1, 2, 3, 4, 5, 6, 7, 0, 1, 2, 3, 4, 5, 6, 7]);
@@ -92,6 +97,7 @@ fn decode_four(text: &[u8], octets: &mut [u8], at: usize) -> bool
 fn read_pairs(front: u8x16, back: u8x16) -> (u8x16, bool)
     ensures len { length result.0 ≡ 16 }
     ensures reads { OnTrue result.1 ((j : ℕ) → j < 16 → ReadsAt (front ++ back) result.0 j) }
+    ensures all { ((m : ℕ) → m < 32 → is_hex_digit (slice_index (front ++ back) m) ≡ true) → IsTrue result.1 }
 {
     let (high, low) = front.deinterleave(back);
     let high = digit_values(high);
@@ -104,6 +110,8 @@ fn read_pairs(front: u8x16, back: u8x16) -> (u8x16, bool)
 fn are_values(high: u8x16, low: u8x16) -> bool
     ensures high { OnTrue result ((j : ℕ) → j < 16 → slice_index high j < 16) }
     ensures low { OnTrue result ((j : ℕ) → j < 16 → slice_index low j < 16) }
+    ensures all { ((j : ℕ) → j < 16 → slice_index high j < 16) → ((j : ℕ) → j < 16 → slice_index low j < 16)
+        → IsTrue result }
 {
     ((high | low) & u8x16::splat(0xf0)).reduce_or() == 0
 }
@@ -118,6 +126,7 @@ fn digit_values(characters: u8x16) -> u8x16
     ensures len { length result ≡ 16 }
     ensures value { (j : ℕ) → j < 16 → slice_index characters j < 256 → slice_index result j < 16
         → hex_digit_value (slice_index characters j) ≡ Some (slice_index result j) }
+    ensures digit { (j : ℕ) → j < 16 → is_hex_digit (slice_index characters j) ≡ true → slice_index result j < 16 }
 {
     let from_zero = (characters + u8x16::splat(198)).saturating_sub(u8x16::splat(6))
         - u8x16::splat(240);

@@ -2,8 +2,8 @@ use Rattle.std.proofs.Common.{◌-◌, length, arith}
 use Rattle.digits.proofs.Decoded.{covered}
 use Rattle.digits.proofs.decoding.decode_blocks.Goals as goal
 
-pub returns : goal.returns
-returns c =
+pub returns-clause-reads : goal.returns-clause-reads
+returns-clause-reads c =
     let last = length c.args.octets.now - 16 in
     let back = c.decode_sixteen-2 in
     covered c.args.text.now c.loop-at.octets back.new.octets back.result c.loop-at.at last 16

@@ -1,7 +1,7 @@
-use Rattle.std.proofs.Common.{ℕ, ◌*◌, ◌++◌, List, refl, arith}
+use Rattle.std.proofs.Common.{ℕ, ◌+◌, ◌*◌, ◌≤◌, ◌++◌, List, length, refl, arith}
 use Rattle.std.proofs.lemmas.Simd.{get_or-put_chunk_below}
 use lib.Lanes.{chunk, pick_l}
-use Rattle.digits.proofs.Blocks.{front, front-four, get_or-front, loaded-eight, stored_reads, twice_eight}
+use Rattle.digits.proofs.Blocks.{front, front-four, get_or-front, loaded-eight, picked_digits, stored_reads, twice_digits, twice_eight}
 use Rattle.digits.proofs.decoding.decode_four.Goals as goal
 
 pub returns-clause-reads : goal.returns-clause-reads
@@ -20,3 +20,12 @@ returns-clause-reads c =
 pub returns-clause-keeps : goal.returns-clause-keeps
 returns-clause-keeps c k lt =
     get_or-put_chunk_below c.args.at c.args.octets.now (front 4 c.read_pairs-are_digits.result.0) k 0 lt
+
+pub returns-clause-all : goal.returns-clause-all
+returns-clause-all c digits =
+    let text = c.args.text.now in
+    let start : ℕ = 2 * c.args.at in
+    let room : start + 8 ≤ length text = omega (arith, c.requires.fits, c.requires.within) in
+    c.read_pairs-are_digits.ensures.all
+    (twice_digits 16 (pick_l 0 (chunk start 8 text ++ chunk start 8 text) twice_eight) refl
+    (picked_digits text start room digits))

@@ -1,5 +1,5 @@
 use Rattle.std.proofs.Common.{◌++◌}
-use Rattle.digits.proofs.PairLanes.{length-octets_l, pairs_read}
+use Rattle.digits.proofs.PairLanes.{all_pairs, length-octets_l, pairs_read}
 use Rattle.digits.proofs.decoding.read_pairs.Goals as goal
 
 pub returns-clause-len : goal.returns-clause-len
@@ -14,3 +14,8 @@ returns-clause-reads c =
     let low = c.digit_values-low in
     pairs_read (c.args.front ++ c.args.back) high.result low.result c.are_values.result high.ensures.len low.ensures.len
     high.ensures.value low.ensures.value c.are_values.ensures.high c.are_values.ensures.low
+
+pub returns-clause-all : goal.returns-clause-all
+returns-clause-all c =
+    all_pairs (c.args.front ++ c.args.back) c.digit_values-high.result c.digit_values-low.result c.are_values.result
+    c.digit_values-high.ensures.digit c.digit_values-low.ensures.digit c.are_values.ensures.all
