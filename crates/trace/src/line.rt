@@ -1,6 +1,6 @@
 //! One line of a trace text.
 
-ghost use Rattle.std.specs.Prelude.{◌≡◌, ◌≢◌, ◌↔◌, false, map, Err, IfOk, IsTrue, position};
+ghost use Rattle.std.specs.Prelude.{◌≡◌, ◌≢◌, false, map, Ok, Err, IfOk, IsErr, position};
 ghost use Rattle.trace.specs.Endings.{Gives};
 ghost use Rattle.trace.specs.Faults.{read_ending};
 ghost use Rattle.mac_frame.specs.Address.{address_of};
@@ -9,7 +9,6 @@ ghost use Rattle.trace.specs.TraceText.{without_spaces_at_start, after_first_wor
 ghost use Rattle.trace.specs.TraceText.{place_with, place_named, wired_line, line_with, content_of, said_by};
 ghost use Rattle.trace.specs.TraceText.{has_octets, takes_memory};
 ghost use Rattle.hex.specs.Hex.{decode_of};
-ghost use Rattle.trace.specs.declared.fault.LineFault.TheVariants.{NotHexadecimal};
 
 use crate::fault::LineFault;
 use crate::read_fault::ReadFault;
@@ -179,24 +178,16 @@ fn read_octets(alloc: Global, text: &[u8]) -> Result<Octets, ReadFault<LineFault
     if place_of(b' ', start).is_some() {
         return read_spaced(alloc, text);
     }
-    let read = read_digits(alloc, text);
-    if has_other_characters(&read) {
-        return read_if_spaced(alloc, text);
+    match digits::decode_if_digits(alloc, text)? {
+        Some(octets) => within_limit(octets),
+        None => read_if_spaced(alloc, text),
     }
-    read
-}
-
-/// Whether that is the fault of a text that is not of digits alone.
-fn has_other_characters(read: &Result<Octets, ReadFault<LineFault>>) -> bool
-    ensures { IsTrue result ↔ (read.now ≡ Err (ReadFault.At NotHexadecimal)) }
-{
-    matches!(read, Err(ReadFault::At(LineFault::NotHexadecimal)))
 }
 
 /// The octets that a text spells which is not of digits alone.
-#[tactic(auto, using(crate::proofs::TraceSteps::digits_of_none))]
+#[tactic(auto, using(crate::proofs::DigitTexts::refused_digits))]
 fn read_if_spaced(alloc: Global, text: &[u8]) -> Result<Octets, ReadFault<LineFault>>
-    requires { within_limit (decode_of text.now) ≡ Err NotHexadecimal }
+    requires { IsErr (decode_of text.now) }
     ensures { Gives (λ octets. octets) read_ending result (octets_of text.now) }
 {
     if place_of(b' ', text).is_none() {
@@ -226,7 +217,13 @@ fn without_spaces(alloc: Global, text: &[u8]) -> Result<Vec<u8>, AllocError>
 fn read_digits(alloc: Global, digits: &[u8]) -> Result<Octets, ReadFault<LineFault>>
     ensures { Gives (λ octets. octets) read_ending result (within_limit (decode_of digits.now)) }
 {
-    let octets = digits::decode(alloc, digits)?;
+    within_limit(digits::decode(alloc, digits)?)
+}
+
+/// The octets of a line, if they aren't too many.
+fn within_limit(octets: Vec<u8>) -> Result<Octets, ReadFault<LineFault>>
+    ensures { Gives (λ octets. octets) read_ending result (within_limit (Ok octets.items)) }
+{
     if octets.len() > MAX_OCTETS {
         return Err(ReadFault::At(LineFault::TooMany));
     }
