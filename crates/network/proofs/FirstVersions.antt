@@ -5,7 +5,7 @@ use Rattle.std.specs.List.{list_any, list_all}
 use Rattle.mac_frame.specs.declared.frame.Unread.{Unread}
 use Rattle.mac_frame.specs.Address.{is_group}
 use Rattle.elements.specs.Elements.{Pair, first_of, ssid_id}
-use Rattle.elements.specs.Rates.{is_basic, has_rate}
+use Rattle.elements.specs.Rates.{is_basic, has_rate, is_in_element}
 use Rattle.association.specs.Request.{Request, Probe, Auth, Assoc, Disassoc, Deauth, Msdu, Null, Poll, sender, request_of}
 use Rattle.association.specs.Asked.{class_of}
 use Rattle.association.specs.Status.{success}
@@ -195,6 +195,21 @@ asks ssid None = refl
 asks ssid (Some []) = refl
 asks ssid (Some (octet ∷ octets)) = refl
 
+first-element : (id : ℕ) (es : List Pair) → first_of id es ≡ first.first_of id es
+first-element id [] = refl
+first-element id (e ∷ es) = λ i. if e.0 == id then Some e.1 else first-element id es i
+
+rate-in : (rate : ℕ) (rates : Option (List ℕ)) → is_in_element rate rates ≡ first.is_rate_in rate rates
+rate-in rate None = refl
+rate-in rate (Some rates) = refl
+
+rate-there : (rate : ℕ) (es : List Pair) → has_rate rate es ≡ first.has_rate rate es
+rate-there rate es =
+    λ i. by (first-element 1 es i) i || by (first-element 50 es i) i
+  where
+    by : (rates : Option (List ℕ)) → is_in_element rate rates ≡ first.is_rate_in rate rates
+    by rates = rate-in rate rates
+
 ssid-is : (ssid : List ℕ) (named : Option (List ℕ)) → is_ssid ssid named ≡ first.is_ssid ssid named
 ssid-is ssid None = refl
 ssid-is ssid (Some named) = refl
@@ -202,6 +217,10 @@ ssid-is ssid (Some named) = refl
 wired : (w : Option (List ℕ)) (n : Network) → shown (put_on_wire w n) ≡ first.put_on_wire w (shown n)
 wired (Some octets) n = refl
 wired None n = refl
+
+count : (clock period : ℕ) → dtim_count clock period ≡ first.dtim_count clock period
+unfolding dtim_count
+count clock period = refl
 
 -- ---- notices
 
@@ -310,8 +329,8 @@ module _ (s : Setting) where
 
   status-of : (from : List ℕ) (elements : List Pair) (n : Network) → association_status s from elements n ≡ first.association_status t from elements (shown n)
   status-of from elements n =
-      λ i. if not (ssid-is s.network.ssid (first_of ssid_id elements) i) then 1
-      else if not (list_all (λ rate. not (is_basic rate) || has_rate rate elements) s.network.rates) then 18
+      λ i. if not (ssid-is s.network.ssid (first-element ssid_id elements i) i) then 1
+      else if not (list_all (λ rate. not (is_basic rate) || rate-there rate elements i) s.network.rates) then 18
       else if not (room-for s.network.max_stations from n.stations i) then 17
       else 0
 
@@ -364,8 +383,10 @@ module _ (s : Setting) where
     released : (n : Network) → shown (release s n) ≡ first.release t (shown n)
     released n =
         let dtim = dtim_count n.clock s.network.dtim == 0 in
+        let first_dtim = first.dtim_count n.clock s.network.dtim == 0 in
         let us : List DataUnit = units_for Group n.kept in
-        chosen dtim dtim (send_each s true us (drop_units Group n)) n (first.send_each t true (first.units_for Group n.kept) (first.drop_units Group (shown n))) (shown n) refl
+        chosen dtim first_dtim (send_each s true us (drop_units Group n)) n (first.send_each t true (first.units_for Group n.kept) (first.drop_units Group (shown n))) (shown n)
+        (ap (λ (k : ℕ). k == 0) (count n.clock s.network.dtim))
         (sent-each true us (drop_units Group n)
         ∙ ap (λ (vs : List DataUnit). first.send_each t true vs (shown (drop_units Group n))) (units Group n.kept)
         ∙ ap (λ (es : List Entry). first.send_each t true (first.units_for Group n.kept) (record (shown n) { kept = es })) (all-gone Group n.kept))

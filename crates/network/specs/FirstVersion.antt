@@ -4,18 +4,18 @@
 -- This file is never to be changed again, since later versions are measured by it. So it stands by itself: what a
 -- network does is all said here, once more. It shares with the definitions of today's networks the formats of frames,
 -- which octets are a request, an answer, a beacon or a frame of the wire, and the types of data that these speak of.
-use Rattle.std.specs.Prelude.{ℕ, ◌+◌, ◌%◌, ◌==◌, nat_eq, nat_lt, Bool, true, false, not, ◌&&◌, ◌||◌, is_some, unwrap_or, find}
-use Rattle.std.specs.Prelude.{List, [], ◌∷◌, ◌++◌, length, map, filter, Option, Some, None, Result, Ok, Err, if◌then◌else◌}
+use Rattle.std.specs.Prelude.{ℕ, ◌+◌, ◌-◌, ◌%◌, ◌==◌, nat_eq, nat_lt, nat_le, Bool, true, false, not, ◌&&◌, ◌||◌, is_some}
+use Rattle.std.specs.Prelude.{List, [], ◌∷◌, ◌++◌, length, map, filter, find, Option, Some, None, unwrap_or, Result, Ok, Err}
+use Rattle.std.specs.Prelude.{if◌then◌else◌}
 use Rattle.std.specs.List.{list_any, list_all, range_with_len}
 use Rattle.std.specs.Map.{lookup, remove_entry}
 use Rattle.std.specs.Str.{bytes_eq}
 use Rattle.mac_frame.specs.declared.frame.Unread.{Unread}
 use Rattle.mac_frame.specs.Address.{is_group}
 use Rattle.mac_frame.specs.Data.{data_header}
-use Rattle.elements.specs.Elements.{Pair, first_of, ssid_id}
-use Rattle.elements.specs.Rates.{is_basic, has_rate}
+use Rattle.elements.specs.Elements.{Pair}
 use Rattle.beacon.specs.ProbeResponse.{Announced, probe_response}
-use Rattle.beacon.specs.Beacon.{beacon, dtim_count}
+use Rattle.beacon.specs.Beacon.{beacon}
 use Rattle.bridge.specs.Ethernet.{Ethernet, ethernet_of}
 use Rattle.bridge.specs.Encapsulation.{on_air, on_wire}
 use Rattle.association.specs.Request.{Request, Probe, Auth, Assoc, Disassoc, Deauth, Msdu, Null, Poll, sender}
@@ -262,15 +262,34 @@ answer_authentication s from algorithm step n =
     send (λ sequence. authentication from s.bssid sequence algorithm (authentication_status s from algorithm step n))
     (change_where_served (authentication_status s from algorithm step n) from (authenticate from) n)
 
+-- the Information field of the first element with an element ID (9.4.2.1)
+abbrev pub first_of : ℕ → List Pair → Option (List ℕ)
+first_of id [] = None
+first_of id (e ∷ es) = if e.0 == id then Some e.1 else first_of id es
+
+-- it names this SSID (9.4.2.2)
 abbrev pub is_ssid : List ℕ → Option (List ℕ) → Bool
 is_ssid ssid None = false
 is_ssid ssid (Some named) = bytes_eq named ssid
+
+-- a rate has units of 500 kb/s in bits 0 to 6, and bit 7 where each station has to have it (9.4.2.3)
+abbrev pub is_basic : ℕ → Bool
+is_basic rate = nat_le 128 rate
+
+-- the rate is among those of an element, basic or not, where there is one
+abbrev pub is_rate_in : ℕ → Option (List ℕ) → Bool
+is_rate_in rate None = false
+is_rate_in rate (Some rates) = list_any (λ other. other % 128 == rate % 128) rates
+
+-- the rate is in the first Supported Rates or in the first Extended Supported Rates (9.4.2.3, 9.4.2.13)
+abbrev pub has_rate : ℕ → List Pair → Bool
+has_rate rate es = is_rate_in rate (first_of 1 es) || is_rate_in rate (first_of 50 es)
 
 -- the status of a request to associate (11.3.5.3, 11.3.5.5; 9.4.1.9): it names the network, it has each basic rate, and
 -- there is room for the station
 abbrev pub association_status : FirstSetting → List ℕ → List Pair → FirstNetwork → ℕ
 association_status s from elements n =
-    if not (is_ssid s.ssid (first_of ssid_id elements)) then 1
+    if not (is_ssid s.ssid (first_of 0 elements)) then 1
     else if not (list_all (λ rate. not (is_basic rate) || has_rate rate elements) s.rates) then 18
     else if not (may_associate s.max_stations from n.stations) then 17
     else 0
@@ -389,6 +408,10 @@ has_aid aid (Associated own listen doze) = aid == own
 
 abbrev pub is_waited_for : FirstNetwork → ℕ → Bool
 is_waited_for n aid = list_any (λ station. has_aid aid station.1 && list_any (is_for (One station.0)) n.kept) n.stations
+
+-- how many beacons come before the next DTIM, 0 in a DTIM (9.4.2.6); the beacon at clock 1 is one (profile)
+abbrev pub dtim_count : ℕ → ℕ → ℕ
+dtim_count clock period = (period - (clock - 1) % period) % period
 
 -- at a DTIM all units for the group follow the beacon, and leave
 abbrev pub release : FirstSetting → FirstNetwork → FirstNetwork
