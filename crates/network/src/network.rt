@@ -222,8 +222,9 @@ impl Network {
         self.take_lent_in(event, &mut Spare::new(self.alloc))
     }
 
-    /// Takes an event as [`Network::take_lent`] does, and builds the first of the frames in spare memory, if there is
-    /// any; that is gone after an error (*profile*).
+    /// Takes an event as [`Network::take_lent`] does, and builds the first of its frames in spare memory, if there is
+    /// any; the frame of a poll takes memory of its own. The spare memory is gone after `NoMemory`, and stays after
+    /// `Clock` (*profile*).
     pub fn take_lent_in(
         &mut self,
         event: LentEvent<'_>,
