@@ -5,6 +5,7 @@ pub mod AloneLaws
 pub mod AnswerRows
 pub mod Clocks
 pub mod FirstVersions
+pub mod FrameSizes
 pub mod Histories
 pub mod NetworkRows
 pub mod OptionRows

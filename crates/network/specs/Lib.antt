@@ -1,6 +1,7 @@
 pub mod Units
 pub mod Arrivals
 pub mod Network
+pub mod Sizes
 pub mod Section
 pub mod FirstVersion
 pub mod Versions

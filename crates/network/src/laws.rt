@@ -8,10 +8,14 @@ ghost use Rattle.network.specs.Network.{Network, alone, empty_network, step, tab
 ghost use Rattle.network.specs.FirstVersion as first;
 ghost use Rattle.network.specs.Versions.{first_setting};
 ghost use Rattle.network.specs.NetworkView.{sent_before};
+ghost use Rattle.network.specs.Sizes.{IsWithinSizes};
 ghost use Rattle.network.specs.Sound.{IsSoundNetwork};
 ghost use Rattle.network.specs.BssView.{sent_by};
 
 use ap_config::checked_numbers;
+use bridge::one_ethernet_frame;
+use mac_frame::one_frame;
+use tim::one_tim;
 
 /// What holds of every network that events make of an empty one, where its configuration has no fault: what it keeps
 /// and what it lost are together two units at most for each event that it took.
@@ -41,6 +45,21 @@ pub fn steps_append()
     ensures { (s : Setting) (n : Network) (e : Event) (air wire : List (List ℕ))
         → step s (sent_before air wire n) e ≡ sent_before air wire (step s n e) }
 {}
+
+/// Each frame that a network sends has at most 2,328 octets on the air, and at most 2,310 on the wire, whatever its
+/// events, and each unit that it keeps fits a frame: where its configuration has no fault, and its address six octets.
+/// One step more keeps it so in any network of which it holds.
+pub fn frame_sizes()
+    ensures alone { (s : Setting) (es : List Event) → length s.network.bssid ≡ 6 → network_fault s.network ≡ None
+        → IsWithinSizes (alone s es) }
+    ensures step { (s : Setting) (n : Network) (e : Event) → length s.network.bssid ≡ 6
+        → network_fault s.network ≡ None → IsWithinSizes n → IsWithinSizes (step s n e) }
+{
+    // what is read is of the lengths that its relation says
+    one_frame();
+    one_ethernet_frame();
+    one_tim();
+}
 
 /// Where a network relays and no unit ages, its frames on the air and on the wire, its table and its counts are those
 /// of a network of the first version, whose definition knows neither option (*profile*).
