@@ -134,9 +134,9 @@ def of_sources(fault: Fault, words: list[str]) -> list[Finding]:
 
 def of_memory(fault: Fault, words: list[str]) -> list[Finding]:
     """Memory that isn't there."""
-    return [Finding("the process may not have the memory that this run takes: a network keeps all events that it takes "
-                    "until the report is written", None, "`ulimit -v` shows what it may have; cut the trace, or use "
-                    "`live`, which keeps no history")]
+    return [Finding("the process may not have the memory that this run takes: until the report is written `run` keeps "
+                    "all frames that the networks send, `play` and the form without words keep all events besides", None,
+                    "`ulimit -v` shows what it may have; cut the trace, or use `live`, which keeps neither")]
 
 
 def of_output(fault: Fault, words: list[str]) -> list[Finding]:
