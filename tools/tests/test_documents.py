@@ -11,9 +11,12 @@ FILES = {
                  "## What is proved\n\n- All of it: `part::run`, and the law `holds`\n",
     "docs/RULES.md": "# Rules\n\n## First part (*profile*)\n\nNames `crates/part/src/lib.rt` and `crates/NAME/src`.\n",
     "docs/LIBRARY.md": "# Library\n\n```rust\nfn shown() {}\n```\n",
-    "docs/PROMISES.md": "# Promises\n\n| Runs | `run` |\n\n| `alone` | `crates/part/specs/Part.antt` | 2 | it |\n",
+    "docs/PROMISES.md": "# Promises\n\n| Runs | `run` |\n\n| `alone` | `crates/part/specs/Part.antt` | 2 | it |\n\n"
+                        "There are 2 wrong bodies of `wrong/`.\n",
     "crates/part/src/lib.rt": "//! A part: `docs/RULES.md`.\nfn run() {}\npub use law::kept as holds;\n",
     "crates/part/specs/Part.antt": "-- what it is\nabbrev pub alone : Unit\n",
+    "wrong/part/run_does_nothing.edit": "file: src/lib.rt\n",
+    "wrong/part/run_twice.edit": "file: src/lib.rt\n",
     "crates/library_examples/src/shown.rt": "use part::run;\n\nfn shown() {}\n",
 }
 # A text of a file in place of another, and what is found then.
@@ -26,6 +29,8 @@ WRONG = [
     ("docs/PROMISES.md", "| `run` |", "| `walk` |", "no function walk"),
     ("docs/PROMISES.md", "| 2 |", "| 3 |", "has 2 lines, not 3"),
     ("docs/PROMISES.md", "`alone`", "`together`", "has not all of `together`"),
+    ("docs/PROMISES.md", "are 2 wrong", "are 3 wrong", "wrong/ has 2 wrong bodies, told is ['3']"),
+    ("docs/PROMISES.md", "2 wrong bodies", "some wrong bodies", "wrong/ has 2 wrong bodies, told is []"),
     ("docs/RULES.md", "part/src/lib.rt", "part/src/main.rt", "no crates/part/src/main.rt"),
     ("docs/RULES.md", "crates/NAME/src", "crates/NAME/tests", "no crates/NAME/tests"),
     ("docs/LIBRARY.md", "fn shown() {}", "fn shown() { }", "not in crates/library_examples/src"),
@@ -80,3 +85,11 @@ class Documents(ToolTest):
         with open(self.path("docs/PROMISES.md"), encoding="utf-8") as file:
             self.assertIn("| `alone` | `crates/other/specs/Other.antt` | 3 | it |", file.read())
         self.assertEqual(self.found()[0], 0)
+
+    def test_wrong_bodies_are_counted_anew(self):
+        """With --fix the number of wrong bodies is that of the files."""
+        self.write("wrong/part/run_never.edit", "file: src/lib.rt\n")
+        self.assertEqual(self.found()[0], 1)
+        self.assertEqual(self.found("--fix")[0], 0)
+        with open(self.path("docs/PROMISES.md"), encoding="utf-8") as file:
+            self.assertIn("There are 3 wrong bodies of `wrong/`.", file.read())
