@@ -6,8 +6,11 @@ from typing import NamedTuple
 from frames import (BEACON, BEACON_FIXED_LEN, DSSS_PARAMETER_SET, EXTENDED_SUPPORTED_RATES, HT_OPERATION,
                     PROBE_RESPONSE, SSID, SUPPORTED_RATES, TIM, address_of, address_text, elements, first_of, number)
 
-MOST_NETWORKS, MOST_CHANNEL, MOST_RATES, MOST_RATE, MOST_LINES = 8, 14, 16, 108, 1_000_000
-RADIO = """version = 1
+# The most networks of a configuration, by its version; those of an access point are as many as any version allows.
+MOST_IN_VERSION = {1: 8, 2: 16}
+MOST_NETWORKS = max(MOST_IN_VERSION.values())
+MOST_CHANNEL, MOST_RATES, MOST_RATE, MOST_LINES = 14, 16, 108, 1_000_000
+RADIO = """version = {version}
 channel = {channel}
 interval = {interval}
 queue = 64
@@ -22,6 +25,10 @@ max_stations = 100
 max_known = 200
 quota = 500
 max_events = {max_events}
+"""
+# What version 2 asks for beside these, as version 1 has it.
+OPTIONS = """relay = true
+aging = false
 """
 
 
@@ -94,16 +101,19 @@ def fitting(rates):
 
 
 def config_text(networks, channel, lines):
-    """A configuration of these networks, in order of address, for a trace of so many lines."""
+    """A configuration of these networks, at most `MOST_NETWORKS`, in order of address, for a trace of so many lines:
+    of version 1 where that has as many networks."""
     networks = sorted(networks, key=lambda seen: seen.bssid)
     channel = channel or agreed(networks, "channel", "channels")
     if channel is None or not 1 <= channel <= MOST_CHANNEL:
         raise ConfigError(f"the channel is {channel or 'not told by the beacons'}, and a configuration has one of 1 to "
                           f"{MOST_CHANNEL}: choose one by --channel")
-    text = RADIO.format(channel=channel, interval=agreed(networks, "interval", "beacon intervals"))
+    version = next(version for version, most in MOST_IN_VERSION.items() if len(networks) <= most)
+    text = RADIO.format(version=version, channel=channel, interval=agreed(networks, "interval", "beacon intervals"))
     for seen in networks:
         text += NETWORK.format(bssid=address_text(seen.bssid), ssid=ssid_text(seen), rates=rates_text(seen),
                                dtim=seen.dtim, max_events=min(max(lines, 1), MOST_LINES))
+        text += OPTIONS * (version == 2)
     return text
 
 

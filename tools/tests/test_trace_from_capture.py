@@ -49,6 +49,21 @@ def beacon(bssid, elements, interval=100):
     return header + bytes(8) + interval.to_bytes(2, "little") + b"\1\0" + elements
 
 
+def bssid_of(place):
+    """The address of one of many networks."""
+    return bytes([2, 0, 0, 0, 2, place])
+
+
+def beacons_of(count):
+    """The beacons of so many networks of one radio."""
+    return [beacon(bssid_of(place), bytes.fromhex("000161010182030106")) for place in range(count)]
+
+
+def named(count):
+    """The words that name so many networks."""
+    return [word for place in range(count) for word in ("--network", bssid_of(place).hex(":"))]
+
+
 class Sample(ToolTest):
     """The small captures beside the example of three networks."""
 
@@ -272,6 +287,36 @@ class Beacons(ToolTest):
         network = config["network"][0]
         self.assertEqual((network["ssid"], network["rates"], network["dtim"]), ("guest", "82848b", 3))
 
+    def test_as_many_networks_as_there_may_be(self):
+        """Of nine and of sixteen networks that beacon, that are named, or that a configuration has, a trace is made; and a
+        configuration of version 2, which says how they are in version 1."""
+        for count in (8, 9, 16):
+            config = self.config(beacons_of(count))
+            self.assertEqual((config["version"], len(config["network"])), (1 if count == 8 else 2, count))
+            for network in config["network"]:
+                self.assertEqual((network.get("relay"), network.get("aging")),
+                                 (None, None) if count == 8 else (True, False))
+            for words in (named(count), named(count) * 2, ["--networks-of", self.path("my.toml")]):
+                self.assertEqual(self.config(beacons_of(count), *words), config)
+            self.assertEqual(len(self.config(beacons_of(17), *named(count))["network"]), count)
+
+    @needs_program
+    def test_program_takes_as_many_networks(self):
+        """The program reads the configuration that is written."""
+        for count in (8, 9, 16):
+            self.config(beacons_of(count))
+            self.assertEqual(run_program("check", self.path("my.toml")), f"ok {count}\n")
+
+    def test_configurations_of_more_networks_are_refused(self):
+        """One of seventeen networks is named with their number, however few of them beacon."""
+        text = "version = 2\nchannel = 6\ninterval = 100\nqueue = 64\n"
+        text += "".join(f'[[network]]\nbssid = "{bssid}"\n' for bssid in named(17)[1::2])
+        with open(self.path("many.toml"), "w", encoding="ascii") as file:
+            file.write(text)
+        write_pcap(self.path("air"), PLAIN_80211, list(enumerate(beacons_of(3))))
+        self.refused("trace-from-capture", self.path("air"), "--networks-of", self.path("many.toml"),
+                     says="many.toml has 17 networks, and an access point has at most 16")
+
     def test_names_that_need_care(self):
         """An SSID with quotes, a line end or letters beyond ASCII is written so that it is read again."""
         name = 'a"b\\\n\x7fé'
@@ -283,11 +328,13 @@ class Beacons(ToolTest):
         """What can't be is refused, with a message."""
         one = beacon(GUEST, bytes.fromhex("000161010182030106"))
         other = beacon(OFFICE, bytes.fromhex("000162010182030101"))
-        many = [beacon(bytes([2, 0, 0, 0, 2, place]), bytes.fromhex("000161010182030106")) for place in range(9)]
+        many = beacons_of(17)
         nameless, silent = (beacon(GUEST, bytes.fromhex(octets)) for octets in ("0000010182030106", "000161010182"))
         config = ["--config", self.path("my.toml")]
         cases = {"different channels": ([one, other], config),
-                 "9 networks beacon": (many, []),
+                 "17 networks beacon, and an access point has at most 16: name yours by --network\n": (many, []),
+                 "--network names 17 networks, and an access point has at most 16": ([one], named(17)),
+                 "no beacon of 15 of these 16 networks": ([one], [*config, "--network", GUEST.hex(":"), *named(15)]),
                  "no beacon was captured": ([b"\x40" + one[1:]], []),
                  "tells its SSID": ([nameless], config),
                  "choose one by --channel": ([silent], config),

@@ -7,9 +7,9 @@ from explaining.keys import (HOSTAPD, NETWORK_KEYS, NETWORK_LIMITS, OPTIONS, RAD
                              is_of_encryption, meant)
 from explaining.source import Finding, Place, Source, quoted
 from explaining.toml_scan import Entry, NoToml, Table, Value, scan
+from radio import MOST_IN_VERSION, MOST_NETWORKS
 
 MOST_KEYS_SHOWN = 3
-MOST_IN_VERSION = {1: 8, 2: 16}
 
 
 @dataclass
@@ -230,10 +230,10 @@ def network_findings(config: Config) -> list[Finding]:
                         "write a line `[[network]]`, and the network's keys below it")]
     if count <= most:
         return []
-    advice = "a radio has at most sixteen networks: leave some out"
+    advice = f"a radio has at most {MOST_NETWORKS} networks: leave some out"
     if config.version == 1:
-        advice = "leave some out" + (", or write `version = 2`, which has up to sixteen, with `relay` and `aging` in "
-                                     "each" if count <= MOST_IN_VERSION[2] else f": {advice}")
+        advice = "leave some out" + (f", or write `version = 2`, which has up to {MOST_NETWORKS}, with `relay` and "
+                                     "`aging` in each" if count <= MOST_NETWORKS else f": {advice}")
     return [Finding(f"{count} networks, and version {config.version} has at most {most}: this is the first too many",
                     config.place(config.networks[most]), advice)]
 
