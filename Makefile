@@ -2,8 +2,16 @@
 # GNU make, bash, coreutils, diffutils, grep and sed; `wrong`, `bench`, `bench-limits`, `stress`, `fuzz`, `documents`
 # and the gate need python3 too. What stands after `##` is what `make help` says of a target.
 
-.PHONY: help run try try-check test wrong refused bench bench-limits stress fuzz apctl bridge documents library \
+TARGETS = help run try try-check test wrong refused bench bench-limits stress fuzz apctl bridge documents library \
     test-tools test-live picture captures install uninstall
+.PHONY: $(TARGETS)
+
+# A file's name among the targets would do nothing, or end in a message after all else was made.
+OTHERS := $(filter-out $(TARGETS), $(MAKECMDGOALS))
+ifneq ($(OTHERS),)
+$(error there is no target $(firstword $(OTHERS)), and nothing was begun; `make` lists the targets, and a file is named as \
+    in `make try INPUT=my.input` and `make try-check CONFIG=my.toml`)
+endif
 
 # Begins nothing: says what there is to make.
 help: ## says this
