@@ -5,7 +5,8 @@ import json
 from fields import fields_on_air, fields_on_wire, kind_of
 
 PAGE = """<!DOCTYPE html>
-<html lang="en"><head><meta charset="utf-8"><title>{title}</title><style>
+<html lang="en"><head><meta charset="utf-8">
+<meta name="viewport" content="width=device-width, initial-scale=1"><title>{title}</title><style>
 body {{ margin: 0; font: 14px "DejaVu Sans", Verdana, sans-serif; color: #222; display: flex; }}
 #picture {{ flex: none; height: 100vh; overflow: auto; }}
 #told {{ flex: 1; height: 100vh; overflow: auto; border-left: 1px solid #c9ced6; padding: 0 12px; min-width: 320px;
@@ -16,6 +17,11 @@ body {{ margin: 0; font: 14px "DejaVu Sans", Verdana, sans-serif; color: #222; d
 #told td {{ border-top: 1px solid #e6e8eb; padding: 2px 8px 2px 0; vertical-align: top; }}
 #told td:nth-child(2) {{ font-family: "DejaVu Sans Mono", monospace; word-break: break-all; max-width: 220px; }}
 #told code {{ word-break: break-all; font-size: 12px; }}
+@media (max-width: 1350px) {{
+  body {{ flex-direction: column; height: 100vh; }}
+  #picture {{ flex: 3; height: auto; min-height: 0; }}
+  #told {{ flex: 2; height: auto; min-height: 0; min-width: 0; border-left: none; border-top: 1px solid #c9ced6; }}
+}}
 #ask {{ width: 100%; box-sizing: border-box; font: inherit; margin-top: 12px; padding: 4px; }}
 g[data-lines], g[data-span] {{ cursor: pointer; }}
 g.asked > circle, g.asked > rect, g.asked > path {{ stroke: #c8202d; stroke-width: 3; }}

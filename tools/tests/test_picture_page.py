@@ -43,6 +43,24 @@ class Asked(ToolTest):
         self.assertIn("line 5,", self.browser.value(TOLD))
         self.assertEqual(self.browser.faults, [])
 
+    def test_narrow_windows_have_both_parts(self):
+        """In a window of any width the picture and what is told stand in the window, beside each other or one above the
+        other, and the words of a shape that is pointed at can be read."""
+        for width, height in ((1920, 1080), (1400, 900), (1300, 800), (1024, 768), (700, 900), (390, 844)):
+            self.browser.size(width, height)
+            self.do("mouseover", "document.querySelector('g[data-lines=\"2\"]')")
+            boxes = self.browser.value(
+                "['picture', 'told'].map(name => document.getElementById(name).getBoundingClientRect())"
+                ".map(box => [box.left, box.top, box.right, box.bottom].map(Math.round))")
+            for left, top, right, bottom in boxes:
+                self.assertGreaterEqual(min(left, top, width - right, height - bottom), 0, (width, boxes))
+                self.assertGreaterEqual(min(right - left, bottom - top), 300, (width, boxes))
+            (_, _, right, bottom), (left, top, _, _) = boxes
+            self.assertTrue(left >= right or top >= bottom, (width, boxes))
+            table = "document.querySelector('#told table').getBoundingClientRect().right"
+            self.assertLessEqual(self.browser.value(table), width)
+        self.assertEqual(self.browser.faults, [])
+
     def test_it_finds_what_is_asked_for(self):
         """An address is found from one line to the next, and what isn't there is not."""
         ask = ("box = document.getElementById('ask'); box.value = '{}';"
