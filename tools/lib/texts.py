@@ -9,6 +9,7 @@ from frames import address_of, address_text
 
 SEPARATOR = "---"
 STATION = re.compile(r"station (\S+) (authenticated|associated aid (\d+) listen (\d+) (active|doze) kept (\d+))")
+FIRST_OF_LIVE = re.compile(r"ok \d+")
 COUNTS = re.compile(r"events (\d+) clock (\d+) unread (\d+) lost (\d+) kept (\d+)")
 
 
@@ -86,7 +87,9 @@ def frames_text(number):
 def read_text(path):
     """The text of a file, or of standard input for `-`."""
     if path == "-":
-        return sys.stdin.read()
+        if sys.stdin is None:
+            raise TextError("standard input is closed")
+        return sys.stdin.buffer.read().decode("utf-8", "replace")
     with open(path, encoding="utf-8", errors="replace", newline="") as file:
         return file.read()
 
@@ -127,6 +130,23 @@ def read_config(text):
         return tomllib.loads("\n".join(lines[:lines.index(SEPARATOR)]))
     except tomllib.TOMLDecodeError as fault:
         raise TextError(f"the configuration is no TOML: {fault}") from None
+
+
+def join_texts(config, trace):
+    """A configuration and a trace as one text, with a line `---` between. TextError where one of them is both."""
+    for text in (config, trace):
+        if SEPARATOR in text.split("\n"):
+            raise TextError(f"a configuration and a trace were named, and one of them has a line {SEPARATOR}, behind which "
+                            "a trace stands: leave the other out")
+    return f"{config}\n{SEPARATOR}\n{trace}"
+
+
+def is_config(text):
+    """Whether a text is a configuration alone."""
+    try:
+        return SEPARATOR not in text.split("\n") and "network" in tomllib.loads(text)
+    except tomllib.TOMLDecodeError:
+        return False
 
 
 def options_of(config):
@@ -175,6 +195,23 @@ def read_report(text):
             raise TextError(f"the section of the report that begins in line {at + 1} can't be read") from None
         sections.append(section)
     return sections
+
+
+def tables_of_live(text):
+    """Of what `live` wrote its tables alone, which are sections without frames; another text as it is. TextError where it
+    wrote none."""
+    lines = text.split("\n")
+    if not FIRST_OF_LIVE.fullmatch(lines[0]):
+        return text
+    found, is_within = [], False
+    for line in lines:
+        is_within = is_within or line.startswith("network ")
+        if is_within:
+            found.append(f"{line}\n")
+        is_within = is_within and line != "end"
+    if not found:
+        raise TextError("`live` wrote no tables here, which it does where `I` asks for them and at its end")
+    return "".join(found)
 
 
 def read_section(lines, at):

@@ -307,6 +307,24 @@ class Picture(PictureTest):
             else:
                 self.refused("picture", self.path("input"), self.path("stdout"), says="network 02:")
 
+    def test_three_texts(self):
+        """A configuration, a trace and a report in files of their own are drawn as the first two in one, wherever the
+        options stand; a configuration alone is no trace."""
+        config, trace = input_of(THREE)[0].split("---\n")
+        for name, text in (("my.toml", config), ("my.trace", trace)):
+            with open(self.path(name), "w", encoding="ascii") as file:
+                file.write(text)
+        my_config, my_trace, report = self.path("my.toml"), self.path("my.trace"), os.path.join(THREE, "stdout")
+        wanted = tool("picture", os.path.join(THREE, "input"), report)[1]
+        self.assertEqual(tool("picture", my_config, my_trace, report), (0, wanted, ""))
+        self.assertEqual(tool("picture", my_config, "--out", self.path("x.svg"), my_trace, report), (0, "", ""))
+        self.assertEqual(read_text(self.path("x.svg")), wanted)
+        self.refused("picture", my_config, report, says=f"is a configuration, and no trace: say `picture {my_config} TRACE")
+        for both in ((my_config, os.path.join(THREE, "input")), (os.path.join(THREE, "input"), my_trace)):
+            self.refused("picture", *both, report, says="one of them has a line ---")
+        self.refused("picture", my_config.replace("toml", "none"), my_trace, report, says="No such file")
+        self.assertEqual(tool("picture", my_trace)[0], 2)
+
     def test_what_is_no_run_is_refused(self):
         """A file that isn't there, what is no report, a trace without a line, and names that aren't in the run."""
         trace, report = os.path.join(THREE, "input"), os.path.join(THREE, "stdout")

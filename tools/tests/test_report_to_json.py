@@ -1,8 +1,9 @@
 """Tests of tools/report-to-json: nothing of a report is lost in its JSON, and what is no report is refused."""
 import json
 import os
+import subprocess
 
-from common import CASES, ToolTest, tool, with_report
+from common import CASES, PROGRAM, ToolTest, needs_program, tool, with_report
 from texts import read_text
 
 
@@ -57,6 +58,39 @@ class Json(ToolTest):
         for network in whole:
             del network["air"], network["wire"]
         self.assertEqual(self.networks(report, "--without-frames"), whole)
+
+    def test_tables_of_live(self):
+        """Of what `live` wrote the tables are read, each time that it wrote them, and all else is passed over."""
+        live = read_text(os.path.join(CASES["live_answers_each_line"], "stdout"))
+        tables = "".join(f"{line}\n" for line in live.splitlines() if line.split()[0] in
+                         ("network", "events", "station", "end"))
+        self.assertLess(len(tables), len(live) / 2)
+        networks = self.networks("-", program_input=live)
+        self.assertEqual(text_of(networks), tables)
+        self.assertEqual([network["events"] for network in networks], [1, 3, 2, 6])
+        for cut, says in ((live[:live.index("network ")], "wrote no tables here"), (live[:-5], "can't be read")):
+            status, stdout, stderr = tool("report-to-json", "-", program_input=cut)
+            self.assertEqual((status, stdout), (1, ""))
+            self.assertIn(says, stderr)
+
+    @needs_program
+    def test_live_itself(self):
+        """The program's own lines, as they come."""
+        folder = CASES["live_answers_each_line"]
+        with open(self.path("my.toml"), "w", encoding="ascii") as file:
+            file.write(read_text(os.path.join(folder, "input")).split("\n---\n")[0] + "\n")
+        done = subprocess.run([PROGRAM, "live", self.path("my.toml")], input="T\nA 40\nI\n", capture_output=True,
+                              text=True, check=True)
+        networks = self.networks("-", program_input=done.stdout)
+        self.assertEqual([network["clock"] for network in networks], [1] * len(networks))
+
+    def test_input_that_is_no_text(self):
+        """Octets that are no text, and no standard input at all, are refused."""
+        report = os.path.join(os.path.dirname(os.path.dirname(os.path.realpath(__file__))), "report-to-json")
+        for words in ('"$0" - </dev/zero', '"$0" - <&-', 'printf "\\377\\n" | "$0" -'):
+            done = subprocess.run(["bash", "-c", words.replace("</dev/zero", "< <(head -c 99 /dev/zero)"), report],
+                                  capture_output=True, text=True, check=False)
+            self.assertEqual((done.returncode, done.stdout, done.stderr.count("\n")), (1, "", 1), words)
 
     def test_refusals(self):
         """What is no report, or isn't there, is refused."""
