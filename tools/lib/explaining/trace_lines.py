@@ -7,9 +7,10 @@ from explaining.answers import Fault
 from explaining.no_toml import MAGICS, REPORT_LINE, UTF_16
 from explaining.source import Finding, Source, quoted
 
-MOST_OCTETS, MOST_LINES, HEADER_LEN = 4096, 1_000_000, 24
+MOST_OCTETS, MOST_LINES, MOST_NAMED = 4096, 1_000_000, 4
 HEX_DUMP = re.compile(r"(?:0x)?[0-9A-Fa-f]{4,8}:? +(?:(?:[0-9A-Fa-f]{2}|[0-9A-Fa-f]{4})(?: +|$)){4,}")
-ADDRESS = re.compile(r"[0-9A-Fa-f]{2}(?::[0-9A-Fa-f]{2}){5}")
+BETWEEN_DIGITS, MOST_AROUND = ":-,.;|", 20
+DIGITS = re.compile("[0-9A-Fa-f]{12,}")
 
 
 def explain(source: Source, fault: Fault, bssids: list[str], is_live: bool = False) -> list[Finding]:
@@ -136,15 +137,24 @@ def of_digits(source: Source, number: int, line: str, bssids: list[str]) -> Find
             number, at + 1, len(line) - at), "move it to a line before this one")
     if letter in "xX" and digits[:stray.start()].endswith("0"):
         return Finding("digits stand without `0x`", source.place(number, at, 2), "leave `0x` out")
-    if letter in ":-" or letter in ",.;|":
+    if letter in BETWEEN_DIGITS:
+        word = word_around(digits, stray.start())
+        mended = "".join(digit for digit in word if digit not in BETWEEN_DIGITS)
         return Finding(f"digits stand without `{letter}` between them; spaces may stand there", place,
-                       f"write {quoted(re.sub('[:,.;|-]', '', digits[:20]).strip())} for {quoted(digits[:20].strip())}")
+                       f"write {quoted(mended)} for {quoted(word)}" if mended else f"leave {quoted(word)} out")
     if letter == "\t":
         return Finding("a TAB among the digits; spaces alone may stand there", place, "write a space")
     if letter == "\r":
         return Finding("a CR that isn't the last character before LF", place, "`sed 's/\\r*$//'` takes the CRs off")
     like = {"O": "0", "o": "0", "l": "1", "I": "1"}.get(letter)
     return Finding(f"{quoted(letter)} is no hexadecimal digit", place, f"write {like}" if like else None)
+
+
+def word_around(text: str, at: int) -> str:
+    """What stands between spaces around a place of a text; of a long word what is near that place."""
+    begin, end = text.rfind(" ", 0, at) + 1, text.find(" ", at)
+    end = len(text) if end < 0 else end
+    return text[max(begin, at - MOST_AROUND):min(end, at + MOST_AROUND)]
 
 
 def of_odd_digits(source: Source, number: int, line: str, begin: int) -> Finding | None:
@@ -172,10 +182,18 @@ def of_address(source: Source, number: int, line: str, bssids: list[str]) -> Fin
     if not fault:
         return None
     text, span, mended = fault
-    if len(word) > 17 and not mended:
-        text = "after `W` the address of the network stands, before the frame"
+    some = bssids[0] if bssids else "02:00:00:00:00:01"
     place = source.place(number, match.start(1) + 1 + span[0], span[1] - span[0])
-    return Finding(text, place, f"write `W {mended or (bssids[0] if bssids else '02:00:00:00:00:01')}`")
+    if DIGITS.fullmatch(word) and mended not in map(str.lower, bssids):
+        return Finding("after `W` the BSSID is missing, the address of the network whose wire it is, before the frame",
+                       source.place(number, match.start(1) + 1, len(word)),
+                       f"write {quoted(f'W {some} {word}', 60)}" + (f"; {having(bssids)}" if bssids else ""))
+    return Finding(text, place, f"write `W {mended or some}`")
+
+
+def having(bssids: list[str]) -> str:
+    """Which addresses the networks have, the first few of them."""
+    return f"its networks have {', '.join(bssids[:MOST_NAMED])}" + (" .." if len(bssids) > MOST_NAMED else "")
 
 
 def of_network(source: Source, number: int, line: str, bssids: list[str]) -> Finding | None:
@@ -184,7 +202,7 @@ def of_network(source: Source, number: int, line: str, bssids: list[str]) -> Fin
     if not match or match[1].lower() in (bssid.lower() for bssid in bssids):
         return None
     close = difflib.get_close_matches(match[1].lower(), [bssid.lower() for bssid in bssids], 1, 0.8)
-    has = f"its networks have {', '.join(bssids[:4])}" + (" .." if len(bssids) > 4 else "")
+    has = having(bssids)
     return Finding(f"no network of the configuration has the address {match[1]}",
                    source.place(number, match.start(1) + 1, len(match[1])),
                    f"write {close[0]}, or a network with this address; {has}" if close else has)
