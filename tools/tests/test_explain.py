@@ -1,5 +1,6 @@
 """Tests of tools/explain: what it says of mistakes, that it says what the program said, and that nothing ends it."""
 import os
+import pty
 import random
 import re
 import subprocess
@@ -19,6 +20,7 @@ from live.checks import check_config
 from live.faults import Fault as LiveFault
 from mistakes import CONFIG, PROBE, TRACE
 from reading import hears, request_of, unread_kind, wired_unread_kind
+from records import record
 from texts import read_text
 
 LEAST_ROWS, LEAST_OF_EACH, MUTATIONS = 100, 4, 10_000
@@ -72,6 +74,7 @@ def octets_of(text):
 
 JOIN = [heard("b0000000", "0000 0100 0000"), heard("00000000", "0100 0a00 00036c6162 010482840b16")]
 DATA, QOS = "08010000", "88010000"
+POLL = f"A a400 01c0 {OURS} {STATION}"
 UNIT = "aaaa030000000800 01"
 
 
@@ -81,9 +84,30 @@ def with_fcs(line):
     return f"{line} {zlib.crc32(octets).to_bytes(4, 'little').hex()}"
 
 
+def with_four_octets(line):
+    """A line with four octets more, as a check sequence that isn't the frame's."""
+    return f"{line} a1b2c3d4"
+
+
 def with_radiotap(line):
     """A line with a radiotap header before the frame."""
     return line.replace("A ", "A 0000 0c00 04800000 02001800 ", 1)
+
+
+# What is given to `live --octets`, and what has to be said of it.
+TICK = record(b"T")
+RECORDS = [
+    (f"{PROBE}\nT\n".encode(), ["fault L", "standard input is text", "leave `--octets` out"]),
+    (b"T\nT\nT\nT\nT\nT\n", ["standard input is text"]),
+    (TICK + record(b"Q"), ["fault L1 record 2", "of the kind `Q`, and kinds are `A`, `W`, `T`, `I`"]),
+    (record(b"T", bytes(6), b"xy"), ["fault L1 record 1", "of the kind `T`, has octets, and has to have none"]),
+    (record(b"A", bytes(5) + b"1", b"xy"), ["fault L1 record 1", "of the kind `A`, has a BSSID"]),
+    (TICK + record(b"W", bytes(5) + b"9", b"xy"), ["fault L4 record 2", "has the BSSID 00:00:00:00:00:39", LAB]),
+    (record(b"A", bytes(6), bytes(4097)), ["fault L5 record 1", "has 4,097 octets, and may have 4,096"]),
+    (TICK * 2 + record(b"A", bytes(6), bytes(9))[:-2], ["fault L2 record 3", "says that 9 octets follow, and 7 do"]),
+    (TICK + TICK[:5], ["fault L2 record 2", "of which it has 5 octets"]),
+    (TICK * 3, ["the program ended well", "no record had a fault"]),
+]
 
 
 # Traces that the program reads, and what has to be said of the run.
@@ -108,6 +132,19 @@ RUNS = [
     ([JOIN[0].replace("0000 0100 0000", "0100 0100 0000")], ["status 13", "Open System"]),
     (list(map(with_fcs, [*JOIN, heard(DATA, UNIT)])), ["the last four octets of 3 of 3 frames", "my.trace:1:",
                                                        "tools/trace-from-capture"]),
+    ([*JOIN, with_fcs(heard(DATA, UNIT))], ["the last four octets of 1 of 3 frames on the air", "my.trace:3:"]),
+    ([*JOIN, f"W {LAB} {with_fcs(f'A {STATION} 02bb00000001 0800 01')[2:]}"], ["of 1 of 1 frames on a wire",
+                                                                          "leave it out"]),
+    (list(map(with_four_octets, [PROBE, *JOIN, heard("48010000"), POLL])),
+     ["5 of 5 frames on the air are four octets longer than they say", "my.trace:1:74"]),
+    (list(map(with_four_octets, [*JOIN, heard(DATA, f"{UNIT[:-3]} 4500 0014 {'00' * 16}")])),
+     ["3 of 3 frames on the air are four octets longer"]),
+    ([*JOIN, with_four_octets(PROBE)], ["no line `T`"]),
+    ([*JOIN, f"A {STATION} 02bb00000001 0800 01"], ["frames on the air that no network took: 1 of 3", "(Address 1 is",
+                                                   "1 frame behind `A`", "begin as Ethernet", f"as `W {LAB}`"]),
+    ([*JOIN, *["A ffffffffffff 02bb00000001 0806 0001"] * 2], ["took: 2 of 4", "my.trace:3:1", "2 frames behind `A`"]),
+    ([*JOIN, *[PROBE.replace("ffffffffffff", "029900000001")] * 3],
+     ["frames on the air that no network took: 3 of 5", "02:99:00:00:00:01 (3)", "--heard-only", "my.trace:3:1"]),
     (list(map(with_radiotap, JOIN)), ["radiotap", "tools/trace-from-capture takes it off"]),
     ([heard(DATA, UNIT)], ["reason 7", "it joined before the trace begins"]),
     (JOIN + [heard("08410000", "0100002000000000 a1b2")], ["events unread (U4): 1 of 3 (encrypted"]),
@@ -206,10 +243,11 @@ class Mistakes(ToolTest):
         os.mkdir(self.path("folder"))
         os.symlink("gone", self.path("link"))
 
-    def run_tool(self, *words, given=""):
-        """The tool, in the test's folder: its status, and what it says."""
+    def run_tool(self, *words, given="", stdin=None):
+        """The tool, in the test's folder, with a text or a file on standard input: its status, and what it says."""
+        comes = {"stdin": stdin} if stdin else {"input": given}
         done = subprocess.run([os.path.join(ROOT, "tools", "explain"), *words], capture_output=True, text=True,
-                              input=given, cwd=self.folder, check=False)
+                              cwd=self.folder, check=False, **comes)
         self.assertEqual(done.stderr, "", words)
         return done.returncode, done.stdout
 
@@ -223,8 +261,33 @@ class Mistakes(ToolTest):
             self.assertEqual(status, 1)
             self.assertIn("the key `version` is missing", found)
         self.assertEqual(self.run_tool("live", "--octets", "my.toml"),
-                         (0, "the program ended well\nwhat it answered in records isn't looked at: without `--octets` it "
-                             "is\n"))
+                         (0, "the program ended well\nno record had a fault\n"))
+
+    @needs_program
+    def test_faults_of_records(self):
+        """Each fault that the program tells in a record is shown with its reason, text among them."""
+        self.folder_with_files()
+        for given, says in RECORDS:
+            self.write("records", given)
+            with open(self.path("records"), encoding="latin-1") as file:
+                status, found = self.run_tool("live", "--octets", "my.toml", stdin=file)
+            self.assertEqual(status, 0)
+            for words in says:
+                self.assertIn(words, found)
+            self.assertEqual(found.count("no reason was found"), 0, found)
+
+    @needs_program
+    def test_folder_shows_its_newest_files(self):
+        """Of a folder the newest files are named, and how many more there are."""
+        self.folder_with_files()
+        for place in range(7):
+            self.write(f"folder/{place}.trace", b"T\n")
+            os.utime(self.path(f"folder/{place}.trace"), (1000 + place % 5, 1000 + place % 5))
+        self.assertIn("the newest of its files are 4.trace, 3.trace, ", self.run_tool("run", "my.toml", "folder")[1])
+        self.assertIn(", and there are 3 more", self.run_tool("run", "my.toml", "folder")[1])
+        for place in range(3):
+            os.remove(self.path(f"folder/{place}.trace"))
+        self.assertIn("in it are 4.trace, 3.trace, 6.trace, 5.trace", self.run_tool("check", "folder")[1])
 
     @needs_program
     def test_words_and_files(self):
@@ -324,6 +387,72 @@ class GoodRuns(ToolTest):
                 self.assertEqual(request_of(bssid, octets) is None, unread_kind(bssid, octets) is not None)
         self.assertEqual([wired_unread_kind(BROADCAST * 2 + bytes.fromhex(more)) for more in ("0800", "08", "0026")],
                          [None, "U1", "U7"])
+
+
+class OddConfigs(ToolTest):
+    """What is odd in a configuration that has no fault."""
+
+    def explained(self, config):
+        """What is said of a configuration alone."""
+        texts = whole.Texts(["check", "my.toml"], Source("my.toml", config.encode()))
+        return "\n".join(whole.explain(texts, Answer(0, b"ok 2\n", None)))
+
+    def test_networks_of_one_name(self):
+        """The second of two networks with one SSID is shown."""
+        found = self.explained(CONFIG.replace('"guest"', '"lab"'))
+        for words in ("ok 2\n", "my.toml:20:8", "the networks 0, 1 have one SSID, `lab`", "an SSID of its own"):
+            self.assertIn(words, found)
+        self.assertEqual(self.explained(CONFIG), "ok 2")
+
+    def test_networks_without_a_basic_rate(self):
+        """Rates of which none is basic are shown, and what to write."""
+        for rates, write in (("02040b16", 'write `rates = "82840b16"`'), ("0c12", 'write `rates = "8c12"`'),
+                             ("03", 'write `rates = "83"`')):
+            found = self.explained(CONFIG.replace("82840b16", rates, 1))
+            for words in ("my.toml:9:9", "no rate of the network 0 is basic", write):
+                self.assertIn(words, found)
+        self.assertEqual(self.explained(CONFIG).count("basic"), 0)
+
+    @needs_program
+    def test_runs_show_it_too(self):
+        """Of a run with such a configuration it is said as well."""
+        for name, text in (("my.toml", CONFIG.replace('"guest"', '"lab"')), ("my.trace", TRACE)):
+            with open(self.path(name), "w", encoding="utf-8") as file:
+                file.write(text)
+        self.assertIn("have one SSID", tool("explain", self.path("my.toml"), self.path("my.trace"))[1])
+
+
+class Long(ToolTest):
+    """A long trace, which takes its time."""
+
+    def shown(self, lines):
+        """What is shown on a terminal of how far the tool is, in a trace of so many lines."""
+        for name, text in (("my.toml", CONFIG.replace("max_events = 100", "max_events = 1000000")), ("my.trace", "T\n" * lines)):
+            with open(self.path(name), "w", encoding="ascii") as file:
+                file.write(text)
+        ours, theirs = pty.openpty()
+        done = subprocess.run([os.path.join(ROOT, "tools", "explain"), self.path("my.toml"), self.path("my.trace")],
+                              stdout=subprocess.PIPE, stderr=theirs, text=True, check=True)
+        os.close(theirs)
+        os.set_blocking(ours, False)
+        try:
+            shown = os.read(ours, 10_000).decode()
+        except OSError:
+            shown = ""
+        os.close(ours)
+        return done.stdout, shown
+
+    @needs_program
+    def test_progress_on_a_terminal(self):
+        """It tells how far it is, and takes that away in the end; of short texts, and where standard error is no
+        terminal, it says nothing."""
+        stdout, shown = self.shown(70_000)
+        self.assertIn("the program ended well", stdout)
+        for words in ("\r\x1b[Kreading the report", "\r\x1b[K20,000 of 70,001 lines looked at", "60,000 of 70,001"):
+            self.assertIn(words, shown)
+        self.assertTrue(shown.endswith("\r\x1b[K"))
+        self.assertEqual(tool("explain", self.path("my.toml"), self.path("my.trace"))[2], "")
+        self.assertEqual(self.shown(1_000)[1], "")
 
 
 # What is put into a text that is changed.

@@ -7,7 +7,7 @@ from dataclasses import dataclass
 ROOT = os.path.dirname(os.path.dirname(os.path.dirname(os.path.dirname(os.path.realpath(__file__)))))
 PROGRAM = os.path.join(ROOT, "build", "apctl")
 FAULT = re.compile(r"fault (?:(?P<code>[CLF]\d+|sources|words|memory|thread|output|clock)"
-                   r"(?: trace (?P<trace>\d+))?(?: line (?P<line>\d+))?(?: network (?P<network>\S+))?"
+                   r"(?: trace (?P<trace>\d+))?(?: (?:line|record) (?P<line>\d+))?(?: network (?P<network>\S+))?"
                    r"|file (?P<file>.*))", re.DOTALL)
 
 
@@ -18,7 +18,7 @@ class NoProgram(Exception):
 @dataclass(frozen=True)
 class Fault:
     """A fault as the program says it: its whole line, its code (`file` and `words` among them), and what the line
-    names: a network or a trace, from 0, a line, from 1, or a file."""
+    names: a network or a trace, from 0, a line or a record, from 1, or a file."""
 
     said: str
     code: str

@@ -1,19 +1,27 @@
 """What is odd in a run that ended well: networks that heard nothing, frames that aren't read, tables and histories that
 are full. All of it is told from the trace and the report; it changes nothing of the report."""
-import zlib
 from collections import Counter
+from collections.abc import Iterable, Iterator
 from dataclasses import dataclass, field
 
+from explaining import odd_config
+from explaining.check_sequences import FCS_LEN, LEAST_LEN, ends_with_fcs, octets_too_many
 from explaining.config import Config, NetworkTable
+from explaining.progress import Progress
 from explaining.source import Finding, Source, quoted
 from explaining.toml_scan import NoToml
-from frames import (ASSOCIATION_REQUEST, ASSOCIATION_RESPONSE, AUTHENTICATION, DATA, DEAUTHENTICATION,
+from frames import (ASSOCIATION_REQUEST, ASSOCIATION_RESPONSE, AUTHENTICATION, BROADCAST, DATA, DEAUTHENTICATION,
                     DISASSOCIATION, HEADER_LEN, MANAGEMENT, REASSOCIATION_REQUEST, REASSOCIATION_RESPONSE, SSID,
                     Frame, address_text, elements, first_of, is_group, number)
 from reading import hears, unread_kind, wired_unread_kind
 from texts import Line, Section, frames_text, read_report, trace_line
 
-FCS_LEN, MOST_NAMED = 4, 3
+MOST_NAMED = 3
+TYPES = {bytes.fromhex(digits) for digits in ("0800", "0806", "86dd", "888e")}
+# What has its frame check sequence on, by the word of a line: where it was, and what to do.
+WITH_SEQUENCES = {"A": ("the air", "tools/trace-from-capture takes it off; a probe or an association request with it "
+                        "is unread, and a unit is passed on with it"),
+                  "W": ("a wire", "leave it out: it is passed on as a part of the unit")}
 FIXED_BEFORE_ELEMENTS = {ASSOCIATION_REQUEST: 4, REASSOCIATION_REQUEST: 10}
 KINDS = {"U1": "shorter than a header", "U2": "of another version of the protocol",
          "U3": "of a kind that isn't read (beacons, control and action frames)",
@@ -69,16 +77,20 @@ class Hearing:
 
 def odd(config: Source, traces: list[Source], output: str, has_separator: bool) -> list[Finding]:
     """What is odd, the weightiest first; nothing where all is as it should be. TextError where a text can't be read."""
-    sections, lines = read_report(output), [line for trace in traces for line in lines_of(trace)]
-    tables = networks_of(config)
-    hearings = [Hearing(section, tables.get(section.bssid)) for section in sections]
-    for line in lines:
+    with Progress(sum(len(trace.lines) for trace in traces)) as progress:
+        progress.say("reading the report")
+        tables = networks_of(config)
+        hearings = [Hearing(section, tables.get(section.bssid)) for section in read_report(output)]
+        lines = []
+        for line in (line for trace in traces for line in lines_of(trace, progress)):
+            lines.append(line)
+            for hearing in hearings:
+                hearing.take(line)
+        progress.say("looking for what is odd")
+        findings = of_trace(lines, hearings, has_separator, traces)
         for hearing in hearings:
-            hearing.take(line)
-    findings = of_trace(lines, hearings, has_separator, traces)
-    for hearing in hearings:
-        findings += of_network(hearing, traces)
-    return findings + of_roaming(hearings)
+            findings += of_network(hearing, traces)
+        return findings + of_roaming(hearings) + odd_config.odd(config)
 
 
 def networks_of(config: Source) -> dict[bytes, NetworkTable]:
@@ -91,14 +103,13 @@ def networks_of(config: Source) -> dict[bytes, NetworkTable]:
         return {}
 
 
-def lines_of(trace: Source) -> list[Line]:
+def lines_of(trace: Source, progress: Progress) -> Iterator[Line]:
     """The lines of a trace in which the program found no fault."""
-    found = []
     for place, line in enumerate(trace.lines, 1):
+        progress.step()
         line = line.removesuffix("\r").rstrip(" ")
         if line and not line.startswith("#"):
-            found.append(trace_line(place, line))
-    return found
+            yield trace_line(place, line)
 
 
 def place_of(traces: list[Source], line: Line):
@@ -121,35 +132,39 @@ def of_trace(lines: list[Line], hearings: list[Hearing], has_separator: bool, tr
         findings.append(Finding("the frames begin with the capture's own header (radiotap), and a trace has frames "
                                 "without it", place_of(traces, front), "tools/trace-from-capture takes it off"))
     else:
-        findings += of_unheard(frames, hearings, traces)
-    with_fcs = [line for line in frames if ends_with_fcs(line.octets)]
-    if with_fcs and 2 * len(with_fcs) > len(frames):
-        findings.append(Finding(f"the last four octets of {len(with_fcs)} of {len(frames)} frames on the air are their "
-                                "frame check sequence, and a trace has frames without it",
-                                last_octets(traces, with_fcs[0]), "tools/trace-from-capture takes it off; a probe or "
-                                "an association request with it is unread, and a unit is passed on with it"))
+        findings += of_receivers(frames, hearings, traces) + of_ethernet(frames, hearings, traces)
+    findings += of_check_sequences(lines, traces)
     if not any(line.kind == "T" for line in lines):
         findings.append(Finding("no line `T` begins a beacon interval: no beacon is sent, and units for the group that "
                                 "are kept stay so"))
     return findings
 
 
-def of_unheard(frames: list[Line], hearings: list[Hearing], traces: list[Source]) -> list[Finding]:
-    """No frame is to any of these networks, or none to some of them."""
+def of_receivers(frames: list[Line], hearings: list[Hearing], traces: list[Source]) -> list[Finding]:
+    """No frame is to any of these networks, or none to some of them; frames that none of them took."""
     to_one = [line for line in frames if not is_group(line.octets[4:10])]
     alone = [hearing for hearing in hearings if not hearing.has_frames_of_its_own()]
-    if len(alone) < len(hearings):
-        return [Finding(f"{hearing.name}: no frame of this trace is to it, on the air or on its wire; it took "
+    if len(alone) == len(hearings) and to_one:
+        return [of_other_networks(to_one, hearings, traces)]
+    findings = [Finding(f"{hearing.name}: no frame of this trace is to it, on the air or on its wire; it took "
                         f"{frames_text(hearing.count('A'))} to all, and lines T: {hearing.count('T')}")
-                for hearing in alone]
-    if not to_one:
-        return []
-    receivers = Counter(line.octets[4:10] for line in to_one if len(line.octets) >= 10)
-    to = ", ".join(f"{address_text(address)} ({count})" for address, count in receivers.most_common(MOST_NAMED))
+                for hearing in alone if len(alone) < len(hearings)]
+    return findings + of_untaken(frames, hearings, traces)
+
+
+def of_other_networks(to_one: list[Line], hearings: list[Hearing], traces: list[Source]) -> Finding:
+    """All frames with one receiver are to others."""
+    to = receivers_text(line for line in to_one if len(line.octets) >= LEAST_LEN)
     bssids = ", ".join(address_text(hearing.section.bssid) for hearing in hearings)
-    return [Finding(f"no frame of this trace is to a network of this configuration: its BSSIDs are {bssids}",
-                    place_of(traces, to_one[0]),
-                    f"the trace's frames are to {to}" if to else "the trace's frames have fewer than 10 octets")]
+    return Finding(f"no frame of this trace is to a network of this configuration: its BSSIDs are {bssids}",
+                   place_of(traces, to_one[0]),
+                   f"the trace's frames are to {to}" if to else f"the trace's frames have fewer than {LEAST_LEN} octets")
+
+
+def receivers_text(frames: Iterable[Line]) -> str:
+    """To whom most of these frames are, and how many of them."""
+    receivers = Counter(line.octets[4:10] for line in frames)
+    return ", ".join(f"{address_text(address)} ({count})" for address, count in receivers.most_common(MOST_NAMED))
 
 
 def has_radiotap(octets: bytes) -> bool:
@@ -158,9 +173,56 @@ def has_radiotap(octets: bytes) -> bool:
     return octets[:2] == b"\0\0" and 8 <= length <= 64 and len(octets) >= length + 10 and octets[length] & 3 == 0
 
 
-def ends_with_fcs(octets: bytes) -> bool:
-    """Whether the last four octets are the check sequence of those before (9.2.4.8)."""
-    return len(octets) > 10 + FCS_LEN and zlib.crc32(octets[:-FCS_LEN]).to_bytes(4, "little") == octets[-FCS_LEN:]
+def of_untaken(frames: list[Line], hearings: list[Hearing], traces: list[Source]) -> list[Finding]:
+    """Frames on the air that no network took."""
+    receivers = {BROADCAST} | {hearing.section.bssid for hearing in hearings}
+    untaken = [line for line in frames if line.octets[4:10] not in receivers]
+    if not untaken:
+        return []
+    whole = [line for line in untaken if len(line.octets) >= LEAST_LEN]
+    reasons = [f"Address 1 is neither a network's BSSID nor all: {receivers_text(whole)}"] * bool(whole)
+    reasons += [f"fewer than {LEAST_LEN} octets: {len(untaken) - len(whole)}"] * (len(whole) < len(untaken))
+    return [Finding(f"frames on the air that no network took: {len(untaken)} of {len(frames)} ({'; '.join(reasons)})",
+                    place_of(traces, untaken[0]), "`tools/trace-from-capture --heard-only` leaves such frames out")]
+
+
+def of_ethernet(frames: list[Line], hearings: list[Hearing], traces: list[Source]) -> list[Finding]:
+    """Frames on the air that are frames of a wire, by their type and an address before it that occurs in the run."""
+    known = {BROADCAST} | {hearing.section.bssid for hearing in hearings}
+    known |= {station.address for hearing in hearings for station in hearing.section.stations}
+    wired = [line for line in frames if line.octets[12:14] in TYPES and known & {line.octets[:6], line.octets[6:12]}]
+    if not wired:
+        return []
+    bssid = address_text(hearings[0].section.bssid)
+    return [Finding(f"{frames_text(len(wired))} behind `A`, for what was heard on the air, begin as Ethernet frames do, "
+                    "with two addresses and a type", place_of(traces, wired[0]),
+                    f"a frame that came over the wire of a network stands behind `W` and its BSSID, as `W {bssid}`")]
+
+
+def of_check_sequences(lines: list[Line], traces: list[Source]) -> list[Finding]:
+    """Frame check sequences that were left on."""
+    findings = []
+    for kind, (where, advice) in WITH_SEQUENCES.items():
+        frames = [line for line in lines if line.kind == kind]
+        with_fcs = [line for line in frames if ends_with_fcs(line.octets)]
+        if with_fcs:
+            findings.append(Finding(f"the last four octets of {len(with_fcs)} of {len(frames)} frames on {where} are "
+                                    "their frame check sequence, and a trace has frames without it",
+                                    last_octets(traces, with_fcs[0]), advice))
+        elif kind == "A":
+            findings += of_long_frames(frames, traces, advice)
+    return findings
+
+
+def of_long_frames(frames: list[Line], traces: list[Source], advice: str) -> list[Finding]:
+    """Frames on the air that are longer than they say by a check sequence, where most that say their length are."""
+    more = [(line, octets_too_many(line.octets)) for line in frames]
+    long = [line for line, by in more if by == FCS_LEN]
+    if len(long) <= sum(by == 0 for _, by in more):
+        return []
+    return [Finding(f"{len(long)} of {len(frames)} frames on the air are four octets longer than they say: their frame "
+                    "check sequence may be on, and a trace has frames without it", last_octets(traces, long[0]),
+                    advice)]
 
 
 def last_octets(traces: list[Source], line: Line):
@@ -216,8 +278,8 @@ def of_unread(hearing: Hearing, traces: list[Source]) -> list[Finding]:
     if own:
         findings.append(Finding(f"{hearing.name}: frames that it sent itself, unread (U6): {len(own)}",
                                 place_of(traces, own[0]), "a trace has what the access point heard alone"))
-    rest = {kind: [line for line in lines if line not in qos and line not in own]
-            for kind, lines in hearing.unread.items()} if len(qos) + len(own) < count else {}
+    told = {id(line) for line in (*qos, *own)}
+    rest = {kind: [line for line in lines if id(line) not in told] for kind, lines in hearing.unread.items()}
     for kind, lines in sorted(rest.items()):
         if lines:
             findings.append(Finding(f"{hearing.name}: events unread ({kind}): {len(lines)} of {len(hearing.heard)} "

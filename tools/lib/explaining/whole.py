@@ -2,7 +2,7 @@
 import os
 from dataclasses import dataclass, field
 
-from explaining import config, no_toml, runs, trace_lines, words
+from explaining import config, no_toml, octet_records, odd_config, runs, trace_lines, words
 from explaining.answers import Answer, Fault, read_fault
 from explaining.source import Finding, Source
 from explaining.toml_scan import NoToml
@@ -16,14 +16,15 @@ NOTHING_FOUND = "no reason was found: docs/FAULTS.md says of each fault what to 
 
 @dataclass
 class Texts:
-    """What the program was given: its words, a configuration and traces; None for what can't be read."""
+    """What the program was given: its words, a configuration and traces; None for what can't be read. `records` is what
+    `live --octets` reads, None elsewhere."""
 
     words: list[str]
     config: Source | None = None
     traces: list[Source | None] = field(default_factory=list)
     is_joined: bool = False
     has_separator: bool = True
-    is_octets: bool = False
+    records: bytes | None = None
 
 
 def split_joined(octets: bytes) -> tuple[bytes, bytes | None, int]:
@@ -49,8 +50,8 @@ def texts_of(given_words: list[str], given: bytes | None, name: str = STANDARD_I
     if given_words[0] not in words.SUBCOMMANDS:
         return texts
     names = list(given_words[1:])
-    texts.is_octets = given_words[0] == "live" and words.OCTETS in names[:names.index("--") if "--" in names else None]
-    if texts.is_octets:
+    if given_words[0] == "live" and words.OCTETS in names[:names.index("--") if "--" in names else None]:
+        texts.records = given or b""
         names.remove(words.OCTETS)
     if "--" in names:
         names.remove("--")
@@ -58,7 +59,7 @@ def texts_of(given_words: list[str], given: bytes | None, name: str = STANDARD_I
     texts.config = read[0] if read else None
     texts.traces = read[1:]
     if given_words[0] == "live":
-        texts.traces = [] if texts.is_octets else [Source(name, given or b"")]
+        texts.traces = [Source(name, given or b"")] if texts.records is None else []
     return texts
 
 
@@ -95,6 +96,8 @@ def findings_of(texts: Texts, fault: Fault) -> list[Finding]:
         return no_toml.explain(texts.config, texts.is_joined) if texts.config else []
     if fault.code.startswith("C"):
         return config.explain(texts.config, fault) if texts.config else []
+    if fault.code.startswith("L") and texts.records is not None:
+        return octet_records.explain(texts.records, fault, bssids_of(texts))
     if fault.code.startswith("L"):
         place = fault.trace or 0
         trace = texts.traces[place] if place < len(texts.traces) else None
@@ -117,11 +120,11 @@ def of_good_run(texts: Texts, answer: Answer) -> list[str]:
     """What is odd in a run that ended well."""
     output = answer.output.decode("utf-8", "replace")
     if texts.words[:1] == ["check"]:
-        return [output.strip()]
-    if texts.is_octets:
-        return ["the program ended well", "what it answered in records isn't looked at: without `--octets` it is"]
+        return [output.strip(), *of_findings(odd_config.odd(texts.config))]
+    if texts.records is not None:
+        return of_live(texts, octet_records.faults_of(answer.output), "record")
     if texts.words[:1] == ["live"]:
-        return of_live(texts, output)
+        return of_live(texts, [fault for fault in map(read_fault, output.splitlines()) if fault], "line")
     return ["the program ended well", *of_findings(odd_in(texts, output))]
 
 
@@ -136,15 +139,14 @@ def odd_in(texts: Texts, output: str) -> list[Finding]:
     return odd or [Finding("nothing odd was found in this run")]
 
 
-def of_live(texts: Texts, output: str) -> list[str]:
-    """The faults of lines that were answered as they came."""
-    faults = [fault for fault in map(read_fault, output.splitlines()) if fault]
+def of_live(texts: Texts, faults: list[Fault], what: str) -> list[str]:
+    """The faults of lines or records that were answered as they came."""
     lines = []
     for fault in faults[:MOST_LIVE_FAULTS]:
         lines += [fault.said, *of_findings(findings_of(texts, fault) or [Finding(NOTHING_FOUND)])]
     if len(faults) > MOST_LIVE_FAULTS:
-        lines.append(f"and {len(faults) - MOST_LIVE_FAULTS} more lines with a fault")
-    return lines or ["the program ended well", "no line had a fault"]
+        lines.append(f"and {len(faults) - MOST_LIVE_FAULTS} more {what}s with a fault")
+    return lines or ["the program ended well", f"no {what} had a fault"]
 
 
 def explain_config(name: str, said: str) -> list[str]:

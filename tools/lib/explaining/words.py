@@ -11,7 +11,7 @@ SUBCOMMANDS = {"check": "check CONFIG", "run": "run CONFIG TRACE", "play": "play
 FORMS = ("check CONFIG, run CONFIG TRACE, play CONFIG TRACE..., live CONFIG and live --octets CONFIG; without words it "
          "reads standard input")
 OCTETS = "--octets"
-MOST_TRACES = 64
+MOST_TRACES, MOST_FILES = 64, 4
 
 
 def explain(fault: Fault, words: list[str]) -> list[Finding]:
@@ -98,12 +98,17 @@ def of_file(fault: Fault, words: list[str]) -> list[Finding]:
 
 
 def in_folder(name: str) -> str | None:
-    """The files of a folder that may be meant."""
+    """The files of a folder that may be meant, the newest first."""
     try:
-        files = sorted(file for file in os.listdir(name) if os.path.isfile(os.path.join(name, file)))[:4]
+        paths = [path for path in (os.path.join(name, file) for file in os.listdir(name)) if os.path.isfile(path)]
+        paths.sort(key=os.path.getmtime, reverse=True)
     except OSError:
         return None
-    return f"in it are {', '.join(files)}" if files else None
+    more = len(paths) - MOST_FILES
+    files = ", ".join(map(os.path.basename, paths[:MOST_FILES]))
+    if more > 0:
+        return f"the newest of its files are {files}, and there are {more} more"
+    return f"in it are {files}" if paths else None
 
 
 def missing_file(name: str, advice: str | None, reason: OSError) -> Finding:

@@ -1,0 +1,55 @@
+"""What a fault of a record of `live --octets` comes of (docs/PROTOCOL.md, "Lines as they come")."""
+from explaining.answers import Fault, read_fault
+from explaining.source import Finding, quoted
+from frames import address_text
+from records import HEADER_LEN, NOBODY, TOLD, cut, parts
+
+KINDS, MOST_OCTETS = b"AWTI", 4096
+TEXT = (b"A ", b"W ", b"T\n", b"T\r", b"I\n", b"I\r", b"#")
+
+
+def faults_of(output: bytes) -> list[Fault]:
+    """The faults that the program told in its records."""
+    told = [octets for kind, _, octets in map(parts, cut(output)[0]) if kind == TOLD]
+    faults = (read_fault(octets.decode("utf-8", "replace").removesuffix("\n")) for octets in told)
+    return [fault for fault in faults if fault]
+
+
+def explain(given: bytes, fault: Fault, bssids: list[str]) -> list[Finding]:
+    """The reason for a fault of a record; none where nothing was found."""
+    if given.startswith(TEXT):
+        return [Finding("standard input is text, and `live --octets` reads records", None,
+                        "leave `--octets` out: `live CONFIG` reads lines")]
+    whole, rest = cut(given)
+    number = fault.line or 0
+    if number == len(whole) + 1 and rest:
+        return [of_cut(number, rest)]
+    if not 1 <= number <= len(whole):
+        return []
+    kind, bssid, octets = parts(whole[number - 1])
+    if fault.code == "L5":
+        return [Finding(f"the record {number} has {len(octets):,} octets, and may have {MOST_OCTETS:,}")]
+    if fault.code == "L4":
+        return [Finding(f"no network of the configuration has the BSSID {address_text(bssid)} of the record {number}",
+                        None, f"its networks have {', '.join(bssids)}")]
+    return [of_kind(number, kind, bssid, octets)] if fault.code == "L1" else []
+
+
+def of_kind(number: int, kind: bytes, bssid: bytes, octets: bytes) -> Finding:
+    """A record of another kind, or with what its kind doesn't have."""
+    if kind not in KINDS:
+        kinds = ", ".join(f"`{letter:c}`" for letter in KINDS)
+        return Finding(f"the record {number} is of the kind {quoted(kind.decode('latin-1'))}, and kinds are {kinds}",
+                       None, "a wrong length of the record before leads here too: it is two octets, the low one first")
+    has = ["a BSSID"] * (bssid != NOBODY) + ["octets"] * (bool(octets) and kind != b"A")
+    return Finding(f"the record {number}, of the kind `{kind.decode()}`, has {' and '.join(has)}, and has to have none")
+
+
+def of_cut(number: int, rest: bytes) -> Finding:
+    """The input ends within a record."""
+    if len(rest) < HEADER_LEN:
+        return Finding(f"the input ends within the record {number}, of which it has {len(rest)} octets: a kind, a "
+                       f"BSSID and a length are {HEADER_LEN}")
+    length = int.from_bytes(rest[HEADER_LEN - 2:HEADER_LEN], "little")
+    return Finding(f"the input ends within the record {number}, which says that {length:,} octets follow, and "
+                   f"{len(rest) - HEADER_LEN:,} do", None, "its length is two octets, the low one first")

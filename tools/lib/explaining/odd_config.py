@@ -1,0 +1,46 @@
+"""What is odd in a configuration that has no fault."""
+from explaining import values
+from explaining.config import Config, NetworkTable
+from explaining.source import Finding, Source, quoted
+from explaining.toml_scan import NoToml
+
+
+def odd(source: Source | None) -> list[Finding]:
+    """What is odd in a configuration: networks that stations can't tell apart, and networks without a basic rate."""
+    try:
+        config = Config(source) if source else None
+    except (NoToml, RecursionError):
+        return []
+    return [*of_names(config), *of_rates(config)] if config else []
+
+
+def texts_of(config: Config, key: str) -> list[tuple[int, NetworkTable, str]]:
+    """The place of each network that has a text for a key, the network, and the text."""
+    found = [(place, network, network.entries.get(key)) for place, network in enumerate(config.networks)]
+    return [(place, network, entry.value.worth) for place, network, entry in found
+            if entry and entry.value.kind == "text"]
+
+
+def of_names(config: Config) -> list[Finding]:
+    """Networks with one SSID."""
+    named: dict[str, list[tuple[int, NetworkTable]]] = {}
+    for place, network, name in texts_of(config, "ssid"):
+        named.setdefault(name, []).append((place, network))
+    return [Finding(f"the networks {', '.join(str(place) for place, _ in same)} have one SSID, {quoted(name)}: stations "
+                    "take them for one network, and join any", config.place(same[1][1].entries["ssid"].value),
+                    "give each an SSID of its own, unless this is meant")
+            for name, same in named.items() if len(same) > 1]
+
+
+def of_rates(config: Config) -> list[Finding]:
+    """Networks without a basic rate."""
+    findings = []
+    for place, network, digits in texts_of(config, "rates"):
+        rates = bytes.fromhex(digits)
+        if not any(rate & values.BASIC for rate in rates):
+            mended = values.rates_of_megabits([rate / 2 for rate in rates])
+            findings.append(Finding(f"no rate of the network {place} is basic, which the high bit of its octet says: "
+                                    "there is none that each of its stations has to have",
+                                    config.place(network.entries["rates"].value),
+                                    f"write `rates = \"{mended}\"`"))
+    return findings
