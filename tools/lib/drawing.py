@@ -182,22 +182,22 @@ class Picture:
                 self.shape(x + 9, y, what, 0)
 
     def rows_of(self, lane, place, strip):
-        """The rows of a network in a strip, from top to bottom: those in which something happens; how many stations
-        have none though they are known, and how many more have none for want of room."""
-        used = {row for column in strip.columns for item in column.items.get(place, ())
-                for row in (item.row, item.sender) if row is not None}
-        used |= {kept.whom for kept in lane.keepings
-                 if lane.shows(kept.whom) and strip.overlaps(kept.begins, kept.ends)}
+        """The rows of a network in a strip, from top to bottom: those in which something happens, then other stations;
+        how many stations have none though they are known, and how many more have none for want of room."""
+        acting = {row for column in strip.columns for item in column.items.get(place, ())
+                  for row in (item.row, item.sender) if row is not None}
         here = [span for span in lane.spans if strip.overlaps(span.begins, span.ends)]
-        used |= {span.station for span in here if strip.has(span.begins) or strip.has(span.ends)}
-        if strip is self.strips[0] or lane.chosen:
-            used |= {span.station for span in here}
-        stations = {row for row in used if isinstance(row, bytes)}
-        shown = sorted(stations)[:self.most_stations]
-        left_out = len(stations) - len(shown)
-        rows = [BEACONS] * (BEACONS in used) + shown + [row for row in (GROUP, WIRE) if row in used]
-        rows += [OTHERS] * (OTHERS in used or left_out > 0)
-        return rows, len({span.station for span in here} - stations), left_out
+        waiting = {kept.whom for kept in lane.keepings
+                   if lane.shows(kept.whom) and strip.overlaps(kept.begins, kept.ends)}
+        waiting |= {span.station for span in here if strip.has(span.begins) or strip.has(span.ends)}
+        standing = {span.station for span in here}
+        idle = standing if strip is self.strips[0] or lane.chosen else set()
+        ranks = {row: rank for rank, rows in ((2, idle), (1, waiting), (0, acting)) for row in rows}
+        stations = sorted((row for row in ranks if isinstance(row, bytes)), key=lambda row: (ranks[row], row))
+        shown, left_out = stations[:self.most_stations], stations[self.most_stations:]
+        has_others = OTHERS in acting or any(ranks[row] < 2 for row in left_out)
+        rows = [BEACONS] * (BEACONS in acting) + shown + [row for row in (GROUP, WIRE) if row in ranks]
+        return rows + [OTHERS] * has_others, len(standing - ranks.keys()), len(left_out)
 
     def height_of(self, strip):
         """How high a strip is."""

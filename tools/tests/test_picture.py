@@ -7,7 +7,7 @@ import xml.etree.ElementTree as tree
 from typing import NamedTuple
 
 import long_run
-from common import (CASES, DEVICES, GUEST, OFFICE, PROGRAM, ROOT, THREE, ToolTest, input_of, needs_program,
+from common import (CASES, DEVICES, GUEST, OFFICE, PROGRAM, ROOT, THREE, ToolTest, heard, input_of, needs_program,
                     report_of, run_program, tool, with_report)
 from fields import fields_on_air, fields_on_wire
 from PIL import Image, ImageFont
@@ -388,6 +388,63 @@ class Choices(PictureTest):
             file.write(text)
         words = self.shapes(self.path("input"), os.path.join(THREE, "stdout")).words()
         self.assertLessEqual({"12.345", "capture, s"}, words)
+
+
+class Crowds(PictureTest):
+    """Networks with more stations than a strip has rows for."""
+
+    def crowd(self, idle, acting):
+        """The shapes of a picture in which so many stations join and so many others, of higher addresses, send units to
+        each other and to the wire afterwards, from there on; and the addresses of the others."""
+        bssid = long_run.bssid_of(0)
+        stations = [f"02aa0000{number:04x}" for number in range(1, idle + acting + 1)]
+        lines = []
+        for station in stations:
+            to = {"receiver": bssid, "sender": station}
+            lines += [heard("b0000000", "0000 0100 0000", **to),
+                      heard("00000000", "0100 0300 00056775657374 010482840b16", **to)]
+        others = stations[idle:]
+        for station, other in zip(others, [*others[1:], "02bb00000001"]):
+            lines.append(heard("08010000", long_run.UNIT, bssid, station, other))
+        text = long_run.config().replace("max_stations = 20\nmax_known = 40", "max_stations = 200\nmax_known = 400")
+        text = f"{text}---\n" + "".join(f"{line}\n" for line in lines)
+        for name, written in (("input", text), ("report", run_program(program_input=text))):
+            with open(self.path(name), "w", encoding="ascii") as file:
+                file.write(written)
+        first = str(len(lines) - len(others) + 1)
+        return self.shapes(self.path("input"), self.path("report"), "--from", first), others
+
+    @needs_program
+    def test_stations_that_act_have_rows(self):
+        """However many stations stand idle, of lower addresses, each that acts has a row, above theirs, and each arrow both
+        its ends."""
+        for idle in (30, 60, 150):
+            shapes, others = self.crowd(idle, 12)
+            heights = {group.get("data-row"): middle_of(group)[1] for group in shapes.of(what="sent")}
+            self.assertEqual(set(heights), set(others[1:]))
+            self.assertEqual({group.get("data-sender") for group in shapes.of(what="sent")}, set(others[:-1]))
+            self.assertEqual({group.get("data-sender") for group in shapes.of(what="wired")}, {others[-1]})
+            rows = {group.get("data-row"): ends_of(group)[2] for group in shapes.of(what="associated")}
+            self.assertEqual(len(rows), min(40, idle + 12))
+            self.assertLess(max(rows[other] for other in others),
+                            min(height for row, height in rows.items() if row not in others))
+            self.assertEqual("others" in shapes.words(), False)
+            self.assertEqual(f"{idle - 28} stations not shown" in shapes.words(), idle > 28)
+            self.assertEqual(shapes.overlapping(), [])
+
+    @needs_program
+    def test_more_act_than_there_is_room_for(self):
+        """No idle station has a row where one that acts has none; its marks stand among the others."""
+        shapes, others = self.crowd(60, 38)
+        few = self.shapes(self.path("input"), self.path("report"), "--from", "197", "--stations", "20")
+        self.assertIn("others", few.words())
+        for found, most in ((shapes, 40), (few, 20)):
+            rows = [group.get("data-row") for group in found.of(what="associated")]
+            self.assertLessEqual(len(set(rows)), most)
+            acting = {group.get("data-row") for group in found.marks()} | {
+                group.get("data-sender") for group in found.marks()}
+            idle = set(rows) - acting
+            self.assertTrue(not idle or acting & set(others) <= set(rows), idle)
 
 
 class Labels(PictureTest):
