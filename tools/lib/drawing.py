@@ -196,8 +196,10 @@ class Picture:
         stations = sorted((row for row in ranks if isinstance(row, bytes)), key=lambda row: (ranks[row], row))
         shown, left_out = stations[:self.most_stations], stations[self.most_stations:]
         has_others = OTHERS in acting or any(ranks[row] < 2 for row in left_out)
-        rows = [BEACONS] * (BEACONS in acting) + shown + [row for row in (GROUP, WIRE) if row in ranks]
-        return rows + [OTHERS] * has_others, len(standing - ranks.keys()), len(left_out)
+        with_news = [BEACONS] * (BEACONS in acting) + [row for row in shown if ranks[row] < 2]
+        with_news += [row for row in (GROUP, WIRE) if row in ranks] + [OTHERS] * has_others
+        rows = with_news + [row for row in shown if ranks[row] == 2]
+        return rows, len(standing - ranks.keys()), len(left_out)
 
     def height_of(self, strip):
         """How high a strip is."""
