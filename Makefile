@@ -83,7 +83,7 @@ stress: apctl ## plays four traces at once, a hundred times or TIMES=N times
 fuzz: apctl ## compares the program with a model of the rules over hostile input
 	@bench/fuzz
 
-# The built program, build/apctl, of proved crates.
+# The built program, build/apctl, of proved crates; .ci/origin tells of which.
 apctl: ## proves the program and builds it, as build/apctl
 	@.ci/build
 
@@ -136,7 +136,7 @@ THREE = examples/three_networks_over_some_intervals
 DRAWN = station_roams_between_two_networks units_of_stations_that_doze_too_long
 
 # Installs what was built, with man pages, tools, a sample configuration and shell completion, below PREFIX, and takes
-# it away again.
+# it away again. It builds nothing, and says where build/apctl isn't the program of these sources.
 PREFIX = /usr/local
 install: ## installs build/apctl, man pages and tools below PREFIX=/usr/local
 	@DESTDIR="$(DESTDIR)" share/install "$(PREFIX)"

@@ -8,7 +8,8 @@ refuse_words() {
 }
 
 # Looks at a script's words, of which there may be as few and as many as the first two say: for `-h` or `--help` among
-# them prints its opening comment, which says how it is used, and ends; refuses a word that begins with `-`.
+# them prints its opening comment, which says how it is used, and ends; for `--version` tells which program is built, and
+# ends; refuses another word that begins with `-`.
 look_at_words() {
     local least=$1 most=$2 word
     shift 2
@@ -18,6 +19,7 @@ look_at_words() {
             sed -n '2,/^[^#]/s/^# \{0,1\}//p' "$0"
             exit 0
             ;;
+        --version) exec python3 "$(dirname "${BASH_SOURCE[0]}")/version.py" ;;
         -*) refuse_words "there is no word $word" ;;
         esac
     done

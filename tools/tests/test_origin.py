@@ -1,0 +1,226 @@
+"""Tests of what is told of the program that stands built: .ci/build and .ci/gate in a small repository, whose `rt` is a
+script that proves nothing; what .ci/origin, `--version` of the tools and share/install say of what they left."""
+import glob
+import os
+import shutil
+import subprocess
+import unittest
+
+from common import PROGRAM, ROOT, ToolTest
+from version import VERSION
+
+SECONDS = 60
+TOOLCHAIN = "rattle-kit-test logic 0"
+COPIED = (".ci", "share", "tools/lib", "tools/systemd", "docs", "README.md", "CHANGELOG.md", "HANDLES")
+# It fails where a file `fails` is there, and waits where a file `waits` is; the program that it builds has the text of
+# the crate's source.
+RT = f"""#!/bin/bash
+case $1 in
+version) echo '{TOOLCHAIN}' ;;
+lib | check)
+    [ ! -e "$STATES/fails" ] || {{ echo 'not proved: a goal'; exit 1; }}
+    [ ! -e "$STATES/waits" ] || {{ : >"$STATES/waiting"; sleep {SECONDS}; }}
+    mkdir -p out/rlib
+    ;;
+run) mkdir -p out && cp src/main.rt out/apctl && chmod +x out/apctl ;;
+ci)
+    [ -e "$STATES/fails" ] || {{ cd crates/apctl && mkdir -p out && cp src/main.rt out/apctl; }}
+    echo '1 passed, 0 failed'
+    ;;
+esac
+"""
+
+
+class SmallRepository(ToolTest):
+    """A repository of two crates, with the scripts of this one."""
+
+    def setUp(self):
+        super().setUp()
+        self.top = self.path("small")
+        self.states = self.path("states")
+        os.makedirs(self.states)
+        for name in COPIED:
+            source, target = os.path.join(ROOT, name), os.path.join(self.top, name)
+            if os.path.isdir(source):
+                shutil.copytree(source, target, ignore=shutil.ignore_patterns("__pycache__"))
+            else:
+                shutil.copy(source, target)
+        for path in glob.glob(os.path.join(ROOT, "tools", "*")):
+            if os.path.isfile(path):
+                shutil.copy(path, os.path.join(self.top, "tools"))
+        self.write("crates.txt", "low:\napctl: low\nother:\n")
+        self.write(".gitignore", "out/\nbuild/\n")
+        for name in ("low/src/lib.rt", "other/src/lib.rt"):
+            self.write(f"crates/{name}", "one\n")
+        self.write("crates/apctl/src/main.rt", "#!/bin/bash\necho first\n")
+        self.write("crates/apctl/stdin", "")
+        self.write("bin/rt", RT)
+        os.chmod(self.path_of("bin/rt"), 0o755)
+        self.git("init", "-q")
+        self.commit()
+
+    def path_of(self, name):
+        """A file of the small repository."""
+        return os.path.join(self.top, name)
+
+    def write(self, name, text):
+        """Writes one."""
+        os.makedirs(os.path.dirname(self.path_of(name)), exist_ok=True)
+        with open(self.path_of(name), "w", encoding="utf-8") as file:
+            file.write(text)
+
+    def state(self, name, holds):
+        """Has `rt` do something else from now on, or no more."""
+        path = os.path.join(self.states, name)
+        if holds:
+            with open(path, "w", encoding="ascii"):
+                pass
+        elif os.path.exists(path):
+            os.remove(path)
+
+    def git(self, *words):
+        """What git says."""
+        words = ["git", "-c", "user.name=test", "-c", "user.email=", *words]
+        return subprocess.run(words, cwd=self.top, capture_output=True, text=True, check=True).stdout.strip()
+
+    def commit(self):
+        """Makes a commit of all, and answers its name."""
+        self.git("add", "-A")
+        self.git("commit", "-q", "-m", "one")
+        return self.git("rev-parse", "HEAD")
+
+    def environment(self):
+        """With the script for `rt`."""
+        return {**os.environ, "PATH": f"{self.path_of('bin')}:{os.environ['PATH']}", "STATES": self.states,
+                "TMPDIR": self.folder}
+
+    def run_there(self, *words):
+        """A script's status, and what it says."""
+        done = subprocess.run([self.path_of(words[0]), *words[1:]], capture_output=True, text=True, check=False,
+                              cwd=self.top, env=self.environment())
+        return done.returncode, done.stdout + done.stderr
+
+    def built(self):
+        """What the program that stands built says, or None where none does."""
+        if not os.path.exists(self.path_of("build/apctl")):
+            return None
+        return subprocess.run([self.path_of("build/apctl")], capture_output=True, text=True, check=True).stdout.strip()
+
+    def build(self):
+        """Builds it, which has to go well."""
+        status, said = self.run_there(".ci/build")
+        self.assertEqual(status, 0, said)
+
+
+class Origin(SmallRepository):
+    """Of what build/apctl was built."""
+
+    def test_commit_and_toolchain_are_told(self):
+        """Where the sources are those of the program, nothing else is said than which they are."""
+        commit = self.git("rev-parse", "HEAD")
+        self.build()
+        self.assertEqual(self.built(), "first")
+        self.assertEqual(self.run_there(".ci/origin", "check"), (0, ""))
+        status, said = self.run_there("tools/live", "--version")
+        self.assertEqual(status, 0)
+        self.assertRegex(said, rf"\Awaltigon {VERSION}\napctl of commit {commit}, proved and built "
+                               rf"20\d\d-\d\d-\d\dT[\d:]*Z by .ci/build\nwith {TOOLCHAIN}\n\Z")
+
+    def test_changed_sources_are_told(self):
+        """A change of what the program stands on, and of nothing else; with the commit, once it is built anew."""
+        self.build()
+        self.write("crates/other/src/lib.rt", "two\n")
+        self.write("docs/PERF.md", "two\n")
+        self.assertEqual(self.run_there(".ci/origin", "check"), (0, ""))
+        first = self.git("rev-parse", "HEAD")
+        self.write("crates/low/proofs/new.antt", "two\n")
+        status, said = self.run_there(".ci/origin", "check")
+        self.assertEqual((status, said), (1, f"build/apctl is an earlier program, of commit {first}: its sources have "
+                                             "changed since\n"))
+        self.assertIn("its sources have changed since", self.run_there("tools/live", "--version")[1])
+        self.build()
+        self.assertIn(f"apctl of commit {first}, with changes, proved", self.run_there("tools/live", "--version")[1])
+        second = self.commit()
+        self.build()
+        self.assertIn(f"apctl of commit {second}, proved", self.run_there("tools/live", "--version")[1])
+
+    def test_another_program_in_its_place(self):
+        """What is told is told of one program alone."""
+        self.build()
+        self.write("build/apctl", "#!/bin/bash\necho other\n")
+        self.assertIn("it is not the program", self.run_there(".ci/origin", "check")[1])
+        self.assertIn("of which commit it is isn't known", self.run_there("tools/explain", "--version")[1])
+        os.remove(self.path_of("build/apctl.origin"))
+        self.assertIn("there is no build/apctl.origin", self.run_there(".ci/origin", "check")[1])
+        os.remove(self.path_of("build/apctl"))
+        self.assertIn("build/apctl is not there", self.run_there(".ci/origin", "check")[1])
+        self.assertIn("apctl isn't built", self.run_there("tools/explain", "--version")[1])
+
+    def test_words(self):
+        """Other words are refused."""
+        for words in ((), ("write",), ("commit",), ("check", "build/apctl")):
+            self.assertEqual(self.run_there(".ci/origin", *words)[0], 2, words)
+
+    def test_gate_tells_of_what_it_built(self):
+        """The commit and the toolchain stand beside the program of the gate too."""
+        commit = self.git("rev-parse", "HEAD")
+        self.run_there(".ci/gate")
+        self.assertEqual(self.run_there(".ci/origin", "check"), (0, ""))
+        self.assertRegex(self.run_there("tools/live", "--version")[1],
+                         rf"apctl of commit {commit}, proved and built .* by .ci/gate\nwith {TOOLCHAIN}")
+
+
+class Installed(SmallRepository):
+    """What an installation tells."""
+
+    def install(self):
+        """Installs below a prefix of its own: what is said."""
+        status, said = self.run_there("share/install", self.path("usr"))
+        self.assertEqual(status, 0, said)
+        return said
+
+    def installed(self, name, *words):
+        """What an installed command says."""
+        return subprocess.run([self.path(f"usr/{name}"), *words], capture_output=True, text=True, check=True).stdout
+
+    def test_installed_tools_tell(self):
+        """Each tool tells the commits of the program and of the tools, and the page of the program tells them too."""
+        self.build()
+        first = self.git("rev-parse", "HEAD")
+        self.write("docs/PERF.md", "two\n")
+        second = self.commit()
+        self.assertNotIn("warning", self.install())
+        names = [os.path.relpath(path, self.path("usr")) for path in glob.glob(self.path("usr/*bin/waltigon-*"))]
+        self.assertEqual(len(names), 7)
+        for name in names:
+            self.assertRegex(self.installed(name, "--version"),
+                             rf"\Awaltigon {VERSION}\napctl of commit {first}, proved .*\nwith {TOOLCHAIN}\n"
+                             rf"tools of commit {second}\n\Z", name)
+        with open(self.path("usr/share/man/man1/apctl.1"), encoding="utf-8") as page:
+            self.assertIn(f"\napctl of commit {first}, proved", page.read())
+
+    def test_installing_warns(self):
+        """Where the program is an earlier one, installing says so, and the tools tell which it is."""
+        self.build()
+        commit = self.git("rev-parse", "HEAD")
+        self.write("crates/apctl/src/main.rt", "two\n")
+        self.assertIn("share/install: warning: build/apctl is an earlier program, of commit "
+                      f"{commit}: its sources have changed since\n", self.install())
+        self.assertIn(f"apctl of commit {commit}, proved", self.installed("sbin/waltigon-live", "--version"))
+        os.remove(self.path_of("build/apctl.origin"))
+        self.assertIn("warning: build/apctl is of unknown sources", self.install())
+        self.assertIn("of which commit it is isn't known", self.installed("sbin/waltigon-live", "--version"))
+
+
+class EveryTool(unittest.TestCase):
+    """The tools of this repository."""
+
+    def test_every_tool_tells_its_version(self):
+        """`--version` of each, whatever is built."""
+        tools = [path for path in glob.glob(os.path.join(ROOT, "tools", "*")) if os.path.isfile(path)]
+        self.assertGreater(len(tools), 10)
+        for path in tools:
+            done = subprocess.run([path, "--version"], capture_output=True, text=True, check=False)
+            self.assertEqual((done.returncode, done.stderr), (0, ""), path)
+            self.assertTrue(done.stdout.startswith(f"waltigon {VERSION}\napctl"), f"{path}: {done.stdout}")
+            self.assertEqual("apctl isn't built" in done.stdout, not os.path.exists(PROGRAM), path)
