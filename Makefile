@@ -83,7 +83,8 @@ stress: apctl ## plays four traces at once, a hundred times or TIMES=N times
 fuzz: apctl ## compares the program with a model of the rules over hostile input
 	@bench/fuzz
 
-# The built program, build/apctl, of proved crates; .ci/origin tells of which.
+# The built program, build/apctl, of proved crates. An earlier one stays until it is built, and where a proof fails;
+# .ci/origin tells which it is.
 apctl: ## proves the program and builds it, as build/apctl
 	@.ci/build
 

@@ -3,7 +3,9 @@ script that proves nothing; what .ci/origin, `--version` of the tools and share/
 import glob
 import os
 import shutil
+import signal
 import subprocess
+import time
 import unittest
 
 from common import PROGRAM, ROOT, ToolTest
@@ -160,6 +162,70 @@ class Origin(SmallRepository):
         """Other words are refused."""
         for words in ((), ("write",), ("commit",), ("check", "build/apctl")):
             self.assertEqual(self.run_there(".ci/origin", *words)[0], 2, words)
+
+
+class EarlierProgram(SmallRepository):
+    """What becomes of a program that stands built while another is built."""
+
+    def test_failed_proof(self):
+        """The earlier one stays where a proof fails, and is told to be earlier, though its sources are the same."""
+        self.build()
+        commit = self.git("rev-parse", "HEAD")
+        self.state("fails", True)
+        earlier = f"build/apctl is an earlier program, of commit {commit}: the last build did not end well"
+        status, said = self.run_there(".ci/build")
+        self.assertEqual(status, 1)
+        self.assertIn("low: not proved\nnot proved: a goal", said)
+        self.assertIn(earlier, said)
+        self.assertEqual(self.built(), "first")
+        self.assertEqual(self.run_there(".ci/origin", "check"), (1, f"{earlier}\n"))
+        self.assertIn(earlier, self.run_there("tools/live", "--version")[1])
+        self.state("fails", False)
+        self.build()
+        self.assertEqual(self.run_there(".ci/origin", "check"), (0, ""))
+
+    def test_broken_off(self):
+        """The earlier one stays where the build is killed, and until another has ended."""
+        self.build()
+        self.write("crates/apctl/src/main.rt", "#!/bin/bash\necho second\n")
+        self.state("waits", True)
+        with subprocess.Popen([self.path_of(".ci/build")], cwd=self.top, env=self.environment(),
+                              stderr=subprocess.DEVNULL, start_new_session=True) as process:
+            due = time.monotonic() + SECONDS
+            while not os.path.exists(os.path.join(self.states, "waiting")):
+                self.assertLess(time.monotonic(), due)
+                time.sleep(0.05)
+            self.assertEqual(self.built(), "first")
+            os.killpg(process.pid, signal.SIGKILL)
+        self.assertEqual(self.built(), "first")
+        status, said = self.run_there(".ci/origin", "check")
+        self.assertEqual(status, 1)
+        self.assertIn("the last build did not end well", said)
+        self.state("waits", False)
+        self.build()
+        self.assertEqual(self.built(), "second")
+        self.assertEqual(self.run_there(".ci/origin", "check"), (0, ""))
+
+    def test_running_program_is_replaced(self):
+        """A program that runs, whose file can't be written, keeps no other from taking its place."""
+        shutil.copy(shutil.which("sleep"), self.path_of("crates/apctl/src/main.rt"))
+        self.build()
+        with subprocess.Popen([self.path_of("build/apctl"), str(SECONDS)]) as running:
+            self.write("crates/apctl/src/main.rt", "#!/bin/bash\necho second\n")
+            self.build()
+            running.kill()
+        self.assertEqual(self.built(), "second")
+
+    def test_gate_runs_no_earlier_program(self):
+        """The gate removes the earlier one before it proves, and fails where none was built."""
+        self.build()
+        self.state("fails", True)
+        status, said = self.run_there(".ci/gate")
+        self.assertEqual(status, 1)
+        self.assertIn("no program was built, so no example was run", said)
+        self.assertNotRegex(said, r"\b0 failed\n\Z")
+        self.assertIsNone(self.built())
+        self.assertIn("build/apctl is not there", self.run_there(".ci/origin", "check")[1])
 
     def test_gate_tells_of_what_it_built(self):
         """The commit and the toolchain stand beside the program of the gate too."""
