@@ -136,8 +136,8 @@ captures: ## makes the captures beside the example of three networks
 THREE = examples/three_networks_over_some_intervals
 DRAWN = station_roams_between_two_networks units_of_stations_that_doze_too_long
 
-# Installs what was built, with man pages, tools, a sample configuration and shell completion, below PREFIX, and takes
-# it away again. It builds nothing, and says where build/apctl isn't the program of these sources.
+# Installs what was built, with man pages, tools, a sample configuration, a unit of systemd and shell completion, below
+# PREFIX, and takes it away again. It builds nothing, and says where build/apctl isn't the program of these sources.
 PREFIX = /usr/local
 install: ## installs build/apctl, man pages and tools below PREFIX=/usr/local
 	@DESTDIR="$(DESTDIR)" share/install "$(PREFIX)"

@@ -12,8 +12,9 @@ try:
     from scapy.error import Scapy_Exception
     from scapy.layers.dot11 import RadioTap
     from scapy.utils import RawPcapNgWriter, RawPcapReader, RawPcapWriter
+    HAS_SCAPY = True
 except ImportError:
-    raise SystemExit("python3-scapy is missing: tools/install installs what the tools need") from None
+    HAS_SCAPY = False
 
 ETHERNET, PLAIN_80211, RADIOTAP = 1, 105, 127
 LINK_NAMES = {119: "Prism headers", 163: "AVS headers", 192: "PPI headers", 113: "Linux cooked headers"}
@@ -24,6 +25,12 @@ BAD_PLCP = 0x02
 
 class CaptureError(Exception):
     """A capture file that can't be read, or not by these tools."""
+
+
+def need_scapy():
+    """Ends a tool where scapy is missing: once its words are read, so that `--help` always answers."""
+    if not HAS_SCAPY:
+        raise SystemExit("python3-scapy is missing: `sudo apt install python3-scapy` installs it")
 
 
 class Watched:

@@ -7,11 +7,6 @@ import tempfile
 import xml.etree.ElementTree as tree
 from contextlib import contextmanager
 
-try:
-    from PIL import ImageFont
-except ImportError:
-    raise SystemExit("python3-pil is missing: tools/install installs what the tools need") from None
-
 FAMILY = "DejaVu Sans, Verdana, sans-serif"
 FONTS = {"normal": "DejaVuSans.ttf", "bold": "DejaVuSans-Bold.ttf"}
 MEASURED_AT = 100
@@ -26,11 +21,14 @@ class NoConversion(Exception):
 
 @functools.cache
 def font(weight):
-    """The font by which texts are measured."""
+    """The font by which texts are measured. What reads it is looked for here, so that `--help` answers without it."""
     try:
+        from PIL import ImageFont
         return ImageFont.truetype(FONTS[weight], MEASURED_AT)
+    except ImportError:
+        raise SystemExit("python3-pil is missing: `sudo apt install python3-pil` installs it") from None
     except OSError:
-        raise SystemExit("fonts-dejavu-core is missing: tools/install installs what the tools need") from None
+        raise SystemExit("fonts-dejavu-core is missing: `sudo apt install fonts-dejavu-core` installs it") from None
 
 
 @functools.cache
@@ -96,7 +94,7 @@ class Canvas:
 def convert(pages, kind, path):
     """Writes pictures into one file, `png` or `pdf`, the pages of a PDF in order."""
     if shutil.which(CONVERTER) is None:
-        raise NoConversion(f"{CONVERTER} is missing: tools/install installs what the tools need")
+        raise NoConversion(f"{CONVERTER} is missing: `sudo apt install librsvg2-bin` installs it")
     with tempfile.TemporaryDirectory() as folder:
         files = []
         for place, page in enumerate(pages):

@@ -3,6 +3,7 @@ taken away again, and no file of others is touched."""
 import glob
 import os
 import pty
+import re
 import select
 import shutil
 import signal
@@ -10,10 +11,14 @@ import subprocess
 import time
 import unittest
 
-from common import CASES, PROGRAM, ROOT, ToolTest, needs_program
+from common import CASES, PROGRAM, ROOT, TOOLS, ToolTest, needs_program
+from small import SmallRepository
 
 SECONDS = 60
 BELL = "\a"
+COMMANDS = {f"waltigon-{name}": name for name in ("capture-from-report", "capture-from-run", "explain", "live", "picture",
+                                                  "report-to-json", "trace-from-capture")}
+OPTION = re.compile(r"(?<![\w-])--[a-z][a-z-]*")
 
 
 class Install(ToolTest):
@@ -47,8 +52,7 @@ class Install(ToolTest):
         self.assertIn('"ssid": "lab"', subprocess.run(json, capture_output=True, text=True, check=True).stdout)
         for name in glob.glob(os.path.join(self.prefix, "*bin", "waltigon-*")):
             done = subprocess.run([name, "--help"], capture_output=True, text=True, check=False)
-            # a package of Debian's may be missing, which the tool says then
-            self.assertTrue(done.returncode == 0 or "is missing" in done.stderr, f"{name}: {done.stderr}")
+            self.assertEqual((done.returncode, done.stderr), (0, ""), name)
 
     @needs_program
     def test_nothing_is_left(self):
@@ -92,17 +96,135 @@ class Install(ToolTest):
             self.assertEqual(self.run_install(*words)[0], 2, words)
 
 
+class WhatIsInstalled(SmallRepository):
+    """What stands below the prefix, of a program that does nothing."""
+
+    def setUp(self):
+        super().setUp()
+        self.build()
+
+    def read(self, name):
+        """An installed text."""
+        with open(self.path(f"usr/{name}"), encoding="utf-8") as file:
+            return file.read()
+
+    def test_missing_bridge_is_told(self):
+        """Installing says so where none is built, and the command says where to build it; once built, it is there."""
+        self.assertIn("no bridge is installed, without which waltigon-live serves no radio", self.install())
+        self.assertFalse(os.path.exists(self.path("usr/lib/waltigon/build/bridge/release/bridge")))
+        self.write("build/bridge/release/bridge", "#!/bin/bash\n")
+        os.chmod(self.path_of("build/bridge/release/bridge"), 0o755)
+        self.assertNotIn("no bridge", self.install())
+        self.assertTrue(os.access(self.path("usr/lib/waltigon/build/bridge/release/bridge"), os.X_OK))
+
+    def test_each_command_has_page_and_completion(self):
+        """Each command that is installed has a page of man, which apctl(1) or another names, and completion."""
+        self.install()
+        commands = [os.path.basename(path) for path in glob.glob(self.path("usr/*bin/waltigon-*"))]
+        self.assertEqual(sorted(commands), sorted(COMMANDS))
+        apctl = self.read("share/man/man1/apctl.1").replace("\\-", "-")
+        self.assertIn("waltigon-explain", apctl.partition(".SH EXIT STATUS")[2].partition(".SH EXAMPLES")[0])
+        for command in commands:
+            section = 8 if command == "waltigon-live" else 1
+            self.assertTrue(os.path.exists(self.path(f"usr/share/man/man{section}/{command}.{section}")), command)
+            self.assertIn(f"{command} ({section})", apctl.partition(".SH SEE ALSO")[2], command)
+            self.assertIn("_waltigon", self.read(f"share/bash-completion/completions/{command}"), command)
+        self.assertIn("#compdef", self.read("share/zsh/site-functions/_waltigon"))
+
+    def test_documents_have_their_pictures(self):
+        """Each picture that an installed document shows is installed."""
+        self.install()
+        shown = 0
+        for path in glob.glob(self.path("usr/share/doc/waltigon/**/*.md"), recursive=True):
+            with open(path, encoding="utf-8") as file:
+                for name in re.findall(r"!\[[^\]]*\]\(([^)]*)\)", file.read()):
+                    self.assertTrue(os.path.exists(os.path.join(os.path.dirname(path), name)), f"{path}: {name}")
+                    shown += 1
+        self.assertGreater(shown, 3)
+
+    def test_unit_follows_the_prefix(self):
+        """The unit begins the command of the same prefix, and nothing else of it changes."""
+        self.install()
+        unit = self.read("lib/systemd/system/waltigon@.service")
+        self.assertIn(f'\nExecStart="{self.path("usr")}/sbin/waltigon-live" /etc/waltigon/%i.toml', unit)
+        with open(os.path.join(TOOLS, "systemd", "waltigon@.service"), encoding="utf-8") as file:
+            self.assertEqual(unit.replace(f"{self.path('usr')}/sbin", "/usr/local/sbin"), file.read())
+
+
+class WithoutPackages(ToolTest):
+    """The tools on a machine that has none of the packages that they need, which is made by modules that fail."""
+
+    def setUp(self):
+        super().setUp()
+        for name in ("scapy", "PIL"):
+            with open(self.path(f"{name}.py"), "w", encoding="ascii") as file:
+                file.write("raise ImportError\n")
+
+    def run_without(self, name, *words, **environment):
+        """What a tool answers there."""
+        done = subprocess.run([os.path.join(TOOLS, name), *words], capture_output=True, text=True, check=False,
+                              env={**os.environ, "PYTHONPATH": self.folder, **environment})
+        return done.returncode, done.stdout, done.stderr
+
+    def test_words_are_answered(self):
+        """`--help` and `--version` always answer, and wrong words are refused as ever."""
+        for name in COMMANDS.values():
+            for word, status in (("--help", 0), ("--version", 0), ("--no-such-word", 2)):
+                answered, stdout, stderr = self.run_without(name, word)
+                self.assertEqual((answered, stdout != "", stderr != ""), (status, status == 0, status == 2),
+                                 f"{name} {word}: {stderr}")
+
+    def test_package_is_named(self):
+        """Without any of these, a tool ends with the name of Debian's package, and of no file of a checkout."""
+        folder = CASES["probe_is_answered"]
+        run = [os.path.join(folder, "input"), os.path.join(folder, "stdout")]
+        for name, words, package in (("capture-from-report", run[1:], "python3-scapy"),
+                                     ("capture-from-run", [*run, "--out", self.folder], "python3-scapy"),
+                                     ("trace-from-capture", [run[0]], "python3-scapy"),
+                                     ("picture", run, "python3-pil")):
+            self.assertEqual(self.run_without(name, *words),
+                             (1, "", f"{package} is missing: `sudo apt install {package}` installs it\n"), name)
+
+    def test_converter_is_named(self):
+        """The same of a command, where none of it is on the path."""
+        folder = CASES["probe_is_answered"]
+        status, _, stderr = self.run_without("picture", os.path.join(folder, "input"), os.path.join(folder, "stdout"),
+                                             "--out", self.path("a.png"), PYTHONPATH="", PATH=self.folder)
+        self.assertEqual((status, stderr), (1, "picture: rsvg-convert is missing: `sudo apt install librsvg2-bin` "
+                                               "installs it\n"))
+
+
 @unittest.skipUnless(shutil.which("man"), "man isn't there")
 class Pages(ToolTest):
     """The pages of man."""
 
+    def page(self, path):
+        """A page as text, and what `man` warns of."""
+        return subprocess.run(["man", "--warnings", "-l", path], capture_output=True, text=True, check=False,
+                              env={**os.environ, "LC_ALL": "C.UTF-8", "MANPAGER": "cat", "MANWIDTH": "200"})
+
+    def test_each_option_is_named(self):
+        """Each option of a tool stands in its page, and in no page one that it doesn't have; completion has the same."""
+        completions = {}
+        for name in ("waltigon.bash", "_waltigon"):
+            with open(os.path.join(ROOT, "share", "completions", name), encoding="utf-8") as file:
+                completions[name] = file.read()
+        for command, name in COMMANDS.items():
+            helped = subprocess.run([os.path.join(TOOLS, name), "--help"], capture_output=True, text=True, check=True)
+            options = set(OPTION.findall(helped.stdout))
+            page = os.path.join(ROOT, "share", "man", f"man{8 if name == 'live' else 1}", f"{command}.*")
+            named = self.page(glob.glob(page)[0]).stdout.partition("\nOPTIONS\n")[2].partition("\nEXIT STATUS\n")[0]
+            self.assertEqual(set(OPTION.findall(named.partition("\nSIGNALS\n")[0])), options, command)
+            for shell, text in completions.items():
+                part = re.search(rf"^ *{command}\)(.*?);;$", text, re.S | re.M)[1]
+                self.assertEqual(set(OPTION.findall(part)) | {"--help", "--version"}, options, f"{shell}: {command}")
+
     def test_pages_have_no_warning(self):
         """`man` renders each page without a warning, with all sections that a page of its kind has."""
         pages = glob.glob(os.path.join(ROOT, "share", "man", "man*", "*"))
-        self.assertEqual(len(pages), 3)
+        self.assertEqual(len(pages), 9)
         for page in pages:
-            done = subprocess.run(["man", "--warnings", "-l", page], capture_output=True, text=True, check=False,
-                                  env={**os.environ, "LC_ALL": "C.UTF-8", "MANPAGER": "cat", "MANWIDTH": "80"})
+            done = self.page(page)
             self.assertEqual((done.returncode, done.stderr), (0, ""), page)
             for section in ("NAME", "DESCRIPTION", "EXAMPLES", "SEE ALSO"):
                 self.assertIn(f"\n{section}\n", done.stdout, page)
@@ -136,6 +258,33 @@ class Terminal:
         os.close(self.end)
 
 
+class CompletionOfTools(ToolTest):
+    """Completion of the tools' words in bash, as the function answers it that bash calls."""
+
+    def completed(self, *words):
+        """What is offered for the last word."""
+        script = 'cd "$1" && . "$2" && shift 2 && COMP_WORDS=("$@") && COMP_CWORD=$(($# - 1)) && _waltigon "$1" && ' \
+                 'printf "%s\\n" "${COMPREPLY[@]}"'
+        done = subprocess.run(["bash", "-c", script, "bash", self.folder,
+                               os.path.join(ROOT, "share", "completions", "waltigon.bash"), *words],
+                              capture_output=True, text=True, check=True)
+        return done.stdout.split()
+
+    def test_options_and_files_are_offered(self):
+        """Options where a word begins so, else files, and first the commands of tools that have some."""
+        for name in ("my.toml", "a.trace"):
+            with open(self.path(name), "w", encoding="ascii"):
+                pass
+        self.assertEqual(self.completed("waltigon-report-to-json", "--w"), ["--without-frames"])
+        self.assertEqual(self.completed("waltigon-explain", "--"), ["--program", "--said", "--help", "--version"])
+        self.assertEqual(sorted(self.completed("waltigon-picture", "")), ["a.trace", "my.toml"])
+        self.assertEqual(sorted(self.completed("waltigon-live", "")), ["a.trace", "kick", "my.toml", "status"])
+        self.assertEqual(self.completed("waltigon-live", "ki"), ["kick"])
+        self.assertEqual(sorted(self.completed("waltigon-explain", "my.toml", "")), ["a.trace", "my.toml"])
+        self.assertEqual(self.completed("waltigon-trace-from-capture", "--fcs", "a"), ["auto"])
+        self.assertEqual(self.completed("waltigon-picture", "--from", ""), [])
+
+
 @unittest.skipUnless(shutil.which("zsh"), "zsh isn't there: apt-get install zsh")
 class Completion(ToolTest):
     """Completion in a real zsh."""
@@ -164,6 +313,17 @@ class Completion(ToolTest):
         self.assertNotIn("trace", self.completed("apctl live --octets ", "my.toml", "other.toml"))
         for typed in ("check my.toml ", "live my.toml ", "run my.toml a.trace "):
             self.assertNotIn("b.trace", self.completed(f"apctl {typed}", BELL), typed)
+
+    def test_words_of_tools_are_offered(self):
+        """Options of each tool, and files and commands where there may be some."""
+        for name in ("my.toml", "a.trace"):
+            with open(self.path(name), "w", encoding="ascii"):
+                pass
+        self.completed("waltigon-report-to-json --w", "waltigon-report-to-json --without-frames")
+        self.completed("waltigon-live ", "kick", "status", "my.toml")
+        self.completed("waltigon-explain ", "check", "run", "play", "live", "my.toml", "a.trace")
+        self.completed("waltigon-trace-from-capture --fcs ", "auto", "yes", "no")
+        self.completed("waltigon-picture --", "--station", "--stations", "at most so many of a network")
 
 
 class Sample(ToolTest):

@@ -775,13 +775,16 @@ class Running(WithFiles):
         bridge.end()
 
     def test_bridge_that_is_not_there(self):
-        """It is told how it is built, and which packages that takes."""
+        """It is told how it is built, which packages that takes, and where to build it for an installation."""
         missing = os.path.join(self.folder, "missing")
         with mock.patch.object(checks.shutil, "which", lambda command: None):
             with self.assertRaisesRegex(Fault, "install Debian's packages cargo librust-hex-dev.*`make bridge` builds"):
                 check_bridge(missing)
         with mock.patch.object(checks.shutil, "which", lambda command: command):
             with self.assertRaisesRegex(Fault, "missing isn't there: `make bridge` builds it"):
+                check_bridge(missing)
+        with mock.patch.object(checks, "MAKEFILE", missing):
+            with self.assertRaisesRegex(Fault, "missing isn't there: in a checkout of the source `make bridge` builds"):
                 check_bridge(missing)
         check_bridge(self.write("there", "", 0o755))
 

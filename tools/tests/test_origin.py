@@ -8,110 +8,9 @@ import subprocess
 import time
 import unittest
 
-from common import PROGRAM, ROOT, ToolTest
+from common import PROGRAM, ROOT
+from small import SECONDS, TOOLCHAIN, SmallRepository
 from version import VERSION
-
-SECONDS = 60
-TOOLCHAIN = "rattle-kit-test logic 0"
-COPIED = (".ci", "share", "tools/lib", "tools/systemd", "docs", "README.md", "CHANGELOG.md", "HANDLES")
-# It fails where a file `fails` is there, and waits where a file `waits` is; the program that it builds has the text of
-# the crate's source.
-RT = f"""#!/bin/bash
-case $1 in
-version) echo '{TOOLCHAIN}' ;;
-lib | check)
-    [ ! -e "$STATES/fails" ] || {{ echo 'not proved: a goal'; exit 1; }}
-    [ ! -e "$STATES/waits" ] || {{ : >"$STATES/waiting"; sleep {SECONDS}; }}
-    mkdir -p out/rlib
-    ;;
-run) mkdir -p out && cp src/main.rt out/apctl && chmod +x out/apctl ;;
-ci)
-    [ -e "$STATES/fails" ] || {{ cd crates/apctl && mkdir -p out && cp src/main.rt out/apctl; }}
-    echo '1 passed, 0 failed'
-    ;;
-esac
-"""
-
-
-class SmallRepository(ToolTest):
-    """A repository of two crates, with the scripts of this one."""
-
-    def setUp(self):
-        super().setUp()
-        self.top = self.path("small")
-        self.states = self.path("states")
-        os.makedirs(self.states)
-        for name in COPIED:
-            source, target = os.path.join(ROOT, name), os.path.join(self.top, name)
-            if os.path.isdir(source):
-                shutil.copytree(source, target, ignore=shutil.ignore_patterns("__pycache__"))
-            else:
-                shutil.copy(source, target)
-        for path in glob.glob(os.path.join(ROOT, "tools", "*")):
-            if os.path.isfile(path):
-                shutil.copy(path, os.path.join(self.top, "tools"))
-        self.write("crates.txt", "low:\napctl: low\nother:\n")
-        self.write(".gitignore", "out/\nbuild/\n")
-        for name in ("low/src/lib.rt", "other/src/lib.rt"):
-            self.write(f"crates/{name}", "one\n")
-        self.write("crates/apctl/src/main.rt", "#!/bin/bash\necho first\n")
-        self.write("crates/apctl/stdin", "")
-        self.write("bin/rt", RT)
-        os.chmod(self.path_of("bin/rt"), 0o755)
-        self.git("init", "-q")
-        self.commit()
-
-    def path_of(self, name):
-        """A file of the small repository."""
-        return os.path.join(self.top, name)
-
-    def write(self, name, text):
-        """Writes one."""
-        os.makedirs(os.path.dirname(self.path_of(name)), exist_ok=True)
-        with open(self.path_of(name), "w", encoding="utf-8") as file:
-            file.write(text)
-
-    def state(self, name, holds):
-        """Has `rt` do something else from now on, or no more."""
-        path = os.path.join(self.states, name)
-        if holds:
-            with open(path, "w", encoding="ascii"):
-                pass
-        elif os.path.exists(path):
-            os.remove(path)
-
-    def git(self, *words):
-        """What git says."""
-        words = ["git", "-c", "user.name=test", "-c", "user.email=", *words]
-        return subprocess.run(words, cwd=self.top, capture_output=True, text=True, check=True).stdout.strip()
-
-    def commit(self):
-        """Makes a commit of all, and answers its name."""
-        self.git("add", "-A")
-        self.git("commit", "-q", "-m", "one")
-        return self.git("rev-parse", "HEAD")
-
-    def environment(self):
-        """With the script for `rt`."""
-        return {**os.environ, "PATH": f"{self.path_of('bin')}:{os.environ['PATH']}", "STATES": self.states,
-                "TMPDIR": self.folder}
-
-    def run_there(self, *words):
-        """A script's status, and what it says."""
-        done = subprocess.run([self.path_of(words[0]), *words[1:]], capture_output=True, text=True, check=False,
-                              cwd=self.top, env=self.environment())
-        return done.returncode, done.stdout + done.stderr
-
-    def built(self):
-        """What the program that stands built says, or None where none does."""
-        if not os.path.exists(self.path_of("build/apctl")):
-            return None
-        return subprocess.run([self.path_of("build/apctl")], capture_output=True, text=True, check=True).stdout.strip()
-
-    def build(self):
-        """Builds it, which has to go well."""
-        status, said = self.run_there(".ci/build")
-        self.assertEqual(status, 0, said)
 
 
 class Origin(SmallRepository):
@@ -238,16 +137,6 @@ class EarlierProgram(SmallRepository):
 
 class Installed(SmallRepository):
     """What an installation tells."""
-
-    def install(self):
-        """Installs below a prefix of its own: what is said."""
-        status, said = self.run_there("share/install", self.path("usr"))
-        self.assertEqual(status, 0, said)
-        return said
-
-    def installed(self, name, *words):
-        """What an installed command says."""
-        return subprocess.run([self.path(f"usr/{name}"), *words], capture_output=True, text=True, check=True).stdout
 
     def test_installed_tools_tell(self):
         """Each tool tells the commits of the program and of the tools, and the page of the program tells them too."""

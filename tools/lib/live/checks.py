@@ -23,6 +23,8 @@ MOST_NAME = 15
 COUNTRY_SECONDS = 3.0
 LOCAL = "127.0.0.1"
 WRONG_WORDS = 2
+# Of a checkout of the source; an installation has none.
+MAKEFILE = os.path.join(os.path.dirname(os.path.realpath(__file__)), "..", "..", "..", "Makefile")
 CARGO, PACKAGES = "/usr/bin/cargo", "cargo librust-hex-dev librust-libc-dev librust-nix-dev"
 
 
@@ -104,6 +106,9 @@ def check_bridge(bridge: str) -> None:
     """The bridge has to be built, which takes packages of Debian."""
     if os.access(bridge, os.X_OK):
         return
+    if not os.path.exists(MAKEFILE):
+        raise Fault(f"{bridge} isn't there: in a checkout of the source `make bridge` builds it, and then "
+                    "`make install` installs it")
     if shutil.which(CARGO) is None:
         raise Fault(f"the bridge isn't built: install Debian's packages {PACKAGES}, and then `make bridge` builds it")
     raise Fault(f"{bridge} isn't there: `make bridge` builds it")

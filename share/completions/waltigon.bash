@@ -1,0 +1,36 @@
+# shellcheck shell=bash
+# Completion of the words of the tools, each waltigon-NAME, for bash: options, and then files.
+_waltigon() {
+    local word=${COMP_WORDS[COMP_CWORD]} before=${COMP_WORDS[COMP_CWORD - 1]} options='' offered=''
+    case ${1##*/} in
+    waltigon-capture-from-report) options='--network --out' ;;
+    waltigon-capture-from-run) options='--clutter --out' ;;
+    waltigon-explain) options='--program --said' offered='check run play live' ;;
+    waltigon-live)
+        options='--phy --wire --wires --monitor --country --idle --program --bridge --record --tables --status'
+        offered='kick status'
+        ;;
+    waltigon-picture) options='--out --from --to --station --network --stations' ;;
+    waltigon-report-to-json) options='--without-frames' ;;
+    waltigon-trace-from-capture)
+        options='--wire --config --networks-of --network --channel --beacons-of --every --heard-only --fcs'
+        ;;
+    esac
+    COMPREPLY=()
+    case $before in
+    --fcs) mapfile -t COMPREPLY < <(compgen -W 'auto yes no' -- "$word") ;;
+    --phy) mapfile -t COMPREPLY < <(compgen -W "$(ls /sys/class/ieee80211 2>/dev/null)" -- "$word") ;;
+    --network | --beacons-of | --station | --stations | --from | --to | --channel | --every | --said | --wire | \
+        --monitor | --country | --idle | --tables | --status) ;;
+    *)
+        if [[ $word == -* ]]; then
+            mapfile -t COMPREPLY < <(compgen -W "$options --help --version" -- "$word")
+        else
+            [ "$COMP_CWORD" = 1 ] || offered=''
+            mapfile -t COMPREPLY < <(compgen -W "$offered" -- "$word"; compgen -f -- "$word")
+        fi
+        ;;
+    esac
+}
+complete -o filenames -F _waltigon waltigon-capture-from-report waltigon-capture-from-run waltigon-explain \
+    waltigon-live waltigon-picture waltigon-report-to-json waltigon-trace-from-capture
