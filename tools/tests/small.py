@@ -9,7 +9,8 @@ from common import ROOT, ToolTest
 
 SECONDS = 60
 TOOLCHAIN = "rattle-kit-test logic 0"
-COPIED = (".ci", "share", "tools/lib", "tools/systemd", "docs", "README.md", "CHANGELOG.md", "HANDLES")
+COPIED = (".ci", "share", "tools/lib", "tools/systemd", "docs", "tests/check", "tests/cases", "README.md",
+          "CHANGELOG.md", "HANDLES")
 # It fails where a file `fails` is there, and waits where a file `waits` is; the program that it builds has the text of
 # the crate's source.
 RT = f"""#!/bin/bash
@@ -39,6 +40,7 @@ class SmallRepository(ToolTest):
         os.makedirs(self.states)
         for name in COPIED:
             source, target = os.path.join(ROOT, name), os.path.join(self.top, name)
+            os.makedirs(os.path.dirname(target), exist_ok=True)
             if os.path.isdir(source):
                 shutil.copytree(source, target, ignore=shutil.ignore_patterns("__pycache__"))
             else:
