@@ -3,7 +3,7 @@
 # and the gate need python3 too. What stands after `##` is what `make help` says of a target.
 
 TARGETS = help run try try-check test wrong refused bench bench-limits stress fuzz apctl bridge documents library \
-    test-tools test-live picture captures install uninstall
+    test-tools test-live picture captures install uninstall deb
 .PHONY: $(TARGETS)
 
 # A file's name among the targets would do nothing, or end in a message after all else was made.
@@ -110,15 +110,17 @@ bridge: ## builds the bridge of tools/live, by Debian's cargo
 	@tools/bridge/build
 
 # Tests tools/live beside the gate: first the parts of its bridge and its own, then, in a guest, unmodified Linux
-# stations that join the networks of the built program, the same as a service of systemd, and at last on an air that
-# loses frames, with hostapd beside it. Takes root and Debian's packages debootstrap, e2fsprogs, qemu-system-x86 and python3, and those of `make
-# bridge`. Each run in the guest ends with 'N passed, M failed'.
+# stations that join the networks of the built program, the same as a service of systemd and from the package of `make
+# deb`, and at last on an air that loses frames, with hostapd beside it. Takes root and Debian's packages debootstrap,
+# e2fsprogs, qemu-system-x86 and python3, and those of `make deb`. Each run in the guest ends with 'N passed, M failed'.
 test-live: apctl ## tests the bridge with real stations in a guest; takes root
 	@tools/bridge/build test
 	@tools/guest/air/build test
 	@tools/test live
 	@tools/test-live
 	@tools/test-live service
+	@share/deb
+	@tools/test-live package
 	@tools/test-live air
 
 # Draws the example of three networks, the picture of README.md, and those of docs/EXAMPLES.md.
@@ -144,3 +146,8 @@ install: ## installs build/apctl, man pages and tools below PREFIX=/usr/local
 
 uninstall: ## takes away what was installed below PREFIX
 	@DESTDIR="$(DESTDIR)" share/install --uninstall "$(PREFIX)"
+
+# Packs the program that stands built, with the bridge, as build/waltigon_VERSION_amd64.deb. Takes Debian's packages
+# debhelper and lintian, and those of `make bridge`, and installs those that are missing. It proves nothing.
+deb: bridge ## packs build/apctl, bridge and tools as a package for Debian
+	@share/deb

@@ -79,6 +79,7 @@ class EarlierProgram(SmallRepository):
         self.assertEqual(self.built(), "first")
         self.assertEqual(self.run_there(".ci/origin", "check"), (1, f"{earlier}\n"))
         self.assertIn(earlier, self.run_there("tools/live", "--version")[1])
+        self.assertIn(earlier, self.run_there("tests/check", "build/apctl")[1])
         self.state("fails", False)
         self.build()
         self.assertEqual(self.run_there(".ci/origin", "check"), (0, ""))
@@ -165,6 +166,26 @@ class Installed(SmallRepository):
         os.remove(self.path_of("build/apctl.origin"))
         self.assertIn("warning: build/apctl is of unknown sources", self.install())
         self.assertIn("of which commit it is isn't known", self.installed("sbin/waltigon-live", "--version"))
+
+
+class Packed(SmallRepository):
+    """What share/deb packs of; what it packs is tried in the guest of `make test-live`."""
+
+    def refused(self, says):
+        """It says this, and nothing is packed."""
+        status, said = self.run_there("share/deb")
+        self.assertEqual((status, "share/deb: " in said, says in said), (1, True, True), said)
+        self.assertEqual(glob.glob(self.path_of("build/*.deb")), [])
+
+    def test_what_was_not_built_is_not_packed(self):
+        """A program, one of which is told of what it was built, and a bridge."""
+        self.refused("build/apctl is not there")
+        self.build()
+        self.refused("no bridge is built")
+        self.write("build/apctl", "#!/bin/bash\necho other\n")
+        self.refused("does not tell of what build/apctl was built")
+        os.remove(self.path_of("build/apctl.origin"))
+        self.refused("does not tell of what build/apctl was built")
 
 
 class EveryTool(unittest.TestCase):

@@ -1,0 +1,101 @@
+"""What the cases of an access point that is a service share: the station and the host beside it, how a case is tried and
+told, and what systemd and its journal know of the service."""
+import argparse
+import json
+import os
+import time
+import traceback
+
+from stage import processes_of
+from stations import Failed, Host, Station, load_radios, run, unload_radios
+
+FREQUENCY = 2437
+SETTINGS = "/etc/waltigon"
+
+
+class ServiceCases:
+    """The stage of these cases, and how many of them passed; each word chooses those whose name has it."""
+
+    def __init__(self, words: list[str]) -> None:
+        self.words = words
+        self.passed = self.failed = 0
+
+    def make_stage(self) -> str:
+        """Makes a station and a host: the name of the access point's radio."""
+        radios = load_radios(2)
+        run("iw", "dev", radios[0].interface, "del")
+        self.unit = f"waltigon@{radios[0].phy}.service"
+        self.host = Host("host1", "eth0", "10.0.1.1", "wire1")
+        self.station = Station("sta1", radios[1].interface, "10.0.1.2", radios[1].phy, FREQUENCY)
+        for part in (self.host, self.station):
+            part.create()
+        return radios[0].phy
+
+    def write(self, path: str, text: str) -> None:
+        """Writes a file."""
+        with open(path, "w", encoding="utf-8") as file:
+            file.write(text)
+
+    def take_down(self) -> None:
+        """Takes station, host and radios away."""
+        for part in (self.host, self.station):
+            part.delete()
+        unload_radios()
+
+    def case(self, name: str, call) -> None:
+        """Tries one case, and tells of it."""
+        if self.words and not any(word in name for word in self.words):
+            return
+        begun = time.monotonic()
+        try:
+            told = call()
+            self.passed += 1
+            print(f"passed: {name}{f': {told}' if told else ''} ({time.monotonic() - begun:.0f} s)", flush=True)
+        except Exception as fault:
+            self.failed += 1
+            print(f"FAILED: {name}: {fault} ({time.monotonic() - begun:.0f} s)", flush=True)
+            print(run("journalctl", "-u", self.unit, "-n", "12", "--no-pager", "-o", "short-monotonic"), flush=True)
+            if not isinstance(fault, Failed):
+                traceback.print_exc()
+
+    def property(self, name: str) -> str:
+        """What systemd knows of the service."""
+        return run("systemctl", "show", "-P", name, self.unit).strip()
+
+    def answers(self) -> bool:
+        """Whether a ping comes back."""
+        return self.station.ping(self.host.address, 1, more=("-W", "1")).result()[1] == 1
+
+    def lines(self, text: str) -> int:
+        """How many lines of the journal have this."""
+        return sum(text in entry["MESSAGE"] for entry in self.entries())
+
+    def entries(self) -> list[dict]:
+        """The service's lines in the journal."""
+        lines = run("journalctl", "-u", self.unit, "-o", "json", "--no-pager").splitlines()
+        return [entry for entry in map(json.loads, lines) if isinstance(entry.get("MESSAGE"), str)]
+
+
+def the_one(executable: str) -> int:
+    """The process that runs this file."""
+    found = processes_of(executable)
+    if len(found) != 1:
+        raise Failed(f"{executable} runs {len(found)} times")
+    return found[0]
+
+
+def main_of(kind, description: str) -> int:
+    """Runs the cases that the words choose, and answers 1 where one failed."""
+    parser = argparse.ArgumentParser(description=description, formatter_class=argparse.RawDescriptionHelpFormatter)
+    parser.add_argument("words", metavar="WORD", nargs="*")
+    asked = parser.parse_args()
+    if "WORDS_ALONE" in os.environ:
+        return 0
+    cases = kind(asked.words)
+    cases.set_up()
+    cases.run()
+    cases.write("/outcome/journal", run("journalctl", "-u", cases.unit, "--no-pager", "-o", "short-monotonic"))
+    cases.take_down()
+    print(f"{os.uname().release}, {time.monotonic():.0f} seconds since the guest's start", flush=True)
+    print(f"{cases.passed} passed, {cases.failed} failed")
+    return 1 if cases.failed or not cases.passed else 0
