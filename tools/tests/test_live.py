@@ -685,7 +685,7 @@ class Running(WithFiles):
         self.run_bridge(later)
         self.assertRegex(self.read("words"),
                          "^--face octets --phy phy0 --channel 6 --monitor mon0 --interval 100 --idle 300 --socket [0-9]+ "
-                         f"--record a.trace --network 02:00:00:00:01:01/82840b16/wire1 apctl {self.config}\n$")
+                         f"--record a.trace --network 02:00:00:00:01:01/82840b16/16/wire1 apctl {self.config}\n$")
         self.assertEqual(self.read("asked"), "open\ntables\n")
         self.assertRegex(self.told.getvalue(), "^live: 1 networks are on channel 6; Ctrl-C ends it, .*\nlive: the program "
                                                "ended with status 0; taking down what was set up\n$")

@@ -19,6 +19,7 @@ use crate::program::{Feeder, Program};
 use crate::radiotap::reception;
 use crate::receiving::{judge_wired, Air, Judged, LeftOut};
 use crate::sending::{Network, Sender};
+use crate::silence;
 use crate::sockets::{Batch, Packet, Port, AT_A_TIME};
 use crate::status::{error, Faults, Named, Status};
 use crate::tables::{Asker, Tables};
@@ -39,6 +40,11 @@ const AIR: Source = 0;
 const BEACON: u8 = 0x80;
 /// So long before a beacon interval begins frames gather no more: a sleep may end some 50 µs late.
 const BEFORE_TICK: Nanos = MILLISECOND / 5;
+/// So long before a beacon interval begins stations are asked no more whether they are there: those that are asked at a
+/// time are on the air for 16 ms where nobody acknowledges. Where intervals are short it is half of one.
+const BEFORE_BEACON: Nanos = 20 * MILLISECOND;
+/// How long stations aren't asked for want of a beacon that is due.
+const TO_ALL_BEACONS: Nanos = 50 * MILLISECOND;
 /// How often `tools/live` is told at most that the program answers.
 const ALIVE_EVERY: Nanos = SECOND;
 
@@ -90,8 +96,12 @@ struct Running<P> {
     operating: Operating,
     tables: Tables,
     ticks: Ticks,
-    /// Whether a beacon came since the last beginning of an interval was said.
+    /// When the last beginning of an interval was said, whether a beacon came since, and of how many networks none did.
+    said_tick: Nanos,
     is_answered: bool,
+    beacons_awaited: usize,
+    /// When stations are looked at next that are silent.
+    look_due: Nanos,
     beacons: Lateness,
     /// Until when the first beacon has to be seen as sent, while none was.
     beacon_due: Option<Nanos>,
@@ -213,9 +223,17 @@ impl<P: Port, C: io::Read + std::os::unix::io::AsRawFd> Bridge<P, C> {
         self.take_time()?;
         self.tell_alive();
         self.answer_clients()?;
+        self.look();
         self.feed()?;
         self.send()?;
         self.take_acknowledged()
+    }
+
+    /// Looks at stations that are silent, where it is time.
+    fn look(&mut self) {
+        if let (Phase::Running, Some(running)) = (self.phase, &mut self.running) {
+            running.look(self.time);
+        }
     }
 
     /// Lets frames gather where many come, but never where a beacon is awaited.
@@ -246,7 +264,8 @@ impl<P: Port, C: io::Read + std::os::unix::io::AsRawFd> Bridge<P, C> {
                 let is_late = running.ticks.due() <= self.time;
                 let tick = if is_late { self.time + MILLISECOND } else { running.ticks.due() };
                 let alive = (self.manner.tells_alive && running.is_answered).then_some(self.alive_told + ALIVE_EVERY);
-                [running.beacon_due, running.sender.due(), alive].into_iter().flatten().fold(tick, Nanos::min)
+                let look = Some(running.next_look().max(self.time)).filter(|look| running.is_before_beacon(*look));
+                [running.beacon_due, running.sender.due(), alive, look].into_iter().flatten().fold(tick, Nanos::min)
             }
             _ => Nanos::MAX,
         }
@@ -347,7 +366,7 @@ impl<P: Port, C: io::Read + std::os::unix::io::AsRawFd> Bridge<P, C> {
                 let is_beacon = octets.first() == Some(&BEACON);
                 running.send_on_air(bssid, octets, time)?;
                 if is_beacon {
-                    running.is_answered = true;
+                    running.take_beacon();
                     self.tell_of_dismissal();
                 }
             }
@@ -496,6 +515,8 @@ impl<P: Port, C: io::Read + std::os::unix::io::AsRawFd> Bridge<P, C> {
                     self.feeder.say(Event::Tick)?;
                     self.feeder.flush_record()?;
                     running.is_answered = false;
+                    running.said_tick = time;
+                    running.beacons_awaited = running.networks.len();
                     running.given.ticks += 1;
                     running.receive(Token::Acknowledged, &mut self.batch, time)?;
                 }
@@ -611,18 +632,20 @@ impl<P: Port, C: io::Read + std::os::unix::io::AsRawFd> Bridge<P, C> {
 impl<P: Port> Running<P> {
     fn new(sender: Sender<P>, networks: Vec<Network>, manner: &Manner) -> Running<P> {
         let start = now();
-        let bssids = || networks.iter().map(|network| network.bssid);
         Running {
             sender,
-            air: Air::new(bssids()),
+            air: Air::new(networks.iter().map(|network| network.bssid)),
             waiting: Waiting::new(1 + networks.len()),
             gathering: Gathering::default(),
-            operating: Operating::new(bssids().collect(), manner.most_silence),
+            operating: Operating::new(&networks, manner.most_silence),
             tables: Tables::new(networks.len()),
             read_in: vec![0; 1 + networks.len()],
             networks,
             ticks: Ticks::new(start, manner.interval),
+            said_tick: start,
             is_answered: false,
+            beacons_awaited: 0,
+            look_due: start,
             beacons: Lateness::default(),
             beacon_due: Some(start + TO_BEACON),
             given: Given::default(),
@@ -643,6 +666,37 @@ impl<P: Port> Running<P> {
         self.sender.send_on_air(bssid, octets, time)?;
         self.run(errands, time);
         Ok(())
+    }
+
+    /// A beacon came of the program. Behind the last one that is due stations are looked at that are silent.
+    fn take_beacon(&mut self) {
+        self.is_answered = true;
+        self.beacons_awaited = self.beacons_awaited.saturating_sub(1);
+        if self.beacons_awaited == 0 {
+            self.look_due = 0;
+        }
+    }
+
+    /// When stations are looked at next that are silent, if it isn't soon before a beacon then.
+    fn next_look(&self) -> Nanos {
+        match self.beacons_awaited {
+            0 => self.look_due,
+            _ => self.look_due.max(self.said_tick + TO_ALL_BEACONS),
+        }
+    }
+
+    /// Whether at this time no beacon is due, nor soon after.
+    fn is_before_beacon(&self, time: Nanos) -> bool {
+        time + BEFORE_BEACON.min(self.ticks.length() / 2) <= self.ticks.due()
+    }
+
+    /// Does what is to be done of stations that are silent, where it is time.
+    fn look(&mut self, time: Nanos) {
+        if time >= self.next_look() && self.is_before_beacon(time) {
+            self.look_due = time + silence::EVERY;
+            let errands = self.operating.look(time);
+            self.run(errands, time);
+        }
     }
 
     /// Sends and says what the bridge has to by itself.
@@ -967,7 +1021,7 @@ mod tests {
     use crate::own_frames::{deauthentication, departure, INACTIVITY};
     use crate::program::Record;
     use crate::radiotap::sending_header;
-    use crate::samples::{data, radiotap, Unit, OURS, STATION};
+    use crate::samples::{data, network, radiotap, Unit, OURS, STATION};
     use libc::sock_filter;
     use std::fs::{self, Permissions};
     use std::io::{BufRead, BufReader, Write};
@@ -1139,7 +1193,7 @@ done
         monitor: FakePort,
         wire: FakePort,
     ) -> Result<(), Fault> {
-        let networks = vec![Network { bssid: OURS, rates: vec![0x82], wire: Some("wire1".into()) }];
+        let networks = vec![Network { wire: Some("wire1".into()), ..network(OURS) }];
         let (program, feeder) = Program::start(path, "radio.toml", face, Some(record))?;
         let manner = Manner {
             phy: "phy0".into(),

@@ -6,7 +6,7 @@ use crate::frames::{is_tagged, Address, Frame, MOST};
 use crate::operating::{Errand, Operating};
 use crate::radiotap::{captured, reception, Outcome};
 use crate::receiving::{judge_wired, Air, Judged};
-use crate::samples::{data, radiotap, Seeded, Unit, OTHER, OURS, STATION};
+use crate::samples::{data, network, radiotap, Seeded, Unit, OTHER, OURS, STATION};
 use crate::sending::Network;
 use crate::stations::{Stations, MOST_WAIT};
 
@@ -158,7 +158,7 @@ fn the_way_to_stations() {
         Unit { control: [0x10, 0], receiver: STATION, transmitter: OURS, body: vec![0; 6], ..Unit::default() }.octets(),
         Unit { receiver: STATION, transmitter: OURS, ..Unit::default() }.octets(),
     ];
-    let networks = [Network { bssid: OURS, rates: vec![0x82, 0x84, 12, 108], wire: None }];
+    let networks = [Network { rates: vec![0x82, 0x84, 12, 108], ..network(OURS) }];
     let (mut seeded, mut stations, mut time) = (Seeded(5), Stations::new(&networks), 0);
     let (mut sent, mut ready, mut again) = (0u64, 0, 0);
     for _ in 0..INPUTS / 2 {
@@ -212,7 +212,8 @@ fn what_the_bridge_does_by_itself() {
         Unit { control: [0, 0], body: vec![1, 0, 5, 0], ..Unit::default() }.octets(),
     ];
     let (mut seeded, mut time) = (Seeded(6), 0);
-    let mut operating = Operating::quiet(vec![OTHER, OURS], Some(1 << 30));
+    let networks = [network(OTHER), Network { max_known: 2, ..network(OURS) }];
+    let mut operating = Operating::quiet(&networks, Some(1 << 30));
     let (mut sent, mut said) = (0u32, 0u32);
     for _ in 0..INPUTS / 2 {
         let octets = mutated(&mut seeded, &good);
@@ -225,7 +226,8 @@ fn what_the_bridge_does_by_itself() {
                 operating.shown(&octets, Outcome { is_acknowledged, retries: 0, rate: None }, time);
             }
             _ => {
-                for errand in operating.answered(OURS, &octets, time) {
+                let answered = operating.answered(OURS, &octets, time);
+                for errand in answered.into_iter().chain(operating.look(time)) {
                     match errand {
                         Errand::Send { place, frame, .. } => {
                             sent += 1;

@@ -8,6 +8,7 @@ use crate::own_frames::{
 };
 use crate::radiotap::{Outcome, Reception};
 use crate::roster::{Forgotten, Member, News, Roster, State};
+use crate::sending::Network;
 use crate::silence::{Silence, Step};
 use crate::time::{Nanos, SECOND};
 
@@ -33,18 +34,22 @@ pub struct Operating {
     log: Bounded,
     /// Of each network the sequence number of its last frame.
     numbers: Vec<u16>,
+    /// Of each network whether its last beacon was one after which stations that doze listen, and is new.
+    listen: Vec<bool>,
     /// The networks whose stations have still to be told that they have to join again.
     to_dismiss: Vec<usize>,
 }
 
 impl Operating {
     /// Of these networks; who was silent for so long is asked, or nobody.
-    pub fn new(bssids: Vec<Address>, most_silence: Option<Nanos>) -> Operating {
+    pub fn new(networks: &[Network], most_silence: Option<Nanos>) -> Operating {
+        let bssids: Vec<Address> = networks.iter().map(|network| network.bssid).collect();
         Operating {
             roster: Roster::new(bssids.clone()),
-            silence: Silence::new(most_silence, bssids.len()),
+            silence: Silence::new(most_silence, networks.iter().map(|network| usize::from(network.max_known))),
             log: Bounded::default(),
             numbers: vec![0; bssids.len()],
+            listen: vec![false; bssids.len()],
             to_dismiss: Vec::new(),
             bssids,
         }
@@ -52,8 +57,8 @@ impl Operating {
 
     /// The same, and nothing is told of stations.
     #[cfg(test)]
-    pub fn quiet(bssids: Vec<Address>, most_silence: Option<Nanos>) -> Operating {
-        Operating { log: Bounded::quiet(), ..Operating::new(bssids, most_silence) }
+    pub fn quiet(networks: &[Network], most_silence: Option<Nanos>) -> Operating {
+        Operating { log: Bounded::quiet(), ..Operating::new(networks, most_silence) }
     }
 
     /// The stations.
@@ -87,13 +92,20 @@ impl Operating {
         if let Some(number) = Frame::of(octets).and_then(|frame| frame.sequence_control()) {
             self.numbers[place] = number >> 4;
         }
-        let mut errands = Vec::new();
-        if let Some(tim) = self.roster.answered(place, octets, now) {
-            for step in self.silence.behind_beacon(&mut self.roster, place, tim.dtim_count == 0, now) {
-                errands.extend(self.take_step(place, step));
-            }
-            errands.extend(self.dismiss_behind_beacon(place));
-        }
+        let tim = self.roster.answered(place, octets, now);
+        let errand = tim.and_then(|tim| {
+            self.listen[place] = tim.dtim_count == 0;
+            self.dismiss_behind_beacon(place)
+        });
+        self.tell(now);
+        errand.into_iter().collect()
+    }
+
+    /// What is to be done of stations that are silent, or don't associate, at a time at which no beacon is due.
+    pub fn look(&mut self, now: Nanos) -> Vec<Errand> {
+        let steps = self.silence.look(&mut self.roster, &self.listen, now);
+        self.listen.fill(false);
+        let errands = steps.into_iter().flat_map(|(place, step)| self.take_step(place, step, now)).collect();
         self.tell(now);
         errands
     }
@@ -103,7 +115,8 @@ impl Operating {
         let place = self.roster.place_of(&bssid).ok_or_else(|| format!("{bssid} is no network of these"))?;
         let known = self.roster.station(&(place, station)).filter(|station| !station.is_leaving);
         let state = known.ok_or_else(|| format!("{bssid} has no station {station}"))?.state;
-        let errands = self.forget((place, station), state, Forgotten::Kicked, WORD_RETRIES);
+        let errand = self.word((place, station), state, WORD_RETRIES);
+        let errands = vec![errand, self.forget((place, station), Forgotten::Kicked, now)];
         self.tell(now);
         Ok(errands)
     }
@@ -125,29 +138,35 @@ impl Operating {
         Some(Errand::Send { place, frame, retries: 0 })
     }
 
-    fn take_step(&mut self, place: usize, step: Step) -> Vec<Errand> {
+    fn take_step(&mut self, place: usize, step: Step, now: Nanos) -> Vec<Errand> {
         match step {
             Step::Ask(station) => {
                 let frame = null(self.bssids[place], station, self.number(place));
                 vec![Errand::Send { place, frame, retries: QUESTION_RETRIES }]
             }
-            Step::Forget(station, why) => match self.roster.station(&(place, station)).map(|station| station.state) {
-                Some(state) => self.forget((place, station), state, why, 0),
-                None => Vec::new(),
-            },
+            Step::Forget { station, why, tells } => {
+                let member = (place, station);
+                let state = self.roster.station(&member).map(|station| station.state).filter(|_| tells);
+                let word = state.map(|state| self.word(member, state, 0));
+                word.into_iter().chain([self.forget(member, why, now)]).collect()
+            }
         }
     }
 
-    /// A station is told that it is forgotten, and the program that it left.
-    fn forget(&mut self, member: Member, state: State, why: Forgotten, retries: u8) -> Vec<Errand> {
-        let (place, station) = member;
+    /// A station is told that it is forgotten.
+    fn word(&self, (place, station): Member, state: State, retries: u8) -> Errand {
         let (bssid, number) = (self.bssids[place], self.number(place));
-        self.roster.forget(member, why);
         let frame = match state {
             State::Associated(_) => disassociation(bssid, station, INACTIVITY, number),
             State::Authenticated => deauthentication(bssid, station, INACTIVITY, number),
         };
-        vec![Errand::Send { place, frame, retries }, Errand::Say(departure(bssid, station))]
+        Errand::Send { place, frame, retries }
+    }
+
+    /// A station is forgotten: the program is told that it left.
+    fn forget(&mut self, member: Member, why: Forgotten, now: Nanos) -> Errand {
+        self.roster.forget(member, why, now);
+        Errand::Say(departure(self.bssids[member.0], member.1))
     }
 
     fn number(&self, place: usize) -> u16 {
@@ -187,6 +206,14 @@ fn sentence(station: Address, bssid: Address, news: News) -> (Level, String) {
             let seconds = silence / SECOND;
             (Level::Info, format!("{station} was forgotten by {bssid}: silent for {seconds} seconds"))
         }
+        News::Forgotten(Forgotten::Unassociated(time)) => {
+            let seconds = time / SECOND;
+            let text = format!(
+                "{station} was forgotten by {bssid}, which is nearly full: authenticated for {seconds} seconds and not \
+                 associated"
+            );
+            (Level::Info, text)
+        }
         News::Forgotten(Forgotten::Kicked) => (Level::Info, format!("{station} was forgotten by {bssid}: kicked")),
     }
 }
@@ -194,7 +221,7 @@ fn sentence(station: Address, bssid: Address, news: News) -> (Level, String) {
 #[cfg(test)]
 mod tests {
     use super::*;
-    use crate::samples::{OTHER, OURS, STATION, STRANGER};
+    use crate::samples::{network, OTHER, OURS, STATION, STRANGER};
 
     /// A frame of a network, with a sequence number.
     fn of_network(control: u8, receiver: Address, number: u16, body: &[u8]) -> Vec<u8> {
@@ -208,39 +235,68 @@ mod tests {
 
     /// Our network with a station that is associated.
     fn joined() -> Operating {
-        let mut operating = Operating::new(vec![OTHER, OURS], Some(5 * SECOND));
+        let networks = [network(OTHER), Network { max_known: 2, ..network(OURS) }];
+        let mut operating = Operating::new(&networks, Some(5 * SECOND));
         operating.answered(OURS, &of_network(0xb0, STATION, 1, &[0, 0, 2, 0, 0, 0]), 0);
         operating.answered(OURS, &of_network(0x10, STATION, 2, &[1, 0, 0, 0, 1, 0xc0]), 0);
         operating
     }
 
+    /// What is done behind a beacon of our network.
+    fn behind_beacon(operating: &mut Operating, number: u16, now: Nanos) -> Vec<Errand> {
+        assert_eq!(operating.answered(OURS, &beacon(number), now), []);
+        operating.look(now)
+    }
+
     #[test]
     fn who_is_silent_is_asked_and_forgotten() {
         let mut operating = joined();
-        assert_eq!(operating.answered(OURS, &beacon(3), 4 * SECOND), []);
+        assert_eq!(behind_beacon(&mut operating, 3, 4 * SECOND), []);
         for number in 4..7 {
             let frame = null(OURS, STATION, number + 2048);
             let wanted = [Errand::Send { place: 1, frame, retries: 3 }];
-            assert_eq!(operating.answered(OURS, &beacon(number), Nanos::from(number + 1) * SECOND), wanted);
+            assert_eq!(behind_beacon(&mut operating, number, Nanos::from(number + 1) * SECOND), wanted);
         }
         let frame = disassociation(OURS, STATION, INACTIVITY, 2055);
         let wanted = [Errand::Send { place: 1, frame, retries: 0 }, Errand::Say(departure(OURS, STATION))];
-        assert_eq!(operating.answered(OURS, &beacon(7), 8 * SECOND), wanted);
+        assert_eq!(behind_beacon(&mut operating, 7, 8 * SECOND), wanted);
         operating.said(&departure(OURS, STATION), 8 * SECOND);
-        assert_eq!(operating.answered(OURS, &beacon(8), 30 * SECOND), []);
+        assert_eq!(behind_beacon(&mut operating, 8, 30 * SECOND), []);
         assert_eq!(operating.roster().station(&(1, STATION)), None);
     }
 
     #[test]
     fn who_acknowledges_stays() {
         let mut operating = joined();
-        assert_eq!(operating.answered(OURS, &beacon(3), 5 * SECOND).len(), 1);
+        assert_eq!(behind_beacon(&mut operating, 3, 5 * SECOND).len(), 1);
         let outcome = Outcome { is_acknowledged: true, retries: 2, rate: Some(2) };
         operating.shown(&null(OURS, STATION, 9), outcome, 5 * SECOND);
         for second in 6..10 {
-            assert_eq!(operating.answered(OURS, &beacon(4), second * SECOND), []);
+            assert_eq!(behind_beacon(&mut operating, 4, second * SECOND), []);
         }
         assert_eq!(operating.roster().station(&(1, STATION)).unwrap().to.rate, None);
+    }
+
+    #[test]
+    fn who_dozes_is_asked_behind_a_beacon_after_which_it_listens() {
+        let mut operating = joined();
+        let null = [&[0x48, 0x11, 0, 0][..], OURS.octets(), STATION.octets(), OURS.octets(), &[0, 0]].concat();
+        operating.said(&null, 0);
+        assert_eq!(operating.look(5 * SECOND), []);
+        let other = of_network(0x80, Address::BROADCAST, 3, &[&[0; 12][..], &[5, 4, 1, 2, 0, 0]].concat());
+        operating.answered(OURS, &other, 6 * SECOND);
+        assert_eq!(operating.look(6 * SECOND), []);
+        assert_eq!(behind_beacon(&mut operating, 4, 7 * SECOND).len(), 1);
+    }
+
+    #[test]
+    fn who_does_not_associate_is_given_up_where_its_network_is_nearly_full() {
+        let mut operating = joined();
+        operating.answered(OURS, &of_network(0xb0, STRANGER, 3, &[0, 0, 2, 0, 0, 0]), SECOND);
+        assert_eq!(behind_beacon(&mut operating, 4, 3 * SECOND), []);
+        let frame = deauthentication(OURS, STRANGER, INACTIVITY, 2053);
+        let wanted = [Errand::Send { place: 1, frame, retries: 0 }, Errand::Say(departure(OURS, STRANGER))];
+        assert_eq!(behind_beacon(&mut operating, 5, 4 * SECOND), wanted);
     }
 
     #[test]
@@ -286,6 +342,10 @@ mod tests {
             (
                 News::Forgotten(Forgotten::Silent(61 * SECOND)),
                 "was forgotten by 02:00:00:00:01:01: silent for 61 seconds",
+            ),
+            (
+                News::Forgotten(Forgotten::Unassociated(3 * SECOND)),
+                "was forgotten by 02:00:00:00:01:01, which is nearly full: authenticated for 3 seconds and not associated",
             ),
             (News::Forgotten(Forgotten::Kicked), "was forgotten by 02:00:00:00:01:01: kicked"),
         ] {

@@ -3,7 +3,7 @@
 //! A station is entered where the program answers its authentication with status 0, and taken out where its
 //! deauthentication is said to the program. So the roster holds every station that the program knows, and for a moment
 //! may hold one more: where an answer was on its way while the station left.
-use std::collections::{BTreeMap, HashMap};
+use std::collections::{BTreeMap, BTreeSet, HashMap};
 
 use crate::frames::{Address, Frame};
 use crate::hashing::AddressMap;
@@ -28,6 +28,8 @@ pub enum State {
 pub enum Forgotten {
     /// Nothing was heard of it for so long, and it didn't answer.
     Silent(Nanos),
+    /// It has been authenticated only for so long, and its network was nearly full.
+    Unassociated(Nanos),
     /// A person asked for it.
     Kicked,
 }
@@ -111,6 +113,8 @@ pub struct Roster {
     /// Of each network.
     stations: Vec<AddressMap<Station>>,
     associated: HashMap<(usize, u16), Address>,
+    /// Of each network those that are authenticated only, by since when they are.
+    unassociated: Vec<BTreeSet<(Nanos, Address)>>,
     /// Of each network, for how many beacons in a row units were told of, by the station's identifier.
     told_of: Vec<BTreeMap<u16, u32>>,
     refusals: Vec<BTreeMap<u16, u64>>,
@@ -127,6 +131,7 @@ impl Roster {
             places,
             stations: bssids.iter().map(|_| AddressMap::default()).collect(),
             associated: HashMap::new(),
+            unassociated: vec![BTreeSet::new(); bssids.len()],
             told_of: vec![BTreeMap::new(); bssids.len()],
             refusals: vec![BTreeMap::new(); bssids.len()],
             bssids,
@@ -222,8 +227,12 @@ impl Roster {
         None
     }
 
-    /// A station is to be forgotten: the program is about to be told that it left.
-    pub fn forget(&mut self, member: Member, why: Forgotten) {
+    /// A station is to be forgotten: the program is about to be told that it left. One that is authenticated only is so
+    /// from now on, should it stay all the same.
+    pub fn forget(&mut self, member: Member, why: Forgotten, now: Nanos) {
+        if self.station(&member).map(|station| station.state) == Some(State::Authenticated) {
+            self.set_state(member, State::Authenticated, now);
+        }
         if let Some(station) = self.stations[member.0].get_mut(&member.1) {
             if !station.is_leaving {
                 station.is_leaving = true;
@@ -271,6 +280,16 @@ impl Roster {
         found
     }
 
+    /// How many stations a network knows.
+    pub fn known(&self, place: usize) -> usize {
+        self.stations[place].len()
+    }
+
+    /// The stations of a network that are authenticated only, with since when they are: the earliest first.
+    pub fn unassociated(&self, place: usize) -> impl Iterator<Item = (Nanos, Address)> + '_ {
+        self.unassociated[place].iter().copied()
+    }
+
     /// How often a network refused, by status.
     pub fn refusals(&self, place: usize) -> &BTreeMap<u16, u64> {
         &self.refusals[place]
@@ -294,11 +313,12 @@ impl Roster {
         Some((self.place_of(&frame.transmitter()?)?, frame.receiver()))
     }
 
-    /// An unknown station is entered; one that is known is authenticated only.
+    /// An unknown station is entered; one that is known is authenticated only, and if it was so before, since then.
     fn authenticate(&mut self, member: Member, now: Nanos) {
-        if self.station(&member).is_some() {
-            self.set_state(member, State::Authenticated, now);
-            return;
+        match self.station(&member).map(|station| station.state) {
+            Some(State::Authenticated) => return,
+            Some(State::Associated(_)) => return self.set_state(member, State::Authenticated, now),
+            None => {}
         }
         self.turns += 1;
         let station = Station {
@@ -316,6 +336,7 @@ impl Roster {
             wanted_listen: 0,
         };
         self.stations[member.0].insert(member.1, station);
+        self.unassociated[member.0].insert((now, member.1));
         self.entered.push(member);
     }
 
@@ -338,28 +359,34 @@ impl Roster {
 
     /// Sets a known station's state: it is active, and its identifier is free or its own.
     fn set_state(&mut self, member: Member, state: State, now: Nanos) {
-        self.free_identifier(member);
+        self.leave_state(member);
         if let Some(station) = self.stations[member.0].get_mut(&member.1) {
             station.state = state;
             station.since = now;
             station.dozes = false;
-            if let State::Associated(aid) = state {
-                self.associated.insert((member.0, aid), member.1);
+            match state {
+                State::Associated(aid) => drop(self.associated.insert((member.0, aid), member.1)),
+                State::Authenticated => drop(self.unassociated[member.0].insert((now, member.1))),
             }
         }
     }
 
-    fn free_identifier(&mut self, member: Member) {
-        if let Some(State::Associated(aid)) = self.station(&member).map(|station| station.state) {
-            self.told_of[member.0].remove(&aid);
-            if self.associated.get(&(member.0, aid)) == Some(&member.1) {
-                self.associated.remove(&(member.0, aid));
+    /// A station has its state no more: its identifier is free, or it is authenticated only no more.
+    fn leave_state(&mut self, member: Member) {
+        match self.station(&member).map(|station| (station.state, station.since)) {
+            Some((State::Associated(aid), _)) => {
+                self.told_of[member.0].remove(&aid);
+                if self.associated.get(&(member.0, aid)) == Some(&member.1) {
+                    self.associated.remove(&(member.0, aid));
+                }
             }
+            Some((State::Authenticated, since)) => drop(self.unassociated[member.0].remove(&(since, member.1))),
+            None => {}
         }
     }
 
     fn take_out(&mut self, member: Member) {
-        self.free_identifier(member);
+        self.leave_state(member);
         self.stations[member.0].remove(&member.1);
     }
 
@@ -503,8 +530,8 @@ mod tests {
     #[test]
     fn who_is_forgotten_leaves_without_a_word() {
         let mut roster = joined();
-        roster.forget(FIRST, Forgotten::Kicked);
-        roster.forget(FIRST, Forgotten::Kicked);
+        roster.forget(FIRST, Forgotten::Kicked, SECOND);
+        roster.forget(FIRST, Forgotten::Kicked, SECOND);
         assert_eq!(roster.take_news(), [(FIRST, News::Forgotten(Forgotten::Kicked))]);
         assert!(roster.station(&FIRST).unwrap().is_leaving);
         roster.said(&departure(OURS, STATION), SECOND);

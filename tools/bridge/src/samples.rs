@@ -1,10 +1,16 @@
 //! Frames that several tests use.
 use crate::frames::Address;
+use crate::sending::Network;
 
 pub const OURS: Address = Address::of([2, 0, 0, 0, 1, 1]);
 pub const OTHER: Address = Address::of([2, 0, 0, 0, 1, 2]);
 pub const STATION: Address = Address::of([2, 0xaa, 0, 0, 0, 1]);
 pub const STRANGER: Address = Address::of([2, 0xbb, 0, 0, 0, 1]);
+
+/// A network of this address, without a wire.
+pub fn network(bssid: Address) -> Network {
+    Network { bssid, rates: vec![0x82], max_known: 100, wire: None }
+}
 
 /// A frame with a header of three addresses: of data from a station to one of our networks unless said otherwise.
 #[derive(Debug, Clone)]

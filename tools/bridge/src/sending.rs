@@ -21,6 +21,8 @@ pub struct Network {
     pub bssid: Address,
     /// Its rates, as the octets of its elements: units of 500 kb/s, with the highest bit where a rate is basic.
     pub rates: Vec<u8>,
+    /// How many stations it knows at most.
+    pub max_known: u16,
     /// The interface of its wire, if it has one.
     pub wire: Option<String>,
 }
@@ -322,7 +324,7 @@ impl<P: Port> Sender<P> {
 mod tests {
     use super::*;
     use crate::radiotap::MOST_RETRIES;
-    use crate::samples::{Unit, OTHER, OURS, STATION};
+    use crate::samples::{network, Unit, OTHER, OURS, STATION};
     use crate::sockets::Batch;
     use libc::sock_filter;
     use std::os::unix::io::RawFd;
@@ -371,8 +373,8 @@ mod tests {
 
     fn networks() -> Vec<Network> {
         vec![
-            Network { bssid: OURS, rates: vec![0x0b, 0x84, 0x82], wire: None },
-            Network { bssid: OTHER, rates: vec![0x16, 0x0b], wire: Some("wire2".into()) },
+            Network { rates: vec![0x0b, 0x84, 0x82], ..network(OURS) },
+            Network { rates: vec![0x16, 0x0b], wire: Some("wire2".into()), ..network(OTHER) },
         ]
     }
 

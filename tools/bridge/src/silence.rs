@@ -1,96 +1,212 @@
 //! Which stations are asked whether they are there, since nothing was heard of them for long, and which are forgotten.
 //!
-//! A station is asked behind a beacon of its network, and while it dozes behind one after which units for the group may
-//! come: then it listens (IEEE Std 802.11-2016, 11.2.3.6). An acknowledgement is an answer, as any frame is. What is
-//! asked in a second is bounded: each question that nobody acknowledges takes some 8 ms of the air at 1 Mb/s.
+//! Stations are looked at every so often at a time at which no beacon is due; while one dozes, behind a beacon of its
+//! network after which units for the group may come: then it listens (IEEE Std 802.11-2016, 11.2.3.6). An
+//! acknowledgement is an answer, as any frame is. Questions go out a few at a time: each that nobody acknowledges takes
+//! some 8 ms of the air at 1 Mb/s.
+//!
+//! Where a network knows nearly as many stations as it may, those that authenticated and didn't associate are given up
+//! soon and unasked, so that made-up addresses don't keep newcomers out: who is there associates at once, or else
+//! authenticates again.
 use std::collections::BTreeSet;
 
 use crate::frames::Address;
 use crate::roster::{Asked, Forgotten, Member, Roster, State, Station};
-use crate::time::{Nanos, SECOND};
+use crate::time::{Nanos, MILLISECOND, SECOND};
 
 /// After how long those are asked that are authenticated only, if not sooner.
 pub const AUTHENTICATED: Nanos = 60 * SECOND;
+/// How often stations are looked at, where no beacon is in between.
+pub const EVERY: Nanos = 100 * MILLISECOND;
 /// How long an answer is awaited.
 const TO_ANSWER: Nanos = SECOND;
 /// How often a station is asked, once it is associated and while it is authenticated only.
 const QUESTIONS: u32 = 3;
 const QUESTIONS_AUTHENTICATED: u32 = 1;
-/// How many are asked in a second at most, in all networks.
-const MOST_A_SECOND: u32 = 20;
-/// How many are looked at behind a beacon at most.
+/// How many frames go in each time of `EVERY` at most to stations that may be gone, in all networks.
+const MOST_AT_A_TIME: u32 = 2;
+/// How many stations of a queue are looked at in a row at most.
 const MOST_LOOKED_AT: u32 = 64;
 /// When a station is looked at again that should have left: what was said to the program may have been dropped.
 const AGAIN: Nanos = 5 * SECOND;
+/// A network is nearly full where so many tenths are known of the stations that it may know.
+const NEARLY_FULL: usize = 9;
+/// After how long those that are authenticated only are given up where their network is nearly full.
+pub const TO_ASSOCIATE: Nanos = 3 * SECOND;
+/// How large a part of a network's stations is given up at a time at most.
+const PARTS: usize = 8;
 
 /// What is to be done of a station.
 #[derive(Debug, Clone, Copy, PartialEq, Eq)]
 pub enum Step {
     /// It is asked.
     Ask(Address),
-    /// It is forgotten.
-    Forget(Address, Forgotten),
+    /// It is forgotten, for this reason; it is told so or not.
+    Forget { station: Address, why: Forgotten, tells: bool },
 }
 
-/// The stations of each network, by when they are to be looked at.
+/// What a station is, in the order in which stations are looked at.
+#[derive(Debug, Clone, Copy, PartialEq, Eq, PartialOrd)]
+enum Queue {
+    Authenticated,
+    Associated,
+    Dozing,
+}
+
+impl Queue {
+    /// That of a station.
+    fn of(station: &Station) -> Queue {
+        match station.state {
+            State::Authenticated => Queue::Authenticated,
+            State::Associated(_) if station.dozes => Queue::Dozing,
+            State::Associated(_) => Queue::Associated,
+        }
+    }
+}
+
+/// The stations of a network, by when they are to be looked at.
+#[derive(Debug)]
+struct Watched {
+    max_known: usize,
+    /// When the network was nearly full last.
+    nearly_full: Option<Nanos>,
+    /// Of each queue.
+    queues: [BTreeSet<(Nanos, Address)>; 3],
+}
+
+/// What is found of a station that is due.
+#[derive(Debug, Clone, Copy, PartialEq, Eq)]
+enum Found {
+    /// It is to be looked at again then, and what is done until then.
+    Again { due: Nanos, times: u32, step: Option<Step> },
+    /// Its turn comes later.
+    Later(Queue),
+    /// Enough were asked at a time.
+    Enough,
+}
+
+/// How many frames went of late to stations that may be gone.
+#[derive(Debug, Default)]
+struct Pace {
+    until: Nanos,
+    left: u32,
+}
+
+impl Pace {
+    /// Whether one more may go now.
+    fn takes(&mut self, now: Nanos) -> bool {
+        if now >= self.until {
+            (self.until, self.left) = (now + EVERY, MOST_AT_A_TIME);
+        }
+        let takes = self.left > 0;
+        self.left -= u32::from(takes);
+        takes
+    }
+}
+
+/// The stations of all networks.
 #[derive(Debug)]
 pub struct Silence {
     /// After how long those are asked that are associated; `None` where nobody is asked.
     most: Option<Nanos>,
-    queues: Vec<BTreeSet<(Nanos, Address)>>,
-    second: Nanos,
-    asked: u32,
+    networks: Vec<Watched>,
+    /// Whose stations are looked at first.
+    turn: usize,
+    pace: Pace,
 }
 
 impl Silence {
-    /// For so many networks; `None` asks nobody.
-    pub fn new(most: Option<Nanos>, networks: usize) -> Silence {
-        Silence { most, queues: vec![BTreeSet::new(); networks], second: 0, asked: 0 }
+    /// For networks that know so many stations at most; `None` asks nobody.
+    pub fn new(most: Option<Nanos>, max_known: impl IntoIterator<Item = usize>) -> Silence {
+        let watched = |max_known| Watched { max_known, nearly_full: None, queues: Default::default() };
+        let networks = max_known.into_iter().map(watched).collect();
+        Silence { most, networks, turn: 0, pace: Pace::default() }
     }
 
-    /// What is to be done behind a beacon of the network of this place, of which it is known whether stations that
-    /// doze listen after it.
-    pub fn behind_beacon(&mut self, roster: &mut Roster, place: usize, is_dtim: bool, now: Nanos) -> Vec<Step> {
+    /// What is to be done at a time at which no beacon is due, of stations of the networks of these places, of each of
+    /// which it is known whether stations that doze listen now.
+    pub fn look(&mut self, roster: &mut Roster, listen: &[bool], now: Nanos) -> Vec<(usize, Step)> {
+        let number = self.networks.len();
+        let places: Vec<usize> = (0..number).map(|place| (self.turn + place) % number).collect();
+        self.turn = (self.turn + 1) % number.max(1);
+        let (entered, mut steps) = (roster.take_entered(), Vec::new());
+        places.iter().for_each(|place| self.give_up(roster, *place, now, &mut steps));
         let most = match self.most {
             Some(most) => most,
-            None => return Vec::new(),
+            None => return steps,
         };
-        for member in roster.take_entered() {
+        for member in entered {
             let heard = roster.station(&member).map_or(now, |station| station.heard);
-            self.put(roster, member, heard + AUTHENTICATED.min(most));
+            self.put(roster, member, heard + AUTHENTICATED.min(most), Queue::Authenticated);
         }
-        let mut steps = Vec::new();
-        for _ in 0..MOST_LOOKED_AT {
-            let next = self.queues[place].iter().next().copied().filter(|(due, _)| *due <= now);
-            let (due, address) = match next {
-                Some(next) => next,
-                None => break,
-            };
-            self.queues[place].remove(&(due, address));
-            let member = (place, address);
-            let station = match roster.station(&member).filter(|station| station.asked.due == due) {
-                Some(station) => station,
-                None => continue,
-            };
-            let (again, times, step) = self.judge(station, address, most, is_dtim, now);
-            steps.extend(step);
-            if let Some(asked) = roster.asked(&member) {
-                asked.times = times;
+        for queue in [Queue::Authenticated, Queue::Associated, Queue::Dozing] {
+            for place in &places {
+                if queue != Queue::Dozing || listen.get(*place) == Some(&true) {
+                    self.look_at(roster, (*place, queue), most, now, &mut steps);
+                }
             }
-            self.put(roster, member, again);
         }
         steps
     }
 
-    /// When a station that is due is to be looked at again, how often it was asked by then, and what is done now.
-    fn judge(
+    /// Gives up who has been authenticated only for too long and was so while its network was nearly full, some at a
+    /// time. Who is given up is told so as long as that are few.
+    fn give_up(&mut self, roster: &Roster, place: usize, now: Nanos, steps: &mut Vec<(usize, Step)>) {
+        let network = &mut self.networks[place];
+        if roster.known(place) * 10 >= network.max_known * NEARLY_FULL {
+            network.nearly_full = Some(now);
+        }
+        let nearly_full = match network.nearly_full {
+            Some(time) => time,
+            None => return,
+        };
+        let found = roster.unassociated(place);
+        let found = found.take_while(|(since, _)| *since <= nearly_full && since + TO_ASSOCIATE <= now);
+        for (since, station) in found.take(network.max_known / PARTS + 1) {
+            let why = Forgotten::Unassociated(now - since);
+            steps.push((place, Step::Forget { station, why, tells: self.pace.takes(now) }));
+        }
+    }
+
+    /// Looks at the stations of a queue that are due.
+    fn look_at(
         &mut self,
-        station: &Station,
-        address: Address,
+        roster: &mut Roster,
+        (place, queue): (usize, Queue),
         most: Nanos,
-        is_dtim: bool,
         now: Nanos,
-    ) -> (Nanos, u32, Option<Step>) {
+        steps: &mut Vec<(usize, Step)>,
+    ) {
+        for _ in 0..MOST_LOOKED_AT {
+            let first = self.networks[place].queues[queue as usize].iter().next().copied();
+            let (due, address) = match first.filter(|(due, _)| *due <= now) {
+                Some(first) => first,
+                None => return,
+            };
+            let member = (place, address);
+            let station = roster.station(&member).filter(|station| station.asked.due == due);
+            let found = station.map(|station| self.judge(station, address, queue, most, now));
+            if matches!(found, Some(Found::Enough)) {
+                return;
+            }
+            self.networks[place].queues[queue as usize].remove(&(due, address));
+            match found {
+                Some(Found::Again { due, times, step }) => {
+                    steps.extend(step.map(|step| (place, step)));
+                    if let Some(asked) = roster.asked(&member) {
+                        asked.times = times;
+                    }
+                    let queue = roster.station(&member).map_or(queue, Queue::of);
+                    self.put(roster, member, due, queue);
+                }
+                Some(Found::Later(queue)) => self.put(roster, member, due, queue),
+                Some(Found::Enough) | None => {}
+            }
+        }
+    }
+
+    /// What is to be done of a station that is due.
+    fn judge(&mut self, station: &Station, address: Address, queue: Queue, most: Nanos, now: Nanos) -> Found {
         let (limit, questions) = match station.state {
             State::Associated(_) => (most, QUESTIONS),
             State::Authenticated => (AUTHENTICATED.min(most), QUESTIONS_AUTHENTICATED),
@@ -98,28 +214,23 @@ impl Silence {
         let Asked { times, .. } = station.asked;
         let silent = now.saturating_sub(station.heard);
         if silent < limit {
-            (station.heard + limit, 0, None)
+            Found::Again { due: station.heard + limit, times: 0, step: None }
         } else if times >= questions || station.is_leaving {
-            (now + AGAIN, times, Some(Step::Forget(address, Forgotten::Silent(silent))))
-        } else if station.dozes && !is_dtim || !self.may_ask(now) {
-            (now + 1, times, None)
+            let step = Step::Forget { station: address, why: Forgotten::Silent(silent), tells: true };
+            Found::Again { due: now + AGAIN, times, step: Some(step) }
+        } else if Queue::of(station) > queue {
+            Found::Later(Queue::of(station))
+        } else if !self.pace.takes(now) {
+            Found::Enough
         } else {
-            (now + TO_ANSWER, times + 1, Some(Step::Ask(address)))
+            Found::Again { due: now + TO_ANSWER, times: times + 1, step: Some(Step::Ask(address)) }
         }
     }
 
-    fn may_ask(&mut self, now: Nanos) -> bool {
-        if now >= self.second + SECOND {
-            (self.second, self.asked) = (now, 0);
-        }
-        self.asked += 1;
-        self.asked <= MOST_A_SECOND
-    }
-
-    fn put(&mut self, roster: &mut Roster, member: Member, due: Nanos) {
+    fn put(&mut self, roster: &mut Roster, member: Member, due: Nanos, queue: Queue) {
         if let Some(asked) = roster.asked(&member) {
             asked.due = due;
-            self.queues[member.0].insert((due, member.1));
+            self.networks[member.0].queues[queue as usize].insert((due, member.1));
         }
     }
 }
@@ -153,28 +264,60 @@ mod tests {
         roster.said(&null, 0);
     }
 
-    /// What is done behind a beacon each tenth of a second, with the tenth in which it is.
+    /// What is done each tenth of a second, each third time behind a beacon after which who dozes listens, with the
+    /// tenth in which it is.
     fn steps(roster: &mut Roster, silence: &mut Silence, tenths: std::ops::Range<u64>) -> Vec<(u64, Step)> {
         let mut found = Vec::new();
         for tenth in tenths {
-            let steps = silence.behind_beacon(roster, 0, tenth % 3 == 0, tenth * SECOND / 10);
-            found.extend(steps.into_iter().map(|step| (tenth, step)));
+            let steps = silence.look(roster, &[tenth % 3 == 0], tenth * SECOND / 10);
+            found.extend(steps.into_iter().map(|(_, step)| (tenth, step)));
         }
         found
     }
 
     fn gone(seconds: u64) -> Step {
-        Step::Forget(STATION, Forgotten::Silent(seconds * SECOND))
+        Step::Forget { station: STATION, why: Forgotten::Silent(seconds * SECOND), tells: true }
+    }
+
+    fn silence() -> (Roster, Silence) {
+        (Roster::new(vec![OURS]), Silence::new(Some(MOST), [100]))
+    }
+
+    fn made_up(number: u16) -> Address {
+        let [high, low] = number.to_be_bytes();
+        Address::of([2, 9, 0, 0, high, low])
+    }
+
+    /// The stations that are given up, with the tenth of a second, and how many of them are told so; each leaves at once.
+    fn given_up(
+        roster: &mut Roster,
+        silence: &mut Silence,
+        tenths: std::ops::Range<u64>,
+    ) -> (Vec<(u64, Address)>, u32) {
+        let (mut found, mut told) = (Vec::new(), 0);
+        for tenth in tenths {
+            for (tenth, step) in steps(roster, silence, tenth..tenth + 1) {
+                match step {
+                    Step::Forget { station, why: Forgotten::Unassociated(_), tells } => {
+                        found.push((tenth, station));
+                        told += u32::from(tells);
+                        roster.said(&departure(OURS, station), tenth * SECOND / 10);
+                    }
+                    other => panic!("{other:?}"),
+                }
+            }
+        }
+        (found, told)
     }
 
     #[test]
     fn who_does_not_answer_is_forgotten_after_three_questions() {
-        let (mut roster, mut silence) = (Roster::new(vec![OURS]), Silence::new(Some(MOST), 1));
+        let (mut roster, mut silence) = silence();
         join(&mut roster, STATION, 0);
         let found = steps(&mut roster, &mut silence, 0..3050);
         let ask = Step::Ask(STATION);
         assert_eq!(found, [(3000, ask), (3010, ask), (3020, ask), (3030, gone(303))]);
-        roster.forget((0, STATION), Forgotten::Silent(0));
+        roster.forget((0, STATION), Forgotten::Silent(0), 303 * SECOND);
         assert_eq!(steps(&mut roster, &mut silence, 3050..3100), [(3080, gone(308))]);
         roster.said(&departure(OURS, STATION), 0);
         assert_eq!(steps(&mut roster, &mut silence, 3100..3300), []);
@@ -182,7 +325,7 @@ mod tests {
 
     #[test]
     fn who_answers_stays() {
-        let (mut roster, mut silence) = (Roster::new(vec![OURS]), Silence::new(Some(MOST), 1));
+        let (mut roster, mut silence) = silence();
         join(&mut roster, STATION, 0);
         assert_eq!(steps(&mut roster, &mut silence, 0..3001), [(3000, Step::Ask(STATION))]);
         let outcome = Outcome { is_acknowledged: true, retries: 0, rate: None };
@@ -193,11 +336,11 @@ mod tests {
 
     #[test]
     fn who_is_authenticated_only_is_asked_once_and_sooner() {
-        let (mut roster, mut silence) = (Roster::new(vec![OURS]), Silence::new(Some(MOST), 1));
+        let (mut roster, mut silence) = silence();
         enter(&mut roster, STATION, 0);
         let found = steps(&mut roster, &mut silence, 0..620);
         assert_eq!(found, [(600, Step::Ask(STATION)), (610, gone(61))]);
-        let mut short = Silence::new(Some(5 * SECOND), 1);
+        let mut short = Silence::new(Some(5 * SECOND), [100]);
         let mut roster = Roster::new(vec![OURS]);
         enter(&mut roster, STATION, 0);
         assert_eq!(steps(&mut roster, &mut short, 0..55), [(50, Step::Ask(STATION))]);
@@ -205,7 +348,7 @@ mod tests {
 
     #[test]
     fn who_dozes_is_asked_when_it_listens() {
-        let (mut roster, mut silence) = (Roster::new(vec![OURS]), Silence::new(Some(MOST), 1));
+        let (mut roster, mut silence) = silence();
         join(&mut roster, STATION, SECOND / 10);
         doze(&mut roster);
         assert_eq!(steps(&mut roster, &mut silence, 0..3010), [(3003, Step::Ask(STATION))]);
@@ -213,31 +356,103 @@ mod tests {
 
     #[test]
     fn nobody_is_asked_where_that_is_not_wanted() {
-        let (mut roster, mut silence) = (Roster::new(vec![OURS]), Silence::new(None, 1));
+        let (mut roster, mut silence) = (Roster::new(vec![OURS]), Silence::new(None, [100]));
         join(&mut roster, STATION, 0);
+        enter(&mut roster, made_up(0), 0);
         assert_eq!(steps(&mut roster, &mut silence, 0..9000), []);
     }
 
     /// A flood of addresses is forgotten at a rate that leaves the air to others.
     #[test]
     fn what_is_asked_in_a_second_is_bounded() {
-        let (mut roster, mut silence) = (Roster::new(vec![OURS]), Silence::new(Some(MOST), 1));
-        let flood: Vec<_> =
-            (0..1000u16).map(|number| Address::of([2, 9, 0, 0, (number >> 8) as u8, number as u8])).collect();
-        flood.iter().for_each(|address| enter(&mut roster, *address, 0));
+        let (mut roster, mut silence) = (Roster::new(vec![OURS]), Silence::new(Some(MOST), [2000]));
+        (0..1000).for_each(|number| enter(&mut roster, made_up(number), 0));
         let (mut asked, mut forgotten) = (0, 0);
         for tenth in 0..1200 {
-            for step in silence.behind_beacon(&mut roster, 0, true, tenth * SECOND / 10) {
+            let before = asked;
+            for (_, step) in silence.look(&mut roster, &[true], tenth * SECOND / 10) {
                 match step {
                     Step::Ask(_) => asked += 1,
-                    Step::Forget(address, _) => {
+                    Step::Forget { station, .. } => {
                         forgotten += 1;
-                        roster.said(&departure(OURS, address), tenth);
+                        roster.said(&departure(OURS, station), tenth);
                     }
                 }
             }
-            assert!(asked <= MOST_A_SECOND * ((tenth / 10) as u32).saturating_sub(59), "{tenth}");
+            assert!(asked <= before + MOST_AT_A_TIME, "{tenth}");
         }
-        assert!(asked > 900 && forgotten > 900, "{asked} {forgotten}");
+        assert!(asked > 990 && forgotten > 960, "{asked} {forgotten}");
+    }
+
+    /// Where those that are authenticated only and those that are associated fell silent at once, the first are asked
+    /// first.
+    #[test]
+    fn who_is_authenticated_only_is_asked_before_who_is_associated() {
+        let (mut roster, mut silence) = (Roster::new(vec![OURS]), Silence::new(Some(AUTHENTICATED), [100]));
+        (0..4).for_each(|number| join(&mut roster, made_up(number), 0));
+        (4..8).for_each(|number| enter(&mut roster, made_up(number), 0));
+        let found = steps(&mut roster, &mut silence, 0..604);
+        let wanted = [(600, 4), (600, 5), (601, 6), (601, 7), (602, 0), (602, 1), (603, 2), (603, 3)];
+        assert_eq!(found, wanted.map(|(tenth, number)| (tenth, Step::Ask(made_up(number)))));
+    }
+
+    #[test]
+    fn who_does_not_associate_is_given_up_within_five_seconds_where_the_network_is_nearly_full() {
+        for most in [Some(MOST), None] {
+            let (mut roster, mut silence) = (Roster::new(vec![OURS]), Silence::new(most, [100]));
+            (0..30).for_each(|number| join(&mut roster, made_up(number), 0));
+            (30..89).for_each(|number| enter(&mut roster, made_up(number), SECOND));
+            assert_eq!(steps(&mut roster, &mut silence, 0..500), []);
+            enter(&mut roster, made_up(89), 50 * SECOND);
+            let (found, told) = given_up(&mut roster, &mut silence, 500..550);
+            let stations: Vec<Address> = found.iter().map(|(_, station)| *station).collect();
+            assert_eq!(stations, (30..90).map(made_up).collect::<Vec<_>>());
+            assert!(found[..59].iter().all(|(tenth, _)| *tenth < 505), "{found:?}");
+            assert_eq!((found[59].0, told), (530, 5 * MOST_AT_A_TIME + 1));
+            assert_eq!(roster.known(0), 30);
+        }
+    }
+
+    /// A flood that goes on keeps newcomers out for no more than a moment.
+    #[test]
+    fn who_authenticates_again_and_again_is_given_up_too() {
+        let (mut roster, mut silence) = (Roster::new(vec![OURS]), Silence::new(Some(MOST), [10]));
+        let mut left = 0;
+        for tenth in 0..35 {
+            (0..9).for_each(|number| enter(&mut roster, made_up(number), tenth * SECOND / 10));
+            let (found, _) = given_up(&mut roster, &mut silence, tenth..tenth + 1);
+            assert!(found.is_empty() || tenth >= 30, "{tenth}");
+            left += found.len();
+        }
+        assert!(left >= 9, "{left}");
+    }
+
+    #[test]
+    fn who_associates_in_time_or_comes_later_stays() {
+        let (mut roster, mut silence) = (Roster::new(vec![OURS]), Silence::new(Some(MOST), [10]));
+        (0..9).for_each(|number| enter(&mut roster, made_up(number), 0));
+        assert_eq!(steps(&mut roster, &mut silence, 0..29), []);
+        join(&mut roster, made_up(3), 29 * SECOND / 10);
+        let (found, _) = given_up(&mut roster, &mut silence, 29..40);
+        assert_eq!(found.len(), 8);
+        enter(&mut roster, made_up(20), 4 * SECOND);
+        assert_eq!(steps(&mut roster, &mut silence, 41..600), []);
+        assert_eq!(roster.known(0), 2);
+    }
+
+    /// What is said to the program may be dropped, where too much comes.
+    #[test]
+    fn who_stays_all_the_same_is_given_up_again() {
+        let (mut roster, mut silence) = (Roster::new(vec![OURS]), Silence::new(None, [1]));
+        enter(&mut roster, STATION, 0);
+        let mut tenths = Vec::new();
+        for tenth in 0..70 {
+            for (tenth, step) in steps(&mut roster, &mut silence, tenth..tenth + 1) {
+                assert!(matches!(step, Step::Forget { station: STATION, tells: true, .. }), "{step:?}");
+                roster.forget((0, STATION), Forgotten::Unassociated(0), tenth * SECOND / 10);
+                tenths.push(tenth);
+            }
+        }
+        assert_eq!(tenths, [30, 60]);
     }
 }

@@ -335,6 +335,7 @@ fn requested_rates(frame: Frame<'_>) -> Option<Vec<u8>> {
 #[cfg(test)]
 mod tests {
     use super::*;
+    use crate::samples::network;
 
     const BSSID: [u8; 6] = [2, 0, 0, 0, 1, 1];
     const STATION: [u8; 6] = [2, 0, 0, 0, 2, 0];
@@ -359,7 +360,7 @@ mod tests {
     }
 
     fn networks() -> [Network; 1] {
-        [Network { bssid: Address::of(BSSID), rates: RATES.to_vec(), wire: None }]
+        [Network { rates: RATES.to_vec(), ..network(Address::of(BSSID)) }]
     }
 
     fn millis(number: u64) -> Nanos {

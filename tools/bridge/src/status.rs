@@ -210,7 +210,7 @@ impl Display for Milliseconds {
 #[cfg(test)]
 mod tests {
     use super::*;
-    use crate::samples::{OTHER, OURS, STATION};
+    use crate::samples::{network, OTHER, OURS, STATION};
     use crate::tables::Asker;
 
     #[test]
@@ -234,10 +234,7 @@ mod tests {
 
     #[test]
     fn all_stands_in_one_line() {
-        let networks = [
-            Network { bssid: OURS, rates: vec![2], wire: Some("wire1".into()) },
-            Network { bssid: OTHER, rates: vec![2], wire: None },
-        ];
+        let networks = [Network { wire: Some("wire1".into()), ..network(OURS) }, network(OTHER)];
         let (mut roster, mut tables, mut faults) = (Roster::new(vec![OURS, OTHER]), Tables::new(2), Faults::default());
         let to = |control, body: &[u8]| {
             let head = [&[control, 0, 0, 0][..], STATION.octets(), OURS.octets(), OURS.octets(), &[0, 0]].concat();

@@ -74,6 +74,11 @@ impl Ticks {
         self.due
     }
 
+    /// How long an interval is.
+    pub fn length(&self) -> Nanos {
+        self.length
+    }
+
     /// Whether one begins now; then it has begun.
     pub fn begins(&mut self, now: Nanos) -> bool {
         if now < self.due {

@@ -11,7 +11,7 @@ use crate::sending::Network;
 /// How it is called.
 pub const USAGE: &str = "bridge --face text|octets --phy NAME --channel NUMBER --monitor NAME --interval UNITS \
                          [--idle SECONDS] [--socket DESCRIPTOR] [--alive] [--record FILE] \
-                         --network BSSID/RATES[/WIRE]... PROGRAM CONFIG";
+                         --network BSSID/RATES/KNOWN[/WIRE]... PROGRAM CONFIG";
 
 /// What the words ask for.
 #[derive(Debug, Clone, PartialEq, Eq)]
@@ -119,10 +119,11 @@ fn read_network(text: &str) -> Result<Network, NotWords> {
     let mut parts = text.split('/');
     let bssid: Option<Address> = parts.next().and_then(|part| part.parse().ok());
     let rates = parts.next().and_then(|part| hex::decode(part).ok()).filter(|rates| !rates.is_empty());
+    let max_known: Option<u16> = parts.next().and_then(|part| part.parse().ok()).filter(|number| *number > 0);
     let wire = parts.next().map(str::to_owned);
-    match (bssid, rates, parts.next()) {
-        (Some(bssid), Some(rates), None) => Ok(Network { bssid, rates, wire }),
-        _ => Err(NotWords(format!("{text} is no BSSID/RATES[/WIRE]"))),
+    match (bssid, rates, max_known, parts.next()) {
+        (Some(bssid), Some(rates), Some(max_known), None) => Ok(Network { bssid, rates, max_known, wire }),
+        _ => Err(NotWords(format!("{text} is no BSSID/RATES/KNOWN[/WIRE]"))),
     }
 }
 
@@ -132,8 +133,8 @@ mod tests {
     use crate::samples::{OTHER, OURS};
 
     const GOOD: &str = "--face octets --phy phy0 --channel 6 --monitor mon0 --interval 100 --idle 60 --socket 5 \
-                        --alive --record r --network 02:00:00:00:01:01/8284/wire1 --network 02:00:00:00:01:02/16 apctl \
-                        config";
+                        --alive --record r --network 02:00:00:00:01:01/8284/256/wire1 --network \
+                        02:00:00:00:01:02/16/10000 apctl config";
 
     fn read(text: &str) -> Result<Words, NotWords> {
         Words::read(text.split_whitespace().map(str::to_owned))
@@ -142,8 +143,8 @@ mod tests {
     #[test]
     fn good_words_are_read() {
         let networks = vec![
-            Network { bssid: OURS, rates: vec![0x82, 0x84], wire: Some("wire1".into()) },
-            Network { bssid: OTHER, rates: vec![0x16], wire: None },
+            Network { bssid: OURS, rates: vec![0x82, 0x84], max_known: 256, wire: Some("wire1".into()) },
+            Network { bssid: OTHER, rates: vec![0x16], max_known: 10_000, wire: None },
         ];
         let wanted = Words {
             face: Face::Octets,
@@ -180,6 +181,10 @@ mod tests {
             ("--interval 100", ""),
             ("8284", ""),
             ("8284", "82g4"),
+            ("256", "0"),
+            ("256", "x"),
+            ("256/wire1", ""),
+            ("/10000", ""),
             ("01:01", "01"),
             ("wire1", "a/b"),
             ("apctl config", "apctl"),

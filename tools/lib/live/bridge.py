@@ -67,7 +67,7 @@ class Signals:
 
 def network_word(network: Network, wires: dict[bytes, str]) -> str:
     """What the bridge is told of a network."""
-    parts = [address_text(network.bssid), network.rates.hex()]
+    parts = [address_text(network.bssid), network.rates.hex(), str(network.max_known)]
     return "/".join(parts + [wires[network.bssid]] if network.bssid in wires else parts)
 
 

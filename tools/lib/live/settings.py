@@ -8,14 +8,17 @@ from live.faults import Fault
 BASIC = 0x80
 JAPANESE_CHANNEL, JAPANESE_FREQUENCY = 14, 2484
 MOST_EVENTS = 1_000_000
+MOST_KNOWN = 10_000
 
 
 @dataclass(frozen=True)
 class Network:
-    """One network: its BSSID, its rates as the octets of its elements, and how many events `run` takes of it."""
+    """One network: its BSSID, its rates as the octets of its elements, how many stations it knows at most, and how many
+    events `run` takes of it."""
 
     bssid: bytes
     rates: bytes
+    max_known: int = MOST_KNOWN
     max_events: int = MOST_EVENTS
 
     @property
@@ -49,8 +52,8 @@ def read_settings(path: str) -> Settings:
     try:
         with open(path, "rb") as file:
             text = tomllib.load(file)
-        networks = tuple(Network(address_of(table["bssid"]), bytes.fromhex(table["rates"]), table["max_events"])
-                         for table in text["network"])
+        networks = tuple(Network(address_of(table["bssid"]), bytes.fromhex(table["rates"]), table["max_known"],
+                                 table["max_events"]) for table in text["network"])
         return Settings(text["channel"], text["interval"], networks)
     except (OSError, ValueError, KeyError, TypeError) as fault:
         raise Fault(f"{path}: not read as a configuration: {fault}") from None
