@@ -84,7 +84,7 @@ FollowsLoss stations whom waits old new =
 abbrev pub is_aged : Bool → ℕ → Table → Entry → Bool
 is_aged ages clock table entry = ages && is_too_old clock table entry
 
--- whoever one that is too old is kept for is among these, with a clock that is no later
+-- each unit that is too old is for one of these, and came at the clock that is told of it or later
 abbrev pub AreAmong : ℕ → Table → List Oldest → List Entry → Type 0
 AreAmong clock table oldest kept = AllByRecursion (λ entry. is_too_old clock table entry ≡ true
     → IsSomeAnd (oldest_at entry.0 oldest) (λ at. at ≤ entry.1.at)) kept

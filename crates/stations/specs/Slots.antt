@@ -54,7 +54,7 @@ holes_from n [] = []
 holes_from n (None ∷ slots) = n ∷ holes_from (suc n) slots
 holes_from n (Some station ∷ slots) = holes_from (suc n) slots
 
--- the place of what stands at a place where these places, the lowest first, are left out
+-- the place before which so many stand that count, where these places, the lowest first, don't
 abbrev pub past : (places : List ℕ) → ℕ → ℕ
 past [] place = place
 past (other ∷ places) place = if nat_lt place other then place else past places (suc place)

@@ -217,11 +217,11 @@ pub(crate) fn station_in(slots: &[Slot], slot: usize) -> Option<(MacAddr, Statio
     *slots.get(slot)?
 }
 
-/// The place in a row of what stands at a place among those that are not gone, where these places are gone, the lowest
-/// first.
+/// The place in a row of the slot that `place` others stand before, where the places in `gone`, which rise, don't count.
 ///
-/// It is past so many of them as have no more others before them than make up for their distance to the place, which is
-/// found by halves.
+/// Before the place `gone[k]` stand `gone[k] - k` that count. So the slot comes after `gone[k]` exactly where that is at
+/// most `place`, and one place further on for each such `k`. These numbers never fall, so how many there are is found by
+/// halves.
 fn past(gone: &[usize], place: usize) -> usize
     requires few { place + length gone.now < 2 ^ 64 }
     requires holes { (slots : Slots) × (gone.now ≡ holes_from 0 slots) }
