@@ -15,7 +15,7 @@ use Rattle.powersave.specs.Keep.{Entry, is_for, is_same, units_for, without_firs
 use Rattle.powersave.specs.declared.unit.Oldest.{Oldest}
 use Rattle.powersave.specs.declared.unit.Whom.{Whom}
 use Rattle.powersave.specs.declared.unit.Whom.TheVariants.{One, Group}
-use Rattle.stations.specs.AgingClocks.{IsClockOf, HasClock, HaveClocks, IsEntered, IsNoted, IsListed, is_due, due_with, due_at}
+use Rattle.stations.specs.AgingClocks.{IsClockOf, HasClock, HaveClocks, IsEntered, IsNoted, IsListed, StayAt, is_due, due_with, due_at}
 use Rattle.stations.specs.declared.aging_clocks.AgingClock.{AgingClock}
 use Rattle.stations.specs.Roster.{AreWaitedFor, AreAmong, is_number, renumbered}
 use Rattle.stations.specs.Sound.{AreSound, CameBy}
@@ -326,6 +326,28 @@ listing-ends t clocks aids es h = each es (λ e listed. listed refl) h.listed
 -- one that has no station needs no clock
 pub group-listed : (t : Table) (one : Oldest) (clocks : List AgingClock) (aids : List ℕ) → one.whom ≡ Group → IsListed t one clocks aids clocks aids
 group-listed t one clocks aids group = λ most sound. ((λ whom at other had. had), (λ at le. subst (λ (w : Whom). HasClock clocks aids t w at) (sym group) tt))
+
+-- more clocks
+
+pub stay-more : (clocks more : List AgingClock) → StayAt clocks (clocks ++ more)
+stay-more [] more n c h = absurd (cc)
+stay-more (x ∷ clocks) more zero c h = h
+stay-more (x ∷ clocks) more (suc n) c h = stay-more clocks more n c h
+
+has-more : (t : Table) (clocks new : List AgingClock) (aids : List ℕ) → StayAt clocks new → (whom : Whom) (at : ℕ) → HasClock clocks aids t whom at → HasClock new aids t whom at
+has-more t clocks new aids stay Group at h = tt
+has-more t clocks new aids stay (One addr) at h = by (aid_of addr t) h
+  where
+    there : (n : ℕ) (o : Option AgingClock) → slice_get clocks n ≡ o → IsSomeAnd o (IsClockOf t addr at) → IsSomeAnd (slice_get new n) (IsClockOf t addr at)
+    there n None is had = absurd had
+    there n (Some c) is had = subst (λ (o : Option AgingClock). IsSomeAnd o (IsClockOf t addr at)) (sym (stay n c is)) had
+
+    by : (o : Option ℕ) → IsSomeAnd o (λ aid. (is_among aids aid ≡ true) × IsSomeAnd (slice_get clocks aid) (IsClockOf t addr at)) → IsSomeAnd o (λ aid. (is_among aids aid ≡ true) × IsSomeAnd (slice_get new aid) (IsClockOf t addr at))
+    by None had = had
+    by (Some n) had = (had.0, there n (slice_get clocks n) refl had.1)
+
+pub listed-more : (t : Table) (one : Oldest) (clocks more new : List AgingClock) (old_aids aids : List ℕ) → StayAt clocks more → IsListed t one more old_aids new aids → IsListed t one clocks old_aids new aids
+listed-more t one clocks more new old_aids aids stay step = λ most sound. ((λ whom at other had. (step most sound).0 whom at other (has-more t clocks more old_aids stay whom at had)), (step most sound).1)
 
 pub station-listed : (t : Table) (one : Oldest) (clocks new : List AgingClock) (old_aids aids : List ℕ) (addr : List ℕ) (n listen place : ℕ) (doze : Bool) → one.whom ≡ One addr → state_of addr t ≡ Some (Associated n listen doze)
     → IsEntered n (record { addr = addr; place = place; at = one.at; listen = listen }) clocks old_aids new aids → IsListed t one clocks old_aids new aids

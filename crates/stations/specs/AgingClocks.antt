@@ -13,11 +13,12 @@ use Rattle.stations.specs.Sound.{AreSound}
 use Rattle.stations.specs.Stations.{Table, state_of, aid_of, listen_with}
 use Rattle.stations.specs.declared.aging_clocks.AgingClock.{AgingClock}
 
--- it is this station's, which has no unit from before its clock and no shorter listen interval (9.4.1.6)
+-- a clock of this station: no later than this one, with a listen interval no longer than the station's (9.4.1.6)
 abbrev pub IsClockOf : Table → (addr : List ℕ) → (at : ℕ) → AgingClock → Type 0
 IsClockOf table addr at c = (c.addr ≡ addr) × (c.at ≤ at) × (c.listen ≤ listen_with (state_of addr table))
 
--- whom a unit that came at a clock is kept for has one, at its identifier, which is listed; the group needs none
+-- a station has a clock that is no later than a unit for it came; it stands at the station's association identifier,
+-- and that is listed. Units for the group need none, since they don't age
 abbrev pub HasClock : List AgingClock → (aids : List ℕ) → Table → Whom → (at : ℕ) → Type 0
 HasClock clocks aids table (One addr) at = IsSomeAnd (aid_of addr table) (λ aid.
     (is_among aids aid ≡ true) × IsSomeAnd (slice_get clocks aid) (IsClockOf table addr at))
@@ -40,6 +41,10 @@ IsEntered aid c old old_aids new new_aids =
 abbrev pub IsNoted : (aid at : ℕ) → (old new : List AgingClock) → Type 0
 IsNoted aid at old new = IsSomeAnd (slice_get old aid) (λ c.
     (early : ℕ) × (early ≤ at) × (early ≤ c.at) × (new ≡ set old aid (record c { at = early })))
+
+-- each clock stands where it stood
+abbrev pub StayAt : (old new : List AgingClock) → Type 0
+StayAt old new = (n : ℕ) (c : AgingClock) → slice_get old n ≡ Some c → slice_get new n ≡ Some c
 
 -- One that is told as the first for whom units are kept has its clock, and the others keep theirs.
 abbrev pub IsListed : Table → Oldest → (old : List AgingClock) → (old_aids : List ℕ)

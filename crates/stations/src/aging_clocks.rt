@@ -11,7 +11,8 @@ ghost use Rattle.aid_pool.specs.LeastFree.{is_among};
 ghost use Rattle.powersave.specs.Keep.{Entry, units_for, first_clock, AreOldest, AreToldOnce};
 ghost use Rattle.powersave.specs.declared.unit.Whom.TheVariants.{One};
 ghost use Rattle.tim.specs.Tim.{IsAid, is_shown};
-ghost use Rattle.stations.specs.AgingClocks.{HasClock, HaveClocks, IsEntered, IsNoted, IsListed, is_due, due_at};
+ghost use Rattle.stations.specs.AgingClocks.{HasClock, HaveClocks, IsEntered, IsNoted, IsListed, StayAt};
+ghost use Rattle.stations.specs.AgingClocks.{is_due, due_at};
 ghost use Rattle.stations.specs.Keeping.{aid_for};
 ghost use Rattle.stations.specs.Roster.{AreWaitedFor};
 ghost use Rattle.stations.specs.Sound.{AreSound, CameBy};
@@ -24,7 +25,10 @@ use std::alloc::Global;
 use tim::Bitmap;
 
 /// How many clocks there is room for at first.
-const FEW: usize = 64;
+const FIRST_CLOCKS: usize = 64;
+
+/// How many clocks there are at most: one for each association identifier up to the last, and none at 0.
+const MOST_CLOCKS: usize = MAX_AID as usize + 1;
 
 /// A station that units are kept for.
 #[derive(Clone, Copy, Debug)]
@@ -131,25 +135,36 @@ impl AgingClocks {
         let Some(StationState::Associated { aid, listen, .. }) = stations.state_of(addr) else {
             return false;
         };
-        if usize::from(aid) >= self.clocks.len() {
-            self.make_room(aid);
-            return false;
-        }
+        self.make_room(aid);
         self.enter(aid, addr, one.at, listen)
     }
 
-    /// Makes room for the clock of an identifier, and of as many above it, if there is memory.
+    /// Makes room for the clock of an identifier, and of as many above it as there may be, if there is memory. The clocks
+    /// stay.
     fn make_room(&mut self, aid: u16)
-        ensures { self.new.complete ≡ self.old.complete }
+        ensures complete { self.new.complete ≡ self.old.complete }
+        ensures aids { self.new.aids.items ≡ self.old.aids.items }
+        ensures clocks { StayAt self.old.clocks.items self.new.clocks.items }
     {
+        let room = usize::from(aid) + 1;
+        let len = self.clocks.len();
+        if room <= len {
+            return;
+        }
+        let more = FIRST_CLOCKS
+            .max(2 * room)
+            .min(MOST_CLOCKS)
+            .saturating_sub(len);
+        if self.clocks.reserve_exact(more).is_err() {
+            return;
+        }
         let none = AgingClock {
             addr: MacAddr::BROADCAST,
             place: 0,
             at: 0,
             listen: 0,
         };
-        let len = FEW.max(2 * (usize::from(aid) + 1));
-        let _ = self.clocks.resize(len, none);
+        let _ = self.clocks.resize(len + more, none);
     }
 
     /// Sets the clock of an identifier to this one, lists the identifier, and answers whether there was room.
