@@ -1,9 +1,14 @@
 """The picture of a run: strips of a page's width, in each a lane for each network and a row for each station, and the
 lines of the trace from left to right. Each shape says what it is by attributes, so that a program can read the picture
 as well."""
+import bisect
+from contextlib import nullcontext
+
+from colours import DARK, GREEN, GREY, GRID, ORANGE, PALE, PURPLE, RED, STATES, YELLOW
 from columns import (BEACON_KINDS, BEACONS, CIRCLE_SLOT, CIRCLED, OTHERS, PAD, SLOT, SMALL, Clock, Lane, columns_of,
                      strips_of)
-from story import ASSOCIATED, AUTHENTICATED, DOZING, GROUP, WIRE
+from overview import Overview
+from story import ASSOCIATED, DOZING, GROUP, WIRE
 from svg import Canvas, text_width
 
 WIDTH, MARGIN, LEFT = 1000, 12, 146
@@ -13,9 +18,8 @@ MIDDLE, BAR, KEPT_AT, KEPT_BAR, KEPT_PITCH, TRACKS = 8, 11, 14.5, 2.4, 3.0, 3
 TEXT, HEAD, RADIUS, MARK = 10.5, 13, 7, 4.5
 NAME_END, BRACKETS = 14, 3
 PAGE_HEIGHT = 1414
-COLOURS = {AUTHENTICATED: "#d9dde3", ASSOCIATED: "#a9d3f0", DOZING: "#9aa9de"}
-DARK, PALE, GRID, RED, PURPLE, ORANGE, GREEN, YELLOW, GREY = ("#333333", "#777777", "#e6e8eb", "#c8202d", "#7a48d0",
-                                                             "#e07b2a", "#3f9152", "#f2c744", "#8a8f98")
+# Strips that are higher together have an overview before them.
+LONG = 3 * PAGE_HEIGHT
 ARROWS = {"sent": DARK, "kept": ORANGE, "lost": RED, "wired": GREEN}
 LETTERS = (("P", "probe request"), ("A", "authentication"), ("J", "association (joins)"), ("R", "reassociation"),
            ("D", "departure"), ("U", "data"), ("S", "PS-Poll"))
@@ -90,17 +94,46 @@ class Picture:
                     if mark.letter in ("J", "R") and mark.what == "answered" and mark.whom == roaming.station and
                     "also in" not in mark.text else mark for mark in lane.marks_at(roaming.begins)]
 
+    @property
+    def is_long(self):
+        """Whether an overview stands before the strips."""
+        return sum(map(self.height_of, self.strips)) > LONG
+
     def whole(self):
-        """One picture, as an SVG."""
-        self.begin()
+        """One picture, as an SVG; an overview leads to the strips."""
+        self.begin(with_legend=False)
+        is_long = self.is_long
+        if is_long:
+            self.overview(self.strip_of)
+        self.headline()
+        self.legend()
         for strip in self.strips:
-            self.strip(strip)
+            with self.canvas.group(id=strip_name(strip)) if is_long else nullcontext():
+                self.strip(strip)
         self.height = self.y + MARGIN
         return self.canvas.written(self.height)
 
+    def overview_alone(self):
+        """The overview, as an SVG."""
+        self.begin(with_legend=False)
+        self.overview(None)
+        return self.canvas.written(self.y + MARGIN)
+
+    def overview(self, link_of):
+        """Draws the overview."""
+        found = Overview(self.lanes, self.lines, self.clock)
+        with self.canvas.group(id="overview"):
+            self.y = found.draw(self.canvas, self.y, self.title(), link_of) + STRIP_GAP
+
+    def strip_of(self, stretch):
+        """The place of the strip in which a stretch begins."""
+        place = bisect.bisect_right([strip.first for strip in self.strips], stretch.first) - 1
+        return f"#{strip_name(self.strips[place])}"
+
     def pages(self):
-        """The picture as pages of a sheet's form, as many strips on each as fit; the legend stands on the first."""
-        pages, before = [], None
+        """The picture as pages of a sheet's form, as many strips on each as fit; the legend stands on the first, and an
+        overview on a page before it."""
+        pages, before = [self.overview_alone()] * self.is_long, None
         for strip in self.strips:
             height = self.height_of(strip)
             if before is None or self.y + height > PAGE_HEIGHT:
@@ -119,14 +152,17 @@ class Picture:
             self.headline()
             self.legend()
 
-    def headline(self):
-        """What the picture is of."""
+    def title(self):
+        """Of how much of the trace the picture is."""
         ticks = sum(line.kind == "T" for line in self.lines)
         length = self.clock.length(self.lines) if self.clock.is_known else 0
         taken = f", {length:.1f} s" if length else ""
         begun = "1 beacon interval" if ticks == 1 else f"{ticks} beacon intervals"
-        text = f"Lines {self.lines[0].number} to {self.lines[-1].number} of the trace{taken}, {begun}"
-        self.canvas.text(MARGIN, self.y + HEAD, text, HEAD, weight="bold")
+        return f"Lines {self.lines[0].number} to {self.lines[-1].number} of the trace{taken}, {begun}"
+
+    def headline(self):
+        """What the picture is of."""
+        self.canvas.text(MARGIN, self.y + HEAD, self.title(), HEAD, weight="bold")
         self.y += HEAD + 10
         for lane in self.lanes:
             section = lane.section
@@ -142,7 +178,7 @@ class Picture:
         letters = {mark.letter for lane in self.lanes for line in self.lines for mark in lane.marks_at(line.number)}
         states = {span.state for lane in self.lanes for span in lane.spans
                   if any(strip.overlaps(span.begins, span.ends) for strip in self.strips)}
-        entries = [("state", state, state) for state in COLOURS if state in states]
+        entries = [("state", state, state) for state in STATES if state in states]
         entries += [("letter", letter, name) for letter, name in LETTERS if letter in letters]
         entries += [("mark", what, name) for what, name in MEANINGS.items()
                     if what in used and what not in ("answered", "left")]
@@ -165,7 +201,7 @@ class Picture:
         """One shape of the legend."""
         with self.canvas.group(data_legend=what or kind):
             if kind == "state":
-                self.canvas.rectangle(x, y - BAR / 2, 17, BAR, COLOURS[what])
+                self.canvas.rectangle(x, y - BAR / 2, 17, BAR, STATES[what])
             elif kind == "letter":
                 self.circle(x + 8, y, what, "left" if what == "D" else "answered")
             elif kind == "kept bar":
@@ -300,7 +336,7 @@ class Picture:
         with self.canvas.group(f"{span.station.hex(':')}: {span.state}, lines {span.begins} to {until}",
                                data_network=lane.section.bssid.hex(), data_what=span.state,
                                data_row=span.station.hex(), data_span=f"{span.begins}-{span.ends or 'end'}"):
-            self.canvas.rectangle(LEFT + begins, y - BAR / 2, ends - begins, BAR, COLOURS[span.state])
+            self.canvas.rectangle(LEFT + begins, y - BAR / 2, ends - begins, BAR, STATES[span.state])
 
     def kept_bars(self, lane, strip, middles):
         """A bar for each unit that is kept, below its row's middle, in a few tracks."""
@@ -396,3 +432,8 @@ class Picture:
 def name_of(row):
     """A row, as an attribute has it."""
     return row.hex() if isinstance(row, bytes) else str(row)
+
+
+def strip_name(strip):
+    """What a strip is called, so that links find it."""
+    return f"strip-{strip.first}"

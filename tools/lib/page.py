@@ -27,8 +27,8 @@ g[data-lines], g[data-span] {{ cursor: pointer; }}
 g.asked > circle, g.asked > rect, g.asked > path {{ stroke: #c8202d; stroke-width: 3; }}
 </style></head><body><div id="picture">{picture}</div><div id="told">
 <input id="ask" placeholder="a line's number, or an address or digits">
-<p id="found">Point at a shape: its line and its frames are shown here. A click holds them, a second one lets go. Enter
-goes from one find to the next.</p><div id="lines"></div></div>
+{overview}<p id="found">Point at a shape: its line and its frames are shown here. A click holds them, a second one lets
+go. Enter goes from one find to the next.</p><div id="lines"></div></div>
 <script>
 "use strict";
 const WORDS = {words};
@@ -65,12 +65,18 @@ function show(first, last) {{
   }}
   if (numbers.length > MOST) add(told, "p", "and " + (numbers.length - MOST) + " lines more");
 }}
+function count(group) {{
+  told.replaceChildren();
+  for (const words of group.querySelector("title").textContent.split(/[:;] /)) add(told, "p", words);
+}}
 function range(group) {{
   const words = (group.dataset.lines || group.dataset.span).split("-").map(Number);
   const last = group.dataset.span ? words[0] : words[words.length - 1];
   return [words[0], last];
 }}
 function point(event) {{
+  const stretch = event.target.closest("g[data-stretch]");
+  if (stretch && event.type !== "click") count(stretch);
   const group = event.target.closest("g[data-lines], g[data-span]");
   if (!group) {{ if (event.type === "click") held = false; return; }}
   if (event.type === "click") held = !held;
@@ -108,6 +114,9 @@ document.getElementById("picture").addEventListener("click", point);
 </script></body></html>
 """
 
+# What leads back to the overview of a long run.
+OVERVIEW = '<p><a href="#overview">Overview</a></p>'
+
 
 class Words:
     """Words that occur often, each of which a page has once: by their places."""
@@ -139,7 +148,8 @@ def page_of(picture, lines, stories, clock, title):
             if number in told:
                 by = words.place(f"{story.section.name} put on the wire")
                 told[number]["sent"].append({"by": by, **words.frame(octets, fields_on_wire(octets))})
-    return PAGE.format(picture=picture, lines=as_script(told), words=as_script(list(words.places)),
+    overview = OVERVIEW if 'id="overview"' in picture else ""
+    return PAGE.format(picture=picture, overview=overview, lines=as_script(told), words=as_script(list(words.places)),
                        title=title.replace("&", "&amp;").replace("<", "&lt;"))
 
 

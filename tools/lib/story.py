@@ -25,6 +25,10 @@ LETTERS = {PROBE_REQUEST: "P", AUTHENTICATION: "A", ASSOCIATION_REQUEST: "J", RE
 RESPONSES = {ASSOCIATION_REQUEST: ASSOCIATION_RESPONSE, REASSOCIATION_REQUEST: REASSOCIATION_RESPONSE}
 
 
+# What a network hears, in kinds.
+REQUESTS, DATA_FRAMES, POLLS, FROM_WIRE, UNREAD = "requests", "data", "polls", "from the wire", "unread"
+
+
 class Mismatch(Exception):
     """A report that isn't that of this trace."""
 
@@ -49,6 +53,14 @@ class Span(NamedTuple):
     begins: int
     ends: object
     aid: object
+
+
+class Heard(NamedTuple):
+    """A frame that a network took: of which kind, and who sent it or, of one on the wire, to whom it is."""
+
+    line: int
+    kind: str
+    whom: object
 
 
 class Kept(NamedTuple):
@@ -95,7 +107,7 @@ class Story:
         self.sent = self.wired = 0
         self.line = None
         self.marks, self.spans, self.open, self.keepings = [], [], {}, []
-        self.frames, self.wires = [], []
+        self.frames, self.wires, self.heard = [], [], []
 
     def take(self, line):
         """What one line brings about, where the network takes it and its history isn't full."""
@@ -109,9 +121,12 @@ class Story:
             self.begin_interval()
         elif line.kind == "W":
             unit = unit_from_wire(line.octets)
+            self.heard.append(Heard(line.number, FROM_WIRE if unit else UNREAD, line.octets[:6]))
             self.deliver(unit, False) if unit else self.count_unread(None)
         else:
             request = request_of(bssid, line.octets)
+            kind = {MODE: DATA_FRAMES, POLL: POLLS}.get(request.kind, REQUESTS) if request else UNREAD
+            self.heard.append(Heard(line.number, kind, line.octets[10:16]))
             self.answer(request) if request else self.count_unread(line.octets[10:16])
         self.note_states()
 

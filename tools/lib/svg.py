@@ -65,6 +65,15 @@ class Canvas:
         yield
         self.into = before
 
+    @contextmanager
+    def link(self, target):
+        """What is added within leads to a target, where there is one."""
+        before = self.into
+        if target:
+            self.into = self.add("a", href=target)
+        yield
+        self.into = before
+
     def rectangle(self, x, y, width, height, fill, **more):
         """A rectangle."""
         self.add("rect", x=x, y=y, width=max(width, 0.0), height=height, fill=fill, **more)
@@ -77,9 +86,11 @@ class Canvas:
         """A path."""
         self.add("path", d=d, fill=fill, stroke=stroke, **more)
 
-    def text(self, x, y, text, size, anchor="start", weight="normal", fill="#222222"):
-        """A text, whose baseline is at `y`."""
+    def text(self, x, y, text, size, anchor="start", weight="normal", fill="#222222", upright=False):
+        """A text, whose baseline is at `y`; where it stands upright it goes up from there."""
         more = {"font_weight": "bold"} if weight == "bold" else {}
+        if upright:
+            more["transform"] = f"rotate(-90 {number(x)} {number(y)})"
         self.add("text", x=x, y=y, font_size=size, text_anchor=anchor, fill=fill, **more).text = text
 
     def written(self, height):

@@ -136,8 +136,8 @@ def join_texts(config, trace):
     """A configuration and a trace as one text, with a line `---` between. TextError where one of them is both."""
     for text in (config, trace):
         if SEPARATOR in text.split("\n"):
-            raise TextError(f"a configuration and a trace were named, and one of them has a line {SEPARATOR}, behind which "
-                            "a trace stands: leave the other out")
+            raise TextError(f"a configuration and a trace were named, and one of them has a line {SEPARATOR}, behind "
+                            "which a trace stands: leave the other out")
     return f"{config}\n{SEPARATOR}\n{trace}"
 
 
@@ -198,8 +198,8 @@ def read_report(text):
 
 
 def tables_of_live(text):
-    """Of what `live` wrote its tables alone, which are sections without frames; another text as it is. TextError where it
-    wrote none."""
+    """Of what `live` wrote its tables alone, which are sections without frames; another text as it is. TextError where
+    it wrote none."""
     lines = text.split("\n")
     if not FIRST_OF_LIVE.fullmatch(lines[0]):
         return text

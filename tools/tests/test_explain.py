@@ -141,7 +141,7 @@ RUNS = [
      ["3 of 3 frames on the air are four octets longer"]),
     ([*JOIN, with_four_octets(PROBE)], ["no line `T`"]),
     ([*JOIN, f"A {STATION} 02bb00000001 0800 01"], ["frames on the air that no network took: 1 of 3", "(Address 1 is",
-                                                   "1 frame behind `A`", "begin as Ethernet", f"as `W {LAB}`"]),
+                                                   "1 frame behind `A`", "begin as Ethernet's do", f"as `W {LAB}`"]),
     ([*JOIN, *["A ffffffffffff 02bb00000001 0806 0001"] * 2], ["took: 2 of 4", "my.trace:3:1", "2 frames behind `A`"]),
     ([*JOIN, *[PROBE.replace("ffffffffffff", "029900000001")] * 3],
      ["frames on the air that no network took: 3 of 5", "02:99:00:00:00:01 (3)", "--heard-only", "my.trace:3:1"]),
@@ -427,7 +427,8 @@ class Long(ToolTest):
 
     def shown(self, lines):
         """What is shown on a terminal of how far the tool is, in a trace of so many lines."""
-        for name, text in (("my.toml", CONFIG.replace("max_events = 100", "max_events = 1000000")), ("my.trace", "T\n" * lines)):
+        config = CONFIG.replace("max_events = 100", "max_events = 1000000")
+        for name, text in (("my.toml", config), ("my.trace", "T\n" * lines)):
             with open(self.path(name), "w", encoding="ascii") as file:
                 file.write(text)
         ours, theirs = pty.openpty()

@@ -4,6 +4,7 @@ import json
 import os
 import re
 import xml.etree.ElementTree as tree
+from collections import Counter
 from typing import NamedTuple
 
 import long_run
@@ -12,7 +13,7 @@ from common import (CASES, DEVICES, GUEST, OFFICE, PROGRAM, ROOT, THREE, ToolTes
 from fields import fields_on_air, fields_on_wire
 from PIL import Image, ImageFont
 from story import stories
-from texts import read_config, read_report, read_text
+from texts import read_config, read_report, read_text, read_trace
 
 STORED = os.path.join(ROOT, "docs", "three_networks.svg")
 SVG = "{http://www.w3.org/2000/svg}"
@@ -59,8 +60,11 @@ def box_of(element):
     name = "DejaVuSans-Bold.ttf" if element.get("font-weight") == "bold" else "DejaVuSans.ttf"
     width = ImageFont.truetype(name, 200).getlength(text) * size / 200
     x, y = float(element.get("x")), float(element.get("y"))
-    left = {"start": x, "middle": x - width / 2, "end": x - width}[element.get("text-anchor")]
-    return Box(left, y - 0.73 * size, left + width, y + 0.2 * size, text)
+    left = {"start": 0, "middle": -width / 2, "end": -width}[element.get("text-anchor")]
+    if element.get("transform"):
+        # upright, from its first letter upwards
+        return Box(x - 0.73 * size, y - left - width, x + 0.2 * size, y - left, text)
+    return Box(x + left, y - 0.73 * size, x + left + width, y + 0.2 * size, text)
 
 
 class Shapes:
@@ -319,7 +323,8 @@ class Picture(PictureTest):
         self.assertEqual(tool("picture", my_config, my_trace, report), (0, wanted, ""))
         self.assertEqual(tool("picture", my_config, "--out", self.path("x.svg"), my_trace, report), (0, "", ""))
         self.assertEqual(read_text(self.path("x.svg")), wanted)
-        self.refused("picture", my_config, report, says=f"is a configuration, and no trace: say `picture {my_config} TRACE")
+        self.refused("picture", my_config, report,
+                     says=f"is a configuration, and no trace: say `picture {my_config} TRACE REPORT`")
         for both in ((my_config, os.path.join(THREE, "input")), (os.path.join(THREE, "input"), my_trace)):
             self.refused("picture", *both, report, says="one of them has a line ---")
         self.refused("picture", my_config.replace("toml", "none"), my_trace, report, says="No such file")
@@ -416,8 +421,8 @@ class Crowds(PictureTest):
 
     @needs_program
     def test_stations_that_act_have_rows(self):
-        """However many stations stand idle, of lower addresses, each that acts has a row, above theirs, and each arrow both
-        its ends."""
+        """However many stations stand idle, of lower addresses, each that acts has a row, above theirs, and each arrow
+        both its ends."""
         for idle in (30, 60, 150):
             shapes, others = self.crowd(idle, 12)
             heights = {group.get("data-row"): middle_of(group)[1] for group in shapes.of(what="sent")}
@@ -445,6 +450,123 @@ class Crowds(PictureTest):
                 group.get("data-sender") for group in found.marks()}
             idle = set(rows) - acting
             self.assertTrue(not idle or acting & set(others) <= set(rows), idle)
+
+
+class Overviews(PictureTest):
+    """The overview of a long run."""
+
+    def stretches(self, shapes):
+        """What the overview says: of each network and each stretch, by its first line and its last, the numbers of each
+        row and kind."""
+        found = {}
+        for group in (group for attributes, group in shapes.groups if "data-overview" in attributes):
+            said = group.find(f"{SVG}title").text
+            rows = dict(row.split(": ") for row in re.sub(r"^.*?: (?=heard)", "", said).split("; "))
+            counts = {row: {kind: int(number) for number, kind in re.findall(r"(\d+) ([a-z ]+)", words)}
+                      for row, words in rows.items()}
+            ends = tuple(map(int, group.get("data-stretch").split("-")))
+            found.setdefault(group.get("data-overview"), {})[ends] = counts
+        return found
+
+    @needs_program
+    def test_counts_are_those_of_the_run(self):
+        """Over all stretches the numbers are those of the trace and the report, and in the last one there are as many
+        stations and kept units at a time as the report has in the end, or more."""
+        trace, report = self.long_run(5000)
+        found = self.stretches(self.shapes(trace, report, "--overview"))
+        lines = read_trace(read_text(trace))
+        for section in read_report(read_text(report)):
+            stretches = found[section.bssid.hex()]
+            ends = sorted(stretches)
+            self.assertEqual((ends[0][0], ends[-1][1]), (lines[0].number, lines[-1].number))
+            self.assertTrue(all(last + 1 == first for (_, last), (first, _) in zip(ends, ends[1:])))
+            sums = {row: sum((Counter(counts[row]) for counts in stretches.values()), Counter())
+                    for row in ("heard", "sent", "units")}
+            ticks = sum(line.kind == "T" for line in lines)
+            self.assertEqual(sums["heard"].total(), section.events - ticks)
+            self.assertEqual(sums["heard"]["unread"], section.unread)
+            self.assertEqual(sums["sent"]["on the wire"], len(section.wire))
+            self.assertEqual(sums["sent"].total(), len(section.air) + len(section.wire))
+            self.assertEqual(sums["sent"]["beacons"], ticks)
+            self.assertEqual(sums["units"]["lost"], section.lost)
+            last = stretches[ends[-1]]
+            self.assertGreaterEqual(last["stations"]["associated"],
+                                    sum(row.aid is not None for row in section.stations))
+            self.assertGreaterEqual(last["units"].get("kept", 0), section.kept)
+
+    @needs_program
+    def test_counts_of_a_part_are_those_between(self):
+        """A stretch that is drawn alone has the numbers that it had in the overview of all."""
+        trace, report = self.long_run(5000)
+        whole = self.stretches(self.shapes(trace, report, "--overview"))
+        ends = sorted(next(iter(whole.values())))[3]
+        part = self.stretches(self.shapes(trace, report, "--overview", "--from", str(ends[0]), "--to", str(ends[1])))
+        for bssid, stretches in part.items():
+            for row in ("heard", "sent"):
+                sums = sum((Counter(counts[row]) for counts in stretches.values()), Counter())
+                self.assertEqual(sums, Counter(whole[bssid][ends][row]), bssid)
+            for row, kind in (("stations", "associated"), ("stations", "dozing"), ("units", "kept")):
+                most = max(counts[row].get(kind, 0) for counts in stretches.values())
+                self.assertEqual(most, whole[bssid][ends][row].get(kind, 0), (bssid, kind))
+
+    @needs_program
+    def test_it_is_one_screen_high(self):
+        """With the words of each stretch below it and without labels that overlap, of few networks and of sixteen."""
+        trace, report = self.long_run(5000)
+        for shapes in (self.shapes(trace, report, "--overview"), self.of_sixteen("--overview")):
+            self.assertLess(float(shapes.root.get("height")), 960)
+            self.assertEqual(shapes.overlapping(), [])
+            self.assertEqual(shapes.marks(), [])
+            for first, last in sorted(next(iter(self.stretches(shapes).values()))):
+                self.assertIn(f"--from {first} --to {last}", shapes.words())
+
+    def of_sixteen(self, *words):
+        """The picture of sixteen networks of one name, in which stations ask and beacons are sent."""
+        table = long_run.NETWORK.replace("max_events = 1000000\n", "max_events = 1000000\nrelay = true\naging = true\n")
+        text = "version = 2\nchannel = 6\ninterval = 100\nqueue = 64\n" + "".join(
+            table.format(bssid=long_run.with_colons(long_run.bssid_of(place)), name="a network of a long name 32 W",
+                         dtim=1) for place in range(16))
+        text += "---\n" + f"T\n{heard('40000000', '0000 010402040b16', 'ffffffffffff')}\nT\n" * 500
+        for name, written in (("input", text), ("report", run_program(program_input=text))):
+            with open(self.path(name), "w", encoding="ascii") as file:
+                file.write(written)
+        return self.shapes(self.path("input"), self.path("report"), *words)
+
+    @needs_program
+    def test_links_lead_to_strips(self):
+        """In a long picture each stretch of each network leads to the strip in which it begins; a short picture has no
+        overview."""
+        trace, report = self.long_run(5000)
+        shapes = self.shapes(trace, report)
+        self.assertEqual(shapes.overlapping(), [])
+        strips = sorted(int(group.get("id").removeprefix("strip-")) for attributes, group in shapes.groups
+                        if attributes.get("id", "").startswith("strip-"))
+        links = list(shapes.root.iter(f"{SVG}a"))
+        self.assertEqual(len(links), sum(map(len, self.stretches(shapes).values())))
+        for link in links:
+            first = int(link.find(f"{SVG}g").get("data-stretch").split("-")[0])
+            strip = int(link.get("href").removeprefix("#strip-"))
+            self.assertEqual(strip, max(other for other in strips if other <= first))
+        self.assertEqual(self.stretches(self.of_three()), {})
+        self.assertEqual(len(self.stretches(self.of_three("--overview"))), 3)
+
+    def test_bars_are_as_high_as_their_numbers(self):
+        """Of each row the highest bar has the row's height, and each is as high as its number says."""
+        shapes = self.of_three("--overview")
+        numbers = self.stretches(shapes)
+        heights = {}
+        for group in (group for attributes, group in shapes.groups if "data-overview" in attributes):
+            ends = tuple(map(int, group.get("data-stretch").split("-")))
+            counts = numbers[group.get("data-overview")][ends]
+            kinds = {kind: number for row in counts.values() for kind, number in row.items()}
+            bars = {bar.get("data-kind"): float(bar.get("height")) for bar in group.iter(f"{SVG}rect")
+                    if bar.get("data-kind")}
+            self.assertEqual(set(bars), set(kinds))
+            for row in ("heard", "sent"):
+                for kind, number in counts[row].items():
+                    heights.setdefault((group.get("data-overview"), row), set()).add(round(bars[kind] / number, 0))
+        self.assertTrue(all(max(found) - min(found) <= 1 for found in heights.values()), heights)
+        self.assertGreater(len(heights), 4)
 
 
 class Labels(PictureTest):
@@ -503,13 +625,29 @@ class Forms(PictureTest):
 
     @needs_program
     def test_pdf_has_pages(self):
-        """A long run's PDF has several pages, its PNG is refused where it would be too high."""
+        """A long run's PDF has several pages, the first of which is the overview."""
         trace, report = self.long_run(2000)
-        with open(self.drawn(trace, report, name="x.pdf"), "rb") as file:
-            octets = file.read()
-        self.assertGreater(int(re.search(rb"/Count (\d+)", octets)[1]), 3)
+        pages = [self.pages_of(self.drawn(trace, report, *words, name="x.pdf")) for words in ([], ["--overview"])]
+        self.assertGreater(pages[0], 4)
+        self.assertEqual(pages[1], 1)
+
+    def pages_of(self, path):
+        """How many pages a PDF has."""
+        with open(path, "rb") as file:
+            return int(re.search(rb"/Count (\d+)", file.read())[1])
+
+    @needs_program
+    def test_png_that_would_be_too_high(self):
+        """It has the overview alone, and the tool says so."""
         trace, report = self.long_run(20000)
-        self.refused("picture", trace, report, "--out", self.path("x.png"), says="choose by --from and --to")
+        status, stdout, stderr = tool("picture", trace, report, "--out", self.path("x.png"))
+        self.assertEqual((status, stdout), (0, ""))
+        self.assertRegex(stderr, r"^\S*x.png: the overview alone, .* choose a part by --from and --to")
+        with Image.open(self.path("x.png")) as picture, Image.open(
+                self.drawn(trace, report, "--overview", name="y.png")) as alone:
+            self.assertEqual(picture.size, alone.size)
+            self.assertEqual(picture.tobytes(), alone.tobytes())
+            self.assertLess(picture.height, 960)
 
     def test_page(self):
         """The page needs nothing from elsewhere, has the picture, and of each line its octets field by field."""

@@ -2,8 +2,9 @@
 import os
 import unittest
 
+import long_run
 from browser import Browser, needs_chromium
-from common import THREE, ToolTest, tool
+from common import THREE, ToolTest, needs_program, run_program, tool
 
 TOLD = "document.getElementById('lines').innerText"
 
@@ -71,6 +72,42 @@ class Asked(ToolTest):
         self.assertEqual(self.browser.value(ask.format("02:aa:00:00:00:99")), "nothing found")
         self.assertEqual(self.browser.value("document.querySelectorAll('g.asked').length"), 1)
         self.assertEqual(self.browser.faults, [])
+
+
+@needs_chromium
+class Long(ToolTest):
+    """The page of a long run."""
+
+    @needs_program
+    def test_overview_leads_to_the_strips(self):
+        """A click on a stretch of the overview shows its strip, and there is a way back. What it counts is told of the
+        stretch that is pointed at."""
+        text = f"{long_run.config()}---\n{long_run.trace(3000)}"
+        for name, written in (("input", text), ("report", run_program(program_input=text))):
+            with open(self.path(name), "w", encoding="ascii") as file:
+                file.write(written)
+        told = tool("picture", self.path("input"), self.path("report"), "--out", self.path("long.html"))
+        self.assertEqual(told, (0, "", ""))
+        browser = Browser()
+        self.addCleanup(browser.close)
+        for width, height in ((1500, 950), (1000, 900)):
+            browser.size(width, height)
+            browser.open(f"file://{self.path('long.html')}")
+            for place in (7, 20, 11):
+                link = f"document.querySelectorAll('#picture a')[{place}]"
+                browser.value(f"{link}.querySelector('g').dispatchEvent(new MouseEvent('mouseover', "
+                              "{ bubbles: true })); 0")
+                self.assertRegex(browser.value(TOLD), r"lines \d+ to \d+[^$]*heard\s[^$]*stations")
+                browser.value(f"{link}.dispatchEvent(new MouseEvent('click', "
+                              "{ bubbles: true, cancelable: true })); 0")
+                browser.wait(f"location.hash === {link}.getAttribute('href')")
+                top, bottom = browser.value("(box => [box.top, box.bottom])(document.querySelector(location.hash)"
+                                            ".getBoundingClientRect())")
+                window = browser.value("document.getElementById('picture').clientHeight")
+                self.assertTrue(-5 <= top < window / 2 and bottom > 0, (width, place, top, bottom))
+                browser.value("document.querySelector('#told a').click(); 0")
+                browser.wait("document.getElementById('picture').scrollTop < 40")
+        self.assertEqual(browser.faults, [])
 
 
 if __name__ == "__main__":

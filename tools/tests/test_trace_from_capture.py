@@ -288,8 +288,8 @@ class Beacons(ToolTest):
         self.assertEqual((network["ssid"], network["rates"], network["dtim"]), ("guest", "82848b", 3))
 
     def test_as_many_networks_as_there_may_be(self):
-        """Of nine and of sixteen networks that beacon, that are named, or that a configuration has, a trace is made; and a
-        configuration of version 2, which says how they are in version 1."""
+        """Of nine and of sixteen networks that beacon, that are named, or that a configuration has, a trace is made,
+        and a configuration of version 2, which says how they are in version 1."""
         for count in (8, 9, 16):
             config = self.config(beacons_of(count))
             self.assertEqual((config["version"], len(config["network"])), (1 if count == 8 else 2, count))

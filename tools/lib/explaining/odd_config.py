@@ -26,8 +26,8 @@ def of_names(config: Config) -> list[Finding]:
     named: dict[str, list[tuple[int, NetworkTable]]] = {}
     for place, network, name in texts_of(config, "ssid"):
         named.setdefault(name, []).append((place, network))
-    return [Finding(f"the networks {', '.join(str(place) for place, _ in same)} have one SSID, {quoted(name)}: stations "
-                    "take them for one network, and join any", config.place(same[1][1].entries["ssid"].value),
+    return [Finding(f"the networks {', '.join(str(place) for place, _ in same)} have one SSID, {quoted(name)}: "
+                    "stations take them for one network, and join any", config.place(same[1][1].entries["ssid"].value),
                     "give each an SSID of its own, unless this is meant")
             for name, same in named.items() if len(same) > 1]
 

@@ -158,7 +158,8 @@ def of_other_networks(to_one: list[Line], hearings: list[Hearing], traces: list[
     bssids = ", ".join(address_text(hearing.section.bssid) for hearing in hearings)
     return Finding(f"no frame of this trace is to a network of this configuration: its BSSIDs are {bssids}",
                    place_of(traces, to_one[0]),
-                   f"the trace's frames are to {to}" if to else f"the trace's frames have fewer than {LEAST_LEN} octets")
+                   f"the trace's frames are to {to}" if to else
+                   f"the trace's frames have fewer than {LEAST_LEN} octets")
 
 
 def receivers_text(frames: Iterable[Line]) -> str:
@@ -194,7 +195,7 @@ def of_ethernet(frames: list[Line], hearings: list[Hearing], traces: list[Source
     if not wired:
         return []
     bssid = address_text(hearings[0].section.bssid)
-    return [Finding(f"{frames_text(len(wired))} behind `A`, for what was heard on the air, begin as Ethernet frames do, "
+    return [Finding(f"{frames_text(len(wired))} behind `A`, for what was heard on the air, begin as Ethernet's do: "
                     "with two addresses and a type", place_of(traces, wired[0]),
                     f"a frame that came over the wire of a network stands behind `W` and its BSSID, as `W {bssid}`")]
 

@@ -1,0 +1,277 @@
+"""An overview of a long run, one screen high: for each network and stretch of time how many frames of which kind it
+heard and sent, how many stations it had, and how many units it kept and lost."""
+import bisect
+import math
+from collections import Counter
+from dataclasses import dataclass, field
+from typing import NamedTuple
+
+from colours import BLUE, DARK, GREEN, GREY, GRID, LIGHT, LILAC, ORANGE, PALE, PURPLE, RED, STATES, YELLOW
+from frames import BEACON, DATA, Frame
+from story import ASSOCIATED, DATA_FRAMES, DOZING, FROM_WIRE, POLLS, REQUESTS, UNREAD
+from svg import text_width
+
+WIDTH, MARGIN, LEFT = 1000, 12, 230
+BODY = WIDTH - LEFT - MARGIN
+SCREEN, MOST_STRETCHES, MOST_SHARE = 880, 40, 4
+HEAD, TEXT, SMALL, LEAST = 13, 10.5, 9.5, 8
+AXIS, GAP, MOST_BLOCK, NAME_WIDTH = 16, 7, 220, 120
+# A lower network has rows that are all of one height.
+LOW = 70
+BEACONS, ANSWERS, UNITS, ON_WIRE = "beacons", "answers", "units", "on the wire"
+AWAKE, KEPT, LOST = "associated", "kept", "lost"
+# The rows of a network: what each counts, of which kinds in which colours, and how high it is beside the others.
+ROWS = (("heard", ((REQUESTS, PURPLE), (DATA_FRAMES, BLUE), (POLLS, STATES[DOZING]), (FROM_WIRE, GREEN),
+                   (UNREAD, LIGHT)), 3),
+        ("sent", ((BEACONS, GREY), (ANSWERS, LILAC), (UNITS, YELLOW), (ON_WIRE, GREEN)), 3),
+        ("stations", ((AWAKE, STATES[ASSOCIATED]), (DOZING, STATES[DOZING])), 2),
+        ("units", ((KEPT, ORANGE), (LOST, RED)), 2))
+
+
+class Stretch(NamedTuple):
+    """Some lines of the trace, in which column they stand, and from when on."""
+
+    column: int
+    first: int
+    last: int
+    time: str
+
+
+@dataclass
+class Counts:
+    """What a network did in a stretch: of each row of the overview how many of which kind."""
+
+    heard: Counter = field(default_factory=Counter)
+    sent: Counter = field(default_factory=Counter)
+    stations: Counter = field(default_factory=Counter)
+    units: Counter = field(default_factory=Counter)
+
+    def text(self):
+        """All of it, in words."""
+        rows = [(name, getattr(self, name), kinds) for name, kinds, _ in ROWS]
+        said = [f"{name}: " + (", ".join(f"{counts[kind]} {kind}" for kind, _ in kinds if counts[kind]) or "none")
+                for name, counts, kinds in rows]
+        return "; ".join(said)
+
+
+def step_of(length, most):
+    """The least of 1, 2, 5, 10 and so on, or a thousandth of these, that a length has at most so many times."""
+    exponent = -3
+    while True:
+        for digit in (1, 2, 5):
+            if length <= digit * 10.0 ** exponent * most:
+                return digit * 10.0 ** exponent
+        exponent += 1
+
+
+def stretches_of(lines, clock):
+    """Lines as at most 41 stretches, and how long each is, in words: of the same time where no stretch has more than a
+    fourth of all lines then, else of the same number of lines."""
+    if clock.is_known and clock.length(lines) > 0:
+        step = step_of(clock.length(lines), MOST_STRETCHES)
+        begins = math.floor(clock.seconds[lines[0].number] / step + 1e-9)
+        found = {}
+        for line in lines:
+            found.setdefault(math.floor(clock.seconds[line.number] / step + 1e-9) - begins, []).append(line)
+        if MOST_SHARE * max(map(len, found.values())) <= len(lines):
+            return [stretch_of(column, group, f"{(begins + column) * step:g}") for column, group in found.items()], (
+                f"{step:g} s")
+    step = max(1, round(step_of(len(lines), MOST_STRETCHES)))
+    groups = [lines[at:at + step] for at in range(0, len(lines), step)]
+    return [stretch_of(column, group, clock.text(group[0])) for column, group in enumerate(groups)], f"{step} lines"
+
+
+def stretch_of(column, lines, time):
+    """A stretch of these lines."""
+    return Stretch(column, lines[0].number, lines[-1].number, time)
+
+
+def counts_of(lane, stretches):
+    """What a network did in each stretch."""
+    found = [Counts() for _ in stretches]
+    lasts = [stretch.last for stretch in stretches]
+    for number, row, kind in happenings(lane):
+        place = bisect.bisect_left(lasts, number)
+        if place < len(stretches) and stretches[place].first <= number:
+            getattr(found[place], row)[kind] += 1
+    together = [span for span in lane.spans if span.state in (ASSOCIATED, DOZING)]
+    levels = {("stations", AWAKE): together, ("stations", DOZING): [span for span in together if span.state == DOZING],
+              ("units", KEPT): lane.keepings}
+    for (row, kind), spans in levels.items():
+        for counts, most in zip(found, most_at_once(spans, stretches)):
+            getattr(counts, row)[kind] = most
+    return found
+
+
+def happenings(lane):
+    """All that a network heard, sent and lost: triples of the line, the row of the overview, and the kind."""
+    story, chosen = lane.story, lane.chosen
+    for heard in story.heard:
+        if not chosen or heard.whom in chosen:
+            yield heard.line, "heard", heard.kind
+    for number, octets in story.frames:
+        if not chosen or octets[4:10] in chosen:
+            frame = Frame(octets)
+            kind = BEACONS if frame.is_management(BEACON) else UNITS if frame.type == DATA else ANSWERS
+            yield number, "sent", kind
+    for number, octets in story.wires:
+        if not chosen or octets[6:12] in chosen:
+            yield number, "sent", ON_WIRE
+    for marks in lane.marks.values():
+        for mark in marks:
+            if mark.what == "lost":
+                yield mark.line, "units", LOST
+
+
+def most_at_once(spans, stretches):
+    """Of things that hold from one line up to another how many there were at most at a time, in each stretch."""
+    changes = Counter()
+    for span in spans:
+        changes[span.begins] += 1
+        if span.ends is not None:
+            changes[span.ends] -= 1
+    steps, at, level, found = sorted(changes.items()), 0, 0, []
+    for stretch in stretches:
+        while at < len(steps) and steps[at][0] < stretch.first:
+            level, at = level + steps[at][1], at + 1
+        most = level
+        while at < len(steps) and steps[at][0] <= stretch.last:
+            level, at = level + steps[at][1], at + 1
+            most = max(most, level)
+        found.append(most)
+    return found
+
+
+class Overview:
+    """The overview of some lines in the networks of these lanes."""
+
+    def __init__(self, lanes, lines, clock):
+        self.lanes, self.clock = lanes, clock
+        self.stretches, self.each = stretches_of(lines, clock)
+        self.counts = [counts_of(lane, self.stretches) for lane in lanes]
+        self.wide = BODY / (self.stretches[-1].column + 1)
+        self.words_height = max(text_width(words_of(stretch), LEAST) for stretch in self.stretches) + 8
+
+    def draw(self, canvas, y, title, link_of=None):
+        """Draws it from this height on, and answers where it ends. `link_of` gives what a stretch leads to."""
+        begun = y
+        canvas.text(MARGIN, y + HEAD, title, HEAD, weight="bold")
+        leads = "a click on it leads there" if link_of else "draw it by the words below it"
+        canvas.text(MARGIN, y + HEAD + 17, f"Overview: a column is {self.each} of the trace; {leads}", TEXT)
+        y = self.legend(canvas, y + HEAD + 27)
+        self.axis(canvas, y)
+        y += AXIS
+        room = SCREEN - (y - begun) - self.words_height
+        block = min(MOST_BLOCK, room / len(self.lanes)) - GAP
+        for lane, counts in zip(self.lanes, self.counts):
+            self.block(canvas, y, block, lane, counts, link_of)
+            y += block + GAP
+        self.words(canvas, y)
+        return y + self.words_height
+
+    def legend(self, canvas, y):
+        """What the colours mean: those that occur."""
+        x = float(MARGIN)
+        for row, kinds, _ in ROWS:
+            used = [(kind, colour) for kind, colour in kinds
+                    if any(getattr(counts, row)[kind] for network in self.counts for counts in network)]
+            width = sum(text_width(kind, SMALL) + 26 for kind, _ in used) + text_width(row, SMALL, "bold") + 16
+            if x > MARGIN and x + width > WIDTH - MARGIN:
+                x, y = float(MARGIN), y + 17
+            canvas.text(x, y + 10, row, SMALL, weight="bold")
+            x += text_width(row, SMALL, "bold") + 8
+            for kind, colour in used:
+                canvas.rectangle(x, y + 2, 11, 9, colour)
+                canvas.text(x + 15, y + 10, kind, SMALL)
+                x += text_width(kind, SMALL) + 26
+            x += 8
+        return y + 21
+
+    def left(self, stretch):
+        """Where a stretch begins."""
+        return LEFT + self.wide * stretch.column
+
+    def axis(self, canvas, y):
+        """When stretches begin, as many as have room."""
+        canvas.text(LEFT - 6, y + 11, self.clock.name if self.clock.is_known else "", SMALL, anchor="end", fill=PALE)
+        free = 0.0
+        for stretch in self.stretches:
+            x = self.left(stretch)
+            end = x + text_width(stretch.time, SMALL)
+            if x >= free and end <= WIDTH - 2:
+                canvas.text(x, y + 11, stretch.time, SMALL)
+                free = end + 6
+
+    def block(self, canvas, y, height, lane, counts, link_of):
+        """One network: its names, and of each row a bar for each stretch."""
+        canvas.line(MARGIN, y, WIDTH - MARGIN, y, GRID)
+        size = TEXT if height >= LOW else SMALL
+        name = shortened(lane.section.name, size)
+        canvas.text(MARGIN, y + 11, name, size, weight="bold")
+        canvas.text(MARGIN, y + 22, lane.section.bssid.hex(":"), LEAST, fill=PALE)
+        rows = self.rows(canvas, y + 2, height - 2, counts)
+        for stretch, each in zip(self.stretches, counts):
+            with canvas.link(link_of(stretch) if link_of else ""):
+                self.cell(canvas, y + 2, height - 2, lane, stretch, each, rows)
+
+    def rows(self, canvas, top, height, counts):
+        """The names of a network's rows, with the most of each: where each row stands, and how high it is."""
+        weights = [weight if height >= LOW else 1 for _, _, weight in ROWS]
+        found = []
+        for (row, kinds, _), weight in zip(ROWS, weights):
+            room, most = height * weight / sum(weights), max(height_of(row, each) for each in counts)
+            found.append((row, kinds, most, top, room - 2))
+            label = f"{row}, up to {most:,}" if most else f"{row}: none"
+            canvas.text(LEFT - 6, top + room - 3, label, SMALL if height >= LOW else LEAST, anchor="end", fill=PALE)
+            canvas.line(LEFT, top + room - 2, WIDTH - MARGIN, top + room - 2, GRID)
+            top += room
+        return found
+
+    def cell(self, canvas, y, height, lane, stretch, counts, rows):
+        """What one network did in one stretch."""
+        time = f", from {stretch.time} s on" if stretch.time else ""
+        title = f"{lane.name}, lines {stretch.first} to {stretch.last}{time}: {counts.text()}"
+        with canvas.group(title, data_overview=lane.section.bssid.hex(),
+                          data_stretch=f"{stretch.first}-{stretch.last}"):
+            x = self.left(stretch)
+            canvas.rectangle(x, y, self.wide, height, "white", fill_opacity=0.01)
+            for row, kinds, most, top, room in rows:
+                self.bars(canvas, x, top, room, getattr(counts, row), kinds, most, row in ("heard", "sent"))
+
+    def bars(self, canvas, x, top, room, counts, kinds, most, is_stacked):
+        """The bar of a row: kinds above each other, or each from the ground, narrower than the one before."""
+        below = 0
+        for place, (kind, colour) in enumerate(kinds):
+            if counts[kind]:
+                high = room * counts[kind] / most
+                inset = 1 + (0 if is_stacked else place * self.wide / 4)
+                ground = top + room - (room * below / most if is_stacked else 0)
+                wide = max(self.wide - 2 * inset, 1.5)
+                canvas.rectangle(x + inset, ground - high, wide, high, colour, data_kind=kind)
+                below += counts[kind]
+
+    def words(self, canvas, y):
+        """Below each stretch the words that draw it alone."""
+        for stretch in self.stretches:
+            x = self.left(stretch) + self.wide / 2 + LEAST * 0.35
+            canvas.text(x, y + 4, words_of(stretch), LEAST, anchor="end", fill=DARK, upright=True)
+
+
+def words_of(stretch):
+    """The words that draw a stretch alone."""
+    return f"--from {stretch.first} --to {stretch.last}"
+
+
+def height_of(row, counts):
+    """How high the bar of a row is in a stretch."""
+    kinds = getattr(counts, row)
+    return sum(kinds.values()) if row in ("heard", "sent") else max(kinds.values(), default=0)
+
+
+def shortened(name, size):
+    """As much of a name as has room."""
+    if text_width(name, size, "bold") <= NAME_WIDTH:
+        return name
+    while text_width(f"{name}…", size, "bold") > NAME_WIDTH:
+        name = name[:-1]
+    return f"{name}…"
