@@ -1,9 +1,12 @@
 """Tests of .ci/documents: each thing that a document can name wrongly is found, in a small repository of its own."""
 import os
+import re
 import shutil
 import subprocess
+import tomllib
 
-from common import ROOT, ToolTest
+from common import ROOT, ToolTest, needs_program, run_program
+from texts import read_text
 
 FILES = {
     "CHANGELOG.md": "# Changes\n\n## 0.3.1\n",
@@ -93,3 +96,26 @@ class Documents(ToolTest):
         self.assertEqual(self.found("--fix")[0], 0)
         with open(self.path("docs/PROMISES.md"), encoding="utf-8") as file:
             self.assertIn("There are 3 wrong bodies of `wrong/`.", file.read())
+
+class Readme(ToolTest):
+    """The configurations that README.md shows."""
+
+    def configs(self):
+        """Each of them, without the trace that may follow."""
+        blocks = re.findall(r"^```\n(version = .*?)^```$", read_text(os.path.join(ROOT, "README.md")), re.DOTALL | re.M)
+        return [block.split("---\n")[0] for block in blocks]
+
+    def test_guests_are_kept_apart(self):
+        """There is one of a network for guests, which are kept apart and whose units age."""
+        networks = [network for config in map(tomllib.loads, self.configs()) if config["version"] == 2
+                    for network in config["network"]]
+        self.assertIn((False, True), [(network["relay"], network["aging"]) for network in networks])
+
+    @needs_program
+    def test_program_takes_them(self):
+        """The program finds no fault in any."""
+        self.assertGreater(len(self.configs()), 1)
+        for config in self.configs():
+            with open(self.path("my.toml"), "w", encoding="ascii") as file:
+                file.write(config)
+            self.assertEqual(run_program("check", self.path("my.toml")), f"ok {config.count('[[network]]')}\n")
