@@ -156,7 +156,7 @@ class Overview:
         """Draws it from this height on, and answers where it ends. `link_of` gives what a stretch leads to."""
         begun = y
         canvas.text(MARGIN, y + HEAD, title, HEAD, weight="bold")
-        leads = "a click on it leads there" if link_of else "draw it by the words below it"
+        leads = "a click on it leads there" if link_of else "the words below it draw it alone"
         canvas.text(MARGIN, y + HEAD + 17, f"Overview: a column is {self.each} of the trace; {leads}", TEXT)
         y = self.legend(canvas, y + HEAD + 27)
         self.axis(canvas, y)

@@ -67,7 +67,7 @@ function show(first, last) {{
 }}
 function count(group) {{
   told.replaceChildren();
-  for (const words of group.querySelector("title").textContent.split(/[:;] /)) add(told, "p", words);
+  for (const words of group.querySelector("title").textContent.split(/; |: (?=heard)/)) add(told, "p", words);
 }}
 function range(group) {{
   const words = (group.dataset.lines || group.dataset.span).split("-").map(Number);

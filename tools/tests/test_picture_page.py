@@ -97,7 +97,7 @@ class Long(ToolTest):
                 link = f"document.querySelectorAll('#picture a')[{place}]"
                 browser.value(f"{link}.querySelector('g').dispatchEvent(new MouseEvent('mouseover', "
                               "{ bubbles: true })); 0")
-                self.assertRegex(browser.value(TOLD), r"lines \d+ to \d+[^$]*heard\s[^$]*stations")
+                self.assertRegex(browser.value(TOLD), r"lines \d+ to \d+, from [^$]*\nheard: \d[^$]*\nstations: \d")
                 browser.value(f"{link}.dispatchEvent(new MouseEvent('click', "
                               "{ bubbles: true, cancelable: true })); 0")
                 browser.wait(f"location.hash === {link}.getAttribute('href')")
