@@ -19,12 +19,12 @@ AXIS, GAP, MOST_BLOCK, NAME_WIDTH = 16, 7, 220, 120
 # A lower network has rows that are all of one height.
 LOW = 70
 BEACONS, ANSWERS, UNITS, ON_WIRE = "beacons", "answers", "units", "on the wire"
-AWAKE, KEPT, LOST = "associated", "kept", "lost"
+KEPT, LOST = "kept", "lost"
 # The rows of a network: what each counts, of which kinds in which colours, and how high it is beside the others.
 ROWS = (("heard", ((REQUESTS, PURPLE), (DATA_FRAMES, BLUE), (POLLS, STATES[DOZING]), (FROM_WIRE, GREEN),
                    (UNREAD, LIGHT)), 3),
         ("sent", ((BEACONS, GREY), (ANSWERS, LILAC), (UNITS, YELLOW), (ON_WIRE, GREEN)), 3),
-        ("stations", ((AWAKE, STATES[ASSOCIATED]), (DOZING, STATES[DOZING])), 2),
+        ("stations", ((ASSOCIATED, STATES[ASSOCIATED]), (DOZING, STATES[DOZING])), 2),
         ("units", ((KEPT, ORANGE), (LOST, RED)), 2))
 
 
@@ -67,18 +67,32 @@ def step_of(length, most):
 def stretches_of(lines, clock):
     """Lines as at most 41 stretches, and how long each is, in words: of the same time where no stretch has more than a
     fourth of all lines then, else of the same number of lines."""
-    if clock.is_known and clock.length(lines) > 0:
-        step = step_of(clock.length(lines), MOST_STRETCHES)
-        begins = math.floor(clock.seconds[lines[0].number] / step + 1e-9)
-        found = {}
-        for line in lines:
-            found.setdefault(math.floor(clock.seconds[line.number] / step + 1e-9) - begins, []).append(line)
-        if MOST_SHARE * max(map(len, found.values())) <= len(lines):
-            return [stretch_of(column, group, f"{(begins + column) * step:g}") for column, group in found.items()], (
-                f"{step:g} s")
+    length = clock.length(lines) if clock.is_known else 0
+    if length > 0:
+        step = step_of(length, MOST_STRETCHES)
+        columns = by_time(lines, clock, step)
+        if MOST_SHARE * max(map(len, columns.values())) <= len(lines):
+            begins = column_at(lines[0], clock, step)
+            return [stretch_of(column - begins, group, f"{column * step:.10g}")
+                    for column, group in columns.items()], f"{step:g} s"
     step = max(1, round(step_of(len(lines), MOST_STRETCHES)))
     groups = [lines[at:at + step] for at in range(0, len(lines), step)]
-    return [stretch_of(column, group, clock.text(group[0])) for column, group in enumerate(groups)], f"{step} lines"
+    return [stretch_of(column, group, clock.text(group[0])) for column, group in enumerate(groups)], (
+        "1 line" if step == 1 else f"{step} lines")
+
+
+def column_at(line, clock, step):
+    """In which of the columns of some seconds, from that of the second 0 on, a line stands."""
+    return math.floor(clock.seconds[line.number] / step + 1e-9)
+
+
+def by_time(lines, clock, step):
+    """The lines of each column of some seconds; one whose time is before that of the line before stands with that."""
+    columns, last = {}, -math.inf
+    for line in lines:
+        last = max(last, column_at(line, clock, step))
+        columns.setdefault(last, []).append(line)
+    return columns
 
 
 def stretch_of(column, lines, time):
@@ -95,8 +109,8 @@ def counts_of(lane, stretches):
         if place < len(stretches) and stretches[place].first <= number:
             getattr(found[place], row)[kind] += 1
     together = [span for span in lane.spans if span.state in (ASSOCIATED, DOZING)]
-    levels = {("stations", AWAKE): together, ("stations", DOZING): [span for span in together if span.state == DOZING],
-              ("units", KEPT): lane.keepings}
+    levels = {("stations", ASSOCIATED): together, ("units", KEPT): lane.keepings,
+              ("stations", DOZING): [span for span in together if span.state == DOZING]}
     for (row, kind), spans in levels.items():
         for counts, most in zip(found, most_at_once(spans, stretches)):
             getattr(counts, row)[kind] = most
@@ -175,6 +189,8 @@ class Overview:
         for row, kinds, _ in ROWS:
             used = [(kind, colour) for kind, colour in kinds
                     if any(getattr(counts, row)[kind] for network in self.counts for counts in network)]
+            if not used:
+                continue
             width = sum(text_width(kind, SMALL) + 26 for kind, _ in used) + text_width(row, SMALL, "bold") + 16
             if x > MARGIN and x + width > WIDTH - MARGIN:
                 x, y = float(MARGIN), y + 17

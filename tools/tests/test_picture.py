@@ -10,10 +10,12 @@ from typing import NamedTuple
 import long_run
 from common import (CASES, DEVICES, GUEST, OFFICE, PROGRAM, ROOT, THREE, ToolTest, heard, input_of, needs_program,
                     report_of, run_program, tool, with_report)
+from columns import Clock
 from fields import fields_on_air, fields_on_wire
+from overview import stretches_of
 from PIL import Image, ImageFont
 from story import stories
-from texts import read_config, read_report, read_text, read_trace
+from texts import Line, Origin, read_config, read_report, read_text, read_trace
 
 STORED = os.path.join(ROOT, "docs", "three_networks.svg")
 SVG = "{http://www.w3.org/2000/svg}"
@@ -120,6 +122,11 @@ def ends_of(group):
     bar = group.find(f"{SVG}rect")
     x, y, width, height = (float(bar.get(name)) for name in ("x", "y", "width", "height"))
     return x, x + width, y + height / 2
+
+
+def numbers_of(stretches):
+    """The numbers of all lines of some stretches."""
+    return [number for stretch in stretches for number in range(stretch.first, stretch.last + 1)]
 
 
 class PictureTest(ToolTest):
@@ -467,6 +474,30 @@ class Overviews(PictureTest):
             ends = tuple(map(int, group.get("data-stretch").split("-")))
             found.setdefault(group.get("data-overview"), {})[ends] = counts
         return found
+
+    def test_stretches(self):
+        """They are of the same time, or of the same number of lines where one would have more than a fourth of all, and
+        have all lines in order."""
+        ticks = [Line(number, "T", None, b"") for number in range(1, 1001)]
+        frames = [Line(number, "A", None, bytes(10)) for number in range(1, 1001)]
+        cases = [(ticks, 100, "5 s", 21), (frames, 100, "50 lines", 20), (ticks, 0, "50 lines", 20),
+                 ([*frames[:900], *ticks[900:]], 100, "50 lines", 20), (ticks[:7], 0, "1 line", 7)]
+        for lines, interval, each, count in cases:
+            stretches, said = stretches_of(lines, Clock(lines, {}, interval))
+            self.assertEqual((said, [stretch.column for stretch in stretches]), (each, list(range(count))))
+            self.assertEqual(numbers_of(stretches), [line.number for line in lines])
+
+    def test_clocks_that_go_back(self):
+        """A line whose time is before that of the line before stands in the same stretch."""
+        frames = [Line(number, "A", None, bytes(10)) for number in range(1, 1001)]
+        origins = {line.number: Origin(line.number, line.number / 10 - 30 * (line.number % 100 == 1))
+                   for line in frames}
+        stretches, said = stretches_of(frames, Clock(frames, origins, 0))
+        self.assertEqual(said, "5 s")
+        self.assertEqual(numbers_of(stretches), [line.number for line in frames])
+        columns = [stretch.column for stretch in stretches]
+        self.assertEqual(columns, sorted(set(columns)))
+        self.assertEqual(columns[0], 0)
 
     @needs_program
     def test_counts_are_those_of_the_run(self):

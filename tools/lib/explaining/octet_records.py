@@ -1,11 +1,13 @@
 """What a fault of a record of `live --octets` comes of (docs/PROTOCOL.md, "Lines as they come")."""
+import re
+
 from explaining.answers import Fault, read_fault
 from explaining.source import Finding, quoted
 from frames import address_text
 from records import HEADER_LEN, NOBODY, TOLD, cut, parts
 
 KINDS, MOST_OCTETS = b"AWTI", 4096
-TEXT = (b"A ", b"W ", b"T\n", b"T\r", b"I\n", b"I\r", b"#")
+TEXT_LINE = re.compile(rb"(?:[AW] +[0-9A-Fa-f: ]{4,}|T|I|#[^\n]*)\r?\n")
 
 
 def faults_of(output: bytes) -> list[Fault]:
@@ -17,7 +19,7 @@ def faults_of(output: bytes) -> list[Fault]:
 
 def explain(given: bytes, fault: Fault, bssids: list[str]) -> list[Finding]:
     """The reason for a fault of a record; none where nothing was found."""
-    if given.startswith(TEXT):
+    if TEXT_LINE.match(given):
         return [Finding("standard input is text, and `live --octets` reads records", None,
                         "leave `--octets` out: `live CONFIG` reads lines")]
     whole, rest = cut(given)
