@@ -14,7 +14,7 @@ ghost use Rattle.stations.specs.Slots.{stations_in, IsAt, AreFound, IsListed, Ma
 ghost use Rattle.stations.specs.Slots.{with_places};
 
 use crate::address_key::AddressKey;
-use crate::order::{Order, station_in};
+use crate::order::{Order, place_in, station_in};
 use crate::table::{StationState, with_mode};
 use address_hash::AddressHashes;
 use indexmap::IndexMap;
@@ -258,15 +258,18 @@ fn close_up(index: &mut Index, slots: &mut Vec<Slot>, order: &mut Order)
     order.number(slots.len());
 }
 
-/// Tells an index the place in a row of each slot that it has, which is found by halves. It asks for no hash.
+/// Tells an index the place in a row of each slot that it has. It asks for no hash.
 fn mend(index: &mut Index, row: &[usize])
     requires rising { Rises 0 row.now }
     requires listed { AreIn row.now index.old.entries }
     ensures { index.new.entries ≡ with_places row.now index.old.entries }
 {
+    let mut next = 0;
     for at in 0..index.len() {
-        let place = row.binary_search(&index[at]).unwrap();
+        let place = place_in(row, index[at], next);
         index[at] = place;
+        // many entries stand in the order of their slots
+        next = place + 1;
     }
 }
 

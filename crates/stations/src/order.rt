@@ -3,8 +3,8 @@
 ghost use Rattle.std.specs.Prelude.{◌≡◌, ◌<◌, ◌≤◌, ◌+◌, ◌-◌, ◌^◌, ◌++◌, ◌∷◌, ◌↔◌, [], ℕ, List, length, is_some, slice_get};
 ghost use Rattle.std.specs.Prelude.{filter, insert, min, take, vec_len, vec_capacity, IsTrue, Some, OnOk};
 ghost use Rattle.std.specs.List.{range_with_len};
-ghost use Rattle.stations.specs.Slots.{Slots, slot_at, stations_in, holes_from, past, with_place, EndsWith, IsListed};
-ghost use Rattle.stations.specs.Slots.{MayList, TakesOut};
+ghost use Rattle.stations.specs.Slots.{Slots, slot_at, stations_in, holes_from, past, with_place, Rises, place_in};
+ghost use Rattle.stations.specs.Slots.{EndsWith, IsListed, MayList, TakesOut};
 
 use crate::list::Slot;
 use crate::table::StationState;
@@ -19,13 +19,13 @@ const FEW_SLOTS: usize = 16;
 
 /// The slots that have a station, in their order.
 ///
-/// They stand in a row, once there are more than a few. Where a station leaves, its slot stays in the row and its place
-/// there is noted as gone; where too many are gone, all are taken out of the row at once, from the first of them on. So
-/// no more moves than what stands after one that left, and that once for all that are gone. A place among the stations
-/// is found by a search of the few that are gone.
+/// They stand in a row, once there are more than a few. Where the station of the last slot leaves, the slot leaves the
+/// row. Where another does, its slot stays in the row and its place there is noted as gone; where too many are gone, all
+/// are taken out of the row at once, from the first of them on. So no more moves than what stands after one that left,
+/// and that once for all that are gone. A place among the stations is found by a search of the few that are gone.
 #[derive(Drop)]
 pub(crate) struct Order {
-    // the slots, in ascending order, as long as no place is gone those that have a station; none where they are few
+    // in ascending order, the slots that have a station and those whose places here are gone; none where they are few
     pub(crate) row: Vec<usize>,
     // the places in the row whose slots have no station any more, in ascending order
     pub(crate) gone: Vec<usize>,
@@ -238,6 +238,29 @@ fn past(gone: &[usize], place: usize) -> usize
         }
     }
     place + low
+}
+
+/// The place in a row, which rises, of a slot that stands in it: this one, or else it is found by halves.
+pub(crate) fn place_in(row: &[usize], slot: usize, guess: usize) -> usize
+    requires rising { Rises 0 row.now }
+    requires there { slice_get row.now (place_in row.now slot) ≡ Some slot }
+    ensures place { result ≡ place_in row.now slot }
+    ensures within { result < length row.now }
+{
+    if stands_at(row, slot, guess) {
+        return guess;
+    }
+    row.binary_search(&slot).unwrap()
+}
+
+/// Whether a slot stands at a place in a row.
+fn stands_at(row: &[usize], slot: usize, place: usize) -> bool
+    ensures { IsTrue result → slice_get row.now place ≡ Some slot }
+{
+    match row.get(place) {
+        Some(listed) => *listed == slot,
+        None => false,
+    }
 }
 
 /// Moves the slots that have a station to the front of a row, from a place on, before which each has one, and answers
