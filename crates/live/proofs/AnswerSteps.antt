@@ -1,6 +1,6 @@
 -- What is said is answered, one after the other.
 use Rattle.std.specs.Prelude.{◌⊎◌}
-use Rattle.std.proofs.Common.{inl, inr, ◌≡◌, ℕ, ◌+◌, ◌≤◌, ◌<◌, ◌^◌, List, [], ◌∷◌, ◌++◌, Option, Some, None, Result, Ok, Err, map, refl, sym, ap, subst, ◌∙◌, arith, append-nil, get_or, length, suc, zero, take, drop, take_at}
+use Rattle.std.proofs.Common.{inl, inr, ◌≡◌, ℕ, ◌+◌, ◌≤◌, ◌<◌, ◌^◌, List, [], ◌∷◌, ◌++◌, Option, Some, None, Result, Ok, Err, map, refl, sym, ap, subst, ◌∙◌, arith, append-nil, get_or, length, suc, zero, take, drop, take_at, codes}
 use Rattle.std.specs.List.{AllByRecursion}
 use Rattle.network.specs.NetworkView.{NetworkState, new_network}
 use Rattle.ap_config.specs.declared.config.NetConfig.{NetConfig}
@@ -12,18 +12,20 @@ use Rattle.trace.specs.Buffers.{CanWrite, Puts}
 use Rattle.trace.specs.declared.fault.LineFault.{LineFault}
 use Rattle.trace.specs.declared.report.buffer.Buffered.{Buffered}
 use Rattle.trace.proofs.BufferSteps.{Puts-then, Puts-nothing, Puts-same}
-use Rattle.trace.specs.declared.fault.LineFault.TheVariants.{NotHexadecimal}
-use Rattle.live_answers.specs.Asked.{Asked, HasFault, ForTables, Says}
+use Rattle.trace.specs.Texts.{ended}
+use Rattle.live_answers.specs.AnswerText.{fault_words}
+use Rattle.live_answers.specs.Asked.{Asked, HasFault, ForTables, Brings, Says}
 use Rattle.live_answers.specs.Answers.{Answer, MayAnswer, after_line_from, after_answer, Answers, Faulty, Replies, Unread}
 use Rattle.live_answers.specs.Dispatch.{event_at, line_as}
 use Rattle.live_answers.specs.Moments.{Moment, one_line_more, bssid_of, bssids_at, Reply, taken_if, after_if}
 use Rattle.live.specs.Networks.{IsMoment}
 use Rattle.live.specs.Output.{AreAnswered, through, watch}
-use Rattle.live.specs.Readings.{IsReading}
+use Rattle.live.specs.Readings.{IsReading, IsUnread}
 use Rattle.live.specs.Written.{written_answer}
 use Rattle.live.specs.declared.reading.Reading.{Reading}
 use Rattle.live.specs.declared.reading.Reading.TheVariants as reading
 use Rattle.live.specs.declared.face.Face.{Face}
+use Rattle.live.specs.declared.face.Face.TheVariants.{Lines}
 use Rattle.live_answers.proofs.IsolationLaws.{bssids-first}
 use Rattle.live_answers.proofs.MoreLines.{joins, bssids-answers}
 use Rattle.live.proofs.MoreWritten.{texts-join}
@@ -94,6 +96,7 @@ few-line place most (n ∷ ns) said (r ∷ rs) few =
 
 few-answer : (m : Moment) (asked : Asked) (answer : Answer) → AreFew m.lines m.networks
     → AreFew (after_answer m asked answer).lines (after_answer m asked answer).networks
+few-answer m (Brings said) (Replies rs) few = few-line 0 m.lines m.networks said rs few
 few-answer m (Says (Ok (Some said))) (Replies rs) few = few-line 0 m.lines m.networks said rs few
 few-answer m asked answer few = few-more m.networks m.lines (m.lines + 1) (omega arith) few
 
@@ -171,10 +174,9 @@ answered-fault taken failed face lines number ns said fault old new count (inr i
 said-for : (reading : Reading) → (said : Asked) × IsReading reading said
 said-for reading.Nothing = (Says (Ok None), refl)
 said-for (reading.Line said) = (Says (Ok (Some said)), refl)
-said-for (reading.Record e) = (Says (Ok (Some (line_as e.place (event_of e.event)))), refl)
+said-for (reading.Record e) = (Brings (line_as e.place (event_of e.event)), refl)
 said-for reading.Tables = (ForTables, refl)
 said-for (reading.Fault fault) = (HasFault fault, inl refl)
-said-for reading.Unread = (Says (Err NotHexadecimal), record { said = Err NotHexadecimal; is = refl; may = tt })
 
 pub moment-reading : {W : Type 0} (taken : W → Option (List ℕ)) (failed : W → ℕ) (face : Face) (reading : Reading)
     (bssids : List (List ℕ)) (m next : Moment) (old new : Buffered W) → IsMoment bssids m
@@ -185,10 +187,29 @@ moment-reading taken failed face reading bssids m next old new h all =
     moment-answered taken failed face bssids m next (some.0 ∷ []) old new h (all some.0 some.1)
 
 -- it was not read
-pub unread-after : (m : Moment) (said : Result (Option Line) LineFault) → one_line_more m ≡ after_answer m (Says said) Unread
+unread-after : (m : Moment) (said : Result (Option Line) LineFault) → one_line_more m ≡ after_answer m (Says said) Unread
 unread-after m (Ok None) = refl
 unread-after m (Ok (Some line)) = refl
 unread-after m (Err fault) = refl
+
+pub answered-unread : {W : Type 0} (taken : W → Option (List ℕ)) (failed : W → ℕ) (lines : ℕ) (ns : List NetworkState)
+    (m : Moment) (said : Asked) (old new : Buffered W) → at lines ns ≡ m → IsUnread said
+    → Puts taken failed old new (ended (fault_words (codes "memory") (lines + 1)))
+    → AreAnswered (through Lines (watch taken failed) old new) m (at (lines + 1) ns) (said ∷ [])
+answered-unread taken failed lines ns m said old new view u puts =
+    subst
+    (λ (o : Moment). AreAnswered (through Lines (watch taken failed) old new) o (at (lines + 1) ns) (said ∷ []))
+    view
+    (answered-reading taken failed Lines lines (lines + 1) ns ns said (Says u.said) Unread old new refl u.is u.may
+    (unread-after (at lines ns) u.said) puts)
+
+-- a line more has ended, and no network has changed
+pub moment-line : (bssids : List (List ℕ)) (lines : ℕ) (ns : List NetworkState) → IsMoment bssids (at lines ns)
+    → IsMoment bssids (at (lines + 1) ns)
+moment-line bssids lines ns h = record {
+  addresses = h.addresses;
+  few = few-more ns lines (lines + 1) (omega arith) h.few;
+}
 
 -- the networks as they are kept
 pub answered-kept : {W : Type 0} (taken : W → Option (List ℕ)) (failed : W → ℕ) (face : Face) (lines : ℕ)

@@ -16,7 +16,7 @@ use Rattle.trace.specs.Report.{network_line, counts_line, station_line, frame_li
 use Rattle.trace.specs.declared.fault.LineFault.TheVariants.{UnknownKind, UnknownNetwork}
 use Rattle.live_answers.specs.TextLines.{Octets, TooLong, line_with, lines_of_text, partial_in, lines_in, partial_after, last_line}
 use Rattle.live_answers.specs.Moments.{Moment, first_moment, Sends, Refuses, is_past_clock, reply_of, taken_if, after_if}
-use Rattle.live_answers.specs.Asked.{HasFault, ForTables, Says, asked_by}
+use Rattle.live_answers.specs.Asked.{HasFault, ForTables, Brings, Says, asked_by}
 use Rattle.live_answers.specs.Answers.{Answer, Faulty, Replies, Tables, Unread, MayAnswer, after_answer}
 use Rattle.live_answers.specs.AnswerText.{table_text}
 use Rattle.live.specs.AnswerOctets.{record_of, told}
@@ -161,6 +161,9 @@ a_string_may_not_be_read = tt
 pub a_tick_is_always_read : MayAnswer start (Says (Ok (Some line.Tick))) Unread → ⊥
 a_tick_is_always_read h = h
 
+pub a_record_is_always_read : MayAnswer start (Brings (line.Air [])) Unread → ⊥
+a_record_is_always_read h = cc
+
 pub and_then_nothing_changes : after_answer start (Says (Ok (Some (line.Air [])))) Unread ≡ record start { lines = 1 }
 and_then_nothing_changes = refl
 
@@ -225,11 +228,11 @@ pub eight_octets_say_no_length : record_len (65 ∷ 0 ∷ 0 ∷ 0 ∷ 0 ∷ 0 �
 eight_octets_say_no_length = refl
 
 pub a_record_of_the_air : record_asks bssids (65 ∷ 0 ∷ 0 ∷ 0 ∷ 0 ∷ 0 ∷ 0 ∷ 2 ∷ 0 ∷ 7 ∷ 8 ∷ [])
-    ≡ Says (Ok (Some (line.Air (7 ∷ 8 ∷ []))))
+    ≡ Brings (line.Air (7 ∷ 8 ∷ []))
 a_record_of_the_air = refl
 
 pub one_of_the_wire_names_its_network : record_asks bssids (87 ∷ 2 ∷ 0 ∷ 0 ∷ 0 ∷ 0 ∷ 2 ∷ 1 ∷ 0 ∷ 7 ∷ [])
-    ≡ Says (Ok (Some (line.Wire 1 (7 ∷ []))))
+    ≡ Brings (line.Wire 1 (7 ∷ []))
 one_of_the_wire_names_its_network = refl
 
 pub a_record_of_no_network_is_l4 : record_asks bssids (87 ∷ 2 ∷ 0 ∷ 0 ∷ 0 ∷ 0 ∷ 9 ∷ 0 ∷ 0 ∷ []) ≡ HasFault UnknownNetwork
@@ -241,7 +244,7 @@ the_air_has_no_bssid = refl
 pub a_tick_has_no_octets : record_asks bssids (84 ∷ 0 ∷ 0 ∷ 0 ∷ 0 ∷ 0 ∷ 0 ∷ 1 ∷ 0 ∷ 7 ∷ []) ≡ HasFault UnknownKind
 a_tick_has_no_octets = refl
 
-pub a_record_that_is_a_tick : record_asks bssids (84 ∷ 0 ∷ 0 ∷ 0 ∷ 0 ∷ 0 ∷ 0 ∷ 0 ∷ 0 ∷ []) ≡ Says (Ok (Some line.Tick))
+pub a_record_that_is_a_tick : record_asks bssids (84 ∷ 0 ∷ 0 ∷ 0 ∷ 0 ∷ 0 ∷ 0 ∷ 0 ∷ 0 ∷ []) ≡ Brings line.Tick
 a_record_that_is_a_tick = refl
 
 pub one_that_asks_for_tables : record_asks bssids (73 ∷ 0 ∷ 0 ∷ 0 ∷ 0 ∷ 0 ∷ 0 ∷ 0 ∷ 0 ∷ []) ≡ ForTables

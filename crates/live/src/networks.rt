@@ -8,15 +8,16 @@ ghost use Rattle.live_answers.specs.Asked.{Asked, asked_in};
 ghost use Rattle.live_answers.specs.Moments.{bssid_of, bssids_at, first_moment};
 ghost use Rattle.live.specs.Output.{AreAnswered, through, watch};
 ghost use Rattle.live.specs.PartialLine.{line_in};
-ghost use Rattle.live.specs.Readings.{IsReading};
+ghost use Rattle.live.specs.Readings.{IsReading, IsUnread};
 ghost use Rattle.live_answers.specs.Records.{IsRecord, records_ask};
 ghost use Rattle.live.specs.Written.{written_tables};
 ghost use Rattle.live.specs.declared.face.Face.TheVariants as faces;
 
 use crate::dispatch::{LineEvent, reply_all};
 use crate::face::Face;
+use crate::output::put_unread;
 use crate::reading::{Reading, read_line, read_record};
-use crate::written::{put_fault, put_tables, put_unread};
+use crate::written::{put_fault, put_tables};
 use ap_config::{RadioConfig, checked_networks};
 use mac_frame::{MacAddr, NoMemory};
 use network::{Network, Spare, open_networks};
@@ -83,11 +84,25 @@ impl Networks {
         ensures { AreAnswered (through faces.Lines (watch W.taken W.failed) out.old out.new)
             self.old self.new (asked_in self.old (line_in (option_map (λ octets. octets.now) line.entry) ∷ [])) }
     {
-        let reading = read_line(self.alloc, self.bssids.as_slice(), line);
-        self.answer(Face::Lines, reading, out);
+        match read_line(self.alloc, self.bssids.as_slice(), line) {
+            Ok(reading) => self.answer(Face::Lines, reading, out),
+            Err(NoMemory) => self.answer_unread(out),
+        }
     }
 
-    /// Answers the next record. Fewer than 2^62 ended before it.
+    /// Answers that the next line could not be read since memory ran out. Fewer than 2^62 ended before it.
+    fn answer_unread<W: Sink>(&mut self, out: &mut Buffered<'_, W>)
+        requires countable { self.old.lines < 2 ^ 62 }
+        requires can_write { CanWrite W.failed out.old }
+        ensures { (said : Asked) → IsUnread said
+            → AreAnswered (through faces.Lines (watch W.taken W.failed) out.old out.new) self.old self.new (said ∷ []) }
+    {
+        let number = self.lines + 1;
+        put_unread(out, number);
+        self.lines = number;
+    }
+
+    /// Answers the next record, whose reading takes no memory. Fewer than 2^62 ended before it.
     pub fn answer_record<W: Sink>(&mut self, octets: &[u8], out: &mut Buffered<'_, W>)
         requires record { IsRecord octets.now }
         requires countable { self.old.lines < 2 ^ 62 }
@@ -162,6 +177,5 @@ fn answer_reading<W: Sink>(
         Reading::Record(event) => reply_all(face, bssids, networks, &event, number, spare, out),
         Reading::Tables => put_tables(face, out, networks),
         Reading::Fault(fault) => put_fault(face, out, fault, number),
-        Reading::Unread => put_unread(face, out, number),
     }
 }

@@ -4,14 +4,14 @@ ghost use Rattle.std.specs.Prelude.{◌≡◌, ◌&&◌, ◌==◌, Some, codes, 
 ghost use Rattle.std.specs.Str.{bytes_eq};
 ghost use Rattle.live_answers.specs.Asked.{asked_by};
 ghost use Rattle.live.specs.PartialLine.{line_in};
-ghost use Rattle.live.specs.Readings.{IsReading};
+ghost use Rattle.live.specs.Readings.{IsLineReading, IsReading};
 ghost use Rattle.live_answers.specs.Records.{IsRecord, air_record, kind_asks, nobody, record_asks, wire_record};
 ghost use Rattle.trace.specs.TraceText.{place_with};
 
 use crate::dispatch::LineEvent;
 use crate::record::HEADER_LEN;
 use events::{LentEvent, Line};
-use mac_frame::{MacAddr, address_at};
+use mac_frame::{MacAddr, NoMemory, address_at};
 use std::alloc::Global;
 use trace::{LineFault, ReadFault, read_content, without_spaces_at_end};
 
@@ -34,33 +34,36 @@ pub enum Reading<'a> {
     Tables,
     /// It has this fault.
     Fault(LineFault),
-    /// It could not be read since memory ran out.
-    Unread,
 }
 
 /// What a line says to networks with these addresses, taken without what ends it; `None` is one that is too long.
-pub fn read_line(alloc: Global, bssids: &[MacAddr], line: Option<&[u8]>) -> Reading<'static>
-    ensures { IsReading result (asked_by bssids.now (line_in (option_map (λ octets. octets.now) line.entry))) }
+/// `NoMemory` where memory ran out, which only a line of a string or of a frame takes.
+pub fn read_line(
+    alloc: Global,
+    bssids: &[MacAddr],
+    line: Option<&[u8]>,
+) -> Result<Reading<'static>, NoMemory>
+    ensures { IsLineReading result (asked_by bssids.now (line_in (option_map (λ octets. octets.now) line.entry))) }
 {
     match line {
         Some(octets) => read_octets(alloc, bssids, octets),
-        None => Reading::Fault(LineFault::TooMany),
+        None => Ok(Reading::Fault(LineFault::TooMany)),
     }
 }
 
 /// What a line says that is not too long.
-fn read_octets(alloc: Global, bssids: &[MacAddr], line: &[u8]) -> Reading<'static>
-    ensures { IsReading result (asked_by bssids.now (line_in (Some line.now))) }
+fn read_octets(alloc: Global, bssids: &[MacAddr], line: &[u8]) -> Result<Reading<'static>, NoMemory>
+    ensures { IsLineReading result (asked_by bssids.now (line_in (Some line.now))) }
 {
     let content = without_spaces_at_end(line);
     if asks_for_tables(content) {
-        return Reading::Tables;
+        return Ok(Reading::Tables);
     }
     match read_content(alloc, bssids, content) {
-        Ok(None) => Reading::Nothing,
-        Ok(Some(said)) => Reading::Line(said),
-        Err(ReadFault::At(fault)) => Reading::Fault(fault),
-        Err(ReadFault::NoMemory) => Reading::Unread,
+        Ok(None) => Ok(Reading::Nothing),
+        Ok(Some(said)) => Ok(Reading::Line(said)),
+        Err(ReadFault::At(fault)) => Ok(Reading::Fault(fault)),
+        Err(ReadFault::NoMemory) => Err(NoMemory),
     }
 }
 
@@ -89,7 +92,10 @@ fn read_kind<'a>(bssids: &[MacAddr], kind: u8, bssid: MacAddr, octets: &'a [u8])
     match kind {
         b'A' => read_air(bssid, octets),
         b'W' => read_wire(place_with(bssid, bssids), octets),
-        b'T' if is_bare(bssid, octets) => Reading::Line(Line::Tick),
+        b'T' if is_bare(bssid, octets) => Reading::Record(LineEvent {
+            event: LentEvent::Tick,
+            place: 0,
+        }),
         b'I' if is_bare(bssid, octets) => Reading::Tables,
         _ => Reading::Fault(LineFault::UnknownKind),
     }

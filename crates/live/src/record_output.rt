@@ -125,22 +125,6 @@ pub fn put_fault<W: Sink>(out: &mut Buffered<'_, W>, fault: LineFault, number: u
     );
 }
 
-/// Puts that the record of a number could not be read since memory ran out.
-pub fn put_unread<W: Sink>(out: &mut Buffered<'_, W>, number: u64)
-    requires { CanWrite W.failed out.old }
-    ensures { Puts W.taken W.failed out.old out.new (told (ended (record_fault (codes "memory") number))) }
-{
-    let mut digits = itoa::Buffer::new();
-    put_told(
-        out,
-        &[
-            b"fault memory record ",
-            digits.format(number).as_bytes(),
-            b"\n",
-        ],
-    );
-}
-
 /// Puts that a network refused the record of a number.
 pub fn put_refusal<W: Sink>(
     out: &mut Buffered<'_, W>,

@@ -24,17 +24,6 @@ pub fn put_fault<W: Sink>(face: Face, out: &mut Buffered<'_, W>, fault: LineFaul
     }
 }
 
-/// Puts that the line or record of a number could not be read since memory ran out.
-pub fn put_unread<W: Sink>(face: Face, out: &mut Buffered<'_, W>, number: u64)
-    requires { CanWrite W.failed out.old }
-    ensures { Puts W.taken W.failed out.old out.new (written_fault face (codes "memory") number) }
-{
-    match face {
-        Face::Lines => output::put_unread(out, number),
-        Face::Records => record_output::put_unread(out, number),
-    }
-}
-
 /// Puts that a network refused the line or record of a number.
 pub fn put_refusal<W: Sink>(
     face: Face,

@@ -10,7 +10,7 @@ use Rattle.ap_config.specs.declared.config.NetConfig.{NetConfig}
 use Rattle.ap_config.specs.declared.config.RadioConfig.{RadioConfig}
 use Rattle.events.specs.declared.event.Event.{Event}
 use Rattle.live_answers.specs.Moments.{Moment, first_moment, bssid_of}
-use Rattle.live_answers.specs.Asked.{Asked, HasFault, ForTables, Says}
+use Rattle.live_answers.specs.Asked.{Asked, HasFault, ForTables, Brings, Says}
 use Rattle.live_answers.specs.Answers.{Answer, Tables, MayAnswer, after_answer, Answers}
 use Rattle.live_answers.specs.Own.{events_at, air_at, wire_at, alone_after, course, IsAlone, AreAlike}
 use Rattle.live_answers.proofs.OwnSteps.{AloneLaws, alone_after-none}
@@ -47,6 +47,7 @@ tables-are : (m : Moment) (asked : Asked) (networks : List NetworkState) → May
     → networks ≡ m.networks
 tables-are m (HasFault fault) networks h = cc
 tables-are m ForTables networks h = cc
+tables-are m (Brings line) networks h = cc
 tables-are m (Says (Ok None)) networks h = cc
 tables-are m (Says (Ok (Some line))) networks h = cc
 tables-are m (Says (Err fault)) networks h = cc

@@ -8,7 +8,7 @@ use Rattle.events.specs.declared.line.Line.TheVariants as line
 use Rattle.network.specs.declared.network.NetworkRefusal.TheVariants.{NoMemory, Clock}
 use Rattle.trace.specs.declared.fault.LineFault.{LineFault}
 use Rattle.trace.specs.declared.fault.LineFault.TheVariants.{UnknownKind}
-use Rattle.live_answers.specs.Asked.{Asked, HasFault, ForTables, Says}
+use Rattle.live_answers.specs.Asked.{Asked, HasFault, ForTables, Brings, Says}
 use Rattle.live_answers.specs.Dispatch.{event_at}
 use Rattle.live_answers.specs.Moments.{Moment, one_line_more, Reply, Sends, Refuses, reply_if, MayReplyIf, taken_if}
 use Rattle.live_answers.specs.Moments.{after_if}
@@ -48,6 +48,7 @@ after_line_from place ns line replies = ns
 abbrev pub answer_of : Moment → Asked → Answer
 answer_of m (HasFault fault) = Faulty fault
 answer_of m ForTables = Tables m.networks
+answer_of m (Brings line) = Replies (replies_from 0 m.networks line)
 answer_of m (Says (Ok None)) = Nothing
 answer_of m (Says (Ok (Some line))) = Replies (replies_from 0 m.networks line)
 answer_of m (Says (Err fault)) = Faulty fault
@@ -59,15 +60,18 @@ MayBeUnread (Ok (Some line.Tick)) = ⊥
 MayBeUnread (Err UnknownKind) = ⊥
 MayBeUnread said = Unit {0}
 
--- Such a line may stay unread where memory runs out; and where a line is read, each network may refuse it so. Tables
--- and faults that are found without memory take none.
+-- Such a line may stay unread where memory runs out; and where a line is read, each network may refuse it so. Records,
+-- tables and faults that are found without memory take none: a record is never unread.
 abbrev pub MayAnswer : Moment → Asked → Answer → Type 0
+MayAnswer m (Brings line) (Replies replies) = MayReplyFrom 0 m.networks line replies
 MayAnswer m (Says said) Unread = MayBeUnread said
 MayAnswer m (Says (Ok (Some line))) (Replies replies) = MayReplyFrom 0 m.networks line replies
 MayAnswer m asked answer = answer ≡ answer_of m asked
 
 -- the moment after it: only the networks that took the line have changed
 abbrev pub after_answer : Moment → Asked → Answer → Moment
+after_answer m (Brings line) (Replies replies) =
+    record (one_line_more m) { networks = after_line_from 0 m.networks line replies }
 after_answer m (Says (Ok (Some line))) (Replies replies) =
     record (one_line_more m) { networks = after_line_from 0 m.networks line replies }
 after_answer m asked answer = one_line_more m

@@ -17,13 +17,14 @@ use Rattle.trace.specs.TraceText.{lines_of}
 use Rattle.live_answers.specs.TextLines.{max_line, lines_of_text}
 use Rattle.live_answers.specs.Dispatch.{event_for}
 use Rattle.live_answers.specs.Moments.{Moment, first_moment, Reply, Sends, taken_if}
-use Rattle.live_answers.specs.Asked.{Asked, Says, asked_in}
+use Rattle.live_answers.specs.Asked.{Asked, Brings, Says, asked_in}
 use Rattle.live_answers.specs.Answers.{Answer, Replies, Tables, Answers, AreUnrefused}
 
 -- ---- its events
 
 -- the event that this is to it
 abbrev pub event_in : ℕ → List ℕ → Asked → Option Event
+event_in place bssid (Brings line) = event_for place bssid line
 event_in place bssid (Says (Ok (Some line))) = event_for place bssid line
 event_in place bssid asked = None
 

@@ -2,14 +2,14 @@
 --
 -- A record is its kind, one octet; a BSSID, six; how many octets follow, two, the low one first; and these octets.
 use Rattle.std.specs.Prelude.{◌≡◌, ◌<◌, ℕ, ◌+◌, ◌-◌, ◌*◌, nat_lt, ◌==◌, ◌&&◌, List, [], ◌∷◌, ◌++◌, length, map, take, drop}
-use Rattle.std.specs.Prelude.{flat_map, slice_index, Option, Some, None, IfSome, Ok, if◌then◌else◌}
+use Rattle.std.specs.Prelude.{flat_map, slice_index, Option, Some, None, IfSome, if◌then◌else◌}
 use Rattle.std.specs.List.{AllByRecursion}
 use Rattle.std.specs.Str.{bytes_eq}
 use Rattle.events.specs.declared.line.Line.{Line}
 use Rattle.events.specs.declared.line.Line.TheVariants.{Air, Wire, Tick}
 use Rattle.trace.specs.TraceText.{max_octets, place_with}
 use Rattle.trace.specs.declared.fault.LineFault.TheVariants.{UnknownKind, NotHexadecimal, UnknownNetwork, TooMany}
-use Rattle.live_answers.specs.Asked.{Asked, HasFault, ForTables, Says}
+use Rattle.live_answers.specs.Asked.{Asked, HasFault, ForTables, Brings}
 
 -- ---- which octets are records
 
@@ -51,7 +51,7 @@ nobody = 0 ∷ 0 ∷ 0 ∷ 0 ∷ 0 ∷ 0 ∷ []
 
 -- this, unless the octets are too many
 abbrev pub within_limit : List ℕ → Line → Asked
-within_limit octets said = if nat_lt max_octets (length octets) then HasFault TooMany else Says (Ok (Some said))
+within_limit octets said = if nat_lt max_octets (length octets) then HasFault TooMany else Brings said
 
 -- `A`: a string that was heard
 abbrev pub air_record : (bssid octets : List ℕ) → Asked
@@ -72,7 +72,7 @@ abbrev pub kind_asks : List (List ℕ) → ℕ → (bssid octets : List ℕ) →
 kind_asks bssids kind bssid octets =
     if kind == 65 then air_record bssid octets
     else if kind == 87 then wire_record (place_with bssid bssids) octets
-    else if kind == 84 then bare_record bssid octets (Says (Ok (Some Tick)))
+    else if kind == 84 then bare_record bssid octets (Brings Tick)
     else if kind == 73 then bare_record bssid octets ForTables
     else HasFault UnknownKind
 

@@ -1,15 +1,15 @@
 use Rattle.std.proofs.Common.{◌∙◌, refl, ap, subst, Some, None, Ok, List, ◌+◌}
 use Rattle.trace.proofs.BufferSteps.{Puts-nothing}
 use Rattle.network.specs.NetworkView.{NetworkState}
-use Rattle.live_answers.specs.Answers.{Nothing, Replies, Tables, Unread}
-use Rattle.live_answers.specs.Asked.{ForTables, Says}
+use Rattle.live_answers.specs.Answers.{Nothing, Replies, Tables}
+use Rattle.live_answers.specs.Asked.{Brings, ForTables, Says}
 use Rattle.live_answers.specs.Dispatch.{line_as}
 use Rattle.live_answers.specs.Answers.{MayReplyFrom, after_line_from}
 use Rattle.events.specs.LentEvents.{event_of}
 use Rattle.events.specs.declared.line.Line.{Line}
 use Rattle.live.specs.Readings.{IsReading}
 use Rattle.live.specs.declared.reading.Reading.{Reading}
-use Rattle.live.proofs.AnswerSteps.{at, answered-reading, answered-fault, unread-after}
+use Rattle.live.proofs.AnswerSteps.{at, answered-reading, answered-fault}
 use Rattle.live.proofs.networks.answer_reading.Goals as goal
 
 pub returns-in-Nothing : goal.returns-in-Nothing
@@ -37,7 +37,7 @@ returns-in-Record g c lines said count is =
     let e = c.in-Record.event in
     let r = c.reply_all-in-Record.ensures in
     answered-reading _ _ c.args.face lines c.args.number c.args.networks.now _ said
-    (Says (Ok (Some (line_as e.place (event_of e.event))))) (Replies r.replies) _ _ count
+    (Brings (line_as e.place (event_of e.event))) (Replies r.replies) _ _ count
     (subst (λ (o : Reading). IsReading o said) c.in-Record.is is)
     r.may
     (ap (λ (ns : List NetworkState). at (lines + 1) ns) r.after)
@@ -57,12 +57,3 @@ returns-in-Fault g c lines said count is =
     answered-fault _ _ c.args.face lines c.args.number c.args.networks.now said c.in-Fault.fault _ _ count
     (subst (λ (r : Reading). IsReading r said) c.in-Fault.is is)
     c.put_fault.ensures
-
-pub returns-in-Unread : goal.returns-in-Unread
-returns-in-Unread g c lines said count is =
-    let u = subst (λ (r : Reading). IsReading r said) c.in-Unread.is is in
-    answered-reading _ _ c.args.face lines c.args.number c.args.networks.now _ said (Says u.said) Unread _ _ count
-    u.is
-    u.may
-    (unread-after (at lines c.args.networks.now) u.said)
-    c.put_unread.ensures
