@@ -1,6 +1,6 @@
 //! Records: where one ends, and what came of one that is not whole.
 
-ghost use Rattle.std.specs.Prelude.{◌≡◌, ◌↔◌, ◌+◌, ◌≤◌, ◌++◌, [], length, IfOk, IfSome, IsTrue};
+ghost use Rattle.std.specs.Prelude.{◌≡◌, ◌↔◌, ◌+◌, ◌≤◌, ◌++◌, [], length, None, IfOk, IfSome, IsTrue};
 ghost use Rattle.live_answers.specs.Records.{IsBegun, IsRecord, lacking, record_len};
 
 use mac_frame::NoMemory;
@@ -25,11 +25,12 @@ fn record_len(octets: &[u8]) -> Option<usize>
     Some(HEADER_LEN + (usize::from(octets[7]) + 256 * usize::from(octets[8])))
 }
 
-/// The record at the front of these octets, and what follows it. `None` where no whole one stands there.
+/// The record at the front of these octets, and what follows it. `None` exactly where they are less than a record.
 #[inline]
 pub fn first_record(octets: &[u8]) -> Option<(&[u8], &[u8])>
     ensures whole { IfSome result (λ r. IsRecord r.0.now × (octets.now ≡ r.0.now ++ r.1.now)) }
     ensures some { IfSome result (λ r. 9 ≤ length r.0.now) }
+    ensures none { (result ≡ None) ↔ IsBegun octets.now }
 {
     let len = record_len(octets)?;
     if octets.len() < len {
