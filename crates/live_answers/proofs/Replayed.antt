@@ -1,6 +1,6 @@
--- A text that is a trace, answered as its report tells it.
-use Rattle.std.proofs.Common.{◌≡◌, ℕ, zero, suc, ◌+◌, ◌*◌, ◌<◌, ◌≤◌, Bool, true, false, List, [], ◌∷◌, ◌++◌, length, map, Option, Some, None, Result, Ok, Err, refl, sym, ap, subst, ◌∙◌, arith, append-nil, length-append}
-use Rattle.std.specs.Prelude.{slice_get, nat_lt, codes, IfSome, ◌==◌, if◌then◌else◌}
+-- The lines of a trace, answered as its report tells them.
+use Rattle.std.proofs.Common.{◌≡◌, ℕ, zero, suc, ◌+◌, ◌*◌, ◌<◌, ◌≤◌, Bool, true, false, List, [], ◌∷◌, ◌++◌, length, map, Option, Some, None, Result, Ok, Err, refl, sym, ap, ◌∙◌, arith, append-nil, length-append}
+use Rattle.std.specs.Prelude.{slice_get, nat_lt, codes, flat_map, IfSome, ◌==◌, if◌then◌else◌}
 use Rattle.std.specs.List.{slice_index_or, AllByRecursion}
 use Rattle.std.specs.Option.{option_to_list}
 use Rattle.std.specs.Str.Lines.{lines}
@@ -32,12 +32,12 @@ use Rattle.trace.specs.TraceText.{max_lines, without_spaces_at_end, content_of, 
 use Rattle.trace.specs.declared.fault.LineFault.{LineFault}
 use Rattle.trace.specs.declared.fault.LineFault.TheVariants.{UnknownKind, TooMany}
 use Rattle.trace.specs.declared.fault.TraceFault.{TraceFault}
-use Rattle.live_answers.specs.Asked.{Asked, Says, asks_for_tables, asked_by, asked_by_all, asked_in}
+use Rattle.live_answers.specs.Asked.{Asked, HasFault, ForTables, Brings, Says, asks_for_tables, asked_by, asked_by_all, asked_in}
 use Rattle.live_answers.specs.Answers.{Answer, Nothing, Replies, Tables, Faulty, Unread, MayAnswer, after_answer, Answers, HasMemory, IsUnrefused, AreUnrefused}
 use Rattle.live_answers.specs.Dispatch.{event_for}
 use Rattle.live_answers.specs.Moments.{Moment, first_moment, bssid_of, Reply, Sends, Refuses, is_past_clock, sending, MayReplyIf, taken_if}
-use Rattle.live_answers.specs.Own.{event_in, reply_in, events_taken, events_at, alone_after, course, trace_of, IsLikeTrace, IsShown, IsAlone}
-use Rattle.live_answers.specs.TextLines.{max_line, line_with}
+use Rattle.live_answers.specs.Own.{event_in, reply_in, events_taken, events_at, alone_after, course, line_said, AreLines, IsTrace, IsLikeTrace, IsShown, IsAlone}
+use Rattle.live_answers.specs.TextLines.{max_line, line_with, lines_of_text}
 use Rattle.live_answers.proofs.OwnSteps.{AloneLaws, alone_after-none}
 use Rattle.live_answers.proofs.OwnLines.{at-place, one-taken}
 use Rattle.live_answers.proofs.IsolationLaws.{bssids-first, network-first, is-alone}
@@ -178,68 +178,122 @@ taken-one reach s es (Some e) (Some (Refuses Clock)) sound few h k =
     (clock-only (is_past_clock (alone_after s es) e) (sending (alone_after s es) e).air (sending (alone_after s es) e).wire h))
 taken-one reach s es (Some e) (Some (Sends air wire)) sound few h k = refl
 
--- a line that was read has a reply
-reply-read : (place : ℕ) (m : Moment) (n : NetworkState) (said : Option Line) (answer : Answer)
-    → MayAnswer m (Says (Ok said)) answer → IsUnrefused answer → slice_get m.networks place ≡ Some n
-    → MayReplyIf n (event_in place (bssid_of n) (Says (Ok said))) (reply_in place answer)
-reply-read place m n None (Replies rs) h k e = absurd (cc)
-reply-read place m n None answer h k e = refl
-reply-read place m n (Some line) (Replies rs) h k e = (at-place 0 place place m.networks line rs n (omega arith) h e).0
-reply-read place m n (Some line) Nothing h k e = absurd (cc)
-reply-read place m n (Some line) (Tables ns) h k e = absurd (cc)
-reply-read place m n (Some line) (Faulty f) h k e = absurd (cc)
-reply-read place m n (Some line) Unread h k e = absurd k
+-- a line that was said has a reply
+reply-said : (place : ℕ) (m : Moment) (n : NetworkState) (line : Line) (answer : Answer)
+    → MayAnswer m (Brings line) answer → IsUnrefused answer → slice_get m.networks place ≡ Some n
+    → MayReplyIf n (event_in place (bssid_of n) (Brings line)) (reply_in place answer)
+reply-said place m n line (Replies rs) h k e = (at-place 0 place place m.networks line rs n (omega arith) h e).0
+reply-said place m n line Nothing h k e = absurd (cc)
+reply-said place m n line (Tables ns) h k e = absurd (cc)
+reply-said place m n line (Faulty f) h k e = absurd (cc)
+reply-said place m n line Unread h k e = absurd k
 
-event-said : (place : ℕ) (bssid : List ℕ) (said : Option Line)
-    → option_to_list (event_in place bssid (Says (Ok said))) ≡ heard place bssid (option_to_list said)
-event-said place bssid None = refl
-event-said place bssid (Some line) =
-    sym (heard-event place bssid line) ∙ sym (append-nil (heard_of place bssid line))
+reply-read : (place : ℕ) (m : Moment) (n : NetworkState) (asked : Asked) (said : Option Line) (answer : Answer)
+    → line_said asked ≡ Some said → MayAnswer m asked answer → IsUnrefused answer → slice_get m.networks place ≡ Some n
+    → MayReplyIf n (event_in place (bssid_of n) asked) (reply_in place answer)
+reply-read place m n (HasFault f) said answer is h k e = absurd (cc)
+reply-read place m n ForTables said answer is h k e = absurd (cc)
+reply-read place m n (Brings line) said answer is h k e = reply-said place m n line answer h k e
+reply-read place m n (Says (Err f)) said answer is h k e = absurd (cc)
+reply-read place m n (Says (Ok None)) said (Replies rs) is h k e = absurd (cc)
+reply-read place m n (Says (Ok None)) said answer is h k e = refl
+reply-read place m n (Says (Ok (Some line))) said (Replies rs) is h k e =
+    (at-place 0 place place m.networks line rs n (omega arith) h e).0
+reply-read place m n (Says (Ok (Some line))) said Nothing is h k e = absurd (cc)
+reply-read place m n (Says (Ok (Some line))) said (Tables ns) is h k e = absurd (cc)
+reply-read place m n (Says (Ok (Some line))) said (Faulty f) is h k e = absurd (cc)
+reply-read place m n (Says (Ok (Some line))) said Unread is h k e = absurd k
+
+event-line : (place : ℕ) (bssid : List ℕ) (line : Line)
+    → option_to_list (event_for place bssid line) ≡ heard place bssid (option_to_list (Some line))
+event-line place bssid line = sym (heard-event place bssid line) ∙ sym (append-nil (heard_of place bssid line))
+
+event-said : (place : ℕ) (bssid : List ℕ) (asked : Asked) (said : Option Line) → line_said asked ≡ Some said
+    → option_to_list (event_in place bssid asked) ≡ heard place bssid (option_to_list said)
+event-said place bssid (HasFault f) said is = absurd (cc)
+event-said place bssid ForTables said is = absurd (cc)
+event-said place bssid (Brings line) said is =
+    let same : Some line ≡ said = cc in
+    event-line place bssid line ∙ ap (λ (o : Option Line). heard place bssid (option_to_list o)) same
+event-said place bssid (Says (Err f)) said is = absurd (cc)
+event-said place bssid (Says (Ok None)) said is =
+    let same : None ≡ said = cc in ap (λ (o : Option Line). heard place bssid (option_to_list o)) same
+event-said place bssid (Says (Ok (Some line))) said is =
+    let same : Some line ≡ said = cc in
+    event-line place bssid line ∙ ap (λ (o : Option Line). heard place bssid (option_to_list o)) same
 
 -- the events that the network takes of the lines are those that it hears of them
-taken-all : AloneLaws → Reachable → (s : Setting) (place : ℕ) (bssids : List (List ℕ)) (number : ℕ) (m : Moment)
-    (es : List Event) (parts : List (List ℕ)) (answers : List Answer) (next : Moment) (all : List Line)
-    → network_fault s.network ≡ None → length es + length (heard place s.network.bssid all) < 4294967295
-    → slice_get m.networks place ≡ Some (alone_after s es)
-    → AllByRecursion (λ line. length line ≤ max_line) parts → lines_from bssids number parts ≡ Ok all
-    → Answers m (asked_by_all bssids (map line_with parts)) answers next → AreUnrefused answers
-    → events_taken place s.network.bssid (asked_by_all bssids (map line_with parts)) answers
-    ≡ heard place s.network.bssid all
-taken-all laws reach s place bssids number m es [] [] next all sound few there short e h k =
-    let none : [] ≡ all = cc in ap (heard place s.network.bssid) none
-taken-all laws reach s place bssids number m es [] (answer ∷ answers) next all sound few there short e h k = absurd h
-taken-all laws reach s place bssids number m es (line ∷ parts) [] next all sound few there short e h k = absurd h
-taken-all laws reach s place bssids number m es (line ∷ parts) (answer ∷ answers) next all sound few there short e h k =
+taken-all : AloneLaws → Reachable → (s : Setting) (place : ℕ) (m : Moment) (es : List Event) (said : List Asked)
+    (each : List (Option Line)) (answers : List Answer) (next : Moment) → network_fault s.network ≡ None
+    → length es + length (heard place s.network.bssid (flat_map option_to_list each)) < 4294967295
+    → slice_get m.networks place ≡ Some (alone_after s es) → map line_said said ≡ map Some each
+    → Answers m said answers next → AreUnrefused answers
+    → events_taken place s.network.bssid said answers ≡ heard place s.network.bssid (flat_map option_to_list each)
+taken-all laws reach s place m es [] [] [] next sound few there e h k = refl
+taken-all laws reach s place m es [] (x ∷ each) answers next sound few there e h k = absurd (cc)
+taken-all laws reach s place m es (asked ∷ said) [] answers next sound few there e h k = absurd (cc)
+taken-all laws reach s place m es [] [] (answer ∷ answers) next sound few there e h k = absurd h
+taken-all laws reach s place m es (asked ∷ said) (x ∷ each) [] next sound few there e h k = absurd h
+taken-all laws reach s place m es (asked ∷ said) (x ∷ each) (answer ∷ answers) next sound few there e h k =
     let bssid : List ℕ = s.network.bssid in
-    let said : Asked = asked_by bssids (line_with line) in
-    let says = says-both bssids number line parts all e in
-    let one_said : said_by bssids line ≡ Ok says.said = not-over bssids number line says.said (nat_lt max_lines number) says.one in
-    let asked : said ≡ Says (Ok says.said) = asked-line bssids line says.said short.0 one_said in
+    let is : line_said asked ≡ Some x = cc in
+    let rest : map line_said said ≡ map Some each = cc in
     let reply : Option Reply = reply_in place answer in
-    let may : MayReplyIf (alone_after s es) (event_in place bssid (Says (Ok says.said))) reply =
-    reply-read place m (alone_after s es) says.said answer (subst (λ (a : Asked). MayAnswer m a answer) asked h.0) k.0 there in
-    let first : List Event = heard place bssid (option_to_list says.said) in
-    let later : List Event = heard place bssid says.later in
-    let both : heard place bssid all ≡ first ++ later =
-    ap (heard place bssid) (sym says.both) ∙ flat_map-append (heard_of place bssid) (option_to_list says.said) says.later in
-    let count : length (heard place bssid all) ≡ length first + length later =
+    let event : Option Event = event_in place bssid asked in
+    let may : MayReplyIf (alone_after s es) event reply =
+    reply-read place m (alone_after s es) asked x answer is h.0 k.0 there in
+    let first : List Event = heard place bssid (option_to_list x) in
+    let later : List Event = heard place bssid (flat_map option_to_list each) in
+    let both : heard place bssid (flat_map option_to_list (x ∷ each)) ≡ first ++ later =
+    flat_map-append (heard_of place bssid) (option_to_list x) (flat_map option_to_list each) in
+    let count : length (heard place bssid (flat_map option_to_list (x ∷ each))) ≡ length first + length later =
     ap length both ∙ length-append first later in
-    let one : taken_if (event_in place bssid (Says (Ok says.said))) reply ≡ event_in place bssid (Says (Ok says.said)) =
-    taken-one reach s es (event_in place bssid (Says (Ok says.said))) reply sound (omega (arith, few)) may
-    (memory-in place answer k.0) in
-    let some : option_to_list (taken_if (event_in place bssid said) reply) ≡ first =
-    ap (λ (a : Asked). option_to_list (taken_if (event_in place bssid a) reply)) asked
-    ∙ ap (λ (o : Option Event). option_to_list o) one
-    ∙ event-said place bssid says.said in
-    let after = one-taken laws s place m es said answer h.0 there in
-    let on = taken-all laws reach s place bssids (number + 1) (after_answer m said answer)
-    (es ++ first) parts answers next says.later sound
+    let one : taken_if event reply ≡ event =
+    taken-one reach s es event reply sound (omega (arith, few)) may (memory-in place answer k.0) in
+    let some : option_to_list (taken_if event reply) ≡ first =
+    ap (λ (o : Option Event). option_to_list o) one ∙ event-said place bssid asked x is in
+    let after = one-taken laws s place m es asked answer h.0 there in
+    let on = taken-all laws reach s place (after_answer m asked answer) (es ++ first) said each answers next sound
     (omega (arith, few, count, length-append es first))
     (after.there ∙ ap (λ (xs : List Event). Some (alone_after s (es ++ xs))) some)
-    short.1 says.rest h.1 k.1 in
-    ap (λ (xs : List Event). xs ++ events_taken place bssid (asked_by_all bssids (map line_with parts)) answers) some
+    rest h.1 k.1 in
+    ap (λ (xs : List Event). xs ++ events_taken place bssid said answers) some
     ∙ ap (λ (xs : List Event). first ++ xs) on
     ∙ sym both
+
+-- ---- a text that is a trace
+
+record TextLinesOf (bssids : List (List ℕ)) (parts : List (List ℕ)) (lines : List Line) : Type 0 where
+  each : List (Option Line)
+  say : map line_said (asked_by_all bssids (map line_with parts)) ≡ map Some each
+  all : lines ≡ flat_map option_to_list each
+
+text-lines : (bssids : List (List ℕ)) (number : ℕ) (parts : List (List ℕ)) (all : List Line)
+    → AllByRecursion (λ line. length line ≤ max_line) parts → lines_from bssids number parts ≡ Ok all
+    → TextLinesOf bssids parts all
+text-lines bssids number [] all short e = record { each = []; say = refl; all = let none : all ≡ [] = cc in none }
+text-lines bssids number (line ∷ parts) all short e =
+    let says = says-both bssids number line parts all e in
+    let one : said_by bssids line ≡ Ok says.said = not-over bssids number line says.said (nat_lt max_lines number) says.one in
+    let asked : asked_by bssids (line_with line) ≡ Says (Ok says.said) = asked-line bssids line says.said short.0 one in
+    let on = text-lines bssids (number + 1) parts says.later short.1 says.rest in
+    record {
+      each = says.said ∷ on.each;
+      say = ap (λ (a : Asked). line_said a ∷ map line_said (asked_by_all bssids (map line_with parts))) asked
+          ∙ ap (λ (os : List (Option (Option Line))). Some says.said ∷ os) on.say;
+      all = sym says.both ∙ ap (λ (ls : List Line). option_to_list says.said ++ ls) on.all;
+    }
+
+pub trace-lines : (c : RadioConfig) (text : List ℕ) (lines : List Line) → IsTrace c text lines
+    → AreLines (asked_in (first_moment c) (lines_of_text text)) lines
+trace-lines c text ls h =
+    let on = text-lines (bssids_of c) 1 (lines text) ls h.short h.read in
+    record {
+      each = on.each;
+      say = ap (λ (bs : List (List ℕ)). map line_said (asked_by_all bs (map line_with (lines text)))) (bssids-first c c.networks)
+          ∙ on.say;
+      all = on.all;
+    }
 
 -- ---- the section
 
@@ -279,32 +333,29 @@ shown c place said answers next es section alone_there are is =
 abbrev pub CheckedEvents : Type 0
 CheckedEvents = (n : NetConfig) → network_fault n ≡ None → n.max_events ≤ 1000000
 
-pub is-shown : AloneLaws → Reachable → CheckedNetworks → CheckedEvents → (c : RadioConfig) (text : List ℕ) (said : List Line)
-    (place : ℕ) (answers : List Answer) (next : Moment) (section : Section)
-    → IsLikeTrace (trace_of c text said) place answers next → slice_get (sections_of_lines c said) place ≡ Some section
-    → IsShown section place answers next
-is-shown laws reach checked events-checked c text said place answers next section h e =
+pub is-shown : AloneLaws → Reachable → CheckedNetworks → CheckedEvents → (c : RadioConfig) (said : List Asked)
+    (lines : List Line) (place : ℕ) (answers : List Answer) (next : Moment) (section : Section)
+    → IsLikeTrace (course c said answers) lines place next
+    → slice_get (sections_of_lines c lines) place ≡ Some section → IsShown section place answers next
+is-shown laws reach checked events-checked c said lines place answers next section h e =
     let s : Setting = setting_at c place in
-    let hs : List Event = heard place (network_at c place).bssid said in
+    let bssid : List ℕ = (network_at c place).bssid in
+    let hs : List Event = heard place bssid lines in
     let sound : network_fault s.network ≡ None = network-sound c.networks place h.there (checked c h.sound) in
     let most : length hs ≤ (network_at c place).max_events = h.events in
     let bounded : (network_at c place).max_events ≤ 1000000 = events-checked s.network sound in
-    let few : length {A = Event} [] + length hs < 4294967295 = omega arith in
+    let same : heard place bssid (flat_map option_to_list h.said.each) ≡ hs = ap (heard place bssid) (sym h.said.all) in
+    let few : length {A = Event} [] + length (heard place bssid (flat_map option_to_list h.said.each)) < 4294967295 =
+    omega (arith, ap length same) in
     let begins : slice_get (first_moment c).networks place ≡ Some (alone_after s []) =
     network-first c place h.there ∙ ap (λ (n : NetworkState). Some n) (sym (alone_after-none laws s)) in
-    let read : asked_in (first_moment c) (map line_with (lines text))
-    ≡ asked_by_all (bssids_of c) (map line_with (lines text)) =
-    ap (λ (bs : List (List ℕ)). asked_by_all bs (map line_with (lines text))) (bssids-first c c.networks) in
-    let answered : Answers (first_moment c) (asked_by_all (bssids_of c) (map line_with (lines text))) answers next =
-    subst (λ (all : List Asked). Answers (first_moment c) all answers next) read h.answered in
-    let events : events_at c place (asked_in (first_moment c) (map line_with (lines text))) answers ≡ hs =
-    ap (λ (all : List Asked). events_at c place all answers) read
-    ∙ taken-all laws reach s place (bssids_of c) 1 (first_moment c) [] (lines text) answers next said sound few
-    begins h.short h.read answered h.unrefused in
-    let own : own_events place (network_at c place) said ≡ hs = take_all (network_at c place).max_events hs most in
-    let is : section ≡ section_of s (own_events place (network_at c place) said) =
-    let same : Some section ≡ Some (section_of s (own_events place (network_at c place) said)) =
-    sym e ∙ section-at c said place h.there in cc in
-    shown c place (asked_in (first_moment c) (map line_with (lines text))) answers next hs section
-    (is-alone laws c (asked_in (first_moment c) (map line_with (lines text))) answers next place h.there h.answered)
-    events (is ∙ ap (section_of s) own)
+    let events : events_at c place said answers ≡ hs =
+    taken-all laws reach s place (first_moment c) [] said h.said.each answers next sound few begins h.said.say h.answered
+    h.unrefused
+    ∙ same in
+    let own : own_events place (network_at c place) lines ≡ hs = take_all (network_at c place).max_events hs most in
+    let is : section ≡ section_of s (own_events place (network_at c place) lines) =
+    let one : Some section ≡ Some (section_of s (own_events place (network_at c place) lines)) =
+    sym e ∙ section-at c lines place h.there in cc in
+    shown c place said answers next hs section (is-alone laws c said answers next place h.there h.answered) events
+    (is ∙ ap (section_of s) own)

@@ -1,5 +1,5 @@
 -- What of all that is said and answered is one network's own.
-use Rattle.std.specs.Prelude.{ℕ, ◌<◌, ◌≤◌, ◌≡◌, List, [], ◌∷◌, ◌++◌, length, flat_map, take, slice_get, Ok, Option}
+use Rattle.std.specs.Prelude.{ℕ, ◌<◌, ◌≤◌, ◌≡◌, List, [], ◌∷◌, ◌++◌, length, map, flat_map, take, slice_get, Ok, Option}
 use Rattle.std.specs.Prelude.{Some, None, option_to_list}
 use Rattle.std.specs.List.{slice_index_or, AllByRecursion}
 use Rattle.std.specs.Str.Lines.{lines}
@@ -14,10 +14,10 @@ use Rattle.events.specs.declared.event.Event.{Event}
 use Rattle.events.specs.declared.line.Line.{Line}
 use Rattle.events.specs.declared.section.Section.{Section}
 use Rattle.trace.specs.TraceText.{lines_of}
-use Rattle.live_answers.specs.TextLines.{max_line, lines_of_text}
+use Rattle.live_answers.specs.TextLines.{max_line}
 use Rattle.live_answers.specs.Dispatch.{event_for}
 use Rattle.live_answers.specs.Moments.{Moment, first_moment, Reply, Sends, taken_if}
-use Rattle.live_answers.specs.Asked.{Asked, Brings, Says, asked_in}
+use Rattle.live_answers.specs.Asked.{Asked, Brings, Says}
 use Rattle.live_answers.specs.Answers.{Answer, Replies, Tables, Answers, AreUnrefused}
 
 -- ---- its events
@@ -117,23 +117,29 @@ pub record IsShown (section : Section) (place : ℕ) (answers : List Answer) (ne
   pub table : table_of network.network ≡ section.table
   pub counts : counts_of network.events network.network ≡ section.counts
 
--- a text, and what its lines say to the networks of a configuration, as those of a trace
-pub record TraceOf : Type 0 where
-  pub config : RadioConfig
-  pub text : List ℕ
-  pub said : List Line
+-- what is said as a line of a trace says it, nothing where it is skipped; a fault and the question for tables say none
+abbrev pub line_said : Asked → Option (Option Line)
+line_said (Brings line) = Some (Some line)
+line_said (Says (Ok said)) = Some said
+line_said asked = None
 
-abbrev pub trace_of : RadioConfig → List ℕ → List Line → TraceOf
-trace_of config text said = record { config = config; text = text; said = said }
+-- Nothing but these lines is said, however it came: no fault, and no question for tables.
+pub record AreLines (said : List Asked) (lines : List Line) : Type 0 where
+  pub each : List (Option Line)
+  pub say : map line_said said ≡ map Some each
+  pub all : lines ≡ flat_map option_to_list each
 
--- A text that is a trace, whose lines are not too long, and of which the network at a place hears at most as many
--- events as a history may have, was answered, and nothing was refused for memory.
-pub record IsLikeTrace (t : TraceOf) (place : ℕ) (answers : List Answer) (next : Moment) : Type 0 where
-  pub sound : fault_of t.config ≡ None
-  pub read : lines_of t.config t.text ≡ Ok t.said
-  pub short : AllByRecursion (λ line. length line ≤ max_line) (lines t.text)
-  pub there : place < length t.config.networks
-  pub events : length (heard place (network_at t.config place).bssid t.said) ≤ (network_at t.config place).max_events
-  pub answered :
-      Answers (first_moment t.config) (asked_in (first_moment t.config) (lines_of_text t.text)) answers next
-  pub unrefused : AreUnrefused answers
+-- a text is a trace that says these lines to the networks of a configuration, and no line of it is too long
+pub record IsTrace (config : RadioConfig) (text : List ℕ) (said : List Line) : Type 0 where
+  pub read : lines_of config text ≡ Ok said
+  pub short : AllByRecursion (λ line. length line ≤ max_line) (lines text)
+
+-- Nothing but these lines was said, of which the network at a place hears at most as many events as a history may have,
+-- and nothing was refused for memory.
+pub record IsLikeTrace (x : Course) (lines : List Line) (place : ℕ) (next : Moment) : Type 0 where
+  pub sound : fault_of x.config ≡ None
+  pub said : AreLines x.said lines
+  pub there : place < length x.config.networks
+  pub events : length (heard place (network_at x.config place).bssid lines) ≤ (network_at x.config place).max_events
+  pub answered : Answers (first_moment x.config) x.said x.answers next
+  pub unrefused : AreUnrefused x.answers

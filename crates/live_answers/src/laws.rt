@@ -12,10 +12,10 @@ ghost use Rattle.trace.specs.Report.{network_line, counts_line, station_line};
 ghost use Rattle.trace.specs.Texts.{ended};
 ghost use Rattle.live_answers.specs.AnswerText.{table_text};
 ghost use Rattle.live_answers.specs.Answers.{Answer, Answers, answers_of, AreUnrefused};
-ghost use Rattle.live_answers.specs.Asked.{Asked};
+ghost use Rattle.live_answers.specs.Asked.{Asked, asked_in};
 ghost use Rattle.live_answers.specs.Moments.{Moment, first_moment};
-ghost use Rattle.live_answers.specs.Own.{IsAlone, AreAlike, IsLikeTrace, IsShown, air_at, wire_at, alone_after};
-ghost use Rattle.live_answers.specs.Own.{course, trace_of};
+ghost use Rattle.live_answers.specs.Own.{IsAlone, AreAlike, AreLines, IsLikeTrace, IsShown, IsTrace, air_at, wire_at};
+ghost use Rattle.live_answers.specs.Own.{alone_after, course};
 ghost use Rattle.live_answers.specs.TextLines.{lines_of_text, ended_lines, partial_in, lines_in, partial_after};
 ghost use Rattle.live_answers.specs.TextLines.{last_line};
 ghost use Rattle.live_answers.specs.Records.{AreRecords};
@@ -78,13 +78,17 @@ pub fn enough_memory()
     ensures unrefused { (m : Moment) (said : List Asked) → AreUnrefused (answers_of m said) }
 {}
 
-/// Where a text is a trace, so that no line of it has a fault, is `I` or is one of more than 1,000,000, no line is too
-/// long, and nothing is refused for memory, a network that hears no more than its history may have is told as its
-/// report tells it: the same frames, table and counts.
+/// Where nothing but lines of a trace is said, however they come, and nothing is refused for memory, a network that
+/// hears no more than its history may have is told as its report tells it: the same frames, table and counts.
+///
+/// A text says nothing else where it is a trace, so that no line of it has a fault, is `I` or is one of more than
+/// 1,000,000, and no line is too long.
 pub fn as_replayed()
-    ensures { (c : RadioConfig) (text : List ℕ) (said : List Line) (place : ℕ) (answers : List Answer)
-        (next : Moment) (section : Section) → IsLikeTrace (trace_of c text said) place answers next
-        → slice_get (sections_of_lines c said) place ≡ Some section → IsShown section place answers next }
+    ensures shown { (c : RadioConfig) (said : List Asked) (lines : List Line) (place : ℕ) (answers : List Answer)
+        (next : Moment) (section : Section) → IsLikeTrace (course c said answers) lines place next
+        → slice_get (sections_of_lines c lines) place ≡ Some section → IsShown section place answers next }
+    ensures text { (c : RadioConfig) (text : List ℕ) (lines : List Line) → IsTrace c text lines
+        → AreLines (asked_in (first_moment c) (lines_of_text text)) lines }
 {
     one_step();
     steps_append();
