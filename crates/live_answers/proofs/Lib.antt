@@ -6,3 +6,4 @@ pub mod MoreLines
 pub mod EnoughMemory
 pub mod Replayed
 pub mod RecordLaws
+pub mod SameSaid

@@ -6,3 +6,4 @@ pub mod Answers
 pub mod Records
 pub mod AnswerText
 pub mod Own
+pub mod BothFaces

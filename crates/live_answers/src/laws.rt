@@ -1,6 +1,7 @@
 //! What follows from the definitions, for whoever stands on them.
 
-ghost use Rattle.std.specs.Prelude.{◌≡◌, ◌<◌, ◌++◌, List, ℕ, length, codes, flat_map, Some, slice_get};
+ghost use Rattle.std.specs.Prelude.{◌≡◌, ◌<◌, ◌++◌, List, [], ℕ, length, codes, map, flat_map, Some, slice_get};
+ghost use Rattle.std.specs.List.{AllByRecursion};
 ghost use Rattle.network.specs.Section.{sections_of_lines};
 ghost use Rattle.network.specs.Network.{alone, table_of, counts_of};
 ghost use Rattle.ap_config.specs.declared.config.RadioConfig.{RadioConfig};
@@ -12,15 +13,18 @@ ghost use Rattle.trace.specs.Report.{network_line, counts_line, station_line};
 ghost use Rattle.trace.specs.Texts.{ended};
 ghost use Rattle.live_answers.specs.AnswerText.{table_text};
 ghost use Rattle.live_answers.specs.Answers.{Answer, Answers, answers_of, AreUnrefused};
-ghost use Rattle.live_answers.specs.Asked.{Asked, asked_in};
+ghost use Rattle.live_answers.specs.Asked.{Asked, asked_by_all, asked_in};
+ghost use Rattle.live_answers.specs.BothFaces.{AllSaySame, Input, IsInput, IsRead, line_for, octets_for, record_for};
+ghost use Rattle.live_answers.specs.BothFaces.{text_for};
 ghost use Rattle.live_answers.specs.Moments.{Moment, first_moment};
 ghost use Rattle.live_answers.specs.Own.{IsAlone, AreAlike, AreLines, IsLikeTrace, IsShown, IsTrace, air_at, wire_at};
 ghost use Rattle.live_answers.specs.Own.{alone_after, course};
 ghost use Rattle.live_answers.specs.TextLines.{lines_of_text, ended_lines, partial_in, lines_in, partial_after};
-ghost use Rattle.live_answers.specs.TextLines.{last_line};
-ghost use Rattle.live_answers.specs.Records.{AreRecords};
+ghost use Rattle.live_answers.specs.TextLines.{last_line, Octets};
+ghost use Rattle.live_answers.specs.Records.{AreRecords, records_ask};
 
 use ap_config::{checked_networks, checked_numbers};
+use mac_frame::address_comes_back;
 use network::{one_step, reachable, steps_append};
 
 /// However a text is cut, the lines that end in its pieces, and the last line, are those of the whole text.
@@ -95,4 +99,27 @@ pub fn as_replayed()
     reachable();
     checked_networks();
     checked_numbers();
+}
+
+/// What comes, a string that is heard, a frame over the wire, the beginning of a beacon interval or the question for
+/// tables, has a line and a record, and both say the same. The lines of a text of such lines are these, and the records
+/// of octets of such records.
+///
+/// Each list of answers to the records is one to the lines; and each to the lines of which none was left unread, for
+/// memory that reading a record doesn't take, is one to the records.
+pub fn either_face()
+    ensures text { (inputs : List Input) → AllByRecursion IsInput inputs
+        → lines_of_text (text_for inputs) ≡ map (λ input. Octets (line_for input)) inputs }
+    ensures octets { (inputs : List Input) → AllByRecursion IsInput inputs
+        → AreRecords (octets_for inputs) (map record_for inputs) [] }
+    ensures same { (bssids : List (List ℕ)) (inputs : List Input) → AllByRecursion IsInput inputs
+        → AllSaySame (records_ask bssids (map record_for inputs))
+        (asked_by_all bssids (map (λ input. Octets (line_for input)) inputs)) }
+    ensures to_lines { (m : Moment) (records lines : List Asked) (answers : List Answer) (next : Moment)
+        → AllSaySame records lines → Answers m records answers next → Answers m lines answers next }
+    ensures to_records { (m : Moment) (records lines : List Asked) (answers : List Answer) (next : Moment)
+        → AllSaySame records lines → AllByRecursion IsRead answers → Answers m lines answers next
+        → Answers m records answers next }
+{
+    address_comes_back();
 }

@@ -8,8 +8,9 @@
 //! ([`isolation`]), so that two inputs that give a network the same events give it the same frames and table
 //! ([`two_inputs`]); that a text has the same lines and octets the same records however they are cut
 //! ([`lines_come_in_pieces`], [`records_come_in_pieces`]); that the answers are the ones of `answers_of` where memory
-//! suffices ([`enough_memory`]); and that a trace is then answered as its report tells it, as far as a history would
-//! reach ([`as_replayed`]).
+//! suffices ([`enough_memory`]); that a trace is then answered as its report tells it, as far as a history would reach
+//! ([`as_replayed`]); and that lines and the records that say the same have the same answers ([`either_face`]), which
+//! are defined in `BothFaces`.
 //!
 //! It has no code that runs: the crate `live` answers.
 #![tactic(auto)]
@@ -17,5 +18,6 @@
 mod laws;
 
 pub use laws::{
-    as_replayed, enough_memory, isolation, lines_come_in_pieces, records_come_in_pieces, two_inputs,
+    as_replayed, either_face, enough_memory, isolation, lines_come_in_pieces,
+    records_come_in_pieces, two_inputs,
 };
