@@ -11,3 +11,4 @@ pub mod ToldSteps
 pub mod InputSteps
 pub mod RunSteps
 pub mod RunEnds
+pub mod BeforeReads

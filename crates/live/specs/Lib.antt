@@ -8,3 +8,4 @@ pub mod Networks
 pub mod Inputs
 pub mod LiveView
 pub mod Run
+pub mod BeforeReads

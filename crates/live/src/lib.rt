@@ -37,7 +37,7 @@ mod run;
 mod written;
 
 pub use fault::LiveFault;
-pub use laws::more_lines;
+pub use laws::{answers_come_before_reads, more_lines};
 pub use live_answers::{
     as_replayed, enough_memory, isolation, lines_come_in_pieces, records_come_in_pieces, two_inputs,
 };
