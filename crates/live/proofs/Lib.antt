@@ -12,3 +12,4 @@ pub mod InputSteps
 pub mod RunSteps
 pub mod RunEnds
 pub mod BeforeReads
+pub mod LiveRecordSteps

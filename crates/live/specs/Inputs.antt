@@ -23,6 +23,16 @@ abbrev pub line_begun : PartialInput → TextLine
 line_begun (Line partial) = partial
 line_begun (Record begun) = Octets begun
 
+-- what has begun of a record, where one has
+abbrev pub record_begun : PartialInput → List ℕ
+record_begun (Line partial) = []
+record_begun (Record begun) = begun
+
+-- nothing but less than a whole record has begun
+pub record IsPartOfRecord (begun : PartialInput) : Type 0 where
+  pub is : begun ≡ Record (record_begun begun)
+  pub is_begun : IsBegun (record_begun begun)
+
 -- less than a whole record has begun
 abbrev pub IsUnfinished : PartialInput → Type 0
 IsUnfinished (Line partial) = Unit {0}

@@ -11,6 +11,7 @@ use Rattle.live_answers.specs.Moments.{Moment, bssids_at}
 use Rattle.live_answers.specs.TextLines.{TextLine, partial_after, last_line, lines_in}
 use Rattle.live.specs.Written.{text_after, written_after, written_tables}
 use Rattle.live.specs.declared.partial_input.PartialInput.{PartialInput}
+use Rattle.live.specs.declared.partial_input.PartialInput.TheVariants.{Record}
 
 -- the moment after the lines that have ended, and what has begun of the next line
 pub record LiveState : Type 0 where
@@ -56,6 +57,15 @@ pub record Running : Type 0 where
 
 abbrev pub running : Moment → PartialInput → Option (List ℕ) → Running
 running moment begun taken = record { moment = moment; begun = begun; taken = taken }
+
+-- the moment after the records that have ended, and what has begun of the next
+pub record RecordsState : Type 0 where
+  pub moment : Moment
+  pub begun : List ℕ
+
+-- it, in the face of records, and what its sink has taken
+abbrev pub records_running : RecordsState → Option (List ℕ) → Running
+records_running live taken = running live.moment (Record live.begun) taken
 
 -- It took a piece: what is said in it is answered, and the sink has gained the answers; or, where a write failed, a
 -- prefix of them.

@@ -8,12 +8,14 @@
 //!
 //! [`Live`] is the access point in the face of lines. [`Live::feed`] takes a piece of a text, which may be cut
 //! anywhere, and promises that the sink has gained exactly the answers to the lines that end in it, or, where a write
-//! failed, a prefix of them; [`Live::end`] promises the same of the last line, and of the tables.
+//! failed, a prefix of them; [`Live::end`] promises the same of the last line, and of the tables. [`LiveRecords`] is the
+//! access point in the face of records, with the same promises of records.
 //!
-//! What is answered is said by the definitions of the crate `live_answers`, whose laws hold of both faces:
-//! [`isolation`] and those beside it. `specs/` says what an input says in either face (`Inputs`), and how answers are
-//! written (`AnswerOctets`, `Written`). The answers to more that is said begin with those to the first of it
-//! ([`more_lines`]).
+//! What is answered is said by the definitions of the crate `live_answers`, whose laws speak of what is said, however it
+//! came: [`isolation`] and those beside it, but for [`lines_come_in_pieces`] and [`records_come_in_pieces`], of one face
+//! each. `specs/` says what an input says in either face (`Inputs`), and how answers are written (`AnswerOctets`,
+//! `Written`). The answers to more that is said begin with those to the first of it ([`more_lines`]), and no answer is
+//! held back when the source is asked for more ([`answers_come_before_reads`]).
 //!
 //! Where the input comes from, and where the answers go, is left to the program.
 #![tactic(auto)]
@@ -25,6 +27,7 @@ mod fault;
 mod laws;
 mod lines;
 mod live_lines;
+mod live_records;
 mod networks;
 mod output;
 mod partial;
@@ -39,7 +42,9 @@ mod written;
 pub use fault::LiveFault;
 pub use laws::{answers_come_before_reads, more_lines};
 pub use live_answers::{
-    as_replayed, enough_memory, isolation, lines_come_in_pieces, records_come_in_pieces, two_inputs,
+    as_replayed, either_face, enough_memory, isolation, lines_come_in_pieces,
+    records_come_in_pieces, two_inputs,
 };
 pub use live_lines::Live;
+pub use live_records::LiveRecords;
 pub use run::{live, live_octets};

@@ -5,11 +5,16 @@ use crate::records::{
     FRESH_TABLE, KINDS, NOBODY, OPEN, Written, conversation, octets_of, record, records_of, told,
 };
 use crate::samples::{Face, Sample};
-use crate::streams::{Streams, WHOLE};
+use crate::streams::{MANY, Shown, Streams, WHOLE};
 use fixtures::lab::{BEACON, BSSID, PROBE_RESPONSE};
+use fixtures::texts::CONFIGURATION;
 use fixtures::{PROBE_REQUEST, octets};
+use live::LiveRecords;
 use std::alloc::Global;
+use std::cell::Cell;
+use std::process::Abort;
 use std::test::Fail;
+use trace::{Counted, Sink, read_config};
 
 #[test]
 fn nothing_is_held_back_however_records_are_cut(rt: HostRuntime) -> Result<(), Fail> {
@@ -159,4 +164,59 @@ fn seventy_records_in_one_piece(rt: HostRuntime) -> Result<(), Fail> {
     sample.end(told(alloc, FRESH_TABLE)?.as_slice())?;
     let all = sample.written.len();
     check_run(&rt, alloc, &sample, WHOLE, Ok(()), 2, all)
+}
+
+/// Whether a piece of octets that is fed is taken.
+fn is_fed(live: &mut LiveRecords, piece: &[u8], out: &mut Counted<Shown<'_>>) -> bool {
+    live.records() < MANY as u64
+        && piece.len() < MANY
+        && out.failures() == 0
+        && live.feed(piece, out).is_ok()
+}
+
+/// What is written in the end, after octets that were fed in pieces of this length: after each piece the answers to all
+/// records that ended must have been written.
+fn fed_in_pieces(
+    rt: &impl Abort,
+    alloc: Global,
+    sample: &Sample,
+    len: usize,
+) -> Result<Vec<u8>, Fail> {
+    let taken = Cell::new(OPEN.len());
+    let mut out = Counted::new(Shown {
+        octets: OPEN.to_vec(alloc)?,
+        room: MANY,
+        taken: &taken,
+    });
+    let mut live = LiveRecords::new(alloc, read_config(alloc, CONFIGURATION.as_bytes())?)?;
+    let mut given = 0usize;
+    assert!(rt; len > 0);
+    for piece in sample.input.as_slice().chunks(len) {
+        let fed = is_fed(&mut live, piece, &mut out);
+        given = given.saturating_add(piece.len());
+        let due = sample
+            .due
+            .get(given)
+            .copied()
+            .unwrap_or(sample.due_at_end());
+        assert!(rt;
+            fed && due == taken.get(),
+            "after {given} octets in pieces of {len}"
+        );
+    }
+    assert!(rt; live.records() == 13);
+    assert!(rt; out.failures() == 0);
+    assert!(rt; live.end(&mut out).is_ok());
+    Ok(out.into_inner().octets)
+}
+
+#[test]
+fn each_record_is_answered_by_the_call_that_it_ends_in(rt: HostRuntime) -> Result<(), Fail> {
+    let alloc = rt.alloc();
+    let sample = conversation(alloc)?;
+    for len in 1..=70 {
+        let written = fed_in_pieces(&rt, alloc, &sample, len)?;
+        assert!(rt; written.as_slice() == sample.written.as_slice());
+    }
+    Ok(())
 }
