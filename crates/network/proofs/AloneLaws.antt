@@ -32,6 +32,8 @@ use Rattle.stations.proofs.UnitsKept.{kept-elsewhere, kept-where, kept-filtered,
 use Rattle.stations.specs.declared.table.StationState.TheVariants.{Authenticated, Associated}
 use Rattle.stations.specs.Sound.{AreSound, IsKeptFor, AreKeptFor, CameBy}
 use Rattle.network.proofs.Clocks.{modes}
+use Rattle.network.proofs.FrameSizes.{AreFrames, AreEthernet, IsShort, IsShortRead, all-push, those-fit, others-fit, ethernet-fits, request-short}
+use Rattle.network.specs.Sizes.{FitsFrame, AreFitting}
 use Rattle.stations.proofs.Aging.{came-filtered, came-without_first, came-push, came-later}
 use Rattle.std.proofs.lemmas.List.Filters.{length-filter_both}
 use Rattle.network.proofs.Statuses.{room-authenticated, room-associated, known-where_taken, known-where_associated}
@@ -66,6 +68,7 @@ empty-sound s = record {
   known = omega arith;
   kept = tt;
   came = tt;
+  sizes = tt;
   quota = omega arith;
   sequence = omega arith;
   unread = omega arith;
@@ -80,6 +83,7 @@ counts-sound s events units more most n other same sequence unread clock lost h 
   known = rw same.0 h.known;
   kept = rw (same.0, same.1) h.kept;
   came = rw same.1 (came-later n.clock other.clock n.kept same.2 h.came);
+  sizes = rw same.1 h.sizes;
   quota = rw same.1 h.quota;
   sequence = sequence;
   unread = unread;
@@ -108,12 +112,13 @@ pub frames-sound : (s : Setting) (events units : ℕ) (n : Network) (air wire : 
 frames-sound s events units n air wire h = counts-sound s events units events units n (record n { air = air; wire = wire }) (refl, refl, omega arith) h.sequence h.unread h.clock h.lost h
 
 -- some units leave
-kept-sound : (s : Setting) (events units : ℕ) (n : Network) (kept : List Entry) → AreKeptFor n.stations kept → CameBy n.clock kept → length kept ≤ length n.kept → IsSoundNetwork s events units n → IsSoundNetwork s events units (record n { kept = kept })
-kept-sound s events units n kept for came fewer h = record {
+kept-sound : (s : Setting) (events units : ℕ) (n : Network) (kept : List Entry) → AreKeptFor n.stations kept → CameBy n.clock kept → AreFitting kept → length kept ≤ length n.kept → IsSoundNetwork s events units n → IsSoundNetwork s events units (record n { kept = kept })
+kept-sound s events units n kept for came sizes fewer h = record {
   stations = h.stations;
   known = h.known;
   kept = for;
   came = came;
+  sizes = sizes;
   quota = omega (arith, fewer, h.quota);
   sequence = h.sequence;
   unread = h.unread;
@@ -128,6 +133,7 @@ stations-sound s events units n table sound few for h = record {
   known = few;
   kept = for;
   came = h.came;
+  sizes = h.sizes;
   quota = h.quota;
   sequence = h.sequence;
   unread = h.unread;
@@ -142,6 +148,7 @@ state-sound s addr change events units n sound few elsewhere h = record {
   known = few;
   kept = kept-elsewhere addr n.stations (change n.stations) elsewhere n.kept h.kept;
   came = came-filtered (λ entry. not (is_for (One addr) entry)) n.clock n.kept h.came;
+  sizes = those-fit (λ entry. not (is_for (One addr) entry)) n.kept h.sizes;
   quota = omega (arith, length-filtered (λ entry. not (is_for (One addr) entry)) n.kept, h.quota);
   sequence = h.sequence;
   unread = h.unread;
@@ -151,8 +158,8 @@ state-sound s addr change events units n sound few elsewhere h = record {
 
 -- ---- units
 
-keep-sound : (s : Setting) (whom : Whom) (u : DataUnit) (events units : ℕ) (n : Network) → u.at ≡ n.clock → IsKeptFor n.stations whom → IsSoundNetwork s events units n → IsSoundNetwork s events (units + 1) (keep_or_lose s whom u n)
-keep-sound s whom u events units n at for h = by (nat_lt (length n.kept) s.network.quota) refl
+keep-sound : (s : Setting) (whom : Whom) (u : DataUnit) (events units : ℕ) (n : Network) → u.at ≡ n.clock → FitsFrame u → IsKeptFor n.stations whom → IsSoundNetwork s events units n → IsSoundNetwork s events (units + 1) (keep_or_lose s whom u n)
+keep-sound s whom u events units n at size for h = by (nat_lt (length n.kept) s.network.quota) refl
   where
     by : (b : Bool) → nat_lt (length n.kept) s.network.quota ≡ b → IsSoundNetwork s events (units + 1) (keep_or_lose s whom u n)
     by false is = rw is (lose-sound s events units n h)
@@ -164,6 +171,7 @@ keep-sound s whom u events units n at for h = by (nat_lt (length n.kept) s.netwo
           known = h.known;
           kept = kept-push n.stations whom u n.kept h.kept for;
           came = came-push whom u n.clock n.kept at h.came;
+          sizes = all-push _ n.kept (whom, u) h.sizes size;
           quota = omega (arith, room, len);
           sequence = h.sequence;
           unread = h.unread;
@@ -189,12 +197,12 @@ delivery-for to t kept whom h = by (is_group to) refl
     by true is = to_group (some_station_dozes t || group_is_kept kept) (sym (rw is refl) ∙ h)
     by false is = to_one (state_of to t) refl (sym (rw is refl) ∙ h)
 
-deliver-sound : (s : Setting) (u : DataUnit) (events units : ℕ) (n : Network) → u.at ≡ n.clock → IsSoundNetwork s events units n → IsSoundNetwork s events (units + 1) (deliver s u n)
-deliver-sound s u events units n at h = by (delivery_of u.to n.stations n.kept) refl
+deliver-sound : (s : Setting) (u : DataUnit) (events units : ℕ) (n : Network) → u.at ≡ n.clock → FitsFrame u → IsSoundNetwork s events units n → IsSoundNetwork s events (units + 1) (deliver s u n)
+deliver-sound s u events units n at size h = by (delivery_of u.to n.stations n.kept) refl
   where
     by : (d : Delivery) → delivery_of u.to n.stations n.kept ≡ d → IsSoundNetwork s events (units + 1) (deliver s u n)
     by Now is = rw is (more-sound s events units events (units + 1) _ (omega arith) (omega arith) (send-sound s events units n (unit_frame s.network.bssid false u) h))
-    by (Kept whom) is = rw is (keep-sound s whom u events units n at (delivery-for u.to n.stations n.kept whom is) h)
+    by (Kept whom) is = rw is (keep-sound s whom u events units n at size (delivery-for u.to n.stations n.kept whom is) h)
     by Nowhere is = rw is (more-sound s events units events (units + 1) n (omega arith) (omega arith) h)
 
 send_each-sound : (s : Setting) (shows_more : Bool) (us : List DataUnit) (events units : ℕ) (n : Network) → IsSoundNetwork s events units n → IsSoundNetwork s events units (send_each s shows_more us n)
@@ -206,21 +214,21 @@ put_on_wire-sound : (s : Setting) (wired : Option (List ℕ)) (events units : �
 put_on_wire-sound s (Some octets) events units n h = more-sound s events units events (units + 1) _ (omega arith) (omega arith) (frames-sound s events units n n.air (n.wire ++ octets ∷ []) h)
 put_on_wire-sound s None events units n h = lose-sound s events units n h
 
-relay-sound : (s : Setting) (u : DataUnit) (events units : ℕ) (n : Network) → u.at ≡ n.clock → IsSoundNetwork s events units n → IsSoundNetwork s events (units + 1) (relay s u n)
-relay-sound s u events units n at h = by s.network.relay
+relay-sound : (s : Setting) (u : DataUnit) (events units : ℕ) (n : Network) → u.at ≡ n.clock → FitsFrame u → IsSoundNetwork s events units n → IsSoundNetwork s events (units + 1) (relay s u n)
+relay-sound s u events units n at size h = by s.network.relay
   where
     by : (b : Bool) → IsSoundNetwork s events (units + 1) (if b then deliver s u n else n)
-    by true = deliver-sound s u events units n at h
+    by true = deliver-sound s u events units n at size h
     by false = more-sound s events units events (units + 1) n (omega arith) (omega arith) h
 
-forward-sound : (s : Setting) (u : DataUnit) (events units : ℕ) (n : Network) → u.at ≡ n.clock → IsSoundNetwork s events units n → IsSoundNetwork s events (units + 2) (forward s u n)
-forward-sound s u events units n at h = by (goes_on_wire s.network.relay u.to n.stations) refl
+forward-sound : (s : Setting) (u : DataUnit) (events units : ℕ) (n : Network) → u.at ≡ n.clock → FitsFrame u → IsSoundNetwork s events units n → IsSoundNetwork s events (units + 2) (forward s u n)
+forward-sound s u events units n at size h = by (goes_on_wire s.network.relay u.to n.stations) refl
   where
     by : (b : Bool) → goes_on_wire s.network.relay u.to n.stations ≡ b → IsSoundNetwork s events (units + 2) (forward s u n)
     by true is =
         rw is (more-sound s events (units + 1 + 1) events (units + 2) _ (omega arith) (omega arith)
-        (put_on_wire-sound s (on_wire u.to u.source u.body) events (units + 1) (relay s u n) (relay-sound s u events units n at h)))
-    by false is = rw is (more-sound s events (units + 1) events (units + 2) _ (omega arith) (omega arith) (relay-sound s u events units n at h))
+        (put_on_wire-sound s (on_wire u.to u.source u.body) events (units + 1) (relay s u n) (relay-sound s u events units n at size h)))
+    by false is = rw is (more-sound s events (units + 1) events (units + 2) _ (omega arith) (omega arith) (relay-sound s u events units n at size h))
 
 mode_set-sound : (s : Setting) (from : List ℕ) (doze : Bool) (events units : ℕ) (n : Network) → IsSoundNetwork s events units n → IsSoundNetwork s events units (set_power_mode s from doze n)
 mode_set-sound s from doze events units n h = by (is_dozing from n.stations && not doze) refl
@@ -240,7 +248,7 @@ poll-sound : (s : Setting) (from : List ℕ) (us : List DataUnit) (events units 
 poll-sound s from [] events units n h = h
 poll-sound s from (u ∷ us) events units n h =
     send-sound s events units _ (unit_frame s.network.bssid (others_follow us) u)
-    (kept-sound s events units n (without_oldest (One from) n.kept) (kept-without_first n.stations (is_for (One from)) n.kept h.kept) (came-without_first (is_for (One from)) n.clock n.kept h.came) (length-without_first (is_for (One from)) n.kept) h)
+    (kept-sound s events units n (without_oldest (One from) n.kept) (kept-without_first n.stations (is_for (One from)) n.kept h.kept) (came-without_first (is_for (One from)) n.clock n.kept h.came) (others-fit (One from) n.kept h.sizes) (length-without_first (is_for (One from)) n.kept) h)
 
 polled-sound : (s : Setting) (from : List ℕ) (aid events units : ℕ) (n : Network) → IsSoundNetwork s events units n → IsSoundNetwork s events units (answer_poll s from aid n)
 polled-sound s from aid events units n h = by (may_poll aid (state_of from n.stations)) refl
@@ -255,7 +263,7 @@ release-sound s events units n h = by (dtim_count n.clock s.network.dtim == 0) r
     by : (b : Bool) → (dtim_count n.clock s.network.dtim == 0) ≡ b → IsSoundNetwork s events units (release s n)
     by true is =
         rw is (send_each-sound s true (units_for Group n.kept) events units (drop_units Group n)
-        (kept-sound s events units n (without_all Group n.kept) (kept-filtered n.stations (λ entry. not (is_for Group entry)) n.kept h.kept) (came-filtered (λ entry. not (is_for Group entry)) n.clock n.kept h.came) (length-filtered (λ entry. not (is_for Group entry)) n.kept) h))
+        (kept-sound s events units n (without_all Group n.kept) (kept-filtered n.stations (λ entry. not (is_for Group entry)) n.kept h.kept) (came-filtered (λ entry. not (is_for Group entry)) n.clock n.kept h.came) (those-fit (λ entry. not (is_for Group entry)) n.kept h.sizes) (length-filtered (λ entry. not (is_for Group entry)) n.kept) h))
     by false is = rw is h
 
 tick-sound : (s : Setting) (events units : ℕ) (n : Network) → IsSoundNetwork s events units n → IsSoundNetwork s (events + 1) units (tick s n)
@@ -274,6 +282,7 @@ age-sound s events units n h =
       known = h.known;
       kept = kept-filtered n.stations stay n.kept h.kept;
       came = came-filtered stay n.clock n.kept h.came;
+      sizes = those-fit stay n.kept h.sizes;
       quota = omega (arith, length-filtered stay n.kept, h.quota);
       sequence = h.sequence;
       unread = h.unread;
@@ -347,48 +356,49 @@ disassociation-sound s from events units n h =
     elsewhere b other true is = rw is (state_of-set from b Authenticated n.stations other)
     elsewhere b other false is = rw is refl
 
-serve-sound : (s : Setting) (r : Request) (events units : ℕ) (n : Network) → s.network.max_stations ≤ 2007 → class_fault (standing_of (sender r) n.stations) (class_of r) ≡ None → IsSoundNetwork s events units n → IsSoundNetwork s events (units + 2) (serve s r n)
-serve-sound s (Probe from ssid) events units n limit taken h = more-sound s events units events (units + 2) _ (omega arith) (omega arith) (probe-sound s from ssid events units n h)
-serve-sound s (Auth from algorithm step) events units n limit taken h = more-sound s events units events (units + 2) _ (omega arith) (omega arith) (authentication-sound s from algorithm step events units n h)
-serve-sound s (Assoc from again listen es) events units n limit taken h = more-sound s events units events (units + 2) _ (omega arith) (omega arith) (association-sound s from again listen es events units n limit (known-where_taken (state_of from n.stations) taken) h)
-serve-sound s (Disassoc from) events units n limit taken h = more-sound s events units events (units + 2) _ (omega arith) (omega arith) (disassociation-sound s from events units n h)
-serve-sound s (Deauth from) events units n limit taken h =
+serve-sound : (s : Setting) (r : Request) (events units : ℕ) (n : Network) → IsShort r → s.network.max_stations ≤ 2007 → class_fault (standing_of (sender r) n.stations) (class_of r) ≡ None → IsSoundNetwork s events units n → IsSoundNetwork s events (units + 2) (serve s r n)
+serve-sound s (Probe from ssid) events units n short limit taken h = more-sound s events units events (units + 2) _ (omega arith) (omega arith) (probe-sound s from ssid events units n h)
+serve-sound s (Auth from algorithm step) events units n short limit taken h = more-sound s events units events (units + 2) _ (omega arith) (omega arith) (authentication-sound s from algorithm step events units n h)
+serve-sound s (Assoc from again listen es) events units n short limit taken h = more-sound s events units events (units + 2) _ (omega arith) (omega arith) (association-sound s from again listen es events units n limit (known-where_taken (state_of from n.stations) taken) h)
+serve-sound s (Disassoc from) events units n short limit taken h = more-sound s events units events (units + 2) _ (omega arith) (omega arith) (disassociation-sound s from events units n h)
+serve-sound s (Deauth from) events units n short limit taken h =
     more-sound s events units events (units + 2) _ (omega arith) (omega arith)
     (state-sound s from (forget from) events units n (forget-sound s.network.max_stations from n.stations h.stations) (omega (arith, length-forgotten from n.stations, h.known))
     (λ b other. state_of-forgotten from b n.stations other) h)
-serve-sound s (Msdu from doze to body) events units n limit taken h =
-    forward-sound s (unit n.clock to from body) events units (set_power_mode s from doze n) (sym (modes s from doze n)) (mode_set-sound s from doze events units n h)
-serve-sound s (Null from doze) events units n limit taken h = more-sound s events units events (units + 2) _ (omega arith) (omega arith) (mode_set-sound s from doze events units n h)
-serve-sound s (Poll from aid) events units n limit taken h = more-sound s events units events (units + 2) _ (omega arith) (omega arith) (polled-sound s from aid events units n h)
+serve-sound s (Msdu from doze to body) events units n short limit taken h =
+    forward-sound s (unit n.clock to from body) events units (set_power_mode s from doze n) (sym (modes s from doze n)) (record { to = short.passed.0; source = short.from; body = short.passed.1 }) (mode_set-sound s from doze events units n h)
+serve-sound s (Null from doze) events units n short limit taken h = more-sound s events units events (units + 2) _ (omega arith) (omega arith) (mode_set-sound s from doze events units n h)
+serve-sound s (Poll from aid) events units n short limit taken h = more-sound s events units events (units + 2) _ (omega arith) (omega arith) (polled-sound s from aid events units n h)
 
-notified-sound : (s : Setting) (r : Request) (fault : Option Notice) (events units : ℕ) (n : Network) → s.network.max_stations ≤ 2007 → class_fault (standing_of (sender r) n.stations) (class_of r) ≡ fault → IsSoundNetwork s events units n → IsSoundNetwork s events (units + 2) (notify_or_serve fault s r n)
-notified-sound s r (Some notice) events units n limit is h = more-sound s events units events (units + 2) _ (omega arith) (omega arith) (send-sound s events units n (λ sequence. notice_frame (sender r) s.network.bssid sequence notice) h)
-notified-sound s r None events units n limit is h = serve-sound s r events units n limit is h
+notified-sound : (s : Setting) (r : Request) (fault : Option Notice) (events units : ℕ) (n : Network) → IsShort r → s.network.max_stations ≤ 2007 → class_fault (standing_of (sender r) n.stations) (class_of r) ≡ fault → IsSoundNetwork s events units n → IsSoundNetwork s events (units + 2) (notify_or_serve fault s r n)
+notified-sound s r (Some notice) events units n short limit is h = more-sound s events units events (units + 2) _ (omega arith) (omega arith) (send-sound s events units n (λ sequence. notice_frame (sender r) s.network.bssid sequence notice) h)
+notified-sound s r None events units n short limit is h = serve-sound s r events units n short limit is h
 
-answer-sound : (s : Setting) (asked : Result Request Fault) (events units : ℕ) (n : Network) → s.network.max_stations ≤ 2007 → IsSoundNetwork s events units n → IsSoundNetwork s (events + 1) (units + 2) (answer s asked n)
-answer-sound s (Ok r) events units n limit h = more-sound s events (units + 2) (events + 1) (units + 2) _ (omega arith) (omega arith) (notified-sound s r (class_fault (standing_of (sender r) n.stations) (class_of r)) events units n limit refl h)
-answer-sound s (Err fault) events units n limit h = more-sound s (events + 1) units (events + 1) (units + 2) _ (omega arith) (omega arith) (count_unread-sound s events units n h)
+answer-sound : (s : Setting) (asked : Result Request Fault) (events units : ℕ) (n : Network) → IsShortRead asked → s.network.max_stations ≤ 2007 → IsSoundNetwork s events units n → IsSoundNetwork s (events + 1) (units + 2) (answer s asked n)
+answer-sound s (Ok r) events units n short limit h = more-sound s events (units + 2) (events + 1) (units + 2) _ (omega arith) (omega arith) (notified-sound s r (class_fault (standing_of (sender r) n.stations) (class_of r)) events units n short limit refl h)
+answer-sound s (Err fault) events units n short limit h = more-sound s (events + 1) units (events + 1) (units + 2) _ (omega arith) (omega arith) (count_unread-sound s events units n h)
 
-wired-sound : (s : Setting) (read : Result Ethernet Fault) (events units : ℕ) (n : Network) → IsSoundNetwork s events units n → IsSoundNetwork s (events + 1) (units + 2) (answer_wired s read n)
-wired-sound s (Ok w) events units n h = more-sound s events (units + 1) (events + 1) (units + 2) _ (omega arith) (omega arith) (deliver-sound s (unit_of n.clock w) events units n refl h)
-wired-sound s (Err fault) events units n h = more-sound s (events + 1) units (events + 1) (units + 2) _ (omega arith) (omega arith) (count_unread-sound s events units n h)
+wired-sound : (s : Setting) (read : Result Ethernet Fault) (events units : ℕ) (n : Network) → ((w : Ethernet) → read ≡ Ok w → FitsFrame (unit_of n.clock w)) → IsSoundNetwork s events units n → IsSoundNetwork s (events + 1) (units + 2) (answer_wired s read n)
+wired-sound s (Ok w) events units n size h = more-sound s events (units + 1) (events + 1) (units + 2) _ (omega arith) (omega arith) (deliver-sound s (unit_of n.clock w) events units n refl (size w refl) h)
+wired-sound s (Err fault) events units n size h = more-sound s (events + 1) units (events + 1) (units + 2) _ (omega arith) (omega arith) (count_unread-sound s events units n h)
 
-pub step-sound : (s : Setting) (events units : ℕ) (n : Network) (e : Event) → s.network.max_stations ≤ 2007 → IsSoundNetwork s events units n → IsSoundNetwork s (events + 1) (units + 2) (step s n e)
-step-sound s events units n (Air x) limit h = answer-sound s (request_of s.network.bssid x) events units n limit h
-step-sound s events units n (Wire y) limit h = wired-sound s (ethernet_of y) events units n h
-step-sound s events units n Tick limit h = more-sound s (events + 1) units (events + 1) (units + 2) _ (omega arith) (omega arith) (tick-sound s events units (age_units s n) (age-sound s events units n h))
+pub step-sound : AreFrames → AreEthernet → (s : Setting) (events units : ℕ) (n : Network) (e : Event) → s.network.max_stations ≤ 2007 → IsSoundNetwork s events units n → IsSoundNetwork s (events + 1) (units + 2) (step s n e)
+step-sound frames ethernet s events units n (Air x) limit h = answer-sound s (request_of s.network.bssid x) events units n (request-short frames s.network.bssid x) limit h
+step-sound frames ethernet s events units n (Wire y) limit h =
+    wired-sound s (ethernet_of y) events units n (λ w is. ethernet-fits n.clock y w ((ethernet y w).0 is)) h
+step-sound frames ethernet s events units n Tick limit h = more-sound s (events + 1) units (events + 1) (units + 2) _ (omega arith) (omega arith) (tick-sound s events units (age_units s n) (age-sound s events units n h))
 
-after-sound : (s : Setting) (events units : ℕ) (n : Network) (es : List Event) → s.network.max_stations ≤ 2007 → IsSoundNetwork s events units n → IsSoundNetwork s (events + length es) (units + 2 * length es) (after s n es)
-after-sound s events units n [] limit h = more-sound s events units _ _ n (omega arith) (omega arith) h
-after-sound s events units n (e ∷ es) limit h =
+after-sound : AreFrames → AreEthernet → (s : Setting) (events units : ℕ) (n : Network) (es : List Event) → s.network.max_stations ≤ 2007 → IsSoundNetwork s events units n → IsSoundNetwork s (events + length es) (units + 2 * length es) (after s n es)
+after-sound frames ethernet s events units n [] limit h = more-sound s events units _ _ n (omega arith) (omega arith) h
+after-sound frames ethernet s events units n (e ∷ es) limit h =
     more-sound s _ _ _ _ (after s (step s n e) es) (omega arith) (omega arith)
-    (after-sound s (events + 1) (units + 2) (step s n e) es limit (step-sound s events units n e limit h))
+    (after-sound frames ethernet s (events + 1) (units + 2) (step s n e) es limit (step-sound frames ethernet s events units n e limit h))
 
 -- in a network without a fault there are identifiers for all stations that may associate
 abbrev pub StationsFit : Type 0
 StationsFit = (n : NetConfig) → network_fault n ≡ None → n.max_stations ≤ 2007
 
-pub alone-sound : StationsFit → (s : Setting) (es : List Event) → network_fault s.network ≡ None → IsSoundNetwork s (length es) (2 * length es) (alone s es)
+pub alone-sound : StationsFit → AreFrames → AreEthernet → (s : Setting) (es : List Event) → network_fault s.network ≡ None → IsSoundNetwork s (length es) (2 * length es) (alone s es)
 unfolding alone
-alone-sound fit s es h =
-    more-sound s _ _ _ _ (after s empty_network es) (omega arith) (omega arith) (after-sound s 0 0 empty_network es (fit s.network h) (empty-sound s))
+alone-sound fit frames ethernet s es h =
+    more-sound s _ _ _ _ (after s empty_network es) (omega arith) (omega arith) (after-sound frames ethernet s 0 0 empty_network es (fit s.network h) (empty-sound s))

@@ -49,18 +49,15 @@ use Rattle.network.specs.declared.reply.unit.Delivery.{Delivery}
 use Rattle.network.specs.declared.reply.unit.Delivery.TheVariants.{Now, Kept, Nowhere}
 use Rattle.network.specs.Units.{unit, unit_of, unit_frame, others_follow, delivery_of, goes_on_wire, may_poll}
 use Rattle.network.specs.Network.{Network, empty_network, send, count_unread, change_state, change_where_served, lose, keep_or_lose, deliver, deliver_by, answer_wired, drop_units, send_unit, send_each, put_on_wire, relay, forward, forward_by, has_aged, age_units, set_power_mode, serve_poll, answer_poll, beacon_frame, release, tick, authentication_status, answer_authentication, association_status, answer_association, serve, notify_or_serve, announced_at, asks_for, answer, answer_probe, step, after, alone}
-use Rattle.network.specs.Sizes.{FitsFrame, IsWithinSizes}
+use Rattle.network.specs.Sizes.{FitsFrame, AreFitting, IsWithinSizes}
 
 -- ---- lists of which each is so
 
-all-push : {A : Type 0} (P : A → Type 0) (xs : List A) (x : A) → AllByRecursion P xs → P x → AllByRecursion P (xs ++ x ∷ [])
+pub all-push : {A : Type 0} (P : A → Type 0) (xs : List A) (x : A) → AllByRecursion P xs → P x → AllByRecursion P (xs ++ x ∷ [])
 all-push P [] x h p = (p, tt)
 all-push P (y ∷ ys) x h p = (h.0, all-push P ys x h.1 p)
 
-abbrev AreFitting : List Entry → Type 0
-AreFitting es = AllByRecursion (λ e. FitsFrame e.1) es
-
-those-fit : (p : Entry → Bool) (es : List Entry) → AreFitting es → AreFitting (filter p es)
+pub those-fit : (p : Entry → Bool) (es : List Entry) → AreFitting es → AreFitting (filter p es)
 those-fit p [] h = tt
 those-fit p (e ∷ es) h = by (p e) (those-fit p es h.1)
   where
@@ -72,7 +69,7 @@ units-fit : (es : List Entry) → AreFitting es → AllByRecursion FitsFrame (ma
 units-fit [] h = tt
 units-fit (e ∷ es) h = (h.0, units-fit es h.1)
 
-others-fit : (whom : Whom) (es : List Entry) → AreFitting es → AreFitting (without_oldest whom es)
+pub others-fit : (whom : Whom) (es : List Entry) → AreFitting es → AreFitting (without_oldest whom es)
 others-fit whom [] h = tt
 others-fit whom (e ∷ es) h = by (is_for whom e) (others-fit whom es h.1)
   where
@@ -202,12 +199,16 @@ kind-fits at Sized y to source payload h = record {
   body = omega (arith, h.greatest);
 }
 
-ethernet-fits : (at : ℕ) (y : List ℕ) (w : Ethernet) → IsEthernet y w → FitsFrame (unit_of at w)
+-- an Ethernet frame is the one that is read
+abbrev pub AreEthernet : Type 0
+AreEthernet = (y : List ℕ) (w : Ethernet) → (ethernet_of y ≡ Ok w) ↔ IsEthernet y w
+
+pub ethernet-fits : (at : ℕ) (y : List ℕ) (w : Ethernet) → IsEthernet y w → FitsFrame (unit_of at w)
 ethernet-fits at y w h = kind-fits at w.kind y w.to w.source w.payload h
 
 -- ---- requests
 
-abbrev UnitFits : Request → Type 0
+abbrev pub UnitFits : Request → Type 0
 UnitFits (Probe from ssid) = Unit {0}
 UnitFits (Auth from algorithm step) = Unit {0}
 UnitFits (Assoc from again listen elements) = Unit {0}
@@ -217,11 +218,11 @@ UnitFits (Msdu from doze to body) = (length to ≤ 6) × (length body ≤ 2304)
 UnitFits (Null from doze) = Unit {0}
 UnitFits (Poll from aid) = Unit {0}
 
-record IsShort (r : Request) : Type 0 where
+pub record IsShort (r : Request) : Type 0 where
   pub from : length (sender r) ≤ 6
   pub passed : UnitFits r
 
-abbrev IsShortRead : Result Request Unread → Type 0
+abbrev pub IsShortRead : Result Request Unread → Type 0
 IsShortRead (Ok r) = IsShort r
 IsShortRead (Err fault) = Unit {0}
 
@@ -260,7 +261,7 @@ frame-short bss x (heard.Null from doze) h = record {
 }
 frame-short bss x (heard.Poll from aid) h = record { from = omega (arith, ap length h.from_is, h.polled.transmitter); passed = tt }
 
-request-short : AreFrames → (bss x : List ℕ) → IsShortRead (request_of bss x)
+pub request-short : AreFrames → (bss x : List ℕ) → IsShortRead (request_of bss x)
 request-short frames bss x = by (frame_of bss x) refl
   where
     by : (read : Result Frame Unread) → frame_of bss x ≡ read → IsShortRead (request_read read)
@@ -483,10 +484,6 @@ module _ (s : Setting) (fits : IsFitting s) where
   aged-within n h = record { kept = those-fit _ n.kept h.kept; air = h.air; wire = h.wire }
 
 -- ---- steps
-
--- an Ethernet frame is the one that is read
-abbrev pub AreEthernet : Type 0
-AreEthernet = (y : List ℕ) (w : Ethernet) → (ethernet_of y ≡ Ok w) ↔ IsEthernet y w
 
 pub step-within : AreFrames → AreEthernet → HasTims → (s : Setting) (n : Network) (e : Event) → length s.network.bssid ≡ 6 → network_fault s.network ≡ None → IsWithinSizes n → IsWithinSizes (step s n e)
 step-within frames wired tims s n (Air x) six checked h =

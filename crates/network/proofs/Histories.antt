@@ -13,7 +13,7 @@ use Rattle.events.specs.declared.event.Event.{Event}
 use Rattle.events.specs.declared.event.Event.TheVariants.{Tick}
 use Rattle.network.specs.declared.reply.Reply.{Reply}
 use Rattle.network.proofs.Aging.{before-none, before-tick}
-use Rattle.network.proofs.AloneLaws.{StationsFit, alone-none, alone-push, alone-sound, frames-sound, more-sound, step-sound}
+use Rattle.network.proofs.AloneLaws.{alone-none, alone-push, frames-sound, more-sound}
 use Rattle.network.proofs.SentFrames.{step-unsent}
 
 pub history-none : (s : Setting) → network_fault s.network ≡ None → IsAfterHistory [] (new_network s) []
@@ -25,10 +25,18 @@ history-none s h = record {
   wired = ap (λ (n : Network). n.wire) (sym (alone-none s));
 }
 
-pub history-sound : StationsFit → (es : List Event) (n : NetworkState) (wired : List (List ℕ)) → IsAfterHistory es n wired → IsSoundNetwork n.setting (length es) (2 * length es) n.network
-history-sound fit es n wired h =
+-- what holds of every network that can be reached
+abbrev pub AreSoundAlone : Type 0
+AreSoundAlone = (s : Setting) (es : List Event) → network_fault s.network ≡ None → IsSoundNetwork s (length es) (2 * length es) (alone s es)
+
+-- and so after one event more
+abbrev pub StaysSound : Type 0
+StaysSound = (s : Setting) (events units : ℕ) (n : Network) (e : Event) → network_fault s.network ≡ None → IsSoundNetwork s events units n → IsSoundNetwork s (events + 1) (units + 2) (step s n e)
+
+pub history-sound : AreSoundAlone → (es : List Event) (n : NetworkState) (wired : List (List ℕ)) → IsAfterHistory es n wired → IsSoundNetwork n.setting (length es) (2 * length es) n.network
+history-sound sound es n wired h =
     subst (IsSoundNetwork n.setting (length es) (2 * length es)) (sym h.network)
-    (frames-sound n.setting (length es) (2 * length es) (alone n.setting es) [] [] (alone-sound fit n.setting es h.sound))
+    (frames-sound n.setting (length es) (2 * length es) (alone n.setting es) [] [] (sound n.setting es h.sound))
 
 -- ---- one more event, by the reply to it
 
@@ -68,11 +76,11 @@ wire-push es n wired e p r h is =
 
 -- ---- a reply that can be carried out
 
-pub may-follow : StationsFit → (n : NetworkState) (e : Event) (p : Option (List ℕ)) (r : Reply) → network_fault n.setting.network ≡ None → IsSoundNetwork n.setting n.events (2 * n.events) n.network → IsStill r → IsFitting n.setting r (before_reply n.setting p r n.network)
+pub may-follow : StaysSound → (n : NetworkState) (e : Event) (p : Option (List ℕ)) (r : Reply) → network_fault n.setting.network ≡ None → IsSoundNetwork n.setting n.events (2 * n.events) n.network → IsStill r → IsFitting n.setting r (before_reply n.setting p r n.network)
     → step n.setting n.network e ≡ after_reply r (before_reply n.setting p r n.network) → n.network.clock + r.clock < 2 ^ 32 → MayFollow n p r
-may-follow fit n e p r accepted sound still fits is clock =
+may-follow stays n e p r accepted sound still fits is clock =
     let s : Setting = n.setting in
-    let after : IsSoundNetwork s (n.events + 1) (2 * n.events + 2) (after_reply r (before_reply s p r n.network)) = subst (IsSoundNetwork s (n.events + 1) (2 * n.events + 2)) is (step-sound s n.events (2 * n.events) n.network e (fit s.network accepted) sound) in
+    let after : IsSoundNetwork s (n.events + 1) (2 * n.events + 2) (after_reply r (before_reply s p r n.network)) = subst (IsSoundNetwork s (n.events + 1) (2 * n.events + 2)) is (stays s n.events (2 * n.events) n.network e accepted sound) in
     record {
       still = still;
       fitting = fits;
@@ -81,21 +89,21 @@ may-follow fit n e p r accepted sound still fits is clock =
     }
 
 -- where no beacon interval begins, by the network as it is
-pub still-follows : StationsFit → (n : NetworkState) (e : Event) (p : Option (List ℕ)) (r : Reply) → network_fault n.setting.network ≡ None → IsSoundNetwork n.setting n.events (2 * n.events) n.network → IsFitting n.setting r (served p n.network)
+pub still-follows : StaysSound → (n : NetworkState) (e : Event) (p : Option (List ℕ)) (r : Reply) → network_fault n.setting.network ≡ None → IsSoundNetwork n.setting n.events (2 * n.events) n.network → IsFitting n.setting r (served p n.network)
     → step n.setting n.network e ≡ after_reply r (served p n.network) → (step n.setting n.network e).clock ≡ n.network.clock → n.network.clock < 2 ^ 32 → MayFollow n p r × (step n.setting n.network e ≡ after_reply r (before_reply n.setting p r n.network))
-still-follows fit n e p r accepted sound fits is same bounded =
+still-follows stays n e p r accepted sound fits is same bounded =
     let now : n.network.clock + r.clock ≡ n.network.clock = sym (ap (λ (m : Network). m.clock) is) ∙ same in
     let none : r.clock ≡ 0 = omega (arith, now) in
     let before : before_reply n.setting p r n.network ≡ served p n.network = before-none n.setting p r n.network none in
     let after = is ∙ ap (after_reply r) (sym before) in (
-      may-follow fit n e p r accepted sound (λ begins. absurd (omega (arith, begins, none))) (subst (IsFitting n.setting r) (sym before) fits) after (omega (arith, none, bounded)),
+      may-follow stays n e p r accepted sound (λ begins. absurd (omega (arith, begins, none))) (subst (IsFitting n.setting r) (sym before) fits) after (omega (arith, none, bounded)),
       after,
     )
 
 -- where one begins, by the network once units have aged
-pub tick-follows : StationsFit → (n : NetworkState) (r : Reply) → network_fault n.setting.network ≡ None → IsSoundNetwork n.setting n.events (2 * n.events) n.network → IsStill r → IsFitting n.setting r (age_units n.setting n.network)
+pub tick-follows : StaysSound → (n : NetworkState) (r : Reply) → network_fault n.setting.network ≡ None → IsSoundNetwork n.setting n.events (2 * n.events) n.network → IsStill r → IsFitting n.setting r (age_units n.setting n.network)
     → tick n.setting (age_units n.setting n.network) ≡ after_reply r (age_units n.setting n.network) → r.clock ≡ 1 → n.network.clock < 4294967295 → MayFollow n None r × (step n.setting n.network Tick ≡ after_reply r (before_reply n.setting None r n.network))
-tick-follows fit n r accepted sound still fits is one bounded =
+tick-follows stays n r accepted sound still fits is one bounded =
     let before : before_reply n.setting None r n.network ≡ age_units n.setting n.network = before-tick n.setting r n.network one in
     let after = is ∙ ap (after_reply r) (sym before) in
-    (may-follow fit n Tick None r accepted sound still (subst (IsFitting n.setting r) (sym before) fits) after (omega (arith, one, bounded)), after)
+    (may-follow stays n Tick None r accepted sound still (subst (IsFitting n.setting r) (sym before) fits) after (omega (arith, one, bounded)), after)

@@ -22,8 +22,11 @@ pub record FitsFrame (u : DataUnit) : Type 0 where
   pub source : length u.source ≤ 6
   pub body : length u.body ≤ 2304
 
+abbrev pub AreFitting : List Entry → Type 0
+AreFitting kept = AllByRecursion (λ entry. FitsFrame entry.1) kept
+
 -- a network that sent no longer frame, and keeps such units alone
 pub record IsWithinSizes (n : Network) : Type 0 where
-  pub kept : AllByRecursion (λ entry. FitsFrame entry.1) n.kept
+  pub kept : AreFitting n.kept
   pub air : AreAtMost most_on_air n.air
   pub wire : AreAtMost most_on_wire n.wire

@@ -2,6 +2,7 @@
 use Rattle.std.specs.Prelude.{ℕ, ◌+◌, ◌<◌, ◌≤◌, length}
 use Rattle.ap_config.specs.declared.setting.Setting.{Setting}
 use Rattle.network.specs.Network.{Network}
+use Rattle.network.specs.Sizes.{AreFitting}
 use Rattle.stations.specs.Sound.{AreKeptFor, AreSound, CameBy}
 
 -- a network that took this number of events, and lost and keeps at most this number of units together
@@ -10,6 +11,8 @@ pub record IsSoundNetwork (s : Setting) (events units : ℕ) (n : Network) : Typ
   pub known : length n.stations ≤ s.network.max_known
   pub kept : AreKeptFor n.stations n.kept
   pub came : CameBy n.clock n.kept
+  -- 9.2.4.7.1
+  pub sizes : AreFitting n.kept
   pub quota : length n.kept ≤ s.network.quota
   -- twelve bits (9.2.4.4.2)
   pub sequence : n.sequence < 4096

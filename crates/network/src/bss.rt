@@ -8,6 +8,7 @@ ghost use Rattle.network.specs.Network.{table_of, counts_of};
 ghost use Rattle.network.specs.BssView.{BssView, network_of, sent_by, wired_by, opened, section_with};
 ghost use Rattle.network.specs.declared.bss.Refusal.TheVariants as refusals;
 
+use crate::laws::reachable;
 use crate::network::Network;
 use ap_config::{NetConfig, Setting, checked_numbers};
 use events::{Counts, Event, Section, StationRow};
@@ -149,6 +150,8 @@ impl Bss {
     {
         // a history is as long as 32 bits can count
         checked_numbers();
+        // and counts no more than its events
+        reachable();
         Counts {
             events: self.history.len() as u32,
             clock: self.network.clock(),
@@ -225,6 +228,8 @@ impl Bss {
     {
         // a history is as long as 32 bits can count
         checked_numbers();
+        // and its clock counts no more than its events
+        reachable();
         if self.history.len() >= self.config().max_events as usize {
             return Err(Refusal::HistoryFull);
         }

@@ -1,6 +1,6 @@
 //! What follows from the definitions of a network, for whoever stands on them.
 
-ghost use Rattle.std.specs.Prelude.{◌≡◌, ◌*◌, ◌++◌, true, false, ℕ, List, [], ◌∷◌, length, None};
+ghost use Rattle.std.specs.Prelude.{◌≡◌, ◌+◌, ◌*◌, ◌++◌, true, false, ℕ, List, [], ◌∷◌, length, None};
 ghost use Rattle.ap_config.specs.Configuration.{network_fault};
 ghost use Rattle.ap_config.specs.declared.setting.Setting.{Setting};
 ghost use Rattle.events.specs.declared.event.Event.{Event};
@@ -25,6 +25,19 @@ pub fn reachable()
 {
     // no more stations may associate than there are identifiers
     checked_numbers();
+    // what is read is of the lengths that its relation says
+    one_frame();
+    one_ethernet_frame();
+}
+
+/// What holds of every network that can be reached holds after one event more.
+pub(crate) fn stays_sound()
+    ensures { (s : Setting) (events units : ℕ) (n : Network) (e : Event) → network_fault s.network ≡ None
+        → IsSoundNetwork s events units n → IsSoundNetwork s (events + 1) (units + 2) (step s n e) }
+{
+    checked_numbers();
+    one_frame();
+    one_ethernet_frame();
 }
 
 /// A network alone begins empty, and each further event is one further step.

@@ -16,6 +16,7 @@ ghost use Rattle.powersave.specs.Keep.{units_for};
 ghost use Rattle.powersave.specs.declared.unit.Whom.TheVariants as whoms;
 
 use crate::announced_setting::AnnouncedSetting;
+use crate::laws::stays_sound;
 use crate::reply::{Frames, Reply, SEQUENCE_NUMBERS, Spare};
 use crate::shown::row_of;
 use ap_config::{Setting, checked_numbers};
@@ -285,8 +286,8 @@ impl Network {
             polled (done self.now.setting self.now.network polled reply.new) self.now.network)) }
         ensures alone { IfOk result (λ polled. IfSome polled (λ _. reply.new ≡ no_reply self.now.network.sequence)) }
     {
-        // no more stations may associate than there are identifiers
-        checked_numbers();
+        // what it keeps to stays so
+        stays_sound();
         // The prover opens what the network keeps, which bounds its counts, where a field is read.
         let _ = &self.roster;
         match event {

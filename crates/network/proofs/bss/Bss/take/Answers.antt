@@ -23,7 +23,7 @@ reply-requires c =
     record {
       nothing = c.no_reply-reply.ensures.nothing;
       sequence = c.no_reply-reply.ensures.sequence;
-      ticks = λ is. omega (arith, (history-sound c.checked_numbers.ensures.stations _ _ _ h).clock, h.bounded, c.checked_numbers.ensures.events n.setting.network h.sound);
+      ticks = λ is. omega (arith, (history-sound c.reachable.ensures _ _ _ h).clock, h.bounded, c.checked_numbers.ensures.events n.setting.network h.sound);
     }
 
 pub finish-requires-clause-countable : goal.finish-requires-clause-countable
