@@ -1,5 +1,5 @@
 -- How long the frames are that a network sends: what each part of one has, and what each named change and step keeps.
-use Rattle.std.proofs.Common.{◌≡◌, ◌↔◌, ℕ, zero, suc, ◌+◌, ◌-◌, ◌%◌, ◌<◌, ◌≤◌, ◌^◌, IsTrue, Bool, true, false, not, ◌&&◌, ◌||◌, cond, List, [], ◌∷◌, ◌++◌, length, take, drop, map, filter, Option, Some, None, Result, Ok, Err, refl, sym, ap, ◌∙◌, length-append, length-drop, arith}
+use Rattle.std.proofs.Common.{◌≡◌, ◌↔◌, ℕ, zero, suc, ◌+◌, ◌<◌, ◌≤◌, ◌^◌, IsTrue, Bool, true, false, not, ◌&&◌, cond, List, [], ◌∷◌, ◌++◌, length, take, drop, map, filter, Option, Some, None, Result, Ok, Err, refl, ap, length-append, length-drop, arith}
 use Rattle.std.specs.Prelude.{◌==◌, nat_le, nat_lt, option_map, if◌then◌else◌}
 use Rattle.std.specs.Int.{w16, to_be_bytes, to_le_bytes}
 use Rattle.std.specs.List.{AllByRecursion}
@@ -21,7 +21,7 @@ use Rattle.beacon.specs.Advert.{Announced, timestamp, fixed_fields, network_elem
 use Rattle.beacon.specs.ProbeResponse.{probe_response, probe_response_body}
 use Rattle.beacon.specs.Beacon.{beacon, beacon_body, beacon_tim, dtim_count, traffic_indicator}
 use Rattle.bridge.specs.Ethernet.{Ethernet, IsEthernet, IsOfKind, ethernet_of}
-use Rattle.bridge.specs.Encapsulation.{on_wire, number_and_payload, names_type, type_of, body_of}
+use Rattle.bridge.specs.Encapsulation.{on_wire, names_type, type_of, body_of}
 use Rattle.bridge.specs.Ethernet.{is_length}
 use Rattle.bridge.specs.declared.ethernet.Kind.{Kind}
 use Rattle.bridge.specs.declared.ethernet.Kind.TheVariants.{Typed, Sized}
@@ -48,7 +48,7 @@ use Rattle.events.specs.declared.event.Event.TheVariants.{Air, Wire, Tick}
 use Rattle.network.specs.declared.reply.unit.Delivery.{Delivery}
 use Rattle.network.specs.declared.reply.unit.Delivery.TheVariants.{Now, Kept, Nowhere}
 use Rattle.network.specs.Units.{unit, unit_of, unit_frame, others_follow, delivery_of, goes_on_wire, may_poll}
-use Rattle.network.specs.Network.{Network, empty_network, send, count_unread, change_state, change_where_served, lose, keep_or_lose, deliver, deliver_by, answer_wired, drop_units, send_unit, send_each, put_on_wire, relay, forward, forward_by, has_aged, age_units, set_power_mode, serve_poll, answer_poll, beacon_frame, release, tick, authentication_status, answer_authentication, association_status, answer_association, serve, notify_or_serve, announced_at, asks_for, answer, answer_probe, step, after, alone}
+use Rattle.network.specs.Network.{Network, empty_network, send, change_state, change_where_served, lose, keep_or_lose, deliver, deliver_by, answer_wired, drop_units, send_unit, send_each, put_on_wire, relay, forward, forward_by, age_units, set_power_mode, serve_poll, answer_poll, beacon_frame, release, tick, authentication_status, answer_authentication, association_status, answer_association, serve, notify_or_serve, announced_at, asks_for, answer, answer_probe, step, after, alone}
 use Rattle.network.specs.Sizes.{FitsFrame, AreFitting, IsWithinSizes}
 
 -- ---- lists of which each is so

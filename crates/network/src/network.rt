@@ -6,17 +6,19 @@ ghost use Rattle.ap_config.specs.Configuration.{setting_fault, network_fault};
 ghost use Rattle.beacon.specs.ProbeResponse.{response_elements};
 ghost use Rattle.network.specs.Network.{step, table_of, age_units, announced_at};
 ghost use Rattle.network.specs.NetworkView.{new_network, took_event, replied, carried_out, MayFollow};
+ghost use Rattle.network.specs.Sizes.{AreAtMost, IsWithinSizes, most_on_air, most_on_wire};
 ghost use Rattle.network.specs.Sound.{IsSoundNetwork};
 ghost use Rattle.network.specs.Replies.{no_reply, done, serving, before_reply, after_reply};
 ghost use Rattle.stations.specs.Roster.{AreWaitedFor};
 ghost use Rattle.events.specs.LentEvents.{event_of};
+ghost use Rattle.events.specs.declared.event.Event.{Event as AnyEvent};
 ghost use Rattle.events.specs.declared.event.Event.TheVariants as events;
 ghost use Rattle.network.specs.declared.network.NetworkRefusal.TheVariants as refusals;
 ghost use Rattle.powersave.specs.Keep.{units_for};
 ghost use Rattle.powersave.specs.declared.unit.Whom.TheVariants as whoms;
 
 use crate::announced_setting::AnnouncedSetting;
-use crate::laws::stays_sound;
+use crate::laws::{frame_sizes, stays_sound};
 use crate::reply::{Frames, Reply, SEQUENCE_NUMBERS, Spare};
 use crate::shown::row_of;
 use ap_config::{Setting, checked_numbers};
@@ -192,14 +194,16 @@ impl Network {
 
     /// Takes an event, where it took fewer than 2^62 before, and hands out what it sends for it. `Clock` exactly where
     /// 4,294,967,295 beacon intervals began and one more begins; `NoMemory` where memory ran out. After either
-    /// nothing has changed. An air event that the network doesn't hear and a wired frame that can't be read count as
-    /// unread (*profile*).
+    /// nothing has changed. A frame on the air has at most 2,328 octets, one on the wire at most 2,310. An air event that
+    /// the network doesn't hear and a wired frame that can't be read count as unread (*profile*).
     pub fn take(&mut self, event: &Event) -> Result<Sent, NetworkRefusal>
         requires countable { self.old.events < 2 ^ 62 }
         ensures after { OnOk result (self.new ≡ took_event event.now self.old) }
         ensures air { IfOk result (λ sent. sent.air ≡ (step self.old.setting self.old.network event.now).air) }
         ensures wire { IfOk result (λ sent.
             option_to_list sent.wire ≡ (step self.old.setting self.old.network event.now).wire) }
+        ensures air_fits { IfOk result (λ sent. AreAtMost most_on_air sent.air) }
+        ensures wire_fits { IfOk result (λ sent. AreAtMost most_on_wire (option_to_list sent.wire)) }
         ensures clock { (result ≡ Err NetworkRefusal.Clock)
             ↔ ((event.now ≡ events.Tick) × (self.old.network.clock ≡ 4294967295)) }
         ensures err { OnErr result (self.new ≡ self.old) }
@@ -216,6 +220,8 @@ impl Network {
             sent.air ≡ (step self.old.setting self.old.network (event_of event.entry)).air) }
         ensures wire { IfOk result (λ sent.
             option_to_list sent.wire ≡ (step self.old.setting self.old.network (event_of event.entry)).wire) }
+        ensures air_fits { IfOk result (λ sent. AreAtMost most_on_air sent.air) }
+        ensures wire_fits { IfOk result (λ sent. AreAtMost most_on_wire (option_to_list sent.wire)) }
         ensures clock { (result ≡ Err NetworkRefusal.Clock)
             ↔ ((event_of event.entry ≡ events.Tick) × (self.old.network.clock ≡ 4294967295)) }
         ensures err { OnErr result (self.new ≡ self.old) }
@@ -237,6 +243,8 @@ impl Network {
             sent.air ≡ (step self.old.setting self.old.network (event_of event.entry)).air) }
         ensures wire { IfOk result (λ sent.
             option_to_list sent.wire ≡ (step self.old.setting self.old.network (event_of event.entry)).wire) }
+        ensures air_fits { IfOk result (λ sent. AreAtMost most_on_air sent.air) }
+        ensures wire_fits { IfOk result (λ sent. AreAtMost most_on_wire (option_to_list sent.wire)) }
         ensures clock { (result ≡ Err NetworkRefusal.Clock)
             ↔ ((event_of event.entry ≡ events.Tick) × (self.old.network.clock ≡ 4294967295)) }
         ensures err { OnErr result (self.new ≡ self.old) }
@@ -246,6 +254,7 @@ impl Network {
             return Err(NetworkRefusal::Clock);
         }
         self.look_up_due(begins);
+        self.frames_fit();
         let mut reply = self.no_reply();
         mem::swap(&mut reply.spare, spare);
         let polled = self.reply(&mut reply, event)?;
@@ -257,6 +266,17 @@ impl Network {
             air: reply.frames,
             wire: reply.wired,
         })
+    }
+
+    /// What holds of the network: whatever it takes next, each frame that it sends for it has at most so many octets.
+    fn frames_fit(&self)
+        ensures { (e : AnyEvent) → IsWithinSizes (step self.now.setting self.now.network e) }
+    {
+        frame_sizes();
+        // The prover opens what the network keeps, of which each unit fits a frame, where a field is read.
+        let _ = &self.roster;
+        // its address has six octets
+        let _ = self.setting.get().network.bssid.octets();
     }
 
     /// Where units age, looks up whose may be too old before a beacon interval begins, so that the reply to it, and what
