@@ -1,6 +1,7 @@
 //! The bridge while it runs: one thread that waits for what comes first, and does it.
 use std::collections::BTreeMap;
 use std::io;
+use std::ops::Range;
 use std::thread::sleep;
 use std::time::Duration;
 
@@ -18,7 +19,7 @@ use crate::poller::{Poller, Ready, Token};
 use crate::program::{Feeder, Program};
 use crate::radiotap::reception;
 use crate::receiving::{judge_wired, Air, Judged, LeftOut};
-use crate::sending::{Network, Sender};
+use crate::sending::{Network, Sender, BEACON};
 use crate::silence;
 use crate::sockets::{Batch, Packet, Port, AT_A_TIME};
 use crate::status::{error, Faults, Named, Status};
@@ -36,10 +37,10 @@ const IN_A_ROW: usize = 4;
 /// The lane of the air; those of wires come after, in the networks' order.
 const AIR: Source = 0;
 
-/// The subtype and type of a beacon, in the first octet of Frame Control.
-const BEACON: u8 = 0x80;
 /// So long before a beacon interval begins frames gather no more: a sleep may end some 50 µs late.
 const BEFORE_TICK: Nanos = MILLISECOND / 5;
+/// How long what is to be sent waits at most for a beacon that is due.
+const TO_BEACON_ANSWER: Nanos = 2 * MILLISECOND;
 /// So long before a beacon interval begins stations are asked no more whether they are there: those that are asked at a
 /// time are on the air for 16 ms where nobody acknowledges. Where intervals are short it is half of one.
 const BEFORE_BEACON: Nanos = 20 * MILLISECOND;
@@ -265,7 +266,8 @@ impl<P: Port, C: io::Read + std::os::unix::io::AsRawFd> Bridge<P, C> {
                 let tick = if is_late { self.time + MILLISECOND } else { running.ticks.due() };
                 let alive = (self.manner.tells_alive && running.is_answered).then_some(self.alive_told + ALIVE_EVERY);
                 let look = Some(running.next_look().max(self.time)).filter(|look| running.is_before_beacon(*look));
-                [running.beacon_due, running.sender.due(), alive, look].into_iter().flatten().fold(tick, Nanos::min)
+                let times = [running.beacon_due, running.sender.due(), running.sends_next(self.time), alive, look];
+                times.into_iter().flatten().fold(tick, Nanos::min)
             }
             _ => Nanos::MAX,
         }
@@ -584,7 +586,8 @@ impl<P: Port, C: io::Read + std::os::unix::io::AsRawFd> Bridge<P, C> {
     fn send(&mut self) -> Result<(), Fault> {
         let reads = self.phase == Phase::Running;
         if let Some(running) = self.running.as_mut().filter(|running| !running.sender.is_idle()) {
-            for (token, descriptor, is_blocked) in running.flush(self.time) {
+            let while_it_is = if reads { running.sends_while(self.time) } else { 0..Nanos::MAX };
+            for (token, descriptor, is_blocked) in running.flush(self.time, while_it_is) {
                 self.poller.change(descriptor, token, reads, is_blocked)?;
             }
         }
@@ -908,9 +911,33 @@ impl<P: Port> Running<P> {
         }
     }
 
-    /// Sends what waits, and answers which interfaces got or lost their room by it.
-    fn flush(&mut self, time: Nanos) -> Vec<(Token, std::os::unix::io::RawFd, bool)> {
-        self.sender.flush(time);
+    /// Since when a beacon is due that the program hasn't answered yet.
+    fn beacon_due_since(&self, time: Nanos) -> Option<Nanos> {
+        match self.is_answered {
+            false => Some(self.said_tick),
+            true => Some(self.ticks.due()).filter(|due| *due <= time),
+        }
+    }
+
+    /// From when on what waits may be sent, and until when, before one looks for a beacon again, which goes before it. A
+    /// beacon that is due is waited for, but a program that doesn't answer holds nothing up for long.
+    fn sends_while(&self, time: Nanos) -> Range<Nanos> {
+        match self.beacon_due_since(time).map(|since| since + TO_BEACON_ANSWER) {
+            Some(until) => until..time.max(until) + TO_BEACON_ANSWER,
+            None => time..self.ticks.due(),
+        }
+    }
+
+    /// When what waits is sent next, where something has room.
+    fn sends_next(&self, time: Nanos) -> Option<Nanos> {
+        self.sender.has_room().then(|| self.sends_while(time).start.max(time))
+    }
+
+    /// Sends what waits in this time, and answers which interfaces got or lost their room by it.
+    fn flush(&mut self, time: Nanos, while_it_is: Range<Nanos>) -> Vec<(Token, std::os::unix::io::RawFd, bool)> {
+        if while_it_is.contains(&time) {
+            self.sender.flush(time, while_it_is.end);
+        }
         let networks = self.networks.iter().enumerate();
         let wires = networks.filter(|(_, network)| network.wire.is_some()).map(|(place, _)| Token::Wire(place));
         let mut changed = Vec::new();
@@ -1087,13 +1114,15 @@ done
 "#;
     const ANSWER: &str = "b000000002aa000000010200000001010200000001011000000002000000";
 
-    /// A port in place of a packet socket. A radio's shows what is sent by it, where `shows` says so.
+    /// A port in place of a packet socket. A radio's shows the beacons that are sent by it, where `shows` says so.
     struct FakePort {
         interface: &'static str,
         near: UnixDatagram,
         far: UnixDatagram,
         sent: Arc<Mutex<Vec<Vec<u8>>>>,
         shows: bool,
+        /// How long it takes for a frame.
+        takes: Duration,
     }
 
     impl Port for FakePort {
@@ -1111,8 +1140,9 @@ done
 
         fn send(&mut self, frames: &[&[u8]]) -> io::Result<usize> {
             for frame in frames {
+                thread::sleep(self.takes);
                 self.sent.lock().unwrap().push(frame.to_vec());
-                if self.shows {
+                if self.shows && frame.get(sending_header(2, 0).len()) == Some(&super::BEACON) {
                     self.far.send(frame)?;
                 }
             }
@@ -1151,6 +1181,17 @@ done
 
     /// Runs a bridge with a program of these lines, and `later` beside it; gives what came of it, and the stage.
     fn run(face: Face, text: &str, shows: bool, later: impl FnOnce(&mut Stage) + Send) -> (Result<(), Fault>, Stage) {
+        run_slowly(face, text, shows, Duration::ZERO, later)
+    }
+
+    /// The same, where each frame on the air takes so long.
+    fn run_slowly(
+        face: Face,
+        text: &str,
+        shows: bool,
+        takes: Duration,
+        later: impl FnOnce(&mut Stage) + Send,
+    ) -> (Result<(), Fault>, Stage) {
         static NUMBER: Mutex<u32> = Mutex::new(0);
         let number = {
             let mut number = NUMBER.lock().unwrap();
@@ -1169,8 +1210,9 @@ done
         let (air, wire) = (far.try_clone().unwrap(), wire_far.try_clone().unwrap());
         let mut stage =
             Stage { folder, requests, air, wire, sent: Arc::clone(&sent), sent_on_wire: Arc::clone(&sent_on_wire) };
-        let monitor = FakePort { interface: "mon0", near, far, sent, shows };
-        let wire = FakePort { interface: "wire1", near: wire_near, far: wire_far, sent: sent_on_wire, shows: false };
+        let monitor = FakePort { interface: "mon0", near, far, sent, shows, takes };
+        let (near, far, sent) = (wire_near, wire_far, sent_on_wire);
+        let wire = FakePort { interface: "wire1", near, far, sent, shows: false, takes: Duration::ZERO };
         let clients = Clients::new(UnixListener::bind(stage.folder.join("socket")).unwrap()).unwrap();
         let outcome = thread::scope(|scope| {
             let record = Record::create(stage.folder.join("record").to_str().unwrap()).unwrap();
@@ -1302,6 +1344,26 @@ done
             let (outcome, _) = run(Face::Text, text, true, |_| {});
             assert!(outcome.as_ref().unwrap_err().to_string().contains(says), "{outcome:?}");
         }
+    }
+
+    /// Where hundreds of frames wait to be sent, each beacon goes before them.
+    #[test]
+    fn what_waits_to_be_sent_does_not_keep_beacons() {
+        let answers = format!("for n in {{1..80}}; do echo 'air 02:00:00:00:01:01 {ANSWER}'; done");
+        let many = LINES.replace("echo \"wire 02:00:00:00:01:01 $rest\"", &answers);
+        let (outcome, stage) = run_slowly(Face::Text, &many, true, Duration::from_millis(1), |stage| {
+            for sequence in 1..=8 {
+                stage.hear(&Unit { sequence: sequence << 4, ..Unit::default() }.octets());
+            }
+            thread::sleep(Duration::from_millis(1500));
+            end(stage);
+        });
+        assert_eq!(outcome, Ok(()));
+        let sent = stage.sent.lock().unwrap().clone();
+        let beacon = [&sending_header(2, 0)[..], &hex::decode(BEACON).unwrap()].concat();
+        let between: Vec<usize> = sent.split(|frame| *frame == beacon).map(<[_]>::len).collect();
+        assert_eq!(between.iter().sum::<usize>(), 640);
+        assert!(between.iter().all(|frames| *frames < 400), "{between:?}");
     }
 
     #[test]

@@ -8,11 +8,13 @@ use crate::hashing::AddressMap;
 use crate::radiotap::{sending_header, Outcome};
 use crate::sockets::{Port, AT_A_TIME};
 use crate::stations::{Stations, ToSend, Unacknowledged};
-use crate::time::Nanos;
+use crate::time::{self, Nanos};
 use crate::waiting::LONGEST;
 
 const MOST_OCTETS: usize = 4 << 20;
 const BASIC: u8 = 0x80;
+/// The subtype and type of a beacon, in the first octet of Frame Control.
+pub const BEACON: u8 = 0x80;
 
 /// What the bridge knows of a network.
 #[derive(Debug, Clone, PartialEq, Eq)]
@@ -51,6 +53,8 @@ pub fn count(counts: &mut Counts, what: &str, number: u64) {
 struct Leaving {
     octets: Vec<u8>,
     is_data: bool,
+    /// Whether it goes to a group, on the air.
+    is_group: bool,
     since: Nanos,
 }
 
@@ -87,6 +91,11 @@ impl<P: Port> Exit<P> {
         self.leaving.is_empty() && self.is_blocked == self.is_waited_for
     }
 
+    /// Whether something waits that has room.
+    fn has_room(&self) -> bool {
+        !self.leaving.is_empty() && !self.is_blocked
+    }
+
     /// Whether it has no room at the moment.
     pub fn is_blocked(&self) -> bool {
         self.is_blocked
@@ -110,19 +119,33 @@ impl<P: Port> Exit<P> {
         self.leaving.push_back(frame);
     }
 
+    /// A beacon waits behind what waits for groups, and before all that waits for one receiver: each receiver gets its
+    /// frames in order.
+    fn push_beacon(&mut self, frame: Leaving, counts: &mut Counts) {
+        self.push(frame, counts);
+        if let Some(frame) = self.leaving.pop_back() {
+            let place = self.leaving.iter().rposition(|found| found.is_group).map_or(0, |place| place + 1);
+            self.leaving.insert(place, frame);
+        }
+    }
+
     fn leaves(&mut self, frame: &Leaving) {
         self.octets -= frame.octets.len();
     }
 
-    /// Sends what waits, as far as there is room, and drops data that waited too long.
-    pub fn flush(&mut self, now: Nanos, counts: &mut Counts) {
-        while !self.is_blocked && !self.leaving.is_empty() {
+    /// Sends what waits, as far as there is room and until it is that time, and drops data that waited too long.
+    pub fn flush(&mut self, now: Nanos, until: Nanos, counts: &mut Counts) {
+        let mut time = now;
+        while !self.is_blocked && !self.leaving.is_empty() && time < until {
             self.drop_late(now, counts);
             let mut frames: [&[u8]; AT_A_TIME] = [&[]; AT_A_TIME];
             frames.iter_mut().zip(&self.leaving).for_each(|(frame, leaving)| *frame = &leaving.octets);
             let number = self.leaving.len().min(AT_A_TIME);
             if number == 0 {
                 return;
+            }
+            if number < self.leaving.len() {
+                time = time::now();
             }
             match self.port.send(&frames[..number]) {
                 Ok(number) => self.sent(number),
@@ -250,6 +273,11 @@ impl<P: Port> Sender<P> {
         self.monitor.is_idle() && self.wires.iter().flatten().all(Exit::is_idle)
     }
 
+    /// Whether something waits for an interface that has room.
+    pub fn has_room(&self) -> bool {
+        self.monitor.has_room() || self.wires.iter().flatten().any(Exit::has_room)
+    }
+
     /// A network sends a frame on the air; a fault where there is no such network.
     pub fn send_on_air(&mut self, bssid: Address, octets: Vec<u8>, now: Nanos) -> Result<(), Fault> {
         self.place(bssid)?;
@@ -263,7 +291,13 @@ impl<P: Port> Sender<P> {
         while let Some(ToSend { frame, rate, retries }) = self.stations.pop() {
             let octets = [&sending_header(rate, retries)[..], &frame].concat();
             let is_data = Frame::of(&frame).map_or(false, |frame| frame.frame_type() == FrameType::Data);
-            self.monitor.push(Leaving { octets, is_data, since: now }, &mut self.counts);
+            let is_group = Frame::of(&frame).map_or(false, |frame| frame.receiver().is_group());
+            let leaving = Leaving { octets, is_data, is_group, since: now };
+            if frame.first() == Some(&BEACON) {
+                self.monitor.push_beacon(leaving, &mut self.counts);
+            } else {
+                self.monitor.push(leaving, &mut self.counts);
+            }
         }
     }
 
@@ -271,7 +305,8 @@ impl<P: Port> Sender<P> {
     pub fn send_own(&mut self, place: usize, frame: &[u8], retries: u8, now: Nanos) {
         let rate = self.networks[place].lowest_basic_rate();
         let octets = [&sending_header(rate, retries)[..], frame].concat();
-        self.monitor.push(Leaving { octets, is_data: false, since: now }, &mut self.counts);
+        let is_group = Frame::of(frame).map_or(false, |frame| frame.receiver().is_group());
+        self.monitor.push(Leaving { octets, is_data: false, is_group, since: now }, &mut self.counts);
     }
 
     /// A network sends a frame on its wire; a fault where there is no such network.
@@ -280,7 +315,10 @@ impl<P: Port> Sender<P> {
         match &mut self.wires[place] {
             None => count(&mut self.counts, "lost, of networks without --wire", 1),
             Some(_) if is_tagged(&octets) => count(&mut self.counts, "not sent, since they have a VLAN's tag", 1),
-            Some(exit) => exit.push(Leaving { octets, is_data: true, since: now }, &mut self.counts),
+            Some(exit) => {
+                let leaving = Leaving { octets, is_data: true, is_group: false, since: now };
+                exit.push(leaving, &mut self.counts);
+            }
         }
         Ok(())
     }
@@ -311,11 +349,11 @@ impl<P: Port> Sender<P> {
         self.take_ready(now);
     }
 
-    /// Sends what waits, as far as there is room.
-    pub fn flush(&mut self, now: Nanos) {
-        self.monitor.flush(now, &mut self.counts);
+    /// Sends what waits, as far as there is room and until it is that time.
+    pub fn flush(&mut self, now: Nanos, until: Nanos) {
+        self.monitor.flush(now, until, &mut self.counts);
         for wire in self.wires.iter_mut().flatten() {
-            wire.flush(now, &mut self.counts);
+            wire.flush(now, until, &mut self.counts);
         }
     }
 }
@@ -400,7 +438,7 @@ mod tests {
         sender.send_on_air(OURS, beacon(), 0).unwrap();
         sender.send_on_air(OTHER, unit(OTHER, 1), 0).unwrap();
         sender.send_on_wire(OTHER, vec![0; 14], 0).unwrap();
-        sender.flush(0);
+        sender.flush(0, Nanos::MAX);
         let wanted = [with_header(2, true, beacon()), with_header(0x0b, false, unit(OTHER, 1))];
         assert_eq!(sender.monitor.port.sent, wanted);
         assert_eq!(sender.wire(1).unwrap().port.sent, [vec![0; 14]]);
@@ -413,7 +451,7 @@ mod tests {
         let mut sender = sender(Recorder::default(), Recorder::default());
         sender.send_on_wire(OURS, vec![0; 14], 0).unwrap();
         sender.send_on_wire(OTHER, [&[0; 12][..], &[0x81, 0, 0, 7]].concat(), 0).unwrap();
-        sender.flush(0);
+        sender.flush(0, Nanos::MAX);
         assert!(sender.wire(1).unwrap().port.sent.is_empty());
         assert_eq!(sender.counts().values().sum::<u64>(), 2);
     }
@@ -425,7 +463,7 @@ mod tests {
         for frame in [unit(OURS, 1), long.clone(), long, unit(OURS, 2)] {
             sender.send_on_air(OURS, frame, 0).unwrap();
         }
-        sender.flush(0);
+        sender.flush(0, Nanos::MAX);
         assert_eq!(sender.monitor.port.sent, [1, 2].map(|mark| with_header(2, false, unit(OURS, mark))));
         assert_eq!(sender.counts()["refused by mon0: Message too long"], 2);
     }
@@ -440,22 +478,56 @@ mod tests {
     #[test]
     fn what_waits_for_room_goes_later_and_only_late_data_is_dropped() {
         let mut sender = sender(Recorder { room: Some(1), ..Recorder::default() }, Recorder::default());
-        for (frame, since) in [(unit(OURS, 1), 0), (unit(OURS, 2), 0), (beacon(), 0), (unit(OURS, 3), LONGEST)] {
+        let leave =
+            Unit { control: [0xc0, 0], receiver: STATION, transmitter: OURS, body: vec![4, 0], ..Unit::default() };
+        for (frame, since) in [(unit(OURS, 1), 0), (unit(OURS, 2), 0), (leave.octets(), 0), (unit(OURS, 3), LONGEST)] {
             sender.send_on_air(OURS, frame, since).unwrap();
         }
-        sender.flush(0);
+        sender.flush(0, Nanos::MAX);
         assert!(sender.monitor().is_blocked());
         sender.monitor().port.room = None;
         sender.monitor().unblock();
-        sender.flush(LONGEST + 1);
+        sender.flush(LONGEST + 1, Nanos::MAX);
         let wanted = [
             with_header(2, false, unit(OURS, 1)),
-            with_header(2, true, beacon()),
+            with_header(2, false, leave.octets()),
             with_header(2, false, unit(OURS, 3)),
         ];
         assert_eq!(sender.monitor.port.sent, wanted);
         assert_eq!(sender.counts()["dropped, of data that had waited too long for mon0"], 1);
         assert_eq!(sender.monitor.octets, 0);
+    }
+
+    #[test]
+    fn a_beacon_goes_before_what_is_for_one_receiver_and_behind_what_is_for_groups() {
+        let mut sender = sender(Recorder::default(), Recorder::default());
+        let group =
+            Unit { control: [8, 2], receiver: Address::BROADCAST, transmitter: OURS, ..Unit::default() }.octets();
+        for frame in [unit(OURS, 1), group.clone(), unit(OURS, 2), unit(OURS, 3), beacon(), unit(OURS, 4), beacon()] {
+            sender.send_on_air(OURS, frame, 0).unwrap();
+        }
+        sender.flush(0, Nanos::MAX);
+        let group = with_header(2, true, group);
+        let beacon = with_header(2, true, beacon());
+        let units = [1, 2, 3, 4].map(|mark| with_header(2, false, unit(OURS, mark)));
+        let [first, second, third, fourth] = units;
+        assert_eq!(sender.monitor.port.sent, [first, group, beacon.clone(), beacon, second, third, fourth]);
+    }
+
+    #[test]
+    fn what_waits_is_sent_until_a_time_some_at_a_time() {
+        let mut sender = sender(Recorder::default(), Recorder::default());
+        for mark in 0..20 {
+            sender.send_on_air(OURS, unit(OURS, mark), 0).unwrap();
+        }
+        sender.flush(5, 5);
+        assert!(sender.monitor.port.sent.is_empty() && !sender.is_idle());
+        sender.flush(0, time::now());
+        assert_eq!(sender.monitor.port.sent.len(), AT_A_TIME);
+        sender.flush(0, Nanos::MAX);
+        let wanted: Vec<_> = (0..20).map(|mark| with_header(2, false, unit(OURS, mark))).collect();
+        assert_eq!(sender.monitor.port.sent, wanted);
+        assert!(sender.is_idle());
     }
 
     #[test]
@@ -466,7 +538,7 @@ mod tests {
             Unit { control: [8, 2], transmitter: OURS, receiver: STATION, body: vec![0; 4000], ..Unit::default() };
         for _ in 0..2000 {
             sender.send_on_air(OURS, frame.octets(), 0).unwrap();
-            sender.flush(0);
+            sender.flush(0, Nanos::MAX);
         }
         assert!(sender.monitor.octets <= MOST_OCTETS);
         assert_eq!(sender.monitor.leaving[0].octets, with_header(2, true, beacon()));
@@ -484,11 +556,11 @@ mod tests {
         let response = Unit { control: [0x10, 0], receiver: STATION, transmitter: OTHER, body, ..Unit::default() };
         sender.send_on_air(OTHER, response.octets(), 0).unwrap();
         sender.send_on_air(OTHER, unit(OTHER, 1), 0).unwrap();
-        sender.flush(0);
+        sender.flush(0, Nanos::MAX);
         let sample = [sending_header(0x16, 1).to_vec(), unit(OTHER, 1)].concat();
         assert_eq!(sender.monitor.port.sent, [with_header(0x0b, false, response.octets()), sample]);
         sender.shown(&unit(OTHER, 1), Outcome { is_acknowledged: false, retries: 1, rate: Some(0x16) }, 9);
-        sender.flush(9);
+        sender.flush(9, Nanos::MAX);
         let mut again = unit(OTHER, 1);
         again[1] |= 0x08;
         assert_eq!(sender.monitor.port.sent[2], with_header(0x0b, false, again));
