@@ -18,10 +18,10 @@ pub use ap_config::{
     NetConfig, OpenFault, QUEUE_LIMITS, QUOTA_LIMITS, RadioConfig, STATION_LIMITS, Setting,
     checked_networks, checked_numbers, count_fits, is_taken, rates_fit, ssid_fits, stations_fit,
 };
-pub use events::{AirItem, Counts, Event, Handed, Line, Section, StationRow, hears};
+pub use events::{AirItem, Counts, Event, Handed, LentEvent, Line, Section, StationRow, hears};
 pub use laws::two_worlds;
 pub use network::{
-    Bss, Frames, Network, NetworkRefusal, Refusal, Sent, first_version, one_step, reachable,
-    sent_frames, steps_append,
+    Bss, Frames, Network, NetworkRefusal, Refusal, Sent, Spare, first_version, frame_sizes,
+    one_step, reachable, sent_frames, steps_append,
 };
 pub use radio::{Radio, RunResult, Step, run};
