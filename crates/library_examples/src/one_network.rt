@@ -1,15 +1,18 @@
 //! A network alone.
 
-ghost use Rattle.std.specs.Prelude.{◌≡◌, ◌++◌, [], ◌∷◌, None, IfOk, OnOk};
+ghost use Rattle.std.specs.Prelude.{◌≡◌, ◌<◌, ◌^◌, ◌++◌, [], ◌∷◌, None, IfOk, OnOk, flat_map};
 ghost use Rattle.ap_config.specs.Configuration.{setting_fault, network_fault};
+ghost use Rattle.events.specs.declared.event.Event.TheVariants as events;
 ghost use Rattle.network.specs.BssView.{network_of};
+ghost use Rattle.network.specs.Network.{step};
+ghost use Rattle.network.specs.NetworkView.{took_event};
 ghost use Rattle.network.specs.Section.{section_of};
 ghost use Rattle.library_examples.specs.Settings.{setting};
 
 use ap_config::NetConfig;
-use events::{Event, Section};
+use events::{Event, LentEvent, Section};
 use mac_frame::{List, NoMemory, Octets};
-use network::{Bss, Refusal, one_step};
+use network::{Bss, Frames, Network, NetworkRefusal, Refusal, Spare, one_step};
 use std::alloc::Global;
 
 /// What a network alone makes of events, on a channel and with a beacon interval in time units: what it keeps of them,
@@ -57,6 +60,40 @@ fn send_waiting(network: &mut Bss, sent: &mut Vec<Octets>) -> Result<(), NoMemor
 {
     while let Some(frame) = network.take_front() {
         sent.push(frame)?;
+    }
+    Ok(())
+}
+
+/// Lets a network that keeps no history, and took fewer than 2^62 events, take a string that was heard on the air, and
+/// appends the frames that it sends there to `out`. The string stays where it lies, and a frame is built in the memory
+/// of an earlier one. After `NoMemory` the network may have taken the string, and `out` may have some of the frames.
+pub fn answer(
+    network: &mut Network,
+    heard: &[u8],
+    spare: &mut Spare,
+    out: &mut Octets,
+) -> Result<(), NetworkRefusal>
+    requires countable { network.old.events < 2 ^ 62 }
+    ensures after { OnOk result (network.new ≡ took_event (events.Air heard.now) network.old) }
+    ensures air { OnOk result (out.new ≡ out.old ++ flat_map (λ frame. frame)
+        (step network.old.setting network.old.network (events.Air heard.now)).air) }
+{
+    let sent = network.take_lent_in(LentEvent::Air(heard), spare)?;
+    append_all(out, &sent.air)?;
+    spare.keep(sent);
+    Ok(())
+}
+
+/// Appends frames, the first of them first. A program gives each to its radio here.
+fn append_all(out: &mut Octets, frames: &Frames) -> Result<(), NoMemory>
+    ensures { OnOk result (out.new ≡ out.old ++ flat_map (λ frame. frame) frames.now) }
+{
+    let (first, others) = frames.parts();
+    if let Some(first) = first {
+        out.append(first.as_slice())?;
+    }
+    for frame in others {
+        out.append(frame.as_slice())?;
     }
     Ok(())
 }
