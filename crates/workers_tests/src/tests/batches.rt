@@ -1,12 +1,13 @@
 //! Lines that a source gives together.
 
-use super::{octets, section_at};
+use super::{octets, radio, section_at};
 use events::{Event, Section};
 use fixtures::{guest, lab, lab_and_guest};
 use mac_frame::Octets;
 use std::alloc::Global;
 use std::sync::Wait;
 use std::test::Fail;
+use std::thread;
 use std::thread::Threads;
 use workers::{Line, Played, play_lent};
 
@@ -84,6 +85,60 @@ fn a_queue_of_one_frame_leaves_none_behind(rt: HostRuntime) -> Result<(), Fail> 
     for place in 0..2 {
         let section = section_at(&end.sections, place)?;
         assert_eq!(rt; section.air.as_slice().len(), usize::from(LINES));
+    }
+    Ok(())
+}
+
+/// How many ticks each of two sources has: ten times as many as it gives together.
+const TICKS: u32 = 640;
+
+/// How often these sources are played until their events mix.
+const TRIES: u32 = 100;
+
+/// How many events of a list follow one that another source gave.
+fn turns(givers: &[usize]) -> usize {
+    let mut count = 0usize;
+    let mut last = None;
+    for giver in givers {
+        count = count.saturating_add(usize::from(last.is_some_and(|one| one != *giver)));
+        last = Some(*giver);
+    }
+    count
+}
+
+/// Whether the network's events come from two sources by turns: after some of one and then some of the other there is
+/// one of the first again.
+fn are_mixed(end: &Played) -> bool {
+    match end.givers.as_slice().first() {
+        Some(givers) => turns(givers.as_slice()) >= 2,
+        None => false,
+    }
+}
+
+/// Whether the events of two sources mix, in one of several tries at most.
+fn mix<R: Threads + Wait + Sync>(rt: &R, alloc: Global) -> Result<bool, Fail> {
+    let mut sources = Vec::new(alloc);
+    for _ in 0..2 {
+        let mut ticks = Vec::new(alloc);
+        for _ in 0..TICKS {
+            ticks.push(Line::Tick)?;
+        }
+        sources.push(ticks)?;
+    }
+    for _ in 0..TRIES {
+        let config = radio(alloc, 4096, &[2 * TICKS])?;
+        if are_mixed(&play_lent(rt, alloc, config, sources.as_slice())?) {
+            return Ok(true);
+        }
+    }
+    Ok(false)
+}
+
+/// No source waits for the end of another: where there are two processors, one gives its lines while the other does.
+#[test]
+fn sources_that_are_lent_overlap(rt: HostRuntime) -> Result<(), Fail> {
+    if thread::available_parallelism(&rt)?.get() >= 2 {
+        assert!(rt; mix(&rt, rt.alloc())?);
     }
     Ok(())
 }

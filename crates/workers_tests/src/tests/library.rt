@@ -2,10 +2,11 @@
 //! those of the standard.
 
 use super::{are_frames, are_same, count_of, have_left, octets, section_at};
-use bss_core::{Radio, RunResult, Step, run};
+use bss_core::{Network, Radio, RunResult, Setting, Spare, Step, run};
 use events::{Event, Line};
 use fixtures::{PROBE_REQUEST, guest, lab, lab_and_guest};
-use library_examples::{run_two, sections, serve, take_all};
+use library_examples::{answer, run_two, sections, serve, take_all};
+use mac_frame::Octets;
 use std::alloc::Global;
 use std::sync::Wait;
 use std::test::Fail;
@@ -26,6 +27,35 @@ fn a_network_answers_alone(rt: HostRuntime) -> Result<(), Fail> {
     let section = take_all(alloc, 6, 100, lab::config(alloc, 100)?, events)?;
     let answers = [lab::AUTHENTICATION_RESPONSE, lab::ASSOCIATION_RESPONSE];
     assert!(rt; are_frames(alloc, section.air.as_slice(), &answers)?);
+    Ok(())
+}
+
+/// What the network `lab` sends for the probe request, twice, octet after octet.
+fn answers(alloc: Global) -> Result<Octets, Fail> {
+    let setting = Setting {
+        channel: 6,
+        interval: 100,
+        network: lab::config(alloc, 100)?,
+    };
+    let mut network = Network::new(alloc, setting);
+    let mut spare = Spare::new(alloc);
+    let mut out = Octets::new(alloc);
+    let heard = octets(alloc, PROBE_REQUEST)?;
+    for _ in 0..2 {
+        if network.events() > 2 {
+            return Err(Fail::new("too many events"));
+        }
+        answer(&mut network, heard.as_slice(), &mut spare, &mut out)?;
+    }
+    Ok(out)
+}
+
+#[test]
+fn a_network_answers_in_spare_memory(rt: HostRuntime) -> Result<(), Fail> {
+    let alloc = rt.alloc();
+    let mut expected = octets(alloc, lab::PROBE_RESPONSE)?;
+    expected.append(octets(alloc, lab::SECOND_PROBE_RESPONSE)?.as_slice())?;
+    assert!(rt; answers(alloc)?.as_slice() == expected.as_slice());
     Ok(())
 }
 

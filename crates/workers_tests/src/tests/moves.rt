@@ -116,6 +116,16 @@ const THREE_BEACONS: &[Move] = &[
     Move::Takes(Given::Tick, 2),
 ];
 
+/// Two beacons wait, go to the queue together, and leave.
+const PUMP_BOTH: &[Move] = &[
+    Move::Takes(Given::Tick, 0),
+    Move::Takes(Given::Tick, 1),
+    Move::Pumps(2),
+    Move::Leaves(true, 1),
+    Move::Leaves(true, 2),
+    Move::Leaves(false, 2),
+];
+
 /// A station joins and dozes, two frames come for it on the wire, and it polls them.
 const UNITS: &[Move] = &[
     Move::Takes(Given::Air(AUTHENTICATION_REQUEST), 0),
@@ -385,6 +395,14 @@ fn are_two_of_each(end: &Finished) -> bool {
         }
     }
     end.left.as_slice().len() == 2 * MAX_NETWORKS
+}
+
+/// Each that waits, by one call.
+#[test]
+fn a_pump_hands_both_frames_that_wait(rt: HostRuntime) -> Result<(), Fail> {
+    let sent = &[BEACON, SECOND_BEACON];
+    assert!(rt; ends_so(&rt, rt.alloc(), 100, PUMP_BOTH, sent, [2, 2, 0])?);
+    Ok(())
 }
 
 /// Those of another network stay.

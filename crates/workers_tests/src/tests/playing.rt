@@ -197,6 +197,46 @@ fn a_line_is_given_once_the_gate_let_it(rt: HostRuntime) -> Result<(), Fail> {
     Ok(())
 }
 
+/// Counts how often it is asked, and before which lines of source 0, by a bit for each.
+#[derive(Drop)]
+struct Asked {
+    count: AtomicU64,
+    lines: AtomicU64,
+}
+
+impl Gate for Asked {
+    fn before(&self, source: u32, line: u32) {
+        self.count.fetch_add(1, Ordering::SeqCst);
+        if source == 0 && line < 64 {
+            self.lines.fetch_or(1 << line, Ordering::SeqCst);
+        }
+    }
+}
+
+/// How often the gate is asked for a source, and before which of its six lines, of which a network hears the second and
+/// the last alone.
+fn ask_gate<R: Threads + Wait + Sync>(rt: &R, alloc: Global) -> Result<(u64, u64), Fail> {
+    let gate = Asked {
+        count: AtomicU64::new(0),
+        lines: AtomicU64::new(0),
+    };
+    let short = "ffffffffffffffffff";
+    let sources = vec![in alloc; source(alloc, &[short, AUTHENTICATION_REQUEST])?]?;
+    let end = play(rt, alloc, radio(alloc, 64, &[100])?, sources, &gate)?;
+    if section_at(&end.sections, 0)?.counts.events != 2 {
+        return Err(Fail::new("other lines are heard"));
+    }
+    let lines = gate.lines.load(Ordering::SeqCst);
+    Ok((gate.count.load(Ordering::SeqCst), lines))
+}
+
+/// Before each line once, also before one that nobody hears.
+#[test]
+fn the_gate_is_asked_before_each_line(rt: HostRuntime) -> Result<(), Fail> {
+    assert_eq!(rt; ask_gate(&rt, rt.alloc())?, (6, 0b111_1110));
+    Ok(())
+}
+
 /// On a channel, with this number of sources: the configuration's fault comes first.
 const ROWS: [(u8, u32, Option<PlayFault>); 5] = [
     (6, 0, Some(PlayFault::Sources)),
