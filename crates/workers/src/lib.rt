@@ -5,9 +5,9 @@
 //! ticks, and keeps what it is answered; any thread pumps frames that wait into the air queue; the [`Transmitter`] lets
 //! them leave. [`Ap::finish`] promises that each network's section is what the network alone gives for its own events,
 //! and that what left of it is all that it sent, in order, whichever thread called what, and when. It tests what the
-//! callers were told: each event of a history was given by one of them, and each receipt is the event of its number.
-//! Under a network's lock that much holds at every moment: what was pushed and then what waits is all that the network
-//! alone sends for its history.
+//! callers were told against the histories: each event has one receipt, and each receipt is the event of its number.
+//! Whenever a network's lock is free, what was pushed and then what waits is all that the network alone sends for its
+//! history.
 //!
 //! That a call gets its lock, the order of calls of different callers, fairness, progress and time are promised by
 //! nothing here. That networks have locks of their own, and that an event changes its network at once, tests show.
