@@ -110,7 +110,7 @@ fault_runs items NoMemory c ct old new sink is s = record {
 fault_runs items Read c ct old new sink is s = record {
   text = s.text;
   reads = s.reads;
-  stops = tt;
+  stops = (c, is, s.end);
   end = Keeps-refl sink.taken;
   failures = none_failed sink.failed;
 }

@@ -55,11 +55,15 @@ pub record StopsIn (c : RadioConfig) (text : List ℕ) : Type 0 where
   pub short : length piece ≤ piece_len
   pub sound : lines_from (bssids_of c) 1 (whole_lines before) ≡ Ok said
 
--- the fault is that of what was read
+-- no line that ended in a text has a fault
+abbrev pub HasNoFault : RadioConfig → List ℕ → Type 0
+HasNoFault c text = (said : List Line) × (lines_from (bssids_of c) 1 (whole_lines text) ≡ Ok said)
+
+-- The fault is that of what was read. Where reading failed, no line that ended before has one.
 abbrev pub IsStreamFault : RadioConfig → List ℕ → StreamFault → Type 0
 IsStreamFault c text (Trace fault) = (lines_of c text ≡ Err fault) × StopsIn c text
 IsStreamFault c text NoMemory = Unit {0}
-IsStreamFault c text Read = Unit {0}
+IsStreamFault c text Read = HasNoFault c text
 IsStreamFault c text (Config fault) = ⊥
 IsStreamFault c text Write = ⊥
 
@@ -113,10 +117,13 @@ EndsStream (Err Read) answer old new = Keeps old.sink.taken new.sink.taken
 EndsStream (Err Write) answer old new =
     IsAtEnd new.source.left × IsOkAnd answer (λ report. AppendsPrefix old.sink.taken new.sink.taken report)
 
--- where the trace has a fault, reading stopped with the piece in which it was met
+-- Where the trace has a fault, reading stopped with the piece in which it was met. So where reading failed, no line that
+-- ended before has one.
 abbrev pub StopsAtFault : Result Unit StreamFault → List ℕ → List ℕ → Type 0
 StopsAtFault (Err (Trace fault)) config_text text =
     (c : RadioConfig) × (configuration_of config_text ≡ Ok c) × StopsIn c text
+StopsAtFault (Err Read) config_text text =
+    (c : RadioConfig) × (configuration_of config_text ≡ Ok c) × HasNoFault c text
 StopsAtFault result config_text text = Unit {0}
 
 -- A run of a configuration's text and of what was read of a source ended so.

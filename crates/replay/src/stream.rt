@@ -31,13 +31,14 @@ const PIECE_LEN: usize = 4096;
 const MAX_READS: u32 = u32::MAX;
 
 /// Reads a configuration, and a trace from a source to its end; lets each network take what it hears of each line as
-/// it comes, and lets every frame leave as soon as it waits; then appends the report of all networks to what `out` has
-/// taken. It is what [`crate::run_text`] appends for the same texts.
+/// it comes, and keep the frames that it sends, but no history; then appends the report of all networks to what `out`
+/// has taken. It is what [`crate::run_text`] appends for the same texts.
 ///
 /// A fault of the configuration is the first one, and nothing is read then. A fault of the trace is the first of what
-/// was read, and ends reading. `Read` comes where a read of the source failed, or 4,294,967,295 reads were made.
-/// Nothing is written by then. `Write` comes exactly where a write of `out` failed, and `NoMemory` where memory ran
-/// out; what was written by then is nothing or, once all was read, a prefix of the report.
+/// was read, and ends reading. `Read` comes where a read of the source failed, or 4,294,967,295 reads were made; no
+/// line that ended before has a fault then. Nothing is written by then. `Write` comes exactly where a write of `out`
+/// failed, and `NoMemory` where memory ran out; what was written by then is nothing or, once all was read, a prefix of
+/// the report.
 pub fn run_stream<R: Source, W: Sink>(
     alloc: Global,
     config: &[u8],

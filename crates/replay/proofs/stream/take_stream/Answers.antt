@@ -47,7 +47,7 @@ returns-in_default g c config h =
         counted = counted-more _ _ _ c.loop.counter s.counted c.in_default.ensures.reads;
         failed = inl (c.in_default.ensures.failures ∙ ap (λ n. n + 1) s.failed);
       };
-      end = tt;
+      end = (s.replayed.0, s.replayed.1.answered);
     }
 
 pub returns-then-count-eq0 : goal.returns-then-count-eq0
@@ -128,5 +128,5 @@ returns g c config h =
         counted = s.counted;
         failed = inr (s.failed, all);
       };
-      end = tt;
+      end = (s.replayed.0, s.replayed.1.answered);
     }
