@@ -6,9 +6,10 @@ use fixtures::{lab, octets};
 use mac_frame::{List, MacAddr, Octets};
 use station_state::Standing;
 use std::alloc::Global;
+use std::io::{self, ErrorKind, Read, Write};
 use std::test::Fail;
 use trace::{
-    Buffered, Counted, Failed, ReportFault, Sink, Totals, put_counts_line, put_end_line,
+    Buffered, Counted, Failed, ReportFault, Sink, Source, Totals, put_counts_line, put_end_line,
     put_frame_line, put_network_line, put_station_line, write_report,
 };
 
@@ -86,6 +87,74 @@ fn failing_writer(rt: HostRuntime) -> Result<(), Fail> {
         );
     }
     Ok(())
+}
+
+/// A writer or a reader that refuses the first call, and then does what the one inside does.
+#[derive(Drop)]
+struct RefusesOnce<T> {
+    inner: T,
+    has_refused: bool,
+}
+
+impl<T> RefusesOnce<T> {
+    fn new(inner: T) -> RefusesOnce<T> {
+        RefusesOnce {
+            inner,
+            has_refused: false,
+        }
+    }
+
+    fn refuse(&mut self) -> io::Result<()> {
+        if self.has_refused {
+            return Ok(());
+        }
+        self.has_refused = true;
+        Err(io::Error::from(ErrorKind::Other))
+    }
+}
+
+impl<T: Write> Write for RefusesOnce<T> {
+    fn write(&mut self, buf: &[u8]) -> io::Result<usize> {
+        self.refuse()?;
+        self.inner.write(buf)
+    }
+
+    fn flush(&mut self) -> io::Result<()> {
+        self.inner.flush()
+    }
+}
+
+impl<T: Read> Read for RefusesOnce<T> {
+    fn read(&mut self, buf: &mut [u8]) -> io::Result<usize> {
+        self.refuse()?;
+        self.inner.read(buf)
+    }
+}
+
+/// A write that was refused is a failure at once, also where the next one would be taken.
+#[test]
+fn a_refused_write_is_not_tried_again(rt: HostRuntime) -> Result<(), Fail> {
+    let alloc = rt.alloc();
+    let sections = vec![in alloc; section(alloc)?]?;
+    let mut sink = Counted::new(RefusesOnce::new(Vec::new(alloc)));
+    let refused = write_report(alloc, sections.as_slice(), &mut sink);
+    assert_eq!(rt; (refused, sink.failures()), (Err(ReportFault::Write), 1));
+    let taken = write_report(alloc, sections.as_slice(), &mut sink);
+    assert_eq!(rt; (taken, sink.failures()), (Ok(()), 1));
+    let report: Vec<u8> = sink.into_inner().inner;
+    assert_eq!(rt; report.as_slice(), REPORT.as_bytes());
+    Ok(())
+}
+
+/// So is a read.
+#[test]
+fn a_refused_read_is_not_tried_again(rt: HostRuntime) {
+    let mut source = Counted::new(RefusesOnce::new(REPORT.as_bytes()));
+    let mut buffer = [0; 7];
+    assert_eq!(rt; source.read_some(&mut buffer), Err(Failed));
+    assert_eq!(rt; source.read_some(&mut buffer), Ok(7));
+    assert_eq!(rt; source.failures(), 1);
+    assert_eq!(rt; buffer, *b"network");
 }
 
 /// Frames, each with its number, and their lines.
