@@ -9,8 +9,8 @@ TARGETS = help run try try-check test wrong refused bench bench-limits stress fu
 # A file's name among the targets would do nothing, or end in a message after all else was made.
 OTHERS := $(filter-out $(TARGETS), $(MAKECMDGOALS))
 ifneq ($(OTHERS),)
-$(error there is no target $(firstword $(OTHERS)), and nothing was begun; `make` lists the targets, and a file is named as \
-    in `make try INPUT=my.input` and `make try-check CONFIG=my.toml`)
+$(error there is no target $(firstword $(OTHERS)), and nothing was begun; `make` lists the targets, and a file is named \
+    as in `make try INPUT=my.input` and `make try-check CONFIG=my.toml`)
 endif
 
 # Begins nothing: says what there is to make.
