@@ -11,6 +11,7 @@ import time
 
 from frames import BROADCAST, DATA, DEAUTHENTICATION, DISASSOCIATION, NULL, Frame, address_of
 from live.radiotap import captured
+from parts import IN_REACH, OUT_OF_REACH, Part, join, set_reach
 from stage import Net, Start
 from stations import Failed, Host, Station, load_radios, run, unload_radios, wait_for
 
@@ -20,8 +21,8 @@ LIVE = os.path.join(os.path.dirname(HERE), "live")
 GUESTS, OFFICE, DEVICES, LAB = (f"02:00:00:00:01:0{number}" for number in (1, 2, 3, 5))
 IDLE = 8  # seconds of silence after which stations are asked
 FIRST_SILENT, FIRST_FLOOD, FIRST_RELOADED = 81, 85, 91
-IN_REACH, OUT_OF_REACH = "1", "2"
-FLOOD, FLOOD_SECONDS = 5000, 120
+FLOOD, ROOM_SECONDS = 5000, 5
+NEWCOMER = "02:cc:00:00:00:01"
 RELOAD_SECONDS = 5
 OBSERVER = "obs0"
 # A header of radiotap without fields, before a frame that is to be sent.
@@ -35,51 +36,38 @@ def counts(table: list[str]) -> dict[str, int]:
     return dict(zip(words[::2], map(int, words[1::2])))
 
 
-def set_reach(station: Station, group: str) -> None:
-    """Puts a simulated radio where the others hear it, or where they don't."""
-    with open(f"/sys/kernel/debug/ieee80211/{station.phy}/hwsim/group", "w", encoding="ascii") as file:
-        file.write(group)
-
-
 def ask(*words: str) -> subprocess.CompletedProcess:
     """Asks the bridge that runs, as a person does."""
     return subprocess.run([LIVE, *words], capture_output=True, text=True, check=False, timeout=30)
 
 
-def join(station: Station, host: Host, number: int, ssid: str, bssid: str) -> None:
-    """A station joins a network, with an address beside that host's."""
-    station.address = f"{host.address.rpartition('.')[0]}.{number}"
-    station.begin(ssid, bssid)
+def authentication(station: bytes) -> bytes:
+    """A request of a station to authenticate with the guests' network, as it is sent by a monitor interface."""
+    header = b"\xb0\0\0\0" + address_of(GUESTS) + station + address_of(GUESTS) + bytes([0x10, 0])
+    return NO_FIELDS + header + bytes([0, 0, 1, 0, 0, 0])
 
 
-class Silence:
+class Silence(Part):
     """Stations of which nothing is heard any more."""
 
     def __init__(self, cases) -> None:
-        self.cases = cases
         net = Net(GUESTS, "guests", "wire1")
-        self.start = cases.start("silence", (net,), more=("--idle", str(IDLE)))
-        self.flooded = cases.start("flood", (net,))
+        super().__init__(cases, cases.start("silence", (net,), more=("--idle", str(IDLE))))
         self.host = cases.hosts[0]
-        self.gone, self.silent, self.dozing, self.newcomer = cases.stations[:4]
+        self.gone, self.silent, self.dozing = cases.stations[:3]
 
     def run(self) -> None:
         """Its cases in order."""
-        case = self.cases.case
-        case("silence: the bridge begins, and three stations join", self.join)
+        case = self.case
+        self.begins("silence: the bridge begins, and three stations join", self.set_up)
         case("a station that goes out of reach is forgotten, and joins again when it is back", self.out_of_reach)
         case("stations that only fall silent are asked, and stay", self.fall_silent)
         case("a station that is kicked leaves, and may join again", self.kick)
         case("what is going on is told as JSON", self.status)
         self.cases.leave_all()
-        self.cases.end(self.start)
-        case("flood: the bridge begins", self.flooded.begin)
-        case(f"after {FLOOD} authentications of random addresses a newcomer joins within two minutes", self.flood)
-        self.cases.leave_all()
-        case("flood: the bridge ends, and takes down what it set up", self.flooded.end)
-        case("flood: `run` on the record gives what the program wrote", self.flooded.agrees_with_run)
+        self.end()
 
-    def join(self) -> None:
+    def set_up(self) -> None:
         """One of them will doze."""
         self.start.begin()
         for number, station in enumerate((self.gone, self.silent, self.dozing), FIRST_SILENT):
@@ -98,19 +86,20 @@ class Silence:
         wait_for("the station is forgotten", 60, lambda: told in self.start.told())
         seconds = time.monotonic() - begun
         wait_for("it isn't in the table", 10, lambda: not self.start.station(GUESTS, address))
-        departures = [frame for frame in self.heard() if frame.is_management(DEAUTHENTICATION)
-                      and frame.transmitter == address_of(address) and frame.body == bytes([4, 0])]
-        if len(departures) != 1:
-            raise Failed(f"the record has {len(departures)} deauthentications of the bridge")
+        departures = wait_for("the record has its deauthentication", 10, lambda: self.departures(address))
+        if departures != 1:
+            raise Failed(f"the record has {departures} deauthentications of the bridge")
         set_reach(self.gone, IN_REACH)
         self.gone.joined(60, GUESTS)
         wait_for("it is back", 60, lambda: " associated " in self.start.station(GUESTS, address))
         wait_for("its pings come back", 60, lambda: self.gone.ping(self.host.address, 1).result()[1])
         return f"after {seconds:.0f} seconds, with --idle {IDLE}"
 
-    def heard(self) -> list[Frame]:
-        """The frames of the air that the program was told of."""
-        return [Frame(bytes.fromhex(line[2:])) for line in self.start.recorded() if line.startswith("A ")]
+    def departures(self, address: str) -> int:
+        """How often the program was told that a station left for its silence: the record has it once it is written out."""
+        frames = [Frame(bytes.fromhex(line[2:])) for line in self.start.recorded() if line.startswith("A ")]
+        return sum(frame.is_management(DEAUTHENTICATION) and frame.transmitter == address_of(address)
+                   and frame.body == bytes([4, 0]) for frame in frames)
 
     def fall_silent(self) -> str:
         """One is awake and one dozes; nobody speaks to them for three times that long, and then they ping at once."""
@@ -157,6 +146,7 @@ class Silence:
 
     def status(self) -> str:
         """The stations with what was sent to them and heard of them; another user may not kick."""
+        wait_for("a hundred beacons", 30, lambda: json.loads(ask("status").stdout)["beacons"]["sent"] >= 100)
         found = json.loads(ask("status").stdout)
         network = found["networks"][0]
         stations = {station["address"]: station for station in network["stations"]}
@@ -176,58 +166,110 @@ class Silence:
             raise Failed(f"kick as another user: {refused.stderr}")
         return f"{len(stations)} stations, {found['beacons']}"
 
+
+class Flood(Part):
+    """A flood of made-up addresses: it fills the network's table, and newcomers find room soon."""
+
+    def __init__(self, cases) -> None:
+        super().__init__(cases, cases.start("flood", (Net(GUESTS, "guests", "wire1"),)))
+        self.host = cases.hosts[0]
+        self.joined, self.newcomer = cases.stations[:2]
+
+    def run(self) -> None:
+        """Its cases in order."""
+        self.begins("flood: the bridge begins, and a station joins", self.set_up)
+        self.case(f"after {FLOOD} authentications of random addresses newcomers find room within {ROOM_SECONDS} seconds",
+                  self.flood)
+        self.cases.leave_all()
+        self.cases.case("flood: the bridge ends, and takes down what it set up", self.end_start)
+        self.cases.case("flood: `run` on the record gives what the program wrote", self.start.agrees_with_run)
+
+    def set_up(self) -> None:
+        """It stays through the flood."""
+        self.start.begin()
+        join(self.joined, self.host, FIRST_FLOOD, "guests", GUESTS)
+        self.joined.joined(60, GUESTS)
+        self.joined.ping(self.host.address, 4).whole()
+
     def flood(self) -> str:
-        """Another radio sends them as fast as it can; then a newcomer begins, which is refused until one is forgotten."""
-        begun = time.monotonic()
-        draw = random.Random(5)
+        """Another radio sends them as fast as it can. Then one that asks again and again finds room in time, and a
+        station joins; who was associated stays so."""
+        begun, draw = time.monotonic(), random.Random(5)
         with socket.socket(socket.AF_PACKET, socket.SOCK_RAW) as sending:
             sending.bind((OBSERVER, 0))
             for _ in range(FLOOD):
-                station = bytes([2, *draw.randbytes(5)])
-                body = bytes([0, 0, 1, 0, 0, 0])
-                header = b"\xb0\0\0\0" + address_of(GUESTS) + station + address_of(GUESTS) + bytes([0x10, 0])
-                sending.send(NO_FIELDS + header + body)
+                sending.send(authentication(bytes([2, *draw.randbytes(5)])))
                 time.sleep(0.001)
-        sent = time.monotonic() - begun
-        wait_for("one of them is refused", 30, lambda: "authentication, status 1" in self.flooded.told())
-        known = sum(line.startswith("station ") for line in self.flooded.tables()[GUESTS])
-        join(self.newcomer, self.host, FIRST_FLOOD, "guests", GUESTS)
-        self.newcomer.joined(FLOOD_SECONDS - (time.monotonic() - begun), GUESTS)
-        joined = time.monotonic() - begun
-        self.newcomer.ping(self.host.address, 4).whole()
-        refused = json.loads(ask("status").stdout)["networks"][0]["refusals"]["1"]
-        return f"sent within {sent:.0f} seconds, {known} known, {refused} refused; joined after {joined:.0f} seconds"
+            ended = time.monotonic()
+            refused = self.network()["refusals"].get("1", 0)
+            wait_for("a newcomer finds room", 60, lambda: self.finds_room(sending), EVERY)
+        seconds = time.monotonic() - ended
+        if not refused or seconds > ROOM_SECONDS:
+            raise Failed(f"{refused} were refused by the end of the flood, and a newcomer for {seconds:.1f} seconds after")
+        join(self.newcomer, self.host, FIRST_FLOOD + 1, "guests", GUESTS)
+        self.newcomer.joined(60, GUESTS)
+        for station in (self.joined, self.newcomer):
+            station.ping(self.host.address, 4).whole()
+        if self.start.told().count(f"{self.joined.hardware_address()} joins") != 1:
+            raise Failed("who was associated had to join again")
+        self.start.has_told(f"was forgotten by {GUESTS}, which is nearly full")
+        return (f"sent within {ended - begun:.0f} seconds, {refused} refused by then; room after {seconds:.1f} seconds, "
+                f"and the beacons {self.lateness()}")
+
+    def finds_room(self, sending: socket.socket) -> bool:
+        """Whether one that asks to authenticate is known then."""
+        sending.send(authentication(address_of(NEWCOMER)))
+        return any(station["address"] == NEWCOMER for station in self.network()["stations"])
+
+    @staticmethod
+    def network() -> dict:
+        """What is going on in the network."""
+        return json.loads(ask("status").stdout)["networks"][0]
+
+    @staticmethod
+    def lateness() -> str:
+        """How late beacons were."""
+        beacons = json.loads(ask("status").stdout)["beacons"]
+        return f"{beacons['late_ms_mean']} ms late on the average, {beacons['late_ms_worst']} ms at worst"
 
 
-class Reload:
+class Reload(Part):
     """The configuration is read again."""
 
     def __init__(self, cases) -> None:
-        self.cases = cases
         self.three = (Net(GUESTS, "guests", "wire1"), Net(OFFICE, "office", "wire2", 2), Net(DEVICES, "devices", "wire3"))
         self.wires = "/tmp/cases/wires"
-        self.start: Start = cases.start("reload", self.three, more=("--wires", self.wires))
+        super().__init__(cases, cases.start("reload", self.three, more=("--wires", self.wires)))
+        self.before: Start | None = None
         self.stations = cases.stations[:3]
         self.hosts = cases.hosts
 
     def run(self) -> None:
         """Its cases in order."""
-        case = self.cases.case
-        case("reload: the bridge begins, and a station joins each of three networks", self.join)
+        case = self.case
+        self.begins("reload: the bridge begins, and a station joins each of three networks", self.set_up)
         case("a configuration with a fault changes nothing, and no ping is lost", self.fault)
         case(f"one of three networks changes: the others' stations ping again within {RELOAD_SECONDS} s", self.change)
-        case("reload: `run` on the first record gives what the program wrote before", lambda: self.before.agrees_with_run())
+        case("reload: `run` on the first record gives what the program wrote before", self.agrees_before)
         self.cases.leave_all()
-        case("reload: the bridge ends, and takes down what it set up", self.start.end)
-        case("reload: `run` on the second record gives what the program wrote after", self.start.agrees_with_run)
+        self.cases.case("reload: the bridge ends, and takes down what it set up", self.end_start)
+        self.cases.case("reload: `run` on the second record gives what the program wrote after",
+                        self.start.agrees_with_run)
+
+    def agrees_before(self) -> str:
+        """Of the program before the change."""
+        if self.before is None:
+            self.change()
+        return self.before.agrees_with_run()
 
     def write_wires(self, networks: tuple[Net, ...]) -> None:
         """The wires stand in a file, which is read again too."""
         with open(self.wires, "w", encoding="ascii") as file:
             file.writelines(f"{net.bssid}={net.port}  # {net.ssid}\n" for net in networks)
 
-    def join(self) -> None:
+    def set_up(self) -> None:
         """Each has a host of its own."""
+        self.before = None
         self.write_wires(self.three)
         self.start.begin()
         for number, (station, host, net) in enumerate(zip(self.stations, self.hosts, self.three), FIRST_RELOADED):
@@ -245,10 +287,10 @@ class Reload:
             file.write(text.replace("dtim = 2", "dtim = 0"))
         self.start.reload("fault C11 network 1")
         self.start.has_told("all stays as it is")
-        for ping in pings:
-            ping.whole()
         with open(self.start.config, "w", encoding="utf-8") as file:
             file.write(text)
+        for ping in pings:
+            ping.whole()
         return "36 of 36 pings came back"
 
     def change(self) -> str:
@@ -314,7 +356,7 @@ class ByHand:
             raise Failed(f"the first command is {loading}")
         radios = load_radios(2)
         names = {"phy0": radios[0].phy, "phy1": radios[1].phy}
-        log = os.path.join(self.folder, "log")
+        log, process = os.path.join(self.folder, "log"), None
         try:
             self.shell(wires, names)
             with open(log, "wb") as file:
@@ -325,6 +367,8 @@ class ByHand:
             os.killpg(process.pid, signal.SIGINT)
             process.wait(60)
         finally:
+            if process is not None and process.poll() is None:
+                os.killpg(process.pid, signal.SIGKILL)
             for name in ("host", "station"):
                 subprocess.run(["ip", "netns", "del", name], capture_output=True, check=False)
             unload_radios()

@@ -9,8 +9,9 @@ from dataclasses import dataclass
 
 from frames import DATA, NULL, Frame, address_of
 from live.radiotap import captured
-from operating import IN_REACH, OUT_OF_REACH, ask, join, set_reach
-from stage import Net, Start
+from operating import ask
+from parts import IN_REACH, OUT_OF_REACH, Part, join, set_reach
+from stage import Net
 from stations import Failed, Station, wait_for
 
 HERE = os.path.dirname(os.path.realpath(__file__))
@@ -58,28 +59,27 @@ def dumped(station: Station) -> dict[str, float]:
             DUMPED.findall(station.run("iw", "dev", station.interface, "station", "dump"))}
 
 
-class Page:
+class Page(Part):
     """Two networks, three stations, and `--status`."""
 
     def __init__(self, cases) -> None:
-        self.cases = cases
         self.nets = Net(GUESTS, "guests", "wire1"), Net(OFFICE, "office", "wire2", 2)
-        self.start: Start = cases.start("shown", self.nets, more=("--status", str(PORT)))
+        super().__init__(cases, cases.start("shown", self.nets, more=("--status", str(PORT))))
         self.stations = cases.stations[:3]
         self.places = dict(zip((station.name for station in self.stations), (0, 0, 1)))
         self.hosts = cases.hosts
 
     def run(self) -> None:
         """Its cases in order."""
-        case = self.cases.case
-        case("shown: the bridge begins, and three stations join two networks", self.join)
+        case = self.case
+        self.begins("shown: the bridge begins, and three stations join two networks", self.set_up)
         case("the page, its JSON and its metrics are served at 127.0.0.1 alone, by nobody", self.served)
         case("JSON says of each station what another radio heard and what its own kernel says", self.agrees)
         case("the metrics say what JSON says", self.metrics)
         case("a station that is kicked is gone from the page, and comes again", self.kick)
         case("a page that was started by hand says so once the bridge has ended", self.ended)
         self.cases.leave_all()
-        self.cases.compare(self.start)
+        self.compare()
 
     def host_of(self, station: Station):
         """The host of a station's network."""
@@ -98,7 +98,7 @@ class Page:
         address = station.hardware_address()
         return next((told for told in network["stations"] if told["address"] == address), None)
 
-    def join(self) -> str:
+    def set_up(self) -> str:
         """They join, and ping their hosts, each another number of times."""
         self.start.begin()
         for number, station in enumerate(self.stations):

@@ -1,5 +1,6 @@
 """One start of the bridge among simulated stations: what is recorded beside it, and what has to agree in the end."""
 import copy
+import itertools
 import os
 import re
 import shutil
@@ -41,6 +42,8 @@ done
 {program} "$@" | tee "$answers"
 """
 READY, TIMEOUT = "networks are on channel", 30
+LONGEST_PACKET = "4096"
+SECONDS_TO_END = 60
 TOP = os.path.dirname(os.path.dirname(os.path.dirname(os.path.realpath(__file__))))
 COMPILED = os.path.join(TOP, "build", "bridge", "release", "bridge")
 RECORD_HEADER = struct.Struct("<c6sH")  # of a record of octets: its kind, a BSSID, how many octets follow
@@ -150,6 +153,10 @@ def receiver_of(octets: bytes) -> bytes:
     return octets[RECEIVER]
 
 
+class NotSeen(Failed):
+    """A capture lost packets: it shows nothing of what was sent."""
+
+
 def same(what: str, found: list, wanted: list) -> None:
     """Failed where two lists differ, with where they begin to."""
     if found != wanted:
@@ -164,8 +171,9 @@ class Tcpdump:
     def __init__(self, interface: str, path: str, words: tuple[str, ...] = ()) -> None:
         self.path = path
         self.log = open(path + ".log", "wb")
-        self.process = subprocess.Popen([*words, "tcpdump", "-i", interface, "-w", path, "-s", "0", "-B", "8192",
-                                         "-U", "-Z", "root", "--immediate-mode"], stdin=subprocess.DEVNULL,
+        # Each packet takes a place in the buffer as long as the longest that is asked for: a frame and its header.
+        self.process = subprocess.Popen([*words, "tcpdump", "-i", interface, "-w", path, "-s", LONGEST_PACKET, "-B",
+                                         "16384", "-U", "-Z", "root", "--immediate-mode"], stdin=subprocess.DEVNULL,
                                         stdout=self.log, stderr=self.log)
         wait_for(f"tcpdump of {interface}", 20, lambda: os.path.exists(path) and os.path.getsize(path) >= PCAP_HEADER)
 
@@ -187,7 +195,7 @@ class Tcpdump:
         with open(self.path + ".log", encoding="utf-8") as file:
             dropped = re.search(r"(\d+) packets? dropped by kernel", file.read())
         if dropped and dropped.group(1) != "0":
-            raise Failed(f"{self.path}: {dropped.group(0)}")
+            raise NotSeen(f"{self.path}: {dropped.group(0)}")
         return read_pcap(self.path)
 
 
@@ -202,18 +210,20 @@ class Observer:
 
 
 class Start:
-    """One start of the bridge."""
+    """One start of the bridge. At most one runs: another that begins takes down what a failed case has left running."""
+
+    running: "Start | None" = None
 
     def __init__(self, name: str, folder: str, bridge: str, program: str, phy: str, networks: tuple[Net, ...],
                  version: int = 1, more: tuple[str, ...] = ()) -> None:
         self.name = name
+        self.words = name, folder, bridge, program, phy, networks, version, more
         self.networks = networks
         self.more = more
         self.program = program
         self.bridge = bridge
         self.phy = phy
-        self.folder = os.path.join(folder, name)
-        os.makedirs(self.folder)
+        self.folder = new_folder(folder, name)
         self.config, self.record, self.answers, self.log, keeping = (
             os.path.join(self.folder, file) for file in ("config", "record", "answers", "log", "keeping"))
         self.version = version
@@ -226,6 +236,30 @@ class Start:
         self.process: subprocess.Popen | None = None
         self.was_killed = False
 
+    def anew(self) -> "Start":
+        """Another start as this one was made, with files of its own."""
+        return Start(*self.words)
+
+    def is_running(self) -> bool:
+        """Whether it has begun and not ended."""
+        return self.process is not None and self.process.poll() is None
+
+    def take_down(self) -> None:
+        """Ends what runs of it, however."""
+        if self.is_running():
+            self.process.send_signal(signal.SIGINT)
+            try:
+                self.process.wait(SECONDS_TO_END)
+            except subprocess.TimeoutExpired:
+                self.process.kill()
+                for process in processes_of(COMPILED) + processes_of(self.program):
+                    os.kill(process, signal.SIGKILL)
+                self.process.wait()
+        if self.observed is not None:
+            self.observed.end()
+        if Start.running is self:
+            Start.running = None
+
     def write_config(self) -> None:
         """Writes the configuration of the networks."""
         with open(self.config, "w", encoding="utf-8") as file:
@@ -235,6 +269,9 @@ class Start:
 
     def begin(self) -> None:
         """Starts the bridge, with the radio that hears beside it."""
+        if Start.running is not None:
+            Start.running.take_down()
+        Start.running = self
         self.observed = Tcpdump("obs0", os.path.join(self.folder, "observed.pcap"))
         words = [self.bridge, self.config, "--phy", self.phy, "--program", self.keeping, "--record", self.record,
                  *self.more]
@@ -285,13 +322,14 @@ class Start:
 
     def ended(self, status: int) -> None:
         """The bridge has to end with a status, and to have taken down what it set up."""
-        found = self.process.wait(60)
+        found = self.process.wait(SECONDS_TO_END)
+        Start.running = None
+        self.observed.end()
         if found != status:
             raise Failed(f"the bridge ended with status {found}: {self.told()[-500:]}")
         left = [name for name in os.listdir("/sys/class/net") if name.startswith("mon0")]
         if left:
             raise Failed(f"the bridge left {left}")
-        self.observed.end()
 
     def kill_program(self) -> None:
         """Kills the program itself: that has to be told."""
@@ -375,6 +413,15 @@ class Start:
             same(f"{self.name}: heard of {net.ssid}", sorted(heard[net.bssid], key=receiver_of),
                  sorted((comparable(bytes.fromhex(octets)) for octets in wrote[net.bssid].air), key=receiver_of))
         return f"{sum(map(len, heard.values()))} frames heard"
+
+
+def new_folder(folder: str, name: str) -> str:
+    """Makes a folder of this name there, or where it is there already with the first number behind it that isn't."""
+    for number in itertools.count(1):
+        path = os.path.join(folder, name if number == 1 else f"{name}-{number}")
+        if not os.path.exists(path):
+            os.makedirs(path)
+            return path
 
 
 def processes_of(executable: str) -> list[int]:

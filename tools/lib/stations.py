@@ -3,6 +3,7 @@ and the test of real stations are played with."""
 import glob
 import os
 import re
+import signal
 import socket
 import subprocess
 import tempfile
@@ -82,6 +83,14 @@ class Namespace:
         """Makes it; links of it are named as in this namespace."""
         run("ip", "netns", "add", self.name)
         run("ip", "-n", self.name, "link", "set", "lo", "up")
+
+    def end_all(self) -> None:
+        """Ends what runs in it."""
+        for process in run("ip", "netns", "pids", self.name).split():
+            try:
+                os.kill(int(process), signal.SIGKILL)
+            except ProcessLookupError:
+                pass
 
     def delete(self) -> None:
         """Takes it away, with what is in it."""
@@ -191,7 +200,8 @@ class Station(Namespace):
         super().delete()
 
     def begin(self, ssid: str, bssid: str | None = None) -> None:
-        """Begins to look for a network, of any or of this BSSID."""
+        """Begins to look for a network, of any or of this BSSID; what it did before has ended."""
+        self.stop()
         path = os.path.join(self.folder, "config")
         with open(path, "w", encoding="utf-8") as file:
             file.write(STATION_CONFIG.format(folder=os.path.join(self.folder, "control"), ssid=ssid,

@@ -1,0 +1,151 @@
+"""Tests of how the cases of real stations go on where one failed: no case depends on how another ended."""
+import contextlib
+import importlib.machinery
+import importlib.util
+import io
+import os
+import sys
+import tempfile
+import unittest
+
+GUEST = os.path.join(os.path.dirname(os.path.dirname(os.path.realpath(__file__))), "guest")
+sys.path.append(GUEST)
+import parts  # noqa: E402
+import stage  # noqa: E402
+from stations import Failed  # noqa: E402
+
+
+def load_cases():
+    """The program of the cases, whose name isn't that of a module."""
+    loader = importlib.machinery.SourceFileLoader("guest_cases", os.path.join(GUEST, "cases"))
+    module = importlib.util.module_from_spec(importlib.util.spec_from_loader("guest_cases", loader))
+    loader.exec_module(module)
+    return module
+
+
+cases = load_cases()
+
+
+class FakeStart:
+    """A start of the bridge that only notes what is done with it."""
+
+    def __init__(self, done, lost=0):
+        self.name, self.done, self.lost = "part", done, lost
+        self.networks = ()
+        self.is_up = False
+
+    def anew(self):
+        """Another one, whose capture loses one time less."""
+        return FakeStart(self.done, max(0, self.lost - 1))
+
+    def is_running(self):
+        """Whether it runs."""
+        return self.is_up
+
+    def begin(self):
+        """It runs from now on."""
+        self.is_up = True
+        self.done.append("begins")
+
+    def take_down(self):
+        """It doesn't any more."""
+        self.is_up = False
+
+    def end(self):
+        """The same, as it should."""
+        self.is_up = False
+        self.done.append("ends")
+
+    def agrees_with_run(self):
+        """It does."""
+        return "the same"
+
+    def agrees_with_observed(self):
+        """It does, where the capture lost nothing."""
+        if self.lost:
+            raise stage.NotSeen("7 packets dropped by kernel")
+        return "9 frames heard"
+
+
+class FakePart(parts.Part):
+    """Three cases, of which some fail, and the end."""
+
+    failing: tuple[str, ...] = ()
+
+    def set_up(self):
+        """Begins it, and lets stations join."""
+        self.start.begin()
+        self.start.done.append("join")
+
+    def run(self):
+        """Its cases in order."""
+        self.begins("begins", self.set_up)
+        for name in ("first", "second", "third"):
+            self.case(name, lambda name=name: self.tried(name))
+        self.end()
+
+    def tried(self, name):
+        """It finds the bridge running, and takes it down where it fails."""
+        if not self.start.is_running():
+            raise AssertionError("nothing runs")
+        self.start.done.append(name)
+        if name in self.failing:
+            self.start.take_down()
+            raise Failed("on purpose")
+
+
+class NoCaseDependsOnAnother(unittest.TestCase):
+    """What is begun anew, and what is told."""
+
+    def run_part(self, failing=(), words=(), lost=0):
+        """Runs the part; gives what was done, the cases, and what was told."""
+        done, played = [], cases.Cases("bridge", "program", list(words))
+        played.stations, played.hosts = [], []
+        part = FakePart(played, FakeStart(done, lost))
+        part.failing = failing
+        with contextlib.redirect_stdout(io.StringIO()) as told:
+            part.run()
+        return done, played, told.getvalue()
+
+    def test_nothing_is_begun_anew_where_all_pass(self):
+        """One start serves all."""
+        done, played, _ = self.run_part()
+        self.assertEqual(done, ["begins", "join", "first", "second", "third", "ends"])
+        self.assertEqual((played.passed, played.failed), (7, 0))
+
+    def test_after_a_case_that_failed_all_is_begun_anew(self):
+        """The next case finds it so, and the end and what is compared too."""
+        done, played, _ = self.run_part(failing=("first", "third"))
+        wanted = ["begins", "join", "first", "begins", "join", "second", "third", "begins", "join", "ends"]
+        self.assertEqual(done, wanted)
+        self.assertEqual((played.passed, played.failed), (5, 2))
+
+    def test_a_case_runs_alone(self):
+        """Without those that begin the part."""
+        done, played, _ = self.run_part(words=("third",))
+        self.assertEqual(done, ["begins", "join", "third"])
+        self.assertEqual((played.passed, played.failed), (1, 0))
+
+    def test_where_packets_were_lost_it_is_seen_once_more(self):
+        """It is told as not seen; where the second time loses some too, the case fails."""
+        done, played, told = self.run_part(lost=1)
+        self.assertEqual(done[-2:], ["begins", "ends"])
+        self.assertEqual((played.passed, played.failed), (7, 0))
+        self.assertIn("not seen: part: 7 packets dropped by kernel; once more\n", told)
+        self.assertIn("passed: part: another radio heard these frames: 9 frames heard, once", told)
+        _, played, _ = self.run_part(lost=2)
+        self.assertEqual((played.passed, played.failed), (6, 1))
+
+
+class Folders(unittest.TestCase):
+    """Files of starts of one name."""
+
+    def test_each_start_has_a_folder_of_its_own(self):
+        """By numbers."""
+        with tempfile.TemporaryDirectory() as folder:
+            names = [os.path.basename(stage.new_folder(folder, "silence")) for _ in range(3)]
+            self.assertEqual(names, ["silence", "silence-2", "silence-3"])
+
+
+if __name__ == "__main__":
+    unittest.main()
