@@ -96,7 +96,7 @@ class Silence(Part):
         return f"after {seconds:.0f} seconds, with --idle {IDLE}"
 
     def departures(self, address: str) -> int:
-        """How often the program was told that a station left for its silence: the record has it once it is written out."""
+        """How often the program was told that a silent station left: the record has it once it is written out."""
         frames = [Frame(bytes.fromhex(line[2:])) for line in self.start.recorded() if line.startswith("A ")]
         return sum(frame.is_management(DEAUTHENTICATION) and frame.transmitter == address_of(address)
                    and frame.body == bytes([4, 0]) for frame in frames)
@@ -178,8 +178,8 @@ class Flood(Part):
     def run(self) -> None:
         """Its cases in order."""
         self.begins("flood: the bridge begins, and a station joins", self.set_up)
-        self.case(f"after {FLOOD} authentications of random addresses newcomers find room within {ROOM_SECONDS} seconds",
-                  self.flood)
+        self.case(f"after {FLOOD} authentications of random addresses newcomers find room within {ROOM_SECONDS} "
+                  "seconds", self.flood)
         self.cases.leave_all()
         self.cases.case("flood: the bridge ends, and takes down what it set up", self.end_start)
         self.cases.case("flood: `run` on the record gives what the program wrote", self.start.agrees_with_run)
@@ -205,7 +205,8 @@ class Flood(Part):
             wait_for("a newcomer finds room", 60, lambda: self.finds_room(sending), EVERY)
         seconds = time.monotonic() - ended
         if not refused or seconds > ROOM_SECONDS:
-            raise Failed(f"{refused} were refused by the end of the flood, and a newcomer for {seconds:.1f} seconds after")
+            raise Failed(f"{refused} were refused by the end of the flood, and a newcomer for {seconds:.1f} seconds "
+                         "after it")
         join(self.newcomer, self.host, FIRST_FLOOD + 1, "guests", GUESTS)
         self.newcomer.joined(60, GUESTS)
         for station in (self.joined, self.newcomer):
@@ -213,8 +214,8 @@ class Flood(Part):
         if self.start.told().count(f"{self.joined.hardware_address()} joins") != 1:
             raise Failed("who was associated had to join again")
         self.start.has_told(f"was forgotten by {GUESTS}, which is nearly full")
-        return (f"sent within {ended - begun:.0f} seconds, {refused} refused by then; room after {seconds:.1f} seconds, "
-                f"and the beacons {self.lateness()}")
+        return (f"sent within {ended - begun:.0f} seconds, {refused} refused by then; room after {seconds:.1f} "
+                f"seconds, and the beacons {self.lateness()}")
 
     def finds_room(self, sending: socket.socket) -> bool:
         """Whether one that asks to authenticate is known then."""

@@ -1,4 +1,4 @@
-"""Parts of the test of real stations: cases over one start of the bridge, none of which depends on how another ended."""
+"""Parts of the test of real stations: cases over one start of the bridge. None depends on how another ended."""
 from stage import Start
 from stations import Host, Station
 

@@ -919,8 +919,8 @@ impl<P: Port> Running<P> {
         }
     }
 
-    /// From when on what waits may be sent, and until when, before one looks for a beacon again, which goes before it. A
-    /// beacon that is due is waited for, but a program that doesn't answer holds nothing up for long.
+    /// From when on what waits may be sent, and until when, before one looks for a beacon again, which goes before it.
+    /// A beacon that is due is waited for, but a program that doesn't answer holds nothing up for long.
     fn sends_while(&self, time: Nanos) -> Range<Nanos> {
         match self.beacon_due_since(time).map(|since| since + TO_BEACON_ANSWER) {
             Some(until) => until..time.max(until) + TO_BEACON_ANSWER,

@@ -345,7 +345,8 @@ mod tests {
             ),
             (
                 News::Forgotten(Forgotten::Unassociated(3 * SECOND)),
-                "was forgotten by 02:00:00:00:01:01, which is nearly full: authenticated for 3 seconds and not associated",
+                "was forgotten by 02:00:00:00:01:01, which is nearly full: authenticated for 3 seconds and not \
+                 associated",
             ),
             (News::Forgotten(Forgotten::Kicked), "was forgotten by 02:00:00:00:01:01: kicked"),
         ] {

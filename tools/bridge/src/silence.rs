@@ -288,7 +288,7 @@ mod tests {
         Address::of([2, 9, 0, 0, high, low])
     }
 
-    /// The stations that are given up, with the tenth of a second, and how many of them are told so; each leaves at once.
+    /// The stations that are given up, with the tenth of a second, and how many are told so; each leaves at once.
     fn given_up(
         roster: &mut Roster,
         silence: &mut Silence,
