@@ -11,6 +11,7 @@ import unittest
 GUEST = os.path.join(os.path.dirname(os.path.dirname(os.path.realpath(__file__))), "guest")
 sys.path.append(GUEST)
 import parts  # noqa: E402
+import profiling  # noqa: E402
 import stage  # noqa: E402
 from stations import Failed  # noqa: E402
 
@@ -135,6 +136,22 @@ class NoCaseDependsOnAnother(unittest.TestCase):
         self.assertIn("passed: part: another radio heard these frames: 9 frames heard, once", told)
         _, played, _ = self.run_part(lost=2)
         self.assertEqual((played.passed, played.failed), (6, 1))
+
+
+class Profile(unittest.TestCase):
+    """What the kernel's own profile is taken for."""
+
+    def test_a_place_is_that_of_the_function_before_it(self):
+        """From its first octet on."""
+        names = [(0, "_stext"), (16, "pipe_read"), (48, "pipe_write")]
+        found = [profiling.last_before(names, place) for place in (0, 15, 16, 47, 48, 4096)]
+        self.assertEqual(found, ["_stext", "_stext", "pipe_read", "pipe_read", "pipe_write", "pipe_write"])
+
+    def test_functions_are_told_apart_by_what_they_do(self):
+        """And what nobody does isn't counted."""
+        ticks = {"pipe_read": 3, "pipe_write": 2, "packet_rcv": 7, "default_idle": 50, "strlen": 1, profiling.MODULES: 9}
+        wanted = {"pipes": 5, "packet sockets and their filters": 7, profiling.REST: 1, profiling.MODULES: 9}
+        self.assertEqual(profiling.by_group(ticks), wanted)
 
 
 class Folders(unittest.TestCase):
