@@ -21,7 +21,8 @@ use Rattle.trace.specs.declared.report.ReportFault.{ReportFault}
 use Rattle.trace.specs.declared.report.ReportFault.TheVariants as reports
 use Rattle.trace.proofs.EndingLemmas.{part_written, whole_written}
 use Rattle.replay.specs.Answer.{answer_of}
-use Rattle.replay.specs.Stream.{TakesWhole, ReplaysStream, RunsStream, IsStreamFault, StopsIn, max_reads, stream_ending}
+use Rattle.replay.specs.Stream.{AreSectionsOf, AreTaken, ReadsToEnd, RunsStream, SourceChange, IsStreamFault, StopsIn, changed}
+use Rattle.replay.specs.Stream.{max_reads, stream_ending}
 use Rattle.replay.specs.declared.fault.StreamFault.{StreamFault}
 use Rattle.replay.specs.declared.fault.StreamFault.TheVariants.{Config, Trace, NoMemory, Read, Write}
 use Rattle.replay.proofs.AnswerLemmas.{config_ends, trace_ends, answer_of-sections}
@@ -89,36 +90,38 @@ config_runs reads.NoMemory ct old h = record {
 }
 
 -- reading ended before the source did, or the last line is at fault
-pub fault_runs : {A : Type 0} (items : A → List Section) (e : StreamFault) (c : RadioConfig) (ct : List ℕ)
-    (old new : SourceView) (sink : SinkView) → configuration_of ct ≡ Ok c → ReplaysStream items (Err e) c old new
+pub fault_runs : {A : Type 0} (holds : A → List ℕ → Type 0) (e : StreamFault) (c : RadioConfig) (ct : List ℕ)
+    (old new : SourceView) (sink : SinkView) → configuration_of ct ≡ Ok c
+    → ReadsToEnd holds (Err e) c (changed old new)
     → RunsStream (Err e) ct (record { source = old; sink = sink }) (record { source = new; sink = sink })
-fault_runs items (Config fault) c ct old new sink is s = absurd s.end
-fault_runs items (Trace fault) c ct old new sink is s = record {
+fault_runs holds (Config fault) c ct old new sink is s = absurd s.end
+fault_runs holds (Trace fault) c ct old new sink is s = record {
   text = s.text;
   reads = s.reads;
   stops = (c, is, s.end.1);
   end = ((trace_ends (reads.At fault) c ct s.text sink.taken is s.end.0).0, Keeps-refl sink.taken);
   failures = none_failed sink.failed;
 }
-fault_runs items NoMemory c ct old new sink is s = record {
+fault_runs holds NoMemory c ct old new sink is s = record {
   text = s.text;
   reads = s.reads;
   stops = tt;
   end = inl (Keeps-refl sink.taken);
   failures = none_failed sink.failed;
 }
-fault_runs items Read c ct old new sink is s = record {
+fault_runs holds Read c ct old new sink is s = record {
   text = s.text;
   reads = s.reads;
   stops = (c, is, s.end);
   end = Keeps-refl sink.taken;
   failures = none_failed sink.failed;
 }
-fault_runs items Write c ct old new sink is s = absurd s.end
+fault_runs holds Write c ct old new sink is s = absurd s.end
 
 -- the report was cut short
 pub report_runs : {A : Type 0} (items : A → List Section) (made : A) (e : ReportFault) (c : RadioConfig) (ct : List ℕ)
-    (old new : Streams) → configuration_of ct ≡ Ok c → ReplaysStream items (Ok made) c old.source new.source
+    (old new : Streams) → configuration_of ct ≡ Ok c
+    → ReadsToEnd (λ made text. AreSectionsOf c text (items made)) (Ok made) c (changed old.source new.source)
     → Ends {A = Unit} report_ending (Err e) (Ok (report_text (items made))) old.sink.taken new.sink.taken
     → new.sink.failed ≡ old.sink.failed + failures_of {A = Unit} report_ending (Err e)
     → RunsStream (Err (report_as Write NoMemory e)) ct old new
@@ -155,7 +158,8 @@ report_runs items made reports.NoMemory c ct old new is s part failures =
 
 -- the whole report was written
 pub whole_runs : {A : Type 0} (items : A → List Section) (made : A) (u : Unit {0}) (c : RadioConfig) (ct : List ℕ)
-    (old new : Streams) → configuration_of ct ≡ Ok c → ReplaysStream items (Ok made) c old.source new.source
+    (old new : Streams) → configuration_of ct ≡ Ok c
+    → ReadsToEnd (λ made text. AreSectionsOf c text (items made)) (Ok made) c (changed old.source new.source)
     → Appends old.sink.taken new.sink.taken (report_text (items made)) → new.sink.failed ≡ old.sink.failed + 0
     → RunsStream (Ok u) ct old new
 whole_runs items made u c ct old new is s written failures =
@@ -170,16 +174,11 @@ whole_runs items made u c ct old new is s written failures =
 
 -- ---- networks that keep no history
 
--- a run that ended before hands out nothing
-pub none-reported : {A : Type 0} (taken : A → List Line → Type 0) (e : StreamFault) (c : RadioConfig)
-    (old new : SourceView) → TakesWhole taken (Err e) c old new → ReplaysStream {A = A} (λ _. []) (Err e) c old new
-none-reported taken e c old new s = record { text = s.text; reads = s.reads; end = s.end }
-
 -- of one that ended well the report is that of the sections
-pub all-reported : {A : Type 0} (taken : A → List Line → Type 0) (made : A) (c : RadioConfig) (old new : SourceView)
-    (s : TakesWhole taken (Ok made) c old new)
-    → ReplaysStream {A = A} (λ _. sections_of_lines c s.end.1.0) (Ok made) c old new
-all-reported taken made c old new s = record {
+pub all-reported : {A : Type 0} (taken : A → List Line → Type 0) (made : A) (c : RadioConfig) (source : SourceChange)
+    (s : ReadsToEnd (λ made text. AreTaken c text (taken made)) (Ok made) c source)
+    → ReadsToEnd {A = A} (λ _ text. AreSectionsOf c text (sections_of_lines c s.end.1.0)) (Ok made) c source
+all-reported taken made c source s = record {
   text = s.text;
   reads = s.reads;
   end = (s.end.0, (s.end.1.0, s.end.1.1, refl));

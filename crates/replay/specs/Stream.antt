@@ -67,36 +67,27 @@ IsStreamFault c text Read = HasNoFault c text
 IsStreamFault c text (Config fault) = ⊥
 IsStreamFault c text Write = ⊥
 
--- all of a trace was read, and the lines that ended were taken, or reading it ended before
-pub record TakesStream (result : Result Unit StreamFault) (c : RadioConfig) (old new : SourceView) (lines : ReaderView)
-    (taken : List Line → Type 0) : Type 0 where
-  pub text : List ℕ
-  pub reads : Reads (ending_of stream_ending result) max_reads old new text
-  pub end : MatchResult result
-      (λ _. IsAtEnd new.left × HasReplayed c text lines taken)
-      (λ fault. IsStreamFault c text fault)
-
--- the lines of all that a source had left were taken, or why reading it ended before
-pub record TakesWhole {A : Type 0} (taken : A → List Line → Type 0) (result : Result A StreamFault) (c : RadioConfig)
-    (old new : SourceView) : Type 0 where
-  pub text : List ℕ
-  pub reads : Reads (ending_of stream_ending result) max_reads old new text
-  pub end : MatchResult result
-      (λ made. IsAtEnd new.left × AreTaken c text (taken made))
-      (λ fault. IsStreamFault c text fault)
-
 -- the sections are those of a trace
 abbrev pub AreSectionsOf : RadioConfig → List ℕ → List Section → Type 0
 AreSectionsOf c text sections =
     (lines : List Line) × (lines_of c text ≡ Ok lines) × (sections ≡ sections_of_lines c lines)
 
--- the sections of all that a source had left, or why reading it ended before
-pub record ReplaysStream {A : Type 0} (items : A → List Section) (result : Result A StreamFault) (c : RadioConfig)
-    (old new : SourceView) : Type 0 where
+-- a source as a call found it, and as the call left it
+pub record SourceChange : Type 0 where
+  pub old : SourceView
+  pub new : SourceView
+
+abbrev pub changed : SourceView → SourceView → SourceChange
+changed old new = record { old = old; new = new }
+
+-- A source was read to its end, and this holds of what is handed out and of all that it gave; or why reading ended
+-- before.
+pub record ReadsToEnd {A : Type 0} (holds : A → List ℕ → Type 0) (result : Result A StreamFault) (c : RadioConfig)
+    (source : SourceChange) : Type 0 where
   pub text : List ℕ
-  pub reads : Reads (ending_of stream_ending result) max_reads old new text
+  pub reads : Reads (ending_of stream_ending result) max_reads source.old source.new text
   pub end : MatchResult result
-      (λ made. IsAtEnd new.left × AreSectionsOf c text (items made))
+      (λ made. IsAtEnd source.new.left × holds made text)
       (λ fault. IsStreamFault c text fault)
 
 -- ---- the whole

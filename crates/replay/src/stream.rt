@@ -10,8 +10,8 @@ ghost use Rattle.trace.specs.Sinks.{MayFail};
 ghost use Rattle.trace.specs.Texts.{LacksLineFeed, ended};
 ghost use Rattle.trace.specs.TraceText.{lines_of};
 ghost use Rattle.replay.specs.Log.{logs_of_lines};
-ghost use Rattle.replay.specs.Stream.{HasReplayed, AreTaken, TakesStream, TakesWhole, ReplaysStream, RunsStream};
-ghost use Rattle.replay.specs.Stream.{AreSectionsOf, seen, streams};
+ghost use Rattle.replay.specs.Stream.{HasReplayed, AreTaken, AreSectionsOf, ReadsToEnd, RunsStream};
+ghost use Rattle.replay.specs.Stream.{changed, seen, streams};
 
 use crate::fault::StreamFault;
 use crate::line_by_line::Replay;
@@ -73,9 +73,9 @@ pub fn report_stream<R: Source, W: Sink>(
         (streams (seen (R.left source.new) (R.failed source.new) (R.reads source.new)) (W.taken out.new)
         (W.failed out.new)) }
     ensures sections { IfOk result (λ _. (c : RadioConfig) × (configuration_of config.now ≡ Ok c)
-        × ReplaysStream (λ sections. sections.items) result c
-        (seen (R.left source.old) (R.failed source.old) (R.reads source.old))
-        (seen (R.left source.new) (R.failed source.new) (R.reads source.new))) }
+        × ReadsToEnd (λ sections text. AreSectionsOf c text sections.items) result c
+        (changed (seen (R.left source.old) (R.failed source.old) (R.reads source.old))
+        (seen (R.left source.new) (R.failed source.new) (R.reads source.new)))) }
 {
     let config = read_config(alloc, config)?;
     let sections = replay_stream(alloc, config, source)?;
@@ -91,9 +91,9 @@ fn replay_stream<R: Source>(
 ) -> Result<Vec<Section>, StreamFault>
     requires config { fault_of config ≡ None }
     requires source { MayFail (R.failed source.old) }
-    ensures { ReplaysStream (λ sections. sections.items) result config
-        (seen (R.left source.old) (R.failed source.old) (R.reads source.old))
-        (seen (R.left source.new) (R.failed source.new) (R.reads source.new)) }
+    ensures { ReadsToEnd (λ sections text. AreSectionsOf config text sections.items) result config
+        (changed (seen (R.left source.old) (R.failed source.old) (R.reads source.old))
+        (seen (R.left source.new) (R.failed source.new) (R.reads source.new))) }
 {
     piece_by_piece();
     let lines = LineReader::new(alloc, &config)?;
@@ -110,9 +110,10 @@ fn log_stream<R: Source>(
 ) -> Result<Logs, StreamFault>
     requires config { fault_of config ≡ None }
     requires source { MayFail (R.failed source.old) }
-    ensures { TakesWhole (λ logs said. logs.networks.items ≡ logs_of_lines config said) result config
-        (seen (R.left source.old) (R.failed source.old) (R.reads source.old))
-        (seen (R.left source.new) (R.failed source.new) (R.reads source.new)) }
+    ensures { ReadsToEnd
+        (λ logs text. AreTaken config text (λ said. logs.networks.items ≡ logs_of_lines config said)) result config
+        (changed (seen (R.left source.old) (R.failed source.old) (R.reads source.old))
+        (seen (R.left source.new) (R.failed source.new) (R.reads source.new))) }
 {
     piece_by_piece();
     let lines = LineReader::new(alloc, &config)?;
@@ -129,9 +130,9 @@ fn take_whole<R: Source, T: TakeLines>(
 ) -> Result<(), StreamFault>
     requires { MayFail (R.failed source.old) }
     ensures { (c : RadioConfig) → HasReplayed c [] lines (λ said. T.has_taken c said networks.old)
-        → TakesWhole (λ _ said. T.has_taken c said networks.new) result c
-        (seen (R.left source.old) (R.failed source.old) (R.reads source.old))
-        (seen (R.left source.new) (R.failed source.new) (R.reads source.new)) }
+        → ReadsToEnd (λ _ text. AreTaken c text (λ said. T.has_taken c said networks.new)) result c
+        (changed (seen (R.left source.old) (R.failed source.old) (R.reads source.old))
+        (seen (R.left source.new) (R.failed source.new) (R.reads source.new))) }
 {
     take_stream(&mut lines, networks, source)?;
     end_lines(lines, networks)?;
@@ -146,9 +147,9 @@ fn take_stream<R: Source, T: TakeLines>(
 ) -> Result<(), StreamFault>
     requires { MayFail (R.failed source.old) }
     ensures { (c : RadioConfig) → HasReplayed c [] lines.old (λ said. T.has_taken c said networks.old)
-        → TakesStream result c (seen (R.left source.old) (R.failed source.old) (R.reads source.old))
-        (seen (R.left source.new) (R.failed source.new) (R.reads source.new)) lines.new
-        (λ said. T.has_taken c said networks.new) }
+        → ReadsToEnd (λ _ text. HasReplayed c text lines.new (λ said. T.has_taken c said networks.new)) result c
+        (changed (seen (R.left source.old) (R.failed source.old) (R.reads source.old))
+        (seen (R.left source.new) (R.failed source.new) (R.reads source.new))) }
 {
     let mut buffer = [0; PIECE_LEN];
     for _ in 0..MAX_READS {

@@ -1,6 +1,6 @@
 use Rattle.std.proofs.lemmas.Result.{err_from_is_err_and}
 use Rattle.replay.proofs.LogLines.{report-logged}
-use Rattle.replay.proofs.StreamEnds.{config_runs, fault_runs, report_runs, whole_runs, none-reported, all-reported}
+use Rattle.replay.proofs.StreamEnds.{config_runs, fault_runs, report_runs, whole_runs, all-reported}
 use Rattle.replay.proofs.stream.run_stream.Goals as goal
 
 pub returns-in_err-radio : goal.returns-in_err-radio
@@ -13,7 +13,7 @@ returns-in_err-logs g c =
     let p = err_from_is_err_and c.from_residual-in_err-logs.result c.from_residual-in_err-logs.ensures.1 in
     rw (p.1, p.2)
     (fault_runs _ c.in_err-logs.field-0.0 c.in_ok-radio.radio c.args.config.now _ _ _ c.in_ok-radio.ensures.exact
-    (none-reported _ c.in_err-logs.field-0.0 c.in_ok-radio.radio _ _ c.in_err-logs.ensures))
+    c.in_err-logs.ensures)
 
 pub returns-in_err-write : goal.returns-in_err-write
 returns-in_err-write g c =
@@ -23,7 +23,7 @@ returns-in_err-write g c =
     let s = c.in_ok-logs.ensures in
     rw (p.1, p.2)
     (report_runs _ logs c.in_err-write.field-0.0 config c.args.config.now _ _ c.in_ok-radio.ensures.exact
-    (all-reported _ logs config _ _ s)
+    (all-reported _ logs config _ s)
     (rw (report-logged config s.end.1.0 logs.networks.items s.end.1.2) at c.in_err-write.ensures.ends)
     c.in_err-write.ensures.failures)
 
@@ -32,6 +32,6 @@ returns g c =
     let config = c.in_ok-radio.radio in
     let logs = c.in_ok-logs.logs in
     let s = c.in_ok-logs.ensures in
-    whole_runs _ logs _ config c.args.config.now _ _ c.in_ok-radio.ensures.exact (all-reported _ logs config _ _ s)
+    whole_runs _ logs _ config c.args.config.now _ _ c.in_ok-radio.ensures.exact (all-reported _ logs config _ s)
     (rw (report-logged config s.end.1.0 logs.networks.items s.end.1.2) at c.in_ok-write.ensures.ends)
     c.in_ok-write.ensures.failures
