@@ -1181,15 +1181,30 @@ done
 
     /// Runs a bridge with a program of these lines, and `later` beside it; gives what came of it, and the stage.
     fn run(face: Face, text: &str, shows: bool, later: impl FnOnce(&mut Stage) + Send) -> (Result<(), Fault>, Stage) {
-        run_slowly(face, text, shows, Duration::ZERO, later)
+        run_with(face, text, Surroundings { shows, ..Surroundings::default() }, later)
     }
 
-    /// The same, where each frame on the air takes so long.
-    fn run_slowly(
+    /// What a bridge runs in.
+    #[derive(Clone, Copy)]
+    struct Surroundings {
+        /// Whether the radio shows the beacons that it sends.
+        shows: bool,
+        /// How long a frame takes that is sent on the air.
+        takes: Duration,
+        interval: u16,
+        max_known: u16,
+    }
+
+    impl Default for Surroundings {
+        fn default() -> Surroundings {
+            Surroundings { shows: true, takes: Duration::ZERO, interval: 100, max_known: 100 }
+        }
+    }
+
+    fn run_with(
         face: Face,
         text: &str,
-        shows: bool,
-        takes: Duration,
+        surroundings: Surroundings,
         later: impl FnOnce(&mut Stage) + Send,
     ) -> (Result<(), Fault>, Stage) {
         static NUMBER: Mutex<u32> = Mutex::new(0);
@@ -1210,6 +1225,7 @@ done
         let (air, wire) = (far.try_clone().unwrap(), wire_far.try_clone().unwrap());
         let mut stage =
             Stage { folder, requests, air, wire, sent: Arc::clone(&sent), sent_on_wire: Arc::clone(&sent_on_wire) };
+        let Surroundings { shows, takes, .. } = surroundings;
         let monitor = FakePort { interface: "mon0", near, far, sent, shows, takes };
         let (near, far, sent) = (wire_near, wire_far, sent_on_wire);
         let wire = FakePort { interface: "wire1", near, far, sent, shows: false, takes: Duration::ZERO };
@@ -1222,7 +1238,7 @@ done
                 thread::sleep(Duration::from_millis(400));
                 later(&mut stage);
             });
-            serve(face, path.to_str().unwrap(), record, (asked, clients), monitor, wire)
+            serve(face, path.to_str().unwrap(), record, (asked, clients), (monitor, wire), surroundings)
         });
         (outcome, stage)
     }
@@ -1232,20 +1248,16 @@ done
         path: &str,
         record: Record,
         (asked, clients): (UnixStream, Clients),
-        monitor: FakePort,
-        wire: FakePort,
+        ports: (FakePort, FakePort),
+        surroundings: Surroundings,
     ) -> Result<(), Fault> {
-        let networks = vec![Network { wire: Some("wire1".into()), ..network(OURS) }];
+        let Surroundings { interval, max_known, .. } = surroundings;
+        let networks = vec![Network { wire: Some("wire1".into()), max_known, ..network(OURS) }];
         let (program, feeder) = Program::start(path, "radio.toml", face, Some(record))?;
-        let manner = Manner {
-            phy: "phy0".into(),
-            channel: 6,
-            interval: 100,
-            most_silence: Some(300 * SECOND),
-            tells_alive: false,
-        };
+        let manner =
+            Manner { phy: "phy0".into(), channel: 6, interval, most_silence: Some(300 * SECOND), tells_alive: false };
         let mut bridge = Bridge::new(program, feeder, Requests::new(asked)?, Some(clients), manner)?;
-        let mut ports = Some((monitor, wire));
+        let mut ports = Some(ports);
         bridge.serve(|| {
             let (monitor, wire) = ports.take().unwrap();
             Ok(Sender::new(networks.clone(), monitor, vec![Some(wire)]))
@@ -1313,6 +1325,21 @@ done
         assert!(stage.sent.lock().unwrap().contains(&told));
     }
 
+    /// Also where beacons are rare.
+    #[test]
+    fn who_does_not_associate_is_given_up_within_five_seconds_where_the_network_is_nearly_full() {
+        let rare = Surroundings { interval: 60_000, max_known: 1, ..Surroundings::default() };
+        let (outcome, stage) = run_with(Face::Text, &KNOWING.replace("ANSWER", ANSWER), rare, |stage| {
+            stage.hear(&Unit { control: [0xb0, 0], body: vec![0, 0, 1, 0, 0, 0], ..Unit::default() }.octets());
+            thread::sleep(Duration::from_millis(4900));
+            end(stage);
+        });
+        assert_eq!(outcome, Ok(()));
+        assert!(stage.record().contains(&format!("A {}", hex::encode(departure(OURS, STATION)))));
+        let told = [&sending_header(2, 0)[..], &deauthentication(OURS, STATION, INACTIVITY, 2049)].concat();
+        assert!(stage.sent.lock().unwrap().contains(&told));
+    }
+
     #[test]
     fn a_radio_that_does_not_send_is_told() {
         let (outcome, _) = run(Face::Text, LINES, false, |_| {});
@@ -1351,7 +1378,8 @@ done
     fn what_waits_to_be_sent_does_not_keep_beacons() {
         let answers = format!("for n in {{1..80}}; do echo 'air 02:00:00:00:01:01 {ANSWER}'; done");
         let many = LINES.replace("echo \"wire 02:00:00:00:01:01 $rest\"", &answers);
-        let (outcome, stage) = run_slowly(Face::Text, &many, true, Duration::from_millis(1), |stage| {
+        let slow = Surroundings { takes: Duration::from_millis(1), ..Surroundings::default() };
+        let (outcome, stage) = run_with(Face::Text, &many, slow, |stage| {
             for sequence in 1..=8 {
                 stage.hear(&Unit { sequence: sequence << 4, ..Unit::default() }.octets());
             }
