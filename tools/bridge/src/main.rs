@@ -19,22 +19,23 @@
 //! ```
 //!
 //! It promises: frames of the air stay in their order, and frames of each wire; the same holds of what is sent by each
-//! wire, and on the air to each receiver. A unit that nobody acknowledged is sent once more, if none went to its station
-//! since. Each frame that comes is given to the program once, or counted as left out or dropped, but for what the
-//! kernel's filter keeps out: control frames, frames for no network, and those that this radio sent to groups. A
-//! beginning of a beacon interval waits for none of the frames that wait. All memory is bounded. One thread does all by
-//! `epoll`, and waits nowhere else but for its ends of standard error and the record, and where many frames come for a
-//! millisecond at most, in which some gather (`gathering`).
+//! wire, and on the air to each receiver. A unit that nobody acknowledged is sent once more, if none went to its
+//! station since. Each frame that comes is given to the program once, or counted as left out or dropped, but for what
+//! the kernel's filter keeps out: control frames, frames for no network, and those that this radio sent to groups. A
+//! beginning of a beacon interval waits for none of the frames that wait, and a beacon is sent before all that waits
+//! for single stations. All memory is bounded. One thread does all by `epoll`, and waits nowhere else but for its ends
+//! of standard error and the record, and where many frames come for a millisecond at most, in which some gather
+//! (`gathering`).
 //!
-//! It leaves every decision on a frame to the program, and leaves to `tools/live` all that is done once. It speaks with
-//! that by lines: it reads `open`, once the interfaces are there, `tables`, and `dismiss`, by which all stations are told
-//! to join again; the end of its input ends it. It writes `ready`, once the networks are open, `sending`, once the first
-//! beacon was seen as sent, `alive` while the program answers, `dismissed`, `status N` with the status of the program,
-//! and `fault TEXT`, after which it ends with status 1.
+//! It leaves every decision on a frame to the program, and leaves to `tools/live` all that is done once. It speaks
+//! with that by lines: it reads `open`, once the interfaces are there, `tables`, and `dismiss`, by which all stations
+//! are told to join again; the end of its input ends it. It writes `ready`, once the networks are open, `sending`,
+//! once the first beacon was seen as sent, `alive` while the program answers, `dismissed`, `status N` with the status
+//! of the program, and `fault TEXT`, after which it ends with status 1.
 //!
 //! By itself (`operating`) it watches which stations there are, tells what happens to them, and asks those that have
-//! fallen silent whether they are there; for one that isn't it tells the program that the station left. It answers who
-//! connects to its socket (`clients`).
+//! fallen silent whether they are there; for one that isn't, or that doesn't associate where a network is nearly full,
+//! it tells the program that the station left. It answers who connects to its socket (`clients`).
 #![deny(unsafe_code)]
 
 mod bridge;
