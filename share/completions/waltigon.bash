@@ -10,7 +10,7 @@ _waltigon() {
         options='--phy --wire --wires --monitor --country --idle --program --bridge --record --tables --status'
         offered='kick status'
         ;;
-    waltigon-picture) options='--out --from --to --station --network --stations' ;;
+    waltigon-picture) options='--out --from --to --station --network --overview --stations' ;;
     waltigon-report-to-json) options='--without-frames' ;;
     waltigon-trace-from-capture)
         options='--wire --config --networks-of --network --channel --beacons-of --every --heard-only --fcs'
