@@ -75,14 +75,12 @@ class Json(ToolTest):
 
     @needs_program
     def test_live_itself(self):
-        """The program's own lines, as they come."""
-        folder = CASES["live_answers_each_line"]
-        with open(self.path("my.toml"), "w", encoding="ascii") as file:
-            file.write(read_text(os.path.join(folder, "input")).split("\n---\n")[0] + "\n")
-        done = subprocess.run([PROGRAM, "live", self.path("my.toml")], input="T\nA 40\nI\n", capture_output=True,
-                              text=True, check=True)
+        """The program's own lines, as they come: the tables of both networks after `I`, and again at the end."""
+        config = os.path.join(CASES["live_answers_each_line"], "radio.toml")
+        done = subprocess.run([PROGRAM, "live", config], input="T\nA 40\nI\n", capture_output=True, text=True,
+                              check=True)
         networks = self.networks("-", program_input=done.stdout)
-        self.assertEqual([network["clock"] for network in networks], [1] * len(networks))
+        self.assertEqual([network["clock"] for network in networks], [1, 1, 1, 1])
 
     def test_input_that_is_no_text(self):
         """Octets that are no text, and no standard input at all, are refused."""
