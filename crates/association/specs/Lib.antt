@@ -6,4 +6,5 @@ pub mod Joining
 pub mod Leaving
 pub mod Request
 pub mod Asked
+pub mod Received
 pub mod Samples

@@ -17,12 +17,14 @@ mod joining;
 mod leaving;
 mod management;
 mod probe;
+mod received;
 mod request;
 mod status;
 
 pub use authentication::{auth_status, write_auth};
 pub use joining::{assoc_status, write_assoc};
 pub use leaving::write_notice;
+pub use received::{ReceivedFrame, same_probe};
 pub use request::{Request, class, one_request, read, sender};
 pub use status::{
     DENIED_NO_MORE_STAS, REFUSED, REFUSED_BASIC_RATES_MISMATCH, SUCCESS,
