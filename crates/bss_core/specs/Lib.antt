@@ -8,8 +8,8 @@ pub use Rattle.events.specs.Lists
 pub use Rattle.events.specs.Items
 pub use Rattle.events.specs.Lines
 pub use Rattle.network.specs.Network
-pub use Rattle.network.specs.FirstVersion
-pub use Rattle.network.specs.Versions
+pub use Rattle.versions.specs.FirstVersion
+pub use Rattle.versions.specs.Versions
 pub use Rattle.network.specs.Sound
 pub use Rattle.network.specs.Section
 pub use Rattle.network.specs.NetworkView

@@ -21,7 +21,8 @@ pub use ap_config::{
 pub use events::{AirItem, Counts, Event, Handed, LentEvent, Line, Section, StationRow, hears};
 pub use laws::two_worlds;
 pub use network::{
-    Bss, Frames, Network, NetworkRefusal, Refusal, Sent, Spare, first_version, frame_sizes,
-    one_step, reachable, sent_frames, steps_append,
+    Bss, Frames, Network, NetworkRefusal, Refusal, Sent, Spare, frame_sizes, one_step, reachable,
+    sent_frames, steps_append,
 };
 pub use radio::{Radio, RunResult, Step, run};
+pub use versions::first_version;

@@ -4,7 +4,6 @@ pub mod Statuses
 pub mod AloneLaws
 pub mod AnswerRows
 pub mod Clocks
-pub mod FirstVersions
 pub mod FrameSizes
 pub mod Histories
 pub mod NetworkRows

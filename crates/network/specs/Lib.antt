@@ -3,8 +3,6 @@ pub mod Arrivals
 pub mod Network
 pub mod Sizes
 pub mod Section
-pub mod FirstVersion
-pub mod Versions
 pub mod Sound
 pub mod Replies
 pub mod NetworkView

@@ -1,12 +1,10 @@
 //! What follows from the definitions of a network, for whoever stands on them.
 
-ghost use Rattle.std.specs.Prelude.{◌≡◌, ◌+◌, ◌*◌, ◌++◌, true, false, ℕ, List, [], ◌∷◌, length, None};
+ghost use Rattle.std.specs.Prelude.{◌≡◌, ◌+◌, ◌*◌, ◌++◌, false, ℕ, List, [], ◌∷◌, length, None};
 ghost use Rattle.ap_config.specs.Configuration.{network_fault};
 ghost use Rattle.ap_config.specs.declared.setting.Setting.{Setting};
 ghost use Rattle.events.specs.declared.event.Event.{Event};
-ghost use Rattle.network.specs.Network.{Network, alone, empty_network, step, table_of, counts_of};
-ghost use Rattle.network.specs.FirstVersion as first;
-ghost use Rattle.network.specs.Versions.{first_setting};
+ghost use Rattle.network.specs.Network.{Network, alone, empty_network, step, age_units};
 ghost use Rattle.network.specs.NetworkView.{sent_before};
 ghost use Rattle.network.specs.Sizes.{IsWithinSizes};
 ghost use Rattle.network.specs.Sound.{IsSoundNetwork};
@@ -74,15 +72,7 @@ pub fn frame_sizes()
     one_tim();
 }
 
-/// Where a network relays and no unit ages, its frames on the air and on the wire, its table and its counts are those
-/// of a network of the first version, whose definition knows neither option (*profile*).
-pub fn first_version()
-    ensures air { (s : Setting) (es : List Event) → s.network.relay ≡ true → s.network.aging ≡ false
-        → (alone s es).air ≡ (first.alone (first_setting s) es).air }
-    ensures wire { (s : Setting) (es : List Event) → s.network.relay ≡ true → s.network.aging ≡ false
-        → (alone s es).wire ≡ (first.alone (first_setting s) es).wire }
-    ensures table { (s : Setting) (es : List Event) → s.network.relay ≡ true → s.network.aging ≡ false
-        → table_of (alone s es) ≡ first.table_of (first.alone (first_setting s) es) }
-    ensures counts { (s : Setting) (es : List Event) → s.network.relay ≡ true → s.network.aging ≡ false
-        → counts_of (length es) (alone s es) ≡ first.counts_of (length es) (first.alone (first_setting s) es) }
+/// Where the units of a network don't age, none leaves as a beacon interval begins (*profile*).
+pub fn nothing_ages()
+    ensures { (s : Setting) (n : Network) → s.network.aging ≡ false → age_units s n ≡ n }
 {}

@@ -21,7 +21,7 @@ mod reply;
 mod shown;
 
 pub use bss::{Bss, Refusal};
-pub use laws::{first_version, frame_sizes, one_step, reachable, sent_frames, steps_append};
+pub use laws::{frame_sizes, nothing_ages, one_step, reachable, sent_frames, steps_append};
 pub use network::{Network, NetworkRefusal, Sent};
 pub use opening::{Open, open_networks};
 pub use reply::{Frames, Spare};

@@ -31,13 +31,12 @@ use Rattle.ap_config.specs.declared.setting.Setting.{Setting}
 use Rattle.events.specs.declared.event.Event.{Event}
 use Rattle.events.specs.declared.event.Event.TheVariants.{Air, Wire, Tick}
 use Rattle.events.specs.declared.section.StationRow.{StationRow}
-use Rattle.network.specs.Network.{Network, empty_network, announced_at, asks_for, send, change_state, change_where_served, drop_units, lose, keep_or_lose, send_unit, send_each, put_on_wire, deliver_by, deliver, relay, forward_by, forward, set_power_mode, serve_poll, answer_poll, answer_wired, answer_probe, answer_authentication, answer_association, authentication_status, association_status, serve, notify_or_serve, answer, beacon_frame, release, tick, step, after, alone, row_of, table_of}
+use Rattle.network.specs.Network.{Network, empty_network, age_units, announced_at, asks_for, send, change_state, change_where_served, drop_units, lose, keep_or_lose, send_unit, send_each, put_on_wire, deliver_by, deliver, relay, forward_by, forward, set_power_mode, serve_poll, answer_poll, answer_wired, answer_probe, answer_authentication, answer_association, authentication_status, association_status, serve, notify_or_serve, answer, beacon_frame, release, tick, step, after, alone, row_of, table_of}
 use Rattle.network.specs.Units.{unit, unit_of, others_follow, delivery_with, goes_on_wire, group_waits, may_poll}
 use Rattle.network.specs.declared.reply.unit.Delivery.TheVariants.{Now, Kept}
-use Rattle.network.specs.FirstVersion as first
-use Rattle.network.specs.FirstVersion.{FirstSetting, FirstNetwork, least_beside, alone as alone_at_first}
-use Rattle.network.specs.Versions.{first_setting}
-use Rattle.network.proofs.Aging.{unaged}
+use Rattle.versions.specs.FirstVersion as first
+use Rattle.versions.specs.FirstVersion.{FirstSetting, FirstNetwork, least_beside, alone as alone_at_first}
+use Rattle.versions.specs.Versions.{first_setting}
 
 -- ---- the state of a station
 
@@ -405,11 +404,11 @@ module _ (s : Setting) where
 
     -- ---- events
 
-    module _ (keeps : s.network.aging ≡ false) where
+    module _ (unaged : (n : Network) → age_units s n ≡ n) where
       stepped : (n : Network) (e : Event) → shown (step s n e) ≡ first.step t (shown n) e
       stepped n (Air x) = answered (request_of s.network.bssid x) n
       stepped n (Wire y) = from-wire (ethernet_of y) n
-      stepped n Tick = ap (λ (m : Network). shown (tick s m)) (unaged s n keeps) ∙ ticked n
+      stepped n Tick = ap (λ (m : Network). shown (tick s m)) (unaged n) ∙ ticked n
 
       all-stepped : (n : Network) (es : List Event) → shown (after s n es) ≡ first.after t (shown n) es
       all-stepped n [] = refl

@@ -1,6 +1,6 @@
 -- Today's settings beside those of the first version of the configuration (profile).
 use Rattle.ap_config.specs.declared.setting.Setting.{Setting}
-use Rattle.network.specs.FirstVersion.{FirstSetting}
+use Rattle.versions.specs.FirstVersion.{FirstSetting}
 
 -- a setting without its options
 abbrev pub first_setting : Setting → FirstSetting

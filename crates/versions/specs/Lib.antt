@@ -1,0 +1,2 @@
+pub mod FirstVersion
+pub mod Versions
