@@ -17,7 +17,7 @@ mod wired;
 
 use crate::network::Network;
 use crate::reply::Reply;
-use association::{Request, class, read, sender};
+use association::{ReceivedFrame, Request, class, sender};
 use mac_frame::{MacAddr, NoMemory};
 use station_state::fault;
 use stations::standing_with;
@@ -28,7 +28,7 @@ impl Network {
     pub(crate) fn answer(
         &self,
         reply: &mut Reply,
-        frame: &[u8],
+        frame: &ReceivedFrame<'_>,
     ) -> Result<Option<MacAddr>, NoMemory>
         requires nothing { reply.old ≡ no_reply self.now.network.sequence }
         requires sequence { reply.old.sequence < 4096 }
@@ -40,7 +40,7 @@ impl Network {
             (served polled self.now.network)) }
         ensures alone { IfOk result (λ polled. IfSome polled (λ _. reply.new ≡ no_reply self.now.network.sequence)) }
     {
-        let Ok(request) = read(self.setting().network.bssid, frame) else {
+        let Ok(request) = frame.request_for(self.setting().network.bssid) else {
             reply.unread = 1;
             return Ok(None);
         };

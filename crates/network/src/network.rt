@@ -11,6 +11,7 @@ ghost use Rattle.network.specs.Sound.{IsSoundNetwork};
 ghost use Rattle.network.specs.Replies.{no_reply, done, serving, before_reply, after_reply};
 ghost use Rattle.stations.specs.Roster.{AreWaitedFor};
 ghost use Rattle.events.specs.LentEvents.{event_of};
+ghost use Rattle.network.specs.ReadEvents.{event_read};
 ghost use Rattle.events.specs.declared.event.Event.{Event as AnyEvent};
 ghost use Rattle.events.specs.declared.event.Event.TheVariants as events;
 ghost use Rattle.network.specs.declared.network.NetworkRefusal.TheVariants as refusals;
@@ -19,6 +20,7 @@ ghost use Rattle.powersave.specs.declared.unit.Whom.TheVariants as whoms;
 
 use crate::announced_setting::AnnouncedSetting;
 use crate::laws::{frame_sizes, stays_sound};
+use crate::read_event::ReadEvent;
 use crate::reply::{Frames, Reply, SEQUENCE_NUMBERS, Spare};
 use crate::shown::row_of;
 use ap_config::{Setting, checked_numbers};
@@ -249,7 +251,29 @@ impl Network {
             ↔ ((event_of event.entry ≡ events.Tick) × (self.old.network.clock ≡ 4294967295)) }
         ensures err { OnErr result (self.new ≡ self.old) }
     {
-        let begins = matches!(event, LentEvent::Tick);
+        self.take_read_in(&ReadEvent::for_one(event), spare)
+    }
+
+    /// Takes an event as [`Network::take_lent_in`] does, of which was read before what is the same for each network that
+    /// it comes to. `Clock` and `NoMemory` come as from there, and after either nothing has changed (*profile*).
+    pub fn take_read_in(
+        &mut self,
+        event: &ReadEvent<'_>,
+        spare: &mut Spare,
+    ) -> Result<Sent, NetworkRefusal>
+        requires countable { self.old.events < 2 ^ 62 }
+        ensures after { OnOk result (self.new ≡ took_event (event_read event.now) self.old) }
+        ensures air { IfOk result (λ sent.
+            sent.air ≡ (step self.old.setting self.old.network (event_read event.now)).air) }
+        ensures wire { IfOk result (λ sent.
+            option_to_list sent.wire ≡ (step self.old.setting self.old.network (event_read event.now)).wire) }
+        ensures air_fits { IfOk result (λ sent. AreAtMost most_on_air sent.air) }
+        ensures wire_fits { IfOk result (λ sent. AreAtMost most_on_wire (option_to_list sent.wire)) }
+        ensures clock { (result ≡ Err NetworkRefusal.Clock)
+            ↔ ((event_read event.now ≡ events.Tick) × (self.old.network.clock ≡ 4294967295)) }
+        ensures err { OnErr result (self.new ≡ self.old) }
+    {
+        let begins = matches!(event, ReadEvent::Tick);
         if begins && self.clock == u32::MAX {
             return Err(NetworkRefusal::Clock);
         }
@@ -294,14 +318,14 @@ impl Network {
     pub(crate) fn reply(
         &self,
         reply: &mut Reply,
-        event: LentEvent<'_>,
+        event: &ReadEvent<'_>,
     ) -> Result<Option<MacAddr>, NoMemory>
         requires nothing { reply.old ≡ no_reply self.now.network.sequence }
         requires sequence { reply.old.sequence < 4096 }
-        requires ticks { event_of event ≡ events.Tick → self.now.network.clock < 4294967295 }
+        requires ticks { event_read event.now ≡ events.Tick → self.now.network.clock < 4294967295 }
         ensures follows { IfOk result (λ polled.
             MayFollow self.now polled (done self.now.setting self.now.network polled reply.new)) }
-        ensures step { IfOk result (λ polled. step self.now.setting self.now.network (event_of event.entry)
+        ensures step { IfOk result (λ polled. step self.now.setting self.now.network (event_read event.now)
             ≡ after_reply (done self.now.setting self.now.network polled reply.new) (before_reply self.now.setting
             polled (done self.now.setting self.now.network polled reply.new) self.now.network)) }
         ensures alone { IfOk result (λ polled. IfSome polled (λ _. reply.new ≡ no_reply self.now.network.sequence)) }
@@ -311,12 +335,12 @@ impl Network {
         // The prover opens what the network keeps, which bounds its counts, where a field is read.
         let _ = &self.roster;
         match event {
-            LentEvent::Air(frame) => self.answer(reply, frame),
-            LentEvent::Wire(frame) => {
+            ReadEvent::Air(frame) => self.answer(reply, frame),
+            ReadEvent::Wire(frame) => {
                 self.answer_wired(reply, frame)?;
                 Ok(None)
             }
-            LentEvent::Tick => {
+            ReadEvent::Tick => {
                 self.tick(reply)?;
                 Ok(None)
             }
