@@ -6,9 +6,9 @@ use Rattle.powersave.specs.declared.unit.Whom.TheVariants.{Group}
 use Rattle.ap_config.specs.declared.setting.Setting.{Setting}
 use Rattle.network.specs.Network.{Network, has_aged, drop_lost, age_units}
 use Rattle.network.specs.Replies.{before_reply, served}
-use Rattle.stations.specs.KeptUnits.{group_is_kept, is_too_old}
+use Rattle.roster.specs.KeptUnits.{group_is_kept, is_too_old}
 use Rattle.network.specs.declared.reply.Reply.{Reply}
-use Rattle.stations.proofs.Aging.{group-young, none-leaves}
+use Rattle.roster.proofs.Aging.{group-young, none-leaves}
 
 -- those that age are no units for the group
 module _ (p : Entry → Bool) (group : (e : Entry) → is_for Group e ≡ true → p e ≡ false) where

@@ -22,19 +22,20 @@ use Rattle.powersave.specs.declared.unit.Unit.{Unit as DataUnit}
 use Rattle.mac_frame.specs.Address.{is_group}
 use Rattle.stations.specs.Stations.{Table, state_of, aid_of, standing_of, dozes_with, is_dozing, set_mode, some_station_dozes, may_associate, next_aid, authenticate, associate, disassociate, forget}
 use Rattle.network.specs.Units.{unit, unit_of, unit_frame, others_follow, delivery_of, delivery_with, goes_on_wire, may_poll}
-use Rattle.stations.specs.KeptUnits.{group_is_kept}
+use Rattle.roster.specs.KeptUnits.{group_is_kept, IsKeptFor, AreKeptFor, CameBy}
 use Rattle.bridge.specs.Encapsulation.{on_wire}
 use Rattle.beacon.specs.Beacon.{dtim_count}
 use Rattle.stations.specs.declared.table.StationState.{StationState}
 use Rattle.network.specs.declared.reply.unit.Delivery.{Delivery}
 use Rattle.network.specs.declared.reply.unit.Delivery.TheVariants.{Now, Kept, Nowhere}
-use Rattle.stations.proofs.UnitsKept.{kept-elsewhere, kept-where, kept-filtered, kept-without_first, kept-push, length-filtered, length-without_first, state_of-set, state_of-forgotten, state_of-moded, mode-stays}
+use Rattle.roster.proofs.UnitsKept.{kept-elsewhere, kept-where, kept-filtered, kept-without_first, kept-push, length-filtered, length-without_first}
+use Rattle.stations.proofs.StationStates.{state_of-set, state_of-forgotten, state_of-moded, mode-stays}
 use Rattle.stations.specs.declared.table.StationState.TheVariants.{Authenticated, Associated}
-use Rattle.stations.specs.Sound.{AreSound, IsKeptFor, AreKeptFor, CameBy}
+use Rattle.stations.specs.Sound.{AreSound}
 use Rattle.network.proofs.Clocks.{modes}
 use Rattle.network.proofs.FrameSizes.{AreFrames, AreEthernet, IsShort, IsShortRead, all-push, those-fit, others-fit, ethernet-fits, request-short}
 use Rattle.network.specs.Sizes.{FitsFrame, AreFitting}
-use Rattle.stations.proofs.Aging.{came-filtered, came-without_first, came-push, came-later}
+use Rattle.roster.proofs.Aging.{came-filtered, came-without_first, came-push, came-later}
 use Rattle.std.proofs.lemmas.List.Filters.{length-filter_both}
 use Rattle.network.proofs.Statuses.{room-authenticated, room-associated, known-where_taken, known-where_associated}
 use Rattle.ap_config.specs.declared.setting.Setting.{Setting}

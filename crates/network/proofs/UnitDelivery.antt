@@ -16,22 +16,22 @@ use Rattle.powersave.specs.declared.unit.Unit.{Unit as DataUnit}
 use Rattle.ap_config.specs.declared.setting.Setting.{Setting}
 use Rattle.network.specs.Network.{Network, send, send_unit, send_each, change_state, drop_units, serve_poll, answer_poll, set_power_mode, deliver_by, deliver}
 use Rattle.network.specs.Replies.{after_reply, no_reply, sending, serving, served, done, IsAwake, IsFitting}
-use Rattle.stations.specs.Keeping.{without, entry_of, aid_at, aid_for, is_leaving}
-use Rattle.stations.specs.Sound.{IsKeptFor}
+use Rattle.roster.specs.Keeping.{without, entry_of, aid_at, aid_for, is_leaving}
+use Rattle.roster.specs.KeptUnits.{IsKeptFor, group_is_kept}
 use Rattle.stations.specs.Stations.{Table, state_of, is_dozing, set_mode, some_station_dozes, changed, IsModeAlone}
 use Rattle.stations.specs.declared.table.Change.{Change}
 use Rattle.stations.specs.declared.table.Change.TheVariants as changes
 use Rattle.stations.specs.declared.table.StationState.{StationState}
 use Rattle.stations.specs.declared.table.StationState.TheVariants.{Authenticated, Associated}
 use Rattle.network.specs.Units.{may_poll, others_follow, delivery_of, delivery_with, unit_frame}
-use Rattle.stations.specs.KeptUnits.{group_is_kept}
-use Rattle.stations.specs.declared.keeping.Arriving.{Arriving}
-use Rattle.stations.specs.declared.keeping.Leaving.{Leaving}
-use Rattle.stations.specs.declared.keeping.Leaving.TheVariants as leavings
+use Rattle.roster.specs.declared.keeping.Arriving.{Arriving}
+use Rattle.roster.specs.declared.keeping.Leaving.{Leaving}
+use Rattle.roster.specs.declared.keeping.Leaving.TheVariants as leavings
 use Rattle.network.specs.declared.reply.Reply.{Reply}
 use Rattle.network.specs.declared.reply.unit.Delivery.{Delivery}
 use Rattle.network.specs.declared.reply.unit.Delivery.TheVariants.{Now, Kept}
-use Rattle.stations.proofs.UnitsKept.{aid_for-mode, group-stays, oldest-none, set_mode-same}
+use Rattle.roster.proofs.UnitsKept.{aid_for-mode, group-stays, oldest-none}
+use Rattle.stations.proofs.StationStates.{set_mode-same}
 
 -- ---- a frame is sent
 

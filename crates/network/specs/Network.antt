@@ -25,7 +25,7 @@ use Rattle.elements.specs.Elements.{Pair}
 use Rattle.stations.specs.Stations.{Table, state_of, standing_with, standing_of, may_associate, next_aid, authenticate}
 use Rattle.stations.specs.Stations.{associate, disassociate, forget, set_mode, is_dozing, aid_with, listen_of, dozes}
 use Rattle.network.specs.Units.{unit, unit_of, unit_frame, others_follow, delivery_of, goes_on_wire, may_poll}
-use Rattle.stations.specs.KeptUnits.{group_is_kept, is_waited_for, is_too_old}
+use Rattle.roster.specs.KeptUnits.{group_is_kept, is_waited_for, is_too_old}
 use Rattle.stations.specs.declared.table.StationState.{StationState}
 use Rattle.network.specs.declared.reply.unit.Delivery.{Delivery}
 use Rattle.network.specs.declared.reply.unit.Delivery.TheVariants.{Now, Kept, Nowhere}

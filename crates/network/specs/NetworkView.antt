@@ -4,7 +4,7 @@ use Rattle.ap_config.specs.Configuration.{network_fault}
 use Rattle.ap_config.specs.declared.setting.Setting.{Setting}
 use Rattle.network.specs.Network.{Network, empty_network, step}
 use Rattle.network.specs.Replies.{after_reply, before_reply, served, IsFitting}
-use Rattle.stations.specs.Roster.{RosterState}
+use Rattle.roster.specs.Roster.{RosterState}
 use Rattle.network.specs.Sound.{IsSoundNetwork}
 use Rattle.events.specs.declared.event.Event.{Event}
 use Rattle.network.specs.declared.reply.Reply.{Reply}

@@ -3,17 +3,17 @@ use Rattle.std.specs.Prelude.{ℕ, ◌+◌, ◌<◌, ◌≡◌, nat_lt, false, �
 use Rattle.std.specs.Prelude.{option_to_list}
 use Rattle.powersave.specs.declared.unit.Unit.{Unit as DataUnit}
 use Rattle.network.specs.Units.{unit_frame, others_follow}
-use Rattle.stations.specs.KeptUnits.{is_too_old}
+use Rattle.roster.specs.KeptUnits.{is_too_old}
 use Rattle.powersave.specs.Keep.{Entry, units_for, without_oldest}
 use Rattle.powersave.specs.declared.unit.Whom.TheVariants.{One, Group}
 use Rattle.ap_config.specs.declared.setting.Setting.{Setting}
 use Rattle.network.specs.Network.{Network, next_sequence, drop_lost}
 use Rattle.stations.specs.Stations.{Table, changed, is_dozing, IsAllowed, IsModeAlone}
-use Rattle.stations.specs.declared.keeping.Leaving.{Leaving}
-use Rattle.stations.specs.declared.keeping.Leaving.TheVariants as leavings
+use Rattle.roster.specs.declared.keeping.Leaving.{Leaving}
+use Rattle.roster.specs.declared.keeping.Leaving.TheVariants as leavings
 use Rattle.stations.specs.declared.table.Change.TheVariants as changes
 use Rattle.network.specs.declared.reply.Reply.{Reply}
-use Rattle.stations.specs.Keeping.{IsWithin, kept_after}
+use Rattle.roster.specs.Keeping.{IsWithin, kept_after}
 
 -- ---- the reply
 

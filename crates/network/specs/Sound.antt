@@ -3,7 +3,8 @@ use Rattle.std.specs.Prelude.{ℕ, ◌+◌, ◌<◌, ◌≤◌, length}
 use Rattle.ap_config.specs.declared.setting.Setting.{Setting}
 use Rattle.network.specs.Network.{Network}
 use Rattle.network.specs.Sizes.{AreFitting}
-use Rattle.stations.specs.Sound.{AreKeptFor, AreSound, CameBy}
+use Rattle.roster.specs.KeptUnits.{AreKeptFor, CameBy}
+use Rattle.stations.specs.Sound.{AreSound}
 
 -- a network that took this number of events, and lost and keeps at most this number of units together
 pub record IsSoundNetwork (s : Setting) (events units : ℕ) (n : Network) : Type 0 where

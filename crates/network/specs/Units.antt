@@ -14,7 +14,7 @@ use Rattle.stations.specs.declared.table.StationState.{StationState}
 use Rattle.stations.specs.declared.table.StationState.TheVariants.{Authenticated, Associated}
 use Rattle.network.specs.declared.reply.unit.Delivery.{Delivery}
 use Rattle.network.specs.declared.reply.unit.Delivery.TheVariants.{Now, Kept, Nowhere}
-use Rattle.stations.specs.KeptUnits.{group_is_kept}
+use Rattle.roster.specs.KeptUnits.{group_is_kept}
 
 -- ---- a unit and its frame
 

@@ -9,7 +9,7 @@ ghost use Rattle.network.specs.NetworkView.{new_network, took_event, replied, ca
 ghost use Rattle.network.specs.Sizes.{AreAtMost, IsWithinSizes, most_on_air, most_on_wire};
 ghost use Rattle.network.specs.Sound.{IsSoundNetwork};
 ghost use Rattle.network.specs.Replies.{no_reply, done, serving, before_reply, after_reply};
-ghost use Rattle.stations.specs.Roster.{AreWaitedFor};
+ghost use Rattle.roster.specs.Roster.{AreWaitedFor};
 ghost use Rattle.events.specs.LentEvents.{event_of};
 ghost use Rattle.network.specs.ReadEvents.{event_read};
 ghost use Rattle.events.specs.declared.event.Event.{Event as AnyEvent};
@@ -28,7 +28,8 @@ use beacon::ResponseElements;
 use events::{Event, LentEvent, StationRow};
 use mac_frame::{MacAddr, NoMemory, Octets};
 use powersave::{Keep, Whom};
-use stations::{Keeping, Roster, Stations};
+use roster::{Keeping, Roster};
+use stations::Stations;
 use std::alloc::Global;
 use std::marker::Model;
 use std::mem;

@@ -14,8 +14,9 @@ mod unit;
 pub use frames::Frames;
 use mac_frame::{HEADER_LEN, MacAddr, NoMemory, Octets, write_msdu};
 use powersave::{Unit, Whom};
+use roster::{Keeping, Leaving};
 pub use spare::Spare;
-use stations::{Change, Keeping, Leaving};
+use stations::Change;
 use std::alloc::Global;
 pub use unit::{Arrival, Body, Delivery};
 

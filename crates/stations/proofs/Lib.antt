@@ -3,10 +3,4 @@ pub mod StationSlots
 pub mod StationOrder
 pub mod IndexMended
 pub mod StationsSound
-pub mod UnitsKept
-pub mod RosterAging
-pub mod WaitedFor
-pub mod ClocksKept
-pub mod RosterChanges
-pub mod Aging
-pub mod UnitsLeft
+pub mod StationStates

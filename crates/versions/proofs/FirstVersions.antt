@@ -24,7 +24,7 @@ use Rattle.station_state.specs.declared.class.Class.TheVariants.{One as ClassOne
 use Rattle.station_state.specs.ClassFault.{class_fault}
 use Rattle.station_state.specs.declared.class.Notice.{Notice}
 use Rattle.stations.specs.Stations.{Table, state_of, standing_with, aid_with, identifier_of, identifiers, is_associated, listen_of, dozes, dozes_with, with_mode, may_associate, next_aid, set_state, authenticate, associate, disassociate, forget, set_mode, is_dozing}
-use Rattle.stations.specs.KeptUnits.{group_is_kept, has_aid, is_waited_for}
+use Rattle.roster.specs.KeptUnits.{group_is_kept, has_aid, is_waited_for}
 use Rattle.stations.specs.declared.table.StationState.{StationState}
 use Rattle.stations.specs.declared.table.StationState.TheVariants.{Authenticated, Associated}
 use Rattle.ap_config.specs.declared.setting.Setting.{Setting}

@@ -7,7 +7,7 @@ ghost use Rattle.powersave.specs.declared.unit.Whom.TheVariants as whoms;
 ghost use Rattle.network.specs.Arrivals.{unit_shown};
 ghost use Rattle.network.specs.Network.{forward, relay, set_power_mode, put_on_wire, send_each, change_state};
 ghost use Rattle.network.specs.Replies.{no_reply, after_reply, IsFitting, IsModeReply};
-ghost use Rattle.stations.specs.Keeping.{IsWithin};
+ghost use Rattle.roster.specs.Keeping.{IsWithin};
 ghost use Rattle.stations.specs.Stations.{Table, state_of, changed, set_mode};
 ghost use Rattle.network.specs.Units.{unit, goes_on_wire};
 

@@ -7,16 +7,17 @@ ghost use Rattle.powersave.specs.declared.unit.Unit.{Unit as DataUnit};
 ghost use Rattle.network.specs.Arrivals.{unit_shown};
 ghost use Rattle.network.specs.Network.{Network as NetworkAlone, deliver, keep_or_lose, send_each};
 ghost use Rattle.network.specs.Replies.{after_reply, sending, IsModeReply};
-ghost use Rattle.stations.specs.Keeping.{aid_at, aid_for, is_leaving, IsWithin};
+ghost use Rattle.roster.specs.Keeping.{aid_at, aid_for, is_leaving, IsWithin};
 ghost use Rattle.stations.specs.Stations.{IsModeAlone, changed, state_of};
 ghost use Rattle.network.specs.Units.{delivery_of, delivery_with, group_waits, unit_frame};
-ghost use Rattle.stations.specs.KeptUnits.{group_is_kept};
+ghost use Rattle.roster.specs.KeptUnits.{group_is_kept};
 
 use crate::network::Network;
 use crate::reply::{Arrival, Delivery, Reply};
 use mac_frame::{MacAddr, NoMemory};
 use powersave::Whom;
-use stations::{Arriving, Change, StationState, aid_with};
+use roster::Arriving;
+use stations::{Change, StationState, aid_with};
 
 impl Network {
     /// Goes on with a reply, which sets the mode of one station at most: delivers a unit on the air as the network does

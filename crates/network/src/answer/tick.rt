@@ -4,7 +4,7 @@ ghost use Rattle.std.specs.Prelude.{◌≡◌, ◌<◌, ◌≤◌, OnOk, OnErr};
 ghost use Rattle.network.specs.Network.{tick, beacon_frame, age_units};
 ghost use Rattle.network.specs.NetworkView.{IsStill};
 ghost use Rattle.network.specs.Replies.{no_reply, after_reply, sending, IsFitting};
-ghost use Rattle.stations.specs.Roster.{AreWaitedFor};
+ghost use Rattle.roster.specs.Roster.{AreWaitedFor};
 
 use crate::network::Network;
 use crate::reply::Reply;
@@ -13,7 +13,7 @@ use ap_config::checked_numbers;
 use beacon::{dtim_count, write_beacon};
 use mac_frame::NoMemory;
 use powersave::Whom;
-use stations::Leaving;
+use roster::Leaving;
 use tim::{Bitmap, one_tim};
 
 impl Network {

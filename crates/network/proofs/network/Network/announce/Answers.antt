@@ -1,7 +1,7 @@
 use Rattle.std.proofs.Common.{◌∙◌, sym, ap}
 use Rattle.ap_config.specs.declared.setting.Setting.{Setting}
 use Rattle.network.specs.Network.{Network}
-use Rattle.stations.specs.KeptUnits.{is_waited_for}
+use Rattle.roster.specs.KeptUnits.{is_waited_for}
 use Rattle.network.proofs.Aging.{unaged}
 use Rattle.network.proofs.network.Network.announce.Goals as goal
 

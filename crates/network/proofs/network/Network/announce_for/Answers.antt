@@ -4,7 +4,7 @@ use Rattle.beacon.specs.Advert.{Announced, announced}
 use Rattle.beacon.specs.Beacon.{beacon}
 use Rattle.ap_config.specs.declared.setting.Setting.{Setting}
 use Rattle.network.specs.Network.{Network, announced_at, beacon_frame, next_sequence, has_aged, age_units}
-use Rattle.stations.specs.KeptUnits.{group_is_kept, is_waited_for}
+use Rattle.roster.specs.KeptUnits.{group_is_kept, is_waited_for}
 use Rattle.network.specs.declared.reply.Reply.{Reply}
 use Rattle.network.proofs.Aging.{group-stays_young, group-still_kept}
 use Rattle.network.proofs.Beacons.{beacon-same}

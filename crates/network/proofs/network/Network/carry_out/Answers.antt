@@ -6,13 +6,13 @@ use Rattle.ap_config.specs.declared.setting.Setting.{Setting}
 use Rattle.network.specs.Network.{Network}
 use Rattle.network.specs.NetworkView.{NetworkState, IsStill, MayFollow, carried_out, network_with, unsent}
 use Rattle.network.specs.Replies.{after_reply, before_reply}
-use Rattle.stations.specs.Keeping.{kept_after, IsWithin}
-use Rattle.stations.specs.Roster.{RosterState, is_aged}
+use Rattle.roster.specs.Keeping.{kept_after, IsWithin}
+use Rattle.roster.specs.Roster.{RosterState, is_aged}
 use Rattle.network.specs.Sound.{IsSoundNetwork}
 use Rattle.stations.specs.Stations.{StationTable, changed}
 use Rattle.network.specs.declared.reply.Reply.{Reply}
-use Rattle.stations.specs.declared.keeping.Arriving.{Arriving}
-use Rattle.stations.specs.declared.keeping.Keeping.{Keeping}
+use Rattle.roster.specs.declared.keeping.Arriving.{Arriving}
+use Rattle.roster.specs.declared.keeping.Keeping.{Keeping}
 use Rattle.network.proofs.Aging.{before-none}
 use Rattle.network.proofs.network.Network.carry_out.Goals as goal
 

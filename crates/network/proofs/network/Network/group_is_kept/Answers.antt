@@ -2,7 +2,7 @@ use Rattle.std.proofs.Common.{◌∙◌, List, length, sym, ap}
 use Rattle.std.specs.Prelude.{nat_lt}
 use Rattle.powersave.specs.Keep.{Entry, units_for}
 use Rattle.powersave.specs.declared.unit.Whom.TheVariants.{Group}
-use Rattle.stations.proofs.UnitsKept.{some-for}
+use Rattle.roster.proofs.UnitsKept.{some-for}
 use Rattle.network.proofs.network.Network.group_is_kept.Goals as goal
 
 pub returns : goal.returns

@@ -1,7 +1,7 @@
 use Rattle.std.proofs.Common.{◌≡◌, ◌∙◌, length, ap, arith}
 use Rattle.powersave.specs.Keep.{Kept, units_for}
 use Rattle.powersave.specs.declared.unit.Whom.TheVariants.{One}
-use Rattle.stations.proofs.UnitsKept.{length-parted}
+use Rattle.roster.proofs.UnitsKept.{length-parted}
 use Rattle.network.proofs.network.Network.kept_for.Goals as goal
 
 pub overflow_cast-result : goal.overflow_cast-result

@@ -7,7 +7,7 @@ use Rattle.powersave.specs.declared.unit.Whom.TheVariants.{Group}
 use Rattle.ap_config.specs.declared.setting.Setting.{Setting}
 use Rattle.network.specs.Network.{Network, send, send_each, drop_units, beacon_frame, has_aged, age_units}
 use Rattle.network.specs.Replies.{after_reply, no_reply, sending}
-use Rattle.stations.specs.declared.keeping.Leaving.TheVariants as leavings
+use Rattle.roster.specs.declared.keeping.Leaving.TheVariants as leavings
 use Rattle.network.specs.declared.reply.Reply.{Reply}
 use Rattle.network.proofs.Aging.{group-stays_young, group-units}
 use Rattle.network.proofs.UnitDelivery.{dtim-replied}

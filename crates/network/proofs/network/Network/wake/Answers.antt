@@ -6,13 +6,13 @@ use Rattle.ap_config.specs.declared.setting.Setting.{Setting}
 use Rattle.network.specs.Network.{Network, send_each}
 use Rattle.network.specs.Replies.{IsAwake, no_reply, after_reply}
 use Rattle.stations.specs.Stations.{Table, changed}
-use Rattle.stations.specs.declared.keeping.Leaving.{Leaving}
-use Rattle.stations.specs.declared.keeping.Leaving.TheVariants.{All}
+use Rattle.roster.specs.declared.keeping.Leaving.{Leaving}
+use Rattle.roster.specs.declared.keeping.Leaving.TheVariants.{All}
 use Rattle.network.specs.declared.reply.Reply.{Reply}
 use Rattle.stations.specs.declared.table.Change.{Change}
 use Rattle.stations.specs.declared.table.Change.TheVariants.{SetMode}
 use Rattle.network.proofs.UnitDelivery.{woken-replied}
-use Rattle.stations.proofs.UnitsKept.{active-moded}
+use Rattle.stations.proofs.StationStates.{active-moded}
 use Rattle.network.proofs.network.Network.wake.Goals as goal
 
 pub returns-clause-mode : goal.returns-clause-mode

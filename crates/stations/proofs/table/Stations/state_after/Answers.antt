@@ -5,7 +5,7 @@ use Rattle.std.proofs.lemmas.Slice.Eq.{bytes_eq-Decides}
 use Rattle.stations.specs.Stations.{Table, state_of, set_mode, with_mode, changed}
 use Rattle.stations.specs.declared.table.Change.{Change}
 use Rattle.stations.proofs.StationTables.{nothing-changes}
-use Rattle.stations.proofs.UnitsKept.{state_of-mode, state_of-moded, turned}
+use Rattle.stations.proofs.StationStates.{state_of-mode, state_of-moded, turned}
 use Rattle.stations.proofs.table.Stations.state_after.Goals as goal
 
 pub returns-then-eq : goal.returns-then-eq

@@ -1,0 +1,7 @@
+pub mod UnitsKept
+pub mod RosterAging
+pub mod WaitedFor
+pub mod ClocksKept
+pub mod RosterChanges
+pub mod Aging
+pub mod UnitsLeft

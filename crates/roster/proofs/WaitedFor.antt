@@ -1,0 +1,242 @@
+-- Who has units waiting: one station, and the others.
+use Rattle.std.proofs.Common.{◌≡◌, ◌≢◌, ℕ, Bool, true, false, not, ◌||◌, ◌&&◌, List, [], ◌∷◌, ◌++◌, length, Option, Some, None, IfSome, is_some, refl, sym, ap, subst, ◌∙◌}
+use Rattle.std.specs.Prelude.{◌==◌, nat_lt, nat_eq}
+use Rattle.std.specs.FinSet as set
+use Rattle.std.specs.Str.{bytes_eq}
+use Rattle.std.proofs.lemmas.Bool.{both_ways}
+use Rattle.std.proofs.lemmas.Slice.Eq.{bytes_eq-Decides}
+use borrow.Author.Tests.{eqb-true}
+use Rattle.aid_pool.specs.LeastFree.{is_among}
+use Rattle.tim.specs.Tim.{IsAid}
+use Rattle.powersave.specs.Keep.{Entry, is_same, units_for}
+use Rattle.powersave.specs.declared.unit.Whom.{Whom}
+use Rattle.powersave.specs.declared.unit.Whom.TheVariants.{One, Group}
+use Rattle.roster.specs.Keeping.{aid_for}
+use Rattle.roster.specs.Roster.{AreWaitedFor, StayBeside, is_number, renumbered}
+use Rattle.stations.specs.Sound.{AreApart}
+use Rattle.stations.specs.Stations.{Table, state_of, aid_of, aid_with, identifiers, identifier_of, AreIdentifiers, set_state, forget, disassociate, set_mode, with_mode, changed}
+use Rattle.roster.specs.KeptUnits.{has_aid, has_unit, is_waited_for}
+use Rattle.stations.specs.declared.table.Change.{Change}
+use Rattle.stations.specs.declared.table.Change.TheVariants as changes
+use Rattle.stations.specs.declared.table.StationState.{StationState}
+use Rattle.stations.specs.declared.table.StationState.TheVariants.{Authenticated, Associated}
+use Rattle.roster.proofs.RosterAging.{same_whom}
+use Rattle.stations.proofs.StationTables.{Numbers, eqb-flip, neither, numbers-of_associated, range-of_associated, without, forget-unknown}
+use Rattle.stations.proofs.StationsSound.{not-here}
+use Rattle.roster.proofs.UnitsKept.{some-for}
+
+-- ---- truth values
+
+no-bit : (w : Bool) → false ≡ ((w && false) || false)
+no-bit true = refl
+no-bit false = refl
+
+swapped-and : (a b : Bool) → (a && b) ≡ (b && a)
+swapped-and true true = refl
+swapped-and true false = refl
+swapped-and false true = refl
+swapped-and false false = refl
+
+swapped-or : (a b c : Bool) → (a || (b || c)) ≡ (b || (a || c))
+swapped-or true true c = refl
+swapped-or true false c = refl
+swapped-or false b c = refl
+
+without-bit : (w b : Bool) → ((w && false) || b) ≡ b
+without-bit true b = refl
+without-bit false b = refl
+
+-- ---- one station and the others
+
+number-of : (l : StationState) (n : ℕ) → has_aid n l ≡ is_number (aid_with (Some l)) n
+number-of Authenticated n = refl
+number-of (Associated aid listen doze) n = refl
+
+number-is : (o : Option ℕ) (n : ℕ) → is_number o n ≡ true → o ≡ Some n
+number-is None n h = absurd (both_ways false refl h)
+number-is (Some aid) n h = ap (λ (m : ℕ). Some m) (sym (eqb-true n aid h))
+
+parted-here : (addr : List ℕ) (e : List ℕ × StationState) (kept : List Entry) (n : ℕ) (rest : Bool) → addr ≡ e.0 → ((has_aid n e.1 && has_unit e.0 kept) || rest) ≡ ((has_unit addr kept && is_number (aid_with (Some e.1)) n) || rest)
+parted-here addr e kept n rest is =
+    ap (λ (k : List ℕ). (has_aid n e.1 && has_unit k kept) || rest) (sym is)
+    ∙ ap (λ b. (b && has_unit addr kept) || rest) (number-of e.1 n)
+    ∙ ap (λ b. b || rest) (swapped-and (is_number (aid_with (Some e.1)) n) (has_unit addr kept))
+
+-- a number is waited for by one station or by the others
+pub waited-parted : (addr : List ℕ) (t : Table) (kept : List Entry) (n : ℕ) → is_waited_for t kept n ≡ ((has_unit addr kept && is_number (aid_of addr t) n) || is_waited_for (forget addr t) kept n)
+waited-parted addr [] kept n = no-bit (has_unit addr kept)
+waited-parted addr (e ∷ t) kept n = by (bytes_eq addr e.0) refl (waited-parted addr t kept n)
+  where
+    by : (r : Bool) → bytes_eq addr e.0 ≡ r → is_waited_for t kept n ≡ ((has_unit addr kept && is_number (aid_of addr t) n) || is_waited_for (forget addr t) kept n)
+        → is_waited_for (e ∷ t) kept n ≡ ((has_unit addr kept && is_number (aid_of addr (e ∷ t)) n) || is_waited_for (forget addr (e ∷ t)) kept n)
+    by true same later = rw same (parted-here addr e kept n (is_waited_for t kept n) ((bytes_eq-Decides addr e.0).0 same))
+    by false other later =
+        rw other (ap (λ b. (has_aid n e.1 && has_unit e.0 kept) || b) later
+        ∙ swapped-or (has_aid n e.1 && has_unit e.0 kept) (has_unit addr kept && is_number (aid_of addr t) n) (is_waited_for (forget addr t) kept n))
+
+-- one that is no identifier isn't waited for
+not-waited : (t : Table) (kept : List Entry) (n : ℕ) → is_among (identifiers t) n ≡ false → is_waited_for t kept n ≡ false
+not-waited [] kept n h = refl
+not-waited (e ∷ t) kept n h = by e.1 h (not-waited t kept n)
+  where
+    by : (l : StationState) → is_among (identifier_of l ++ identifiers t) n ≡ false → (is_among (identifiers t) n ≡ false → is_waited_for t kept n ≡ false) → ((has_aid n l && has_unit e.0 kept) || is_waited_for t kept n) ≡ false
+    by Authenticated k later = later k
+    by (Associated aid listen doze) k later =
+        let both = neither (nat_eq aid n) (is_among (identifiers t) n) k in
+        let other : (n == aid) ≡ false = eqb-flip n aid ∙ both.0 in
+        rw other (later both.1)
+
+-- the identifier of a station is no other's
+pub rest-none : (addr : List ℕ) (t : Table) (kept : List Entry) (aid : ℕ) → aid_of addr t ≡ Some aid → AreIdentifiers (identifiers t) → is_waited_for (forget addr t) kept aid ≡ false
+rest-none addr t kept aid h sound =
+    let n = numbers-of_associated addr t aid h in
+    let parts = without n.0 n.1 aid (subst AreIdentifiers n.2 sound) in
+    not-waited (forget addr t) kept aid (ap (λ ns. is_among ns aid) n.4 ∙ parts.1)
+
+-- the bits of a station that had one identifier and has another
+abbrev pub AreShown : (before after : Option ℕ) → (waits : Bool) → (old new : Numbers) → Type 0
+AreShown before after waits old new = (n : ℕ) → set.contains new n ≡ ((waits && is_number after n) || (not (is_number before n) && set.contains old n))
+
+-- where the identifier of one station, or the units for it, changed, and its bits are changed so
+pub waited-one : (addr : List ℕ) (t u : Table) (before after : List Entry) (old new : Numbers) (waits : Bool) → AreIdentifiers (identifiers t)
+    → ((n : ℕ) → is_waited_for (forget addr u) after n ≡ is_waited_for (forget addr t) before n)
+    → waits ≡ nat_lt 0 (length (units_for (One addr) after))
+    → AreShown (aid_of addr t) (aid_of addr u) waits old new → AreWaitedFor old t before → AreWaitedFor new u after
+waited-one addr t u before after old new waits sound others is now told n aid =
+    let a : Option ℕ = aid_of addr u in
+    let has : has_unit addr after ≡ waits = some-for (One addr) after ∙ sym is in
+    now n ∙ ap (λ b. (waits && is_number a n) || b) (left (is_number (aid_of addr t) n) refl)
+    ∙ ap (λ b. (waits && is_number a n) || b) (sym (others n))
+    ∙ ap (λ w. (w && is_number a n) || is_waited_for (forget addr u) after n) (sym has)
+    ∙ sym (waited-parted addr u after n)
+  where
+    left : (b : Bool) → is_number (aid_of addr t) n ≡ b → (not (is_number (aid_of addr t) n) && set.contains old n) ≡ is_waited_for (forget addr t) before n
+    left true h = rw h (sym (rest-none addr t before n (number-is (aid_of addr t) n h) sound))
+    left false h =
+        let both : is_waited_for t before n ≡ is_waited_for (forget addr t) before n =
+        waited-parted addr t before n ∙ ap (λ b. (has_unit addr before && b) || is_waited_for (forget addr t) before n) h
+        ∙ without-bit (has_unit addr before) (is_waited_for (forget addr t) before n) in
+        rw h (told n aid ∙ both)
+
+-- ---- the units of one station change
+
+one-apart : (a b : List ℕ) → bytes_eq a b ≡ false → One a ≢ One b
+one-apart a b h e = let same : a ≡ b = cc in both_ways (bytes_eq a b) h ((bytes_eq-Decides a b).1 same)
+
+unit-stays : (whom : Whom) (before after : List Entry) (b : List ℕ) → StayBeside whom before after → whom ≢ One b → has_unit b after ≡ has_unit b before
+unit-stays whom before after b stay other =
+    some-for (One b) after ∙ ap (λ us. nat_lt 0 (length us)) (stay (One b) other) ∙ sym (some-for (One b) before)
+
+pub others-stay : (addr : List ℕ) (t : Table) (before after : List Entry) (n : ℕ) → state_of addr t ≡ None → StayBeside (One addr) before after → is_waited_for t after n ≡ is_waited_for t before n
+others-stay addr [] before after n none stay = refl
+others-stay addr (e ∷ t) before after n none stay =
+    let parts = not-here (bytes_eq addr e.0) e.1 (state_of addr t) none in
+    ap (λ b. (has_aid n e.1 && b) || is_waited_for t after n) (unit-stays (One addr) before after e.0 stay (one-apart addr e.0 parts.0))
+    ∙ ap (λ b. (has_aid n e.1 && has_unit e.0 before) || b) (others-stay addr t before after n parts.1 stay)
+
+-- the units for the group are nothing to it
+pub group-waits_not : (t : Table) (before after : List Entry) (n : ℕ) → StayBeside Group before after → is_waited_for t after n ≡ is_waited_for t before n
+group-waits_not [] before after n stay = refl
+group-waits_not (e ∷ t) before after n stay =
+    ap (λ b. (has_aid n e.1 && b) || is_waited_for t after n) (unit-stays Group before after e.0 stay (λ h. absurd cc))
+    ∙ ap (λ b. (has_aid n e.1 && has_unit e.0 before) || b) (group-waits_not t before after n stay)
+
+pub forgotten : (addr : List ℕ) (t : Table) → AreApart t → state_of addr (forget addr t) ≡ None
+forgotten addr [] h = refl
+forgotten addr (e ∷ t) h = by (bytes_eq addr e.0) refl (forgotten addr t h.1)
+  where
+    by : (r : Bool) → bytes_eq addr e.0 ≡ r → state_of addr (forget addr t) ≡ None → state_of addr (forget addr (e ∷ t)) ≡ None
+    by true same later =
+        let is : addr ≡ e.0 = (bytes_eq-Decides addr e.0).0 same in
+        rw same (subst (λ (k : List ℕ). state_of k t ≡ None) (sym is) h.0)
+    by false other later = rw other (rw other later)
+
+-- the units for one changed, and its bit follows
+pub followed : (addr : List ℕ) (t : Table) (before after : List Entry) (old new : Numbers) (waits : Bool) → AreApart t → AreIdentifiers (identifiers t)
+    → StayBeside (One addr) before after → waits ≡ nat_lt 0 (length (units_for (One addr) after))
+    → AreShown (aid_of addr t) (aid_of addr t) waits old new → AreWaitedFor old t before → AreWaitedFor new t after
+followed addr t before after old new waits apart sound stay is now told =
+    waited-one addr t t before after old new waits sound (λ n. others-stay addr (forget addr t) before after n (forgotten addr t apart) stay) is now told
+
+-- where units for one left, and some stay, nothing of it changes
+same-waiting : (whom : Whom) (t : Table) (before after : List Entry) (n : ℕ) → StayBeside whom before after → nat_lt 0 (length (units_for whom before)) ≡ true → nat_lt 0 (length (units_for whom after)) ≡ true
+    → is_waited_for t after n ≡ is_waited_for t before n
+same-waiting whom [] before after n stay some left = refl
+same-waiting whom (e ∷ t) before after n stay some left =
+    ap (λ b. (has_aid n e.1 && b) || is_waited_for t after n) (by (is_same whom (One e.0)) refl)
+    ∙ ap (λ b. (has_aid n e.1 && has_unit e.0 before) || b) (same-waiting whom t before after n stay some left)
+  where
+    by : (b : Bool) → is_same whom (One e.0) ≡ b → has_unit e.0 after ≡ has_unit e.0 before
+    by true is =
+        let same : whom ≡ One e.0 = same_whom whom (One e.0) is in
+        some-for (One e.0) after ∙ ap (λ (w : Whom). nat_lt 0 (length (units_for w after))) (sym same) ∙ left
+        ∙ sym some ∙ ap (λ (w : Whom). nat_lt 0 (length (units_for w before))) same ∙ sym (some-for (One e.0) before)
+    by false other = unit-stays whom before after e.0 stay (λ is. both_ways (is_same whom (One e.0)) other (ap (λ (w : Whom). is_same w (One e.0)) is ∙ (bytes_eq-Decides e.0 e.0).1 refl))
+
+pub still-shown : (whom : Whom) (t : Table) (before after : List Entry) (numbers : Numbers) → StayBeside whom before after → (nat_lt 0 (length (units_for whom after)) ≡ true → nat_lt 0 (length (units_for whom before)) ≡ true)
+    → nat_lt 0 (length (units_for whom after)) ≡ true → AreWaitedFor numbers t before → AreWaitedFor numbers t after
+still-shown whom t before after numbers stay some left told = λ n aid. told n aid ∙ sym (same-waiting whom t before after n stay (some left) left)
+
+-- a unit came for one, and its bit is set
+
+set-is_shown : (a b : Bool) → (a || b) ≡ ((true && a) || (not a && b))
+set-is_shown true b = refl
+set-is_shown false b = refl
+
+pub put-followed : (whom : Whom) (t : Table) (before after : List Entry) (old new : Numbers) (aid : Option ℕ) → AreApart t → AreIdentifiers (identifiers t)
+    → StayBeside whom before after → true ≡ nat_lt 0 (length (units_for whom after)) → aid ≡ aid_for whom t
+    → ((n : ℕ) → set.contains new n ≡ (is_number aid n || set.contains old n)) → AreWaitedFor old t before → AreWaitedFor new t after
+put-followed (One addr) t before after old new aid apart sound stay some is now told =
+    followed addr t before after old new true apart sound stay some
+    (λ n. now n ∙ ap (λ (o : Option ℕ). is_number o n || set.contains old n) is ∙ set-is_shown (is_number (aid_of addr t) n) (set.contains old n)) told
+put-followed Group t before after old new aid apart sound stay some is now told =
+    λ n among. now n ∙ ap (λ (o : Option ℕ). is_number o n || set.contains old n) is ∙ told n among ∙ sym (group-waits_not t before after n stay)
+
+pub identifier-range : (whom : Whom) (t : Table) (o : Option ℕ) → o ≡ aid_for whom t → AreIdentifiers (identifiers t) → IfSome o IsAid
+identifier-range whom t None is sound = tt
+identifier-range (One addr) t (Some aid) is sound = range-of_associated addr t aid (sym is) sound
+identifier-range Group t (Some aid) is sound = absurd (cc)
+
+-- ---- one station changes
+
+forgotten-set : (addr : List ℕ) (l : StationState) (t : Table) → forget addr (set_state addr l t) ≡ forget addr t
+forgotten-set addr l [] = let same : bytes_eq addr addr ≡ true = (bytes_eq-Decides addr addr).1 refl in rw same refl
+forgotten-set addr l (e ∷ t) = by (bytes_eq addr e.0) refl (forgotten-set addr l t)
+  where
+    by : (r : Bool) → bytes_eq addr e.0 ≡ r → forget addr (set_state addr l t) ≡ forget addr t → forget addr (set_state addr l (e ∷ t)) ≡ forget addr (e ∷ t)
+    by true same later = rw same (rw same refl)
+    by false other later = rw other (rw other (ap (λ (s : Table). e ∷ s) later))
+
+-- the others stay
+pub forgotten-changed : (change : Change) (addr : List ℕ) (t : Table) → renumbered change ≡ Some addr → AreApart t → forget addr (changed change t) ≡ forget addr t
+forgotten-changed changes.Nothing addr t is apart = absurd (cc)
+forgotten-changed (changes.Authenticate a) addr t is apart = let same : a ≡ addr = cc in rw same (forgotten-set addr Authenticated t)
+forgotten-changed (changes.Associate a listen) addr t is apart = let same : a ≡ addr = cc in rw same (forgotten-set addr _ t)
+forgotten-changed (changes.Disassociate a) addr t is apart = let same : a ≡ addr = cc in rw same (by (is_some (aid_of addr t)) refl)
+  where
+    by : (b : Bool) → is_some (aid_of addr t) ≡ b → forget addr (disassociate addr t) ≡ forget addr t
+    by true associated = rw associated (forgotten-set addr Authenticated t)
+    by false not_associated = rw not_associated refl
+forgotten-changed (changes.Forget a) addr t is apart = let same : a ≡ addr = cc in rw same (forget-unknown addr (forget addr t) (forgotten addr t apart))
+forgotten-changed (changes.SetMode a doze) addr t is apart = absurd (cc)
+
+same-aid : (doze : Bool) (l : StationState) (n : ℕ) → has_aid n (with_mode doze l) ≡ has_aid n l
+same-aid doze Authenticated n = refl
+same-aid doze (Associated aid listen before) n = refl
+
+waited-moded : (a : List ℕ) (doze : Bool) (t : Table) (kept : List Entry) (n : ℕ) → is_waited_for (set_mode a doze t) kept n ≡ is_waited_for t kept n
+waited-moded a doze [] kept n = refl
+waited-moded a doze (e ∷ t) kept n = by (bytes_eq a e.0) refl (waited-moded a doze t kept n)
+  where
+    by : (r : Bool) → bytes_eq a e.0 ≡ r → is_waited_for (set_mode a doze t) kept n ≡ is_waited_for t kept n → is_waited_for (set_mode a doze (e ∷ t)) kept n ≡ is_waited_for (e ∷ t) kept n
+    by true same later = rw same (ap (λ b. (b && has_unit e.0 kept) || is_waited_for t kept n) (same-aid doze e.1 n))
+    by false other later = rw other (ap (λ b. (has_aid n e.1 && has_unit e.0 kept) || b) later)
+
+-- a mode is nothing to it
+pub waited-renumbered_not : (change : Change) (t : Table) (kept : List Entry) (n : ℕ) → renumbered change ≡ None → is_waited_for (changed change t) kept n ≡ is_waited_for t kept n
+waited-renumbered_not changes.Nothing t kept n is = refl
+waited-renumbered_not (changes.Authenticate a) t kept n is = absurd (cc)
+waited-renumbered_not (changes.Associate a listen) t kept n is = absurd (cc)
+waited-renumbered_not (changes.Disassociate a) t kept n is = absurd (cc)
+waited-renumbered_not (changes.Forget a) t kept n is = absurd (cc)
+waited-renumbered_not (changes.SetMode a doze) t kept n is = waited-moded a doze t kept n

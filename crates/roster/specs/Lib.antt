@@ -1,0 +1,4 @@
+pub mod KeptUnits
+pub mod Keeping
+pub mod AgingClocks
+pub mod Roster
