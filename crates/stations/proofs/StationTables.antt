@@ -1,6 +1,6 @@
 -- One station of a table is changed: what becomes of the identifiers.
 use Rattle.std.proofs.Common.{◌≡◌, ℕ, zero, suc, ◌+◌, ◌-◌, ◌<◌, ◌≤◌, Bool, true, false, not, ◌&&◌, ◌||◌, cond, nat_eq, List, [], ◌∷◌, ◌++◌, length, slice_get, Option, Some, None, ◌≢◌, ◌↔◌, refl, sym, ap, subst, ◌∙◌, arith, is_some, inl, inr}
-use Rattle.std.specs.Prelude.{nat_lt, IsNone, if◌then◌else◌}
+use Rattle.std.specs.Prelude.{nat_lt, IsNone, IfSome, IfNone, if◌then◌else◌}
 use Rattle.std.proofs.lemmas.Bool.{lt-ltb, le-ltb, eq-eqb, ne_eqb, cases_eq, both_ways}
 use Rattle.std.proofs.lemmas.List.{length-append, append-nil}
 use Rattle.std.specs.Ordering.{nat_cmp}
@@ -8,7 +8,7 @@ use Rattle.std.specs.Cmp.{nat_cmp_total, unsigned_tied}
 use Rattle.std.specs.FinSet as set
 use Rattle.std.specs.FinSet.{FinSet, contains-empty, len-empty, contains-insert, contains-remove, len-insert, len-remove}
 use borrow.Author.Tests.{eqb-true}
-use Rattle.indexmap.specs.IndexMap.{insert_entry}
+use Rattle.address_map.specs.Entries.{with_entry}
 use Rattle.stations.specs.StationsKept.{AreOut, dozing_count}
 use Rattle.std.specs.Int.{from_bool}
 use Rattle.std.specs.Map.{lookup, set_value}
@@ -242,11 +242,10 @@ range-of_associated addr t aid h o = let n = numbers-of_associated addr t aid h 
 
 -- ---- the map's words
 
-pub insert_entry-is_set_state : (addr : List ℕ) (state : StationState) (t : Table) → insert_entry bytes_eq t addr state ≡ set_state addr state t
-insert_entry-is_set_state addr state [] = refl
-insert_entry-is_set_state addr state (e ∷ t) = ap (λ (s : Table). if bytes_eq addr e.0 then (e.0, state) ∷ t else e ∷ s) (insert_entry-is_set_state addr state t)
+pub with_entry-is_set_state : (addr : List ℕ) (state : StationState) (t : Table) → with_entry addr state t ≡ set_state addr state t
+with_entry-is_set_state addr state [] = refl
+with_entry-is_set_state addr state (e ∷ t) = ap (λ (s : Table). if bytes_eq addr e.0 then (e.0, state) ∷ t else e ∷ s) (with_entry-is_set_state addr state t)
 
--- a known station's state is set in its place
 pub set_value-is_set_state : (addr : List ℕ) (state : StationState) (t : Table) → is_some (state_of addr t) ≡ true → set_value (bytes_eq addr) t state ≡ set_state addr state t
 set_value-is_set_state addr state [] h = absurd (both_ways false refl h)
 set_value-is_set_state addr state (e ∷ t) h = by (bytes_eq addr e.0) refl (set_value-is_set_state addr state t)
@@ -327,6 +326,15 @@ set_mode-unknown addr doze (e ∷ t) h = by (bytes_eq addr e.0) refl (set_mode-u
     by : (b : Bool) → bytes_eq addr e.0 ≡ b → (state_of addr t ≡ None → set_mode addr doze t ≡ t) → set_mode addr doze (e ∷ t) ≡ e ∷ t
     by true same later = let found : Some e.1 ≡ None = sym (rw same refl) ∙ h in absurd (cc)
     by false other later = let none : lookup (bytes_eq addr) t ≡ None = sym (rw other refl) ∙ h in rw other (ap (λ (s : Table). e ∷ s) (later none))
+
+-- the state of a station is what the mode makes of it, where it is known
+pub set_mode-by : (By : StationState → StationState → Type 0) (addr : List ℕ) (doze : Bool) (t new : Table) (known : Option StationState)
+    → ((before after : StationState) → By before after → after ≡ with_mode doze before) → known ≡ state_of addr t
+    → IfSome known (λ before. (after : StationState) × By before after × (new ≡ set_value (bytes_eq addr) t after)) → IfNone known (new ≡ t) → new ≡ set_mode addr doze t
+set_mode-by By addr doze t new None makes is some none = none ∙ sym (set_mode-unknown addr doze t (sym is))
+set_mode-by By addr doze t new (Some before) makes is some none =
+    some.2 ∙ set_value-is_set_state addr some.0 t (ap is_some (sym is)) ∙ ap (λ (state : StationState). set_state addr state t) (makes before some.0 some.1)
+    ∙ sym (set_mode-is_set_state addr doze before t (sym is))
 
 -- some station dozes exactly where the count isn't 0
 pub some-dozes : (t : Table) → some_station_dozes t ≡ nat_lt 0 (dozing_count t)

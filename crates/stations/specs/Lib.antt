@@ -1,4 +1,3 @@
 pub mod Stations
 pub mod StationsKept
 pub mod Sound
-pub mod Slots

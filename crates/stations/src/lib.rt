@@ -7,9 +7,6 @@
 //! The units that are kept for stations, and what is answered to them, are left to the crates above.
 #![tactic(auto)]
 
-mod address_key;
-mod list;
-mod order;
 mod table;
 
 pub use table::{

@@ -8,7 +8,7 @@ ghost use Rattle.stations.specs.Stations.{some_station_dozes, listen_with, may_a
 ghost use Rattle.stations.specs.Stations.{set_state, authenticate, associate, disassociate, forget, set_mode, with_mode};
 ghost use Rattle.stations.specs.Stations.{changed, IsAllowed, IsModeAlone};
 
-use crate::list::StationList;
+use address_map::AddressMap;
 use aid_pool::AidPool;
 use mac_frame::{MAX_AID, MacAddr, NoMemory};
 use station_state::Standing;
@@ -62,7 +62,7 @@ pub enum Change {
 /// the list of the stations with their states. Each is found by its address without a walk over the list.
 #[derive(Drop)]
 pub struct Stations {
-    states: StationList,
+    states: AddressMap<StationState>,
     pool: AidPool,
     // how many doze
     dozing: usize,
@@ -87,7 +87,7 @@ impl Stations {
         ensures { result ≡ record { most = most; table = [] } }
     {
         Stations {
-            states: StationList::new(alloc),
+            states: AddressMap::new(alloc),
             pool: AidPool::new(most),
             dozing: 0,
         }
@@ -105,7 +105,7 @@ impl Stations {
         requires { place < length self.now.table }
         ensures { slice_get self.now.table place ≡ Some result }
     {
-        self.states.station(place)
+        self.states.entry(place)
     }
 
     /// The state of a station, or `None` where it is not known.
@@ -251,7 +251,7 @@ impl Stations {
     pub fn set_mode(&mut self, addr: MacAddr, doze: bool)
         ensures { self.new ≡ with_table self.old (set_mode addr doze self.old.table) }
     {
-        let Some(before) = self.states.set_mode(addr, doze) else {
+        let Some(before) = set_mode(&mut self.states, addr, doze) else {
             return;
         };
         let state = with_mode(before, doze);
@@ -306,7 +306,7 @@ fn state_with_mode(state: Option<StationState>, doze: bool) -> Option<StationSta
 }
 
 /// A state in another mode; a station that is not associated has no mode.
-pub(crate) fn with_mode(state: StationState, doze: bool) -> StationState
+fn with_mode(state: StationState, doze: bool) -> StationState
     ensures { result ≡ with_mode doze state }
 {
     match state {
@@ -330,9 +330,21 @@ pub fn aid_with(state: Option<StationState>) -> Option<u16>
 }
 
 /// Sets the state of a station that is known.
-fn set_known(states: &mut StationList, addr: MacAddr, state: StationState)
+fn set_known(states: &mut AddressMap<StationState>, addr: MacAddr, state: StationState)
     requires { IsTrue (is_some (state_of addr states.old)) }
     ensures { states.new ≡ set_state addr state states.old }
 {
     states.replace(addr, state);
+}
+
+/// Sets the mode of a station, and answers its state before. Nothing changes where it is not associated.
+fn set_mode(
+    states: &mut AddressMap<StationState>,
+    addr: MacAddr,
+    doze: bool,
+) -> Option<StationState>
+    ensures old { result ≡ state_of addr states.old }
+    ensures stations { states.new ≡ set_mode addr doze states.old }
+{
+    states.update(addr, |state| with_mode(state, doze))
 }

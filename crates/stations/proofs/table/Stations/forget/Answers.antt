@@ -20,7 +20,7 @@ pub invariant_of-self : goal.invariant_of-self
 invariant_of-self c =
     let t : Table = c.self.inside.states in
     let had : aid_of c.args.addr t ≡ Some c.in-Some.aid = ap aid_with (sym c.remove-before.ensures.old) ∙ sym c.in-Some.ensures in
-    let now : c.remove-before.new.self ≡ forget c.args.addr t = c.remove-before.ensures.stations in
+    let now : c.remove-before.new.self ≡ forget c.args.addr t = c.remove-before.ensures.entries in
     let dozed : c.from.result ≡ dozing_at c.args.addr t = c.from.ensures ∙ ap from_bool (c.dozes_with.ensures ∙ ap dozes_with c.remove-before.ensures.old) in
     rw (c.give.ensures, now) (record {
       limit = c.self.invariant.limit;
@@ -32,7 +32,7 @@ pub invariant_of-self-in_default : goal.invariant_of-self-in_default
 invariant_of-self-in_default c =
     let t : Table = c.self.inside.states in
     let had : aid_of c.args.addr t ≡ None = ap aid_with (sym c.remove-before.ensures.old) ∙ sym c.in_default.ensures in
-    let now : c.remove-before.new.self ≡ forget c.args.addr t = c.remove-before.ensures.stations in
+    let now : c.remove-before.new.self ≡ forget c.args.addr t = c.remove-before.ensures.entries in
     let dozed : c.from.result ≡ dozing_at c.args.addr t = c.from.ensures ∙ ap from_bool (c.dozes_with.ensures ∙ ap dozes_with c.remove-before.ensures.old) in
     rw now (record {
       limit = c.self.invariant.limit;

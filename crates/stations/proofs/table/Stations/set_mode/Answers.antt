@@ -13,7 +13,7 @@ returns-in_default c =
 pub invariant_of-self : goal.invariant_of-self
 invariant_of-self c =
     let t : Table = c.self.inside.states in
-    let same : c.set_mode.new.self ≡ t = c.in_default.ensures.stations ∙ set_mode-unknown c.args.addr c.args.doze t (sym c.in_default.ensures.old) in
+    let same : c.set_mode.new.states ≡ t = c.in_default.ensures.stations ∙ set_mode-unknown c.args.addr c.args.doze t (sym c.in_default.ensures.old) in
     rw same c.self.invariant
 
 pub overflow_sub-self : goal.overflow_sub-self
@@ -41,7 +41,7 @@ invariant_of-self-2 c =
     let same : identifiers (set_state c.args.addr (with_mode c.args.doze known) t) ≡ identifiers t = ap identifiers (sym moded) ∙ identifiers-moded c.args.addr c.args.doze t in
     let dozed : c.from.result ≡ dozing_at c.args.addr t = c.from.ensures ∙ ap from_bool (c.dozes_with.ensures ∙ ap dozes_with state) in
     let doze : c.from-2.result ≡ from_bool (dozes (with_mode c.args.doze known)) = c.from-2.ensures ∙ ap from_bool (c.dozes_with-2.ensures ∙ ap dozes c.with_mode-state.ensures) in
-    let set : c.set_mode.new.self ≡ set_state c.args.addr (with_mode c.args.doze known) t = c.in-Some.ensures.stations ∙ moded in
+    let set : c.set_mode.new.states ≡ set_state c.args.addr (with_mode c.args.doze known) t = c.in-Some.ensures.stations ∙ moded in
     rw set (record {
       limit = c.self.invariant.limit;
       pool = subst (AreOut c.self.inside.pool.most c.self.inside.pool.out) (sym same) c.self.invariant.pool;

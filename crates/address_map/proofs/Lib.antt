@@ -1,0 +1,4 @@
+pub mod ChangedEntries
+pub mod FoundSlots
+pub mod SlotOrder
+pub mod IndexMended

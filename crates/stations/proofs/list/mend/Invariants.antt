@@ -1,7 +1,0 @@
-use Rattle.std.proofs.Common.{◌≡◌, ◌++◌, take, drop}
-use Rattle.stations.specs.Slots.{with_places}
-use Rattle.stations.proofs.list.mend.Given as goal
-
--- so many have their places, and the others their slots
-abbrev pub invariant-loop-at : goal.invariant-loop-at
-invariant-loop-at l = l.index.entries ≡ with_places l.row (take l.at l.fn.index.entries) ++ drop l.at l.fn.index.entries
