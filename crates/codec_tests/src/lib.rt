@@ -12,7 +12,7 @@ mod aid_pool_tests;
 #[cfg(test)]
 mod beacon_tests;
 #[cfg(test)]
-mod bridge_tests;
+mod encapsulation_tests;
 #[cfg(test)]
 mod digits_tests;
 #[cfg(test)]

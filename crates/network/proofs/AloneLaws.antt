@@ -14,7 +14,7 @@ use Rattle.station_state.specs.ClassFault.{class_fault}
 use Rattle.station_state.specs.declared.class.Notice.{Notice}
 use Rattle.elements.specs.Elements.{Pair}
 use Rattle.std.specs.Str.{bytes_eq}
-use Rattle.bridge.specs.Ethernet.{Ethernet, ethernet_of}
+use Rattle.encapsulation.specs.Ethernet.{Ethernet, ethernet_of}
 use Rattle.powersave.specs.Keep.{Entry, is_for, units_for, without_all, without_oldest}
 use Rattle.powersave.specs.declared.unit.Whom.{Whom}
 use Rattle.powersave.specs.declared.unit.Whom.TheVariants.{One, Group}
@@ -23,14 +23,14 @@ use Rattle.mac_frame.specs.Address.{is_group}
 use Rattle.stations.specs.Stations.{Table, state_of, aid_of, standing_of, dozes_with, is_dozing, set_mode, some_station_dozes, may_associate, next_aid, authenticate, associate, disassociate, forget}
 use Rattle.network.specs.Units.{unit, unit_of, unit_frame, others_follow, delivery_of, delivery_with, goes_on_wire, may_poll}
 use Rattle.roster.specs.KeptUnits.{group_is_kept, IsKeptFor, AreKeptFor, CameBy}
-use Rattle.bridge.specs.Encapsulation.{on_wire}
+use Rattle.encapsulation.specs.Encapsulation.{on_wire}
 use Rattle.beacon.specs.Beacon.{dtim_count}
-use Rattle.stations.specs.declared.table.StationState.{StationState}
+use Rattle.station_state.specs.declared.state.StationState.{StationState}
 use Rattle.network.specs.declared.reply.unit.Delivery.{Delivery}
 use Rattle.network.specs.declared.reply.unit.Delivery.TheVariants.{Now, Kept, Nowhere}
 use Rattle.roster.proofs.UnitsKept.{kept-elsewhere, kept-where, kept-filtered, kept-without_first, kept-push, length-filtered, length-without_first}
 use Rattle.stations.proofs.StationStates.{state_of-set, state_of-forgotten, state_of-moded, mode-stays}
-use Rattle.stations.specs.declared.table.StationState.TheVariants.{Authenticated, Associated}
+use Rattle.station_state.specs.declared.state.StationState.TheVariants.{Authenticated, Associated}
 use Rattle.stations.specs.Sound.{AreSound}
 use Rattle.network.proofs.Clocks.{modes}
 use Rattle.network.proofs.FrameSizes.{AreFrames, AreEthernet, IsShort, IsShortRead, all-push, those-fit, others-fit, ethernet-fits, request-short}

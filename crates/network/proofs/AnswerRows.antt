@@ -7,7 +7,7 @@ use Rattle.association.specs.Samples.{frame, other_station, four_rates, ssid}
 use Rattle.aid_pool.specs.LeastFree.{least_free}
 use Rattle.ap_config.specs.declared.setting.Setting.{Setting}
 use Rattle.network.specs.Network.{Network, empty_network, answer, table_of}
-use Rattle.stations.specs.declared.table.StationState.TheVariants.{Authenticated, Associated}
+use Rattle.station_state.specs.declared.state.StationState.TheVariants.{Authenticated, Associated}
 use Rattle.ap_config.specs.Samples.{station, network, setting}
 
 -- ---- requests

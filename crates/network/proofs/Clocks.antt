@@ -6,8 +6,8 @@ use Rattle.association.specs.Request.{Request, Probe, Auth, Assoc, Disassoc, Dea
 use Rattle.association.specs.Asked.{class_of}
 use Rattle.association.specs.Status.{success}
 use Rattle.beacon.specs.Beacon.{dtim_count}
-use Rattle.bridge.specs.Encapsulation.{on_wire}
-use Rattle.bridge.specs.Ethernet.{Ethernet}
+use Rattle.encapsulation.specs.Encapsulation.{on_wire}
+use Rattle.encapsulation.specs.Ethernet.{Ethernet}
 use Rattle.powersave.specs.Keep.{units_for}
 use Rattle.powersave.specs.declared.unit.Unit.{Unit as DataUnit}
 use Rattle.powersave.specs.declared.unit.Whom.TheVariants.{One, Group}

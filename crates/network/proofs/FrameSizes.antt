@@ -20,11 +20,11 @@ use Rattle.tim.specs.Tim.{ShowsTim, tim_octets}
 use Rattle.beacon.specs.Advert.{Announced, timestamp, fixed_fields, network_elements}
 use Rattle.beacon.specs.ProbeResponse.{probe_response, probe_response_body}
 use Rattle.beacon.specs.Beacon.{beacon, beacon_body, beacon_tim, dtim_count, traffic_indicator}
-use Rattle.bridge.specs.Ethernet.{Ethernet, IsEthernet, IsOfKind, ethernet_of}
-use Rattle.bridge.specs.Encapsulation.{on_wire, names_type, type_of, body_of}
-use Rattle.bridge.specs.Ethernet.{is_length}
-use Rattle.bridge.specs.declared.ethernet.Kind.{Kind}
-use Rattle.bridge.specs.declared.ethernet.Kind.TheVariants.{Typed, Sized}
+use Rattle.encapsulation.specs.Ethernet.{Ethernet, IsEthernet, IsOfKind, ethernet_of}
+use Rattle.encapsulation.specs.Encapsulation.{on_wire, names_type, type_of, body_of}
+use Rattle.encapsulation.specs.Ethernet.{is_length}
+use Rattle.encapsulation.specs.declared.ethernet.Kind.{Kind}
+use Rattle.encapsulation.specs.declared.ethernet.Kind.TheVariants.{Typed, Sized}
 use Rattle.association.specs.Request.{Request, Probe, Auth, Assoc, Disassoc, Deauth, Msdu, Null, Poll, sender, request_of, request_in, request_read, request_on, asked_to_associate, asked_by}
 use Rattle.association.specs.Asked.{class_of}
 use Rattle.association.specs.Status.{success}

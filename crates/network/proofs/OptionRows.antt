@@ -20,7 +20,7 @@ use Rattle.events.specs.declared.line.Line.{Line}
 use Rattle.events.specs.declared.line.Line.TheVariants as line
 use Rattle.events.specs.declared.section.Counts.{Counts}
 use Rattle.events.specs.declared.section.Section.{Section}
-use Rattle.stations.specs.declared.table.StationState.TheVariants.{Associated}
+use Rattle.station_state.specs.declared.state.StationState.TheVariants.{Associated}
 use Rattle.ap_config.specs.Samples.{bssid, station, network, radio, setting}
 use Rattle.network.proofs.UnitSamples.{host, ipv4, wired, numbered_beacon, at_1, at_2, at_3}
 

@@ -16,14 +16,14 @@ use Rattle.stations.specs.Stations.{Table, state_of, is_dozing, set_mode, standi
 use Rattle.ap_config.specs.declared.setting.Setting.{Setting}
 use Rattle.network.specs.Network.{Network, announced_at, asks_for, answer, answer_probe, serve, notify_or_serve, send, change_state, change_where_served, lose, deliver, deliver_by, answer_wired, change_stations, drop_units, send_unit, send_each, put_on_wire, relay, forward, forward_by, age_units, set_power_mode, serve_poll, answer_poll, beacon_frame, release, tick, authentication_status, association_status, step, alone}
 use Rattle.network.specs.Units.{unit, unit_of, unit_frame, others_follow, delivery_of, goes_on_wire, may_poll}
-use Rattle.bridge.specs.Encapsulation.{on_wire}
+use Rattle.encapsulation.specs.Encapsulation.{on_wire}
 use Rattle.beacon.specs.Beacon.{dtim_count}
 use Rattle.beacon.specs.ProbeResponse.{probe_response}
 use Rattle.powersave.specs.Keep.{units_for, without_oldest}
 use Rattle.powersave.specs.declared.unit.Whom.TheVariants.{One, Group}
 use Rattle.network.specs.declared.reply.unit.Delivery.{Delivery}
 use Rattle.network.specs.declared.reply.unit.Delivery.TheVariants.{Now, Kept, Nowhere}
-use Rattle.bridge.specs.Ethernet.{Ethernet, ethernet_of}
+use Rattle.encapsulation.specs.Ethernet.{Ethernet, ethernet_of}
 use Rattle.powersave.specs.declared.unit.Unit.{Unit as DataUnit}
 use Rattle.network.specs.BssView.{sent_by}
 use Rattle.network.specs.NetworkView.{sent_before, unsent}

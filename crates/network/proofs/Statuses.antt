@@ -8,8 +8,8 @@ use Rattle.association.specs.Joining.{assoc_status, names_network, has_basic_rat
 use Rattle.station_state.specs.ClassFault.{class_fault}
 use Rattle.station_state.specs.declared.class.Class.TheVariants.{Two}
 use Rattle.stations.specs.Stations.{aid_with, standing_with}
-use Rattle.stations.specs.declared.table.StationState.{StationState}
-use Rattle.stations.specs.declared.table.StationState.TheVariants.{Authenticated, Associated}
+use Rattle.station_state.specs.declared.state.StationState.{StationState}
+use Rattle.station_state.specs.declared.state.StationState.TheVariants.{Authenticated, Associated}
 
 room-after : (a b room : Bool) → (if a then unsupported_auth_algorithm else (if b then transaction_sequence_error else (if not room then refused else success))) ≡ success → room ≡ true
 room-after true b room h = absurd (omega (arith, h))

@@ -21,8 +21,8 @@ use Rattle.roster.specs.KeptUnits.{IsKeptFor, group_is_kept}
 use Rattle.stations.specs.Stations.{Table, state_of, is_dozing, set_mode, some_station_dozes, changed, IsModeAlone}
 use Rattle.stations.specs.declared.table.Change.{Change}
 use Rattle.stations.specs.declared.table.Change.TheVariants as changes
-use Rattle.stations.specs.declared.table.StationState.{StationState}
-use Rattle.stations.specs.declared.table.StationState.TheVariants.{Authenticated, Associated}
+use Rattle.station_state.specs.declared.state.StationState.{StationState}
+use Rattle.station_state.specs.declared.state.StationState.TheVariants.{Authenticated, Associated}
 use Rattle.network.specs.Units.{may_poll, others_follow, delivery_of, delivery_with, unit_frame}
 use Rattle.roster.specs.declared.keeping.Arriving.{Arriving}
 use Rattle.roster.specs.declared.keeping.Leaving.{Leaving}

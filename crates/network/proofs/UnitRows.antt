@@ -12,7 +12,7 @@ use Rattle.ap_config.specs.declared.setting.Setting.{Setting}
 use Rattle.network.specs.Network.{Network, empty_network, age_units, answer, step}
 use Rattle.network.specs.Units.{unit}
 use Rattle.events.specs.declared.event.Event.TheVariants.{Wire, Tick}
-use Rattle.stations.specs.declared.table.StationState.TheVariants.{Authenticated, Associated}
+use Rattle.station_state.specs.declared.state.StationState.TheVariants.{Authenticated, Associated}
 use Rattle.ap_config.specs.Samples.{bssid, station, network, setting}
 use Rattle.network.proofs.UnitSamples.{host, ipv4, wired, sent, last, more, beacon_with, at_1, at_2, at_3}
 

@@ -1,7 +1,7 @@
 -- Units, without where their octets lie in memory (profile).
 use Rattle.std.specs.Prelude.{ℕ, List}
-use Rattle.bridge.specs.Ethernet.{shown}
-use Rattle.bridge.specs.Encapsulation.{on_air}
+use Rattle.encapsulation.specs.Ethernet.{shown}
+use Rattle.encapsulation.specs.Encapsulation.{on_air}
 use Rattle.powersave.specs.declared.unit.Unit.{Unit as DataUnit}
 use Rattle.network.specs.Units.{unit}
 use Rattle.network.specs.declared.reply.unit.Arrival.{Arrival}

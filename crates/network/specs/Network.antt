@@ -6,8 +6,8 @@ use Rattle.std.specs.Str.{bytes_eq}
 use Rattle.mac_frame.specs.declared.frame.Unread.{Unread}
 use Rattle.beacon.specs.ProbeResponse.{Announced, probe_response}
 use Rattle.beacon.specs.Beacon.{beacon, dtim_count}
-use Rattle.bridge.specs.Ethernet.{Ethernet, ethernet_of}
-use Rattle.bridge.specs.Encapsulation.{on_wire}
+use Rattle.encapsulation.specs.Ethernet.{Ethernet, ethernet_of}
+use Rattle.encapsulation.specs.Encapsulation.{on_wire}
 use Rattle.powersave.specs.Keep.{Entry, units_for, without_all, without_oldest}
 use Rattle.powersave.specs.declared.unit.Whom.{Whom}
 use Rattle.powersave.specs.declared.unit.Whom.TheVariants.{One, Group}
@@ -26,7 +26,7 @@ use Rattle.stations.specs.Stations.{Table, state_of, standing_with, standing_of,
 use Rattle.stations.specs.Stations.{associate, disassociate, forget, set_mode, is_dozing, aid_with, listen_of, dozes}
 use Rattle.network.specs.Units.{unit, unit_of, unit_frame, others_follow, delivery_of, goes_on_wire, may_poll}
 use Rattle.roster.specs.KeptUnits.{group_is_kept, is_waited_for, is_too_old}
-use Rattle.stations.specs.declared.table.StationState.{StationState}
+use Rattle.station_state.specs.declared.state.StationState.{StationState}
 use Rattle.network.specs.declared.reply.unit.Delivery.{Delivery}
 use Rattle.network.specs.declared.reply.unit.Delivery.TheVariants.{Now, Kept, Nowhere}
 pub use Rattle.ap_config.specs.declared.setting.Setting.{Setting}

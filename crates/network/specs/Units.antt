@@ -4,14 +4,14 @@ use Rattle.std.specs.Prelude.{ℕ, ◌==◌, Bool, true, false, not, ◌||◌, �
 use Rattle.std.specs.Prelude.{if◌then◌else◌}
 use Rattle.mac_frame.specs.Address.{is_group}
 use Rattle.mac_frame.specs.Data.{data_header}
-use Rattle.bridge.specs.Ethernet.{Ethernet}
-use Rattle.bridge.specs.Encapsulation.{on_air}
+use Rattle.encapsulation.specs.Ethernet.{Ethernet}
+use Rattle.encapsulation.specs.Encapsulation.{on_air}
 use Rattle.powersave.specs.Keep.{Entry}
 use Rattle.powersave.specs.declared.unit.Whom.TheVariants.{One, Group}
 use Rattle.powersave.specs.declared.unit.Unit.{Unit as DataUnit}
 use Rattle.stations.specs.Stations.{Table, state_of, is_associated, some_station_dozes}
-use Rattle.stations.specs.declared.table.StationState.{StationState}
-use Rattle.stations.specs.declared.table.StationState.TheVariants.{Authenticated, Associated}
+use Rattle.station_state.specs.declared.state.StationState.{StationState}
+use Rattle.station_state.specs.declared.state.StationState.TheVariants.{Authenticated, Associated}
 use Rattle.network.specs.declared.reply.unit.Delivery.{Delivery}
 use Rattle.network.specs.declared.reply.unit.Delivery.TheVariants.{Now, Kept, Nowhere}
 use Rattle.roster.specs.KeptUnits.{group_is_kept}

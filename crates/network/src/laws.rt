@@ -11,7 +11,7 @@ ghost use Rattle.network.specs.Sound.{IsSoundNetwork};
 ghost use Rattle.network.specs.BssView.{sent_by};
 
 use ap_config::checked_numbers;
-use bridge::one_ethernet_frame;
+use encapsulation::one_ethernet_frame;
 use mac_frame::one_frame;
 use tim::one_tim;
 

@@ -10,8 +10,7 @@ use ap_config::Setting;
 use beacon::Advert;
 use events::StationRow;
 use mac_frame::MacAddr;
-use station_state::Standing;
-use stations::StationState;
+use station_state::{Standing, StationState};
 
 /// The network of this setting as it announces itself at this clock, in a frame with this sequence number.
 pub fn announcement(setting: &Setting, clock: u32, sequence: u16) -> Advert<'_>

@@ -23,8 +23,8 @@ use Rattle.roster.specs.KeptUnits.{CameBy, has_unit, is_waited_for, is_too_old_f
 use Rattle.stations.specs.Stations.{Table, state_of, aid_of, aid_with, listen_with, identifiers, AreIdentifiers, forget, disassociate, set_mode, with_mode, changed}
 use Rattle.stations.specs.declared.table.Change.{Change}
 use Rattle.stations.specs.declared.table.Change.TheVariants as changes
-use Rattle.stations.specs.declared.table.StationState.{StationState}
-use Rattle.stations.specs.declared.table.StationState.TheVariants.{Authenticated, Associated}
+use Rattle.station_state.specs.declared.state.StationState.{StationState}
+use Rattle.station_state.specs.declared.state.StationState.TheVariants.{Authenticated, Associated}
 use Rattle.stations.proofs.StationTables.{Numbers, is_among-at, without, numbers-of_associated, range-of_associated}
 use Rattle.roster.proofs.RosterAging.{FirstOf, firsts, same_whom}
 use Rattle.stations.proofs.StationStates.{state_of-set, state_of-forgotten, state_of-moded, state_of-mode}

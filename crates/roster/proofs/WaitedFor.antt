@@ -18,8 +18,8 @@ use Rattle.stations.specs.Stations.{Table, state_of, aid_of, aid_with, identifie
 use Rattle.roster.specs.KeptUnits.{has_aid, has_unit, is_waited_for}
 use Rattle.stations.specs.declared.table.Change.{Change}
 use Rattle.stations.specs.declared.table.Change.TheVariants as changes
-use Rattle.stations.specs.declared.table.StationState.{StationState}
-use Rattle.stations.specs.declared.table.StationState.TheVariants.{Authenticated, Associated}
+use Rattle.station_state.specs.declared.state.StationState.{StationState}
+use Rattle.station_state.specs.declared.state.StationState.TheVariants.{Authenticated, Associated}
 use Rattle.roster.proofs.RosterAging.{same_whom}
 use Rattle.stations.proofs.StationTables.{Numbers, eqb-flip, neither, numbers-of_associated, range-of_associated, without, forget-unknown}
 use Rattle.stations.proofs.StationsSound.{not-here}

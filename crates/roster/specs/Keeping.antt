@@ -10,7 +10,7 @@ use Rattle.roster.specs.declared.keeping.Leaving.{Leaving}
 use Rattle.roster.specs.declared.keeping.Leaving.TheVariants as leavings
 use Rattle.roster.specs.declared.keeping.Keeping.{Keeping}
 use Rattle.stations.specs.declared.table.Change.{Change}
-use Rattle.stations.specs.declared.table.StationState.{StationState}
+use Rattle.station_state.specs.declared.state.StationState.{StationState}
 
 -- ---- the units that are kept
 

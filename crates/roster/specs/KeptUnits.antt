@@ -6,8 +6,8 @@ use Rattle.powersave.specs.Keep.{Entry, is_for}
 use Rattle.powersave.specs.declared.unit.Whom.{Whom}
 use Rattle.powersave.specs.declared.unit.Whom.TheVariants.{One, Group}
 use Rattle.stations.specs.Stations.{Table, state_of, is_dozing, listen_with}
-use Rattle.stations.specs.declared.table.StationState.{StationState}
-use Rattle.stations.specs.declared.table.StationState.TheVariants.{Authenticated, Associated}
+use Rattle.station_state.specs.declared.state.StationState.{StationState}
+use Rattle.station_state.specs.declared.state.StationState.TheVariants.{Authenticated, Associated}
 
 -- ---- where a unit goes on the air (11.2.3.2)
 

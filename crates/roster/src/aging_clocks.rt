@@ -20,7 +20,8 @@ ghost use Rattle.stations.specs.Stations.{Table, state_of, listen_with};
 
 use mac_frame::{MAX_AID, MacAddr, NoMemory};
 use powersave::{Keep, Oldest, Whom};
-use stations::{StationState, Stations, listen_with};
+use station_state::StationState;
+use stations::{Stations, listen_with};
 use std::alloc::Global;
 use tim::Bitmap;
 

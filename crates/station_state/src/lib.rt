@@ -1,14 +1,17 @@
 //! The state that a network keeps of a station (IEEE Std 802.11-2016, 11.3), and which frames it takes in that state.
 //!
-//! It promises that [`fault`] is the table of 11.3.3: which class of frame is taken from a station in which state, and
-//! what is sent to the station where one is not.
+//! Two types to know first: a [`Standing`] is how far a station has come, and a [`StationState`] is what a network keeps
+//! of one that it knows. It promises that [`fault`] is the table of 11.3.3: which class of frame is taken from a station
+//! in which state, and what is sent to the station where one is not.
 //!
 //! Which requests move a station from one state to another, and which class a request has, is left to the crates above.
 #![tactic(auto)]
 
 mod class;
+mod state;
 
 pub use class::{Class, INVALID_CLASS_2_FRAME, INVALID_CLASS_3_FRAME, Notice, fault};
+pub use state::StationState;
 
 /// The state that the network keeps of a station (11.3.1), and what moves it. A refused request moves nothing:
 ///

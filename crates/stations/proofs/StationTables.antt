@@ -17,8 +17,8 @@ use Rattle.aid_pool.specs.LeastFree.{is_among, least_free, IsLeastFree}
 use Rattle.stations.specs.Stations.{Table, state_of, identifier_of, identifiers, aid_with, aid_of, AreIdentifiers, set_state, forget, set_mode, with_mode, dozes, is_dozing, some_station_dozes, changed, IsModeAlone, StationTable, with_table}
 use Rattle.stations.specs.declared.table.Change.{Change}
 use Rattle.stations.specs.declared.table.Change.TheVariants.{Nothing, Authenticate, Associate, Disassociate, Forget, SetMode}
-use Rattle.stations.specs.declared.table.StationState.{StationState}
-use Rattle.stations.specs.declared.table.StationState.TheVariants.{Authenticated, Associated}
+use Rattle.station_state.specs.declared.state.StationState.{StationState}
+use Rattle.station_state.specs.declared.state.StationState.TheVariants.{Authenticated, Associated}
 
 abbrev pub Numbers : Type 0
 Numbers = FinSet nat_cmp

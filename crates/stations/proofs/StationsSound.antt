@@ -10,8 +10,8 @@ use Rattle.aid_pool.specs.LeastFree.{least_free, is_among}
 use Rattle.aid_pool.proofs.Least.{least_of_list}
 use Rattle.stations.specs.Stations.{Table, state_of, aid_of, identifiers, AreIdentifiers, may_associate, next_aid, set_state, authenticate, associate, disassociate, forget, set_mode, with_mode, identifier_of, changed, IsAllowed}
 use Rattle.stations.specs.Sound.{AreApart, AreSound}
-use Rattle.stations.specs.declared.table.StationState.{StationState}
-use Rattle.stations.specs.declared.table.StationState.TheVariants.{Authenticated, Associated}
+use Rattle.station_state.specs.declared.state.StationState.{StationState}
+use Rattle.station_state.specs.declared.state.StationState.TheVariants.{Authenticated, Associated}
 use Rattle.stations.specs.declared.table.Change.{Change}
 use Rattle.stations.specs.declared.table.Change.TheVariants as changes
 use Rattle.stations.proofs.StationTables.{parted, without, within, numbers-of_associated, numbers-kept, authenticated-where}

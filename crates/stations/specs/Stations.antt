@@ -7,8 +7,8 @@ use Rattle.std.specs.Str.{bytes_eq}
 use Rattle.aid_pool.specs.LeastFree.{least_free, is_among}
 use Rattle.station_state.specs.declared.Standing.{Standing}
 use Rattle.station_state.specs.declared.Standing.TheVariants as standings
-use Rattle.stations.specs.declared.table.StationState.{StationState}
-use Rattle.stations.specs.declared.table.StationState.TheVariants.{Authenticated, Associated}
+use Rattle.station_state.specs.declared.state.StationState.{StationState}
+use Rattle.station_state.specs.declared.state.StationState.TheVariants.{Authenticated, Associated}
 use Rattle.stations.specs.declared.table.Change.{Change}
 use Rattle.stations.specs.declared.table.Change.TheVariants.{Nothing, Authenticate, Associate, Disassociate, Forget}
 use Rattle.stations.specs.declared.table.Change.TheVariants.{SetMode}

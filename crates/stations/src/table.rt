@@ -11,25 +11,9 @@ ghost use Rattle.stations.specs.Stations.{changed, IsAllowed, IsModeAlone};
 use address_map::AddressMap;
 use aid_pool::AidPool;
 use mac_frame::{MAX_AID, MacAddr, NoMemory};
-use station_state::Standing;
+use station_state::{Standing, StationState};
 use std::alloc::Global;
 use std::marker::Model;
-
-/// The state of a known station (11.3.1) with what goes with it. A station in State 1 is not known, and has none.
-#[derive(Clone, Copy, Debug, PartialEq, Eq)]
-pub enum StationState {
-    /// State 2: authenticated, not associated.
-    Authenticated,
-    /// State 4, as there is no RSNA: authenticated and associated.
-    Associated {
-        /// Its association identifier, 1 to 2007 (9.4.1.8).
-        aid: u16,
-        /// Its listen interval in beacon intervals (9.4.1.6).
-        listen: u16,
-        /// Whether it dozes (11.2.3.2).
-        doze: bool,
-    },
-}
 
 /// What becomes of one station.
 #[derive(Clone, Copy, Debug)]

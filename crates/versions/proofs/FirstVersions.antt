@@ -13,8 +13,8 @@ use Rattle.association.specs.Authentication.{authentication}
 use Rattle.association.specs.Joining.{association_response, is_ssid}
 use Rattle.beacon.specs.Beacon.{beacon, dtim_count}
 use Rattle.beacon.specs.ProbeResponse.{probe_response}
-use Rattle.bridge.specs.Ethernet.{Ethernet, ethernet_of}
-use Rattle.bridge.specs.Encapsulation.{on_wire}
+use Rattle.encapsulation.specs.Ethernet.{Ethernet, ethernet_of}
+use Rattle.encapsulation.specs.Encapsulation.{on_wire}
 use Rattle.aid_pool.specs.LeastFree.{least_free, is_among}
 use Rattle.powersave.specs.Keep.{Entry, is_same, is_for, units_for, without_all, without_oldest}
 use Rattle.powersave.specs.declared.unit.Whom.{Whom}
@@ -25,8 +25,8 @@ use Rattle.station_state.specs.ClassFault.{class_fault}
 use Rattle.station_state.specs.declared.class.Notice.{Notice}
 use Rattle.stations.specs.Stations.{Table, state_of, standing_with, aid_with, identifier_of, identifiers, is_associated, listen_of, dozes, dozes_with, with_mode, may_associate, next_aid, set_state, authenticate, associate, disassociate, forget, set_mode, is_dozing}
 use Rattle.roster.specs.KeptUnits.{group_is_kept, has_aid, is_waited_for}
-use Rattle.stations.specs.declared.table.StationState.{StationState}
-use Rattle.stations.specs.declared.table.StationState.TheVariants.{Authenticated, Associated}
+use Rattle.station_state.specs.declared.state.StationState.{StationState}
+use Rattle.station_state.specs.declared.state.StationState.TheVariants.{Authenticated, Associated}
 use Rattle.ap_config.specs.declared.setting.Setting.{Setting}
 use Rattle.events.specs.declared.event.Event.{Event}
 use Rattle.events.specs.declared.event.Event.TheVariants.{Air, Wire, Tick}

@@ -16,8 +16,8 @@ use Rattle.mac_frame.specs.Data.{data_header}
 use Rattle.elements.specs.Elements.{Pair}
 use Rattle.beacon.specs.ProbeResponse.{Announced, probe_response}
 use Rattle.beacon.specs.Beacon.{beacon}
-use Rattle.bridge.specs.Ethernet.{Ethernet, ethernet_of}
-use Rattle.bridge.specs.Encapsulation.{on_air, on_wire}
+use Rattle.encapsulation.specs.Ethernet.{Ethernet, ethernet_of}
+use Rattle.encapsulation.specs.Encapsulation.{on_air, on_wire}
 use Rattle.association.specs.Request.{Request, Probe, Auth, Assoc, Disassoc, Deauth, Msdu, Null, Poll, sender}
 use Rattle.association.specs.Request.{request_of}
 use Rattle.association.specs.Authentication.{authentication}
@@ -30,8 +30,8 @@ use Rattle.station_state.specs.declared.class.Notice.TheVariants.{Deauthenticate
 use Rattle.powersave.specs.declared.unit.Unit.{Unit as DataUnit}
 use Rattle.powersave.specs.declared.unit.Whom.{Whom}
 use Rattle.powersave.specs.declared.unit.Whom.TheVariants.{One, Group}
-use Rattle.stations.specs.declared.table.StationState.{StationState}
-use Rattle.stations.specs.declared.table.StationState.TheVariants.{Authenticated, Associated}
+use Rattle.station_state.specs.declared.state.StationState.{StationState}
+use Rattle.station_state.specs.declared.state.StationState.TheVariants.{Authenticated, Associated}
 use Rattle.events.specs.declared.event.Event.{Event}
 use Rattle.events.specs.declared.event.Event.TheVariants.{Air, Wire, Tick}
 use Rattle.events.specs.declared.section.StationRow.{StationRow}

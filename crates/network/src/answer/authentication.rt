@@ -9,7 +9,8 @@ use crate::network::Network;
 use crate::reply::Reply;
 use association::{SUCCESS, auth_status, write_auth};
 use mac_frame::{MacAddr, NoMemory};
-use stations::{Change, StationState};
+use station_state::StationState;
+use stations::Change;
 
 impl Network {
     /// The reply to a request to authenticate: its answer, and where it is served the station is authenticated.

@@ -1,7 +1,7 @@
 //! Data frames: the mode of a station, and its units (IEEE Std 802.11-2016, 4.5.2 and 11.2.3.2).
 
 ghost use Rattle.std.specs.Prelude.{◌≡◌, ◌≤◌, ◌<◌, false, None, OnOk};
-ghost use Rattle.bridge.specs.Encapsulation.{on_wire};
+ghost use Rattle.encapsulation.specs.Encapsulation.{on_wire};
 ghost use Rattle.powersave.specs.Keep.{units_for};
 ghost use Rattle.powersave.specs.declared.unit.Whom.TheVariants as whoms;
 ghost use Rattle.network.specs.Arrivals.{unit_shown};
@@ -13,10 +13,11 @@ ghost use Rattle.network.specs.Units.{unit, goes_on_wire};
 
 use crate::network::Network;
 use crate::reply::{Arrival, Body, Reply};
-use bridge::to_wire;
+use encapsulation::to_wire;
 use mac_frame::{MacAddr, NoMemory};
 use powersave::Whom;
-use stations::{Change, StationState, dozes_with, is_associated};
+use station_state::StationState;
+use stations::{Change, dozes_with, is_associated};
 
 impl Network {
     /// The reply to a unit of an associated station: its mode is set, and then the unit is delivered on the air, put on

@@ -17,7 +17,8 @@ use crate::reply::{Arrival, Delivery, Reply};
 use mac_frame::{MacAddr, NoMemory};
 use powersave::Whom;
 use roster::Arriving;
-use stations::{Change, StationState, aid_with};
+use station_state::StationState;
+use stations::{Change, aid_with};
 
 impl Network {
     /// Goes on with a reply, which sets the mode of one station at most: delivers a unit on the air as the network does

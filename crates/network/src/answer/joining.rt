@@ -11,7 +11,8 @@ use crate::reply::Reply;
 use association::{SUCCESS, assoc_status, write_assoc};
 use elements::Elements;
 use mac_frame::{MacAddr, NoMemory};
-use stations::{Change, StationState};
+use station_state::StationState;
+use stations::Change;
 
 impl Network {
     /// The reply to the request of a known station to associate, or `again` to reassociate: its answer, and where it

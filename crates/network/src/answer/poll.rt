@@ -9,7 +9,7 @@ ghost use Rattle.network.specs.Units.{may_poll};
 use crate::network::Network;
 use crate::reply::Reply;
 use mac_frame::MacAddr;
-use stations::StationState;
+use station_state::StationState;
 
 impl Network {
     /// Whose poll is served, if this one is: that of a station in this state which dozes and names its own identifier.

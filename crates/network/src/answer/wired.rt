@@ -1,13 +1,13 @@
 //! Frames of the wire (IEEE Std 802.11-2016, 4.5.2.2).
 
 ghost use Rattle.std.specs.Prelude.{◌≡◌, ◌<◌, OnOk};
-ghost use Rattle.bridge.specs.Ethernet.{ethernet_of};
+ghost use Rattle.encapsulation.specs.Ethernet.{ethernet_of};
 ghost use Rattle.network.specs.Network.{answer_wired};
 ghost use Rattle.network.specs.Replies.{no_reply, after_reply, IsFitting};
 
 use crate::network::Network;
 use crate::reply::{Arrival, Body, Reply};
-use bridge::Ether;
+use encapsulation::Ether;
 use mac_frame::NoMemory;
 
 impl Network {

@@ -3,7 +3,7 @@
 ghost use Rattle.std.specs.Prelude.{◌≡◌, ◌+◌, ◌++◌, ◌^◌, ◌<◌, ◌≤◌, length, IfOk, OnOk, OnErr};
 ghost use Rattle.network.specs.Arrivals.{body_octets, unit_shown};
 
-use bridge::{Ether, TYPED_HEADER_LEN, to_air};
+use encapsulation::{Ether, TYPED_HEADER_LEN, to_air};
 use mac_frame::{MacAddr, NoMemory, Octets};
 use powersave::{Unit, Whom};
 use std::alloc::Global;

@@ -1,6 +1,6 @@
 use Rattle.std.proofs.Common.{◌∙◌, Result, Ok, Err, None, ap, subst}
 use Rattle.std.specs.Prelude.{IfOk}
-use Rattle.bridge.specs.Ethernet.{ethernet_of}
+use Rattle.encapsulation.specs.Ethernet.{ethernet_of}
 use Rattle.association.specs.Request.{request_of}
 use Rattle.network.specs.Network.{step}
 use Rattle.network.specs.Replies.{done}

@@ -1,7 +1,7 @@
 use Rattle.std.proofs.Common.{◌≡◌, ◌∙◌, Some, None, true, false, is_some, unwrap_or, refl, sym, ap, ◌≢◌, ◌<◌, arith}
 use Rattle.std.specs.Int.{from_bool}
 use Rattle.stations.specs.Stations.{Table, StationTable, aid_of, aid_with, dozes_with, state_of, identifiers, next_aid, set_state, associate}
-use Rattle.stations.specs.declared.table.StationState.TheVariants.{Associated}
+use Rattle.station_state.specs.declared.state.StationState.TheVariants.{Associated}
 use Rattle.aid_pool.specs.LeastFree.{least_free, is_among}
 use Rattle.std.specs.FinSet as set
 use Rattle.stations.proofs.StationTables.{out-associated, out-associated_again, authenticated-where, least-of_out, changed_table, dozing_at, dozing-set, dozing-at_most}

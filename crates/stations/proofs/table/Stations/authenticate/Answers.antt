@@ -1,7 +1,7 @@
 use Rattle.std.proofs.Common.{◌≡◌, ◌∙◌, Some, None, sym, ap, arith}
 use Rattle.std.specs.Int.{from_bool}
 use Rattle.stations.specs.Stations.{Table, aid_of, aid_with, dozes_with, set_state, authenticate}
-use Rattle.stations.specs.declared.table.StationState.TheVariants.{Authenticated}
+use Rattle.station_state.specs.declared.state.StationState.TheVariants.{Authenticated}
 use Rattle.stations.proofs.StationTables.{with_entry-is_set_state, out-of_associated, out-freed, out-kept, changed_table, dozing_at, dozing-set, dozing-at_most}
 use Rattle.stations.proofs.table.Stations.authenticate.Goals as goal
 

@@ -1,7 +1,7 @@
 use Rattle.std.proofs.Common.{◌≡◌, ◌∙◌, Some, is_some, if◌then◌else◌, sym, ap, arith}
 use Rattle.std.specs.Int.{from_bool}
 use Rattle.stations.specs.Stations.{Table, StationTable, aid_of, aid_with, dozes_with, state_of, set_state, disassociate}
-use Rattle.stations.specs.declared.table.StationState.TheVariants.{Authenticated}
+use Rattle.station_state.specs.declared.state.StationState.TheVariants.{Authenticated}
 use Rattle.stations.proofs.StationTables.{out-of_associated, out-freed, changed_table, dozing_at, dozing-set, dozing-at_most}
 use Rattle.stations.proofs.table.Stations.disassociate.Goals as goal
 

@@ -1,6 +1,6 @@
 //! Frames on the wire at the edges of what is read, and as they come back from the air.
 
-use bridge::{Ether, Kind, to_air, to_wire};
+use encapsulation::{Ether, Kind, to_air, to_wire};
 use mac_frame::{NoMemory, Octets, Unread};
 use std::alloc::Global;
 use std::test::Fail;

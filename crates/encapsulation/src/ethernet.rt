@@ -1,7 +1,7 @@
 //! Ethernet frames (IEEE Std 802.3, 3.1.1 and 3.2): which strings of octets are which frame.
 
 ghost use Rattle.std.specs.Prelude.{◌≡◌, ◌<◌, ◌≤◌, ◌↔◌, List, ℕ, length, take, Ok, Err, IsOkAnd, IfOk, MatchResult};
-ghost use Rattle.bridge.specs.Ethernet.{Ethernet, IsEthernet, ethernet_of, shown};
+ghost use Rattle.encapsulation.specs.Ethernet.{Ethernet, IsEthernet, ethernet_of, shown};
 
 use crate::encapsulation::TYPED_HEADER_LEN;
 use mac_frame::{ADDRESS_LEN, MAX_BODY_LEN, MacAddr, Unread, address_at};

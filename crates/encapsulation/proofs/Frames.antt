@@ -7,10 +7,10 @@ use Rattle.std.proofs.lemmas.Bool.{le-ltb, le-leb, lt-leb, leb-true, ltb-false, 
 use Rattle.std.proofs.lemmas.List.{length-take-le, take-append-drop, take_at, drop_at, drop-drop}
 use Rattle.mac_frame.specs.declared.frame.Unread.{Unread}
 use Rattle.mac_frame.specs.declared.frame.Unread.TheVariants.{Short, Body, TooLong}
-use Rattle.bridge.specs.declared.ethernet.Kind.{Kind}
-use Rattle.bridge.specs.declared.ethernet.Kind.TheVariants.{Typed, Sized}
-use Rattle.bridge.specs.Ethernet.{Ethernet, number, is_type, is_length, IsParted, IsOfKind, IsEthernet, number_of}
-use Rattle.bridge.specs.Ethernet.{rest_of, frame_at, typed_of, sized_of, ethernet_of}
+use Rattle.encapsulation.specs.declared.ethernet.Kind.{Kind}
+use Rattle.encapsulation.specs.declared.ethernet.Kind.TheVariants.{Typed, Sized}
+use Rattle.encapsulation.specs.Ethernet.{Ethernet, number, is_type, is_length, IsParted, IsOfKind, IsEthernet, number_of}
+use Rattle.encapsulation.specs.Ethernet.{rest_of, frame_at, typed_of, sized_of, ethernet_of}
 
 -- ---- where the fields stand
 

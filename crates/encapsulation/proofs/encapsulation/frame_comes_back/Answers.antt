@@ -1,5 +1,5 @@
-use Rattle.bridge.proofs.Bodies.{typed_comes_back, sized_comes_back}
-use Rattle.bridge.proofs.encapsulation.frame_comes_back.Goals as goal
+use Rattle.encapsulation.proofs.Bodies.{typed_comes_back, sized_comes_back}
+use Rattle.encapsulation.proofs.encapsulation.frame_comes_back.Goals as goal
 
 pub returns-clause-typed : goal.returns-clause-typed
 returns-clause-typed c = typed_comes_back

@@ -1,7 +1,7 @@
 use Rattle.std.proofs.Common.{arith}
 use Rattle.std.proofs.lemmas.Grind.{common_steps}
-use Rattle.bridge.proofs.Frames.{is_a_frame, is_the_read}
-use Rattle.bridge.proofs.ethernet.Ether.decode.Goals as goal
+use Rattle.encapsulation.proofs.Frames.{is_a_frame, is_the_read}
+use Rattle.encapsulation.proofs.ethernet.Ether.decode.Goals as goal
 
 pub returns-clause-fault : goal.returns-clause-fault
 returns-clause-fault c = grind (arith, common_steps) steps 40000000

@@ -5,9 +5,9 @@ use Rattle.std.specs.Prelude.{if◌then◌else◌}
 use Rattle.std.specs.Int.{w16, from_be_bytes}
 use Rattle.mac_frame.specs.declared.frame.Unread.{Unread}
 use Rattle.mac_frame.specs.declared.frame.Unread.TheVariants.{Short, Body, TooLong}
-use Rattle.bridge.specs.declared.ethernet.Ether.{Ether}
-use Rattle.bridge.specs.declared.ethernet.Kind.{Kind}
-use Rattle.bridge.specs.declared.ethernet.Kind.TheVariants.{Typed, Sized}
+use Rattle.encapsulation.specs.declared.ethernet.Ether.{Ether}
+use Rattle.encapsulation.specs.declared.ethernet.Kind.{Kind}
+use Rattle.encapsulation.specs.declared.ethernet.Kind.TheVariants.{Typed, Sized}
 
 -- a frame without where its payload lies in memory
 pub record Ethernet : Type 0 where

@@ -3,9 +3,9 @@ use Rattle.std.specs.Prelude.{ℕ, ◌≡◌, Bool, nat_le, ◌&&◌, List, [], 
 use Rattle.std.specs.Prelude.{option_map, if◌then◌else◌}
 use Rattle.std.specs.Int.{w16, to_be_bytes}
 use Rattle.std.specs.Str.{bytes_eq}
-use Rattle.bridge.specs.Ethernet.{Ethernet, IsEthernet, number, is_type, is_length}
-use Rattle.bridge.specs.declared.ethernet.Kind.{Kind}
-use Rattle.bridge.specs.declared.ethernet.Kind.TheVariants.{Typed, Sized}
+use Rattle.encapsulation.specs.Ethernet.{Ethernet, IsEthernet, number, is_type, is_length}
+use Rattle.encapsulation.specs.declared.ethernet.Kind.{Kind}
+use Rattle.encapsulation.specs.declared.ethernet.Kind.TheVariants.{Typed, Sized}
 
 -- the header of RFC 1042: both service access points AA, unnumbered information (03), organization code 00-00-00
 abbrev pub rfc1042_header : List ℕ

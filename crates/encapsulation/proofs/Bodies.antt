@@ -8,11 +8,11 @@ use Rattle.std.proofs.lemmas.List.{get_or-append-add, get_or_append_left, get_or
 use Rattle.std.proofs.lemmas.List.{take-append-drop, length-take-le}
 use Rattle.std.specs.Cmp.Lexicographic.{bytes_decides}
 use Rattle.std.proofs.lemmas.Nat.{be_bytes_2, from_be_bytes-to_be_bytes_2}
-use Rattle.bridge.specs.declared.ethernet.Kind.TheVariants.{Typed, Sized}
-use Rattle.bridge.specs.Ethernet.{Ethernet, number, is_type, is_length, IsTyped, IsSized, IsOfKind, ethernet_of}
-use Rattle.bridge.specs.Encapsulation.{rfc1042_header, body_of, on_air, on_wire, type_of, names_type}
-use Rattle.bridge.specs.Encapsulation.{number_and_payload, Carries}
-use Rattle.bridge.proofs.Frames.{is_a_frame}
+use Rattle.encapsulation.specs.declared.ethernet.Kind.TheVariants.{Typed, Sized}
+use Rattle.encapsulation.specs.Ethernet.{Ethernet, number, is_type, is_length, IsTyped, IsSized, IsOfKind, ethernet_of}
+use Rattle.encapsulation.specs.Encapsulation.{rfc1042_header, body_of, on_air, on_wire, type_of, names_type}
+use Rattle.encapsulation.specs.Encapsulation.{number_and_payload, Carries}
+use Rattle.encapsulation.proofs.Frames.{is_a_frame}
 
 -- a body that was made of a type and a payload is taken apart again
 taken_apart : (type : ℕ) (payload : List ℕ) → type < 2 ^ 16 → 0x0600 ≤ type

@@ -1,10 +1,10 @@
 -- What the definitions say of some strings.
 use Rattle.std.proofs.Common.{◌≡◌, ℕ, List, [], ◌∷◌, replicate, take, Ok, Err, refl, arith}
 use Rattle.mac_frame.specs.declared.frame.Unread.TheVariants.{Short, Body, TooLong}
-use Rattle.bridge.specs.declared.ethernet.Kind.{Kind}
-use Rattle.bridge.specs.declared.ethernet.Kind.TheVariants.{Typed, Sized}
-use Rattle.bridge.specs.Ethernet.{Ethernet, IsEthernet, ethernet_of}
-use Rattle.bridge.proofs.Samples.{station, host, to_station}
+use Rattle.encapsulation.specs.declared.ethernet.Kind.{Kind}
+use Rattle.encapsulation.specs.declared.ethernet.Kind.TheVariants.{Typed, Sized}
+use Rattle.encapsulation.specs.Ethernet.{Ethernet, IsEthernet, ethernet_of}
+use Rattle.encapsulation.proofs.Samples.{station, host, to_station}
 
 -- the frame from the host to the station
 abbrev from_host : Kind → List ℕ → Ethernet

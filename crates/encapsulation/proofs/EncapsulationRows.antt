@@ -1,8 +1,8 @@
 -- What the definitions say of some frames and bodies.
 use Rattle.std.proofs.Common.{◌≡◌, ℕ, List, [], ◌∷◌, ◌++◌, replicate, Option, Some, None, refl}
-use Rattle.bridge.specs.declared.ethernet.Kind.TheVariants.{Typed, Sized}
-use Rattle.bridge.specs.Encapsulation.{rfc1042_header, on_air, on_wire}
-use Rattle.bridge.proofs.Samples.{station, host, to_station}
+use Rattle.encapsulation.specs.declared.ethernet.Kind.TheVariants.{Typed, Sized}
+use Rattle.encapsulation.specs.Encapsulation.{rfc1042_header, on_air, on_wire}
+use Rattle.encapsulation.proofs.Samples.{station, host, to_station}
 
 -- ---- to the air
 

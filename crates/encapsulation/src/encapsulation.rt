@@ -3,8 +3,8 @@
 ghost use Rattle.std.specs.Prelude.{◌≡◌, ◌+◌, ◌++◌, ◌<◌, ◌≤◌, List, ℕ, false, length, take, slice_index};
 ghost use Rattle.std.specs.Prelude.{option_map, is_some, Ok, Some, IfOk, OnOk, OnErr, MatchOption};
 ghost use Rattle.std.specs.Int.{w16, to_be_bytes};
-ghost use Rattle.bridge.specs.Ethernet.{Ethernet, ethernet_of, shown};
-ghost use Rattle.bridge.specs.Encapsulation.{rfc1042_header, on_air, names_type, number_and_payload, on_wire, Carries};
+ghost use Rattle.encapsulation.specs.Ethernet.{Ethernet, ethernet_of, shown};
+ghost use Rattle.encapsulation.specs.Encapsulation.{rfc1042_header, on_air, names_type, number_and_payload, on_wire, Carries};
 
 use crate::ethernet::{Ether, HEADER_LEN, Kind, MAX_LENGTH, MIN_LENGTH, MIN_TYPE};
 use mac_frame::{MAX_BODY_LEN, MacAddr, NoMemory, Octets};

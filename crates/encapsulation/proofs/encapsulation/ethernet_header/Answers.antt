@@ -1,7 +1,7 @@
 use Rattle.std.proofs.Common.{◌≡◌, ◌++◌, ℕ, List, length, map, slice_index, refl, sym, ap, ◌∙◌, rules}
 use Rattle.std.specs.List.{range_with_len}
 use Rattle.std.proofs.lemmas.List.FromFn.{fill_by_all}
-use Rattle.bridge.proofs.encapsulation.ethernet_header.Goals as goal
+use Rattle.encapsulation.proofs.encapsulation.ethernet_header.Goals as goal
 
 -- the octets of a list, one by one
 abbrev cells : List ℕ → ℕ → List ℕ
