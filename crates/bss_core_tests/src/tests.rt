@@ -10,6 +10,7 @@ use std::alloc::Global;
 mod aging;
 mod one_network;
 mod radio;
+mod read_once;
 mod runs;
 
 /// The event that octets, as a text spells them, were heard on the air.
