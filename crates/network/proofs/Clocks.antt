@@ -1,20 +1,19 @@
 -- The clock of a network moves where a beacon interval begins, and nowhere else.
-use Rattle.std.proofs.Common.{◌≡◌, ℕ, ◌+◌, Bool, true, false, not, ◌&&◌, List, [], ◌∷◌, ◌++◌, length, Option, Some, None, Result, Ok, Err, if◌then◌else◌, refl, ◌∙◌}
+use Rattle.std.proofs.Common.{◌≡◌, ℕ, Bool, true, false, not, ◌&&◌, List, [], ◌∷◌, ◌++◌, length, Option, Some, None, Result, Ok, Err, if◌then◌else◌, refl, ◌∙◌}
 use Rattle.std.specs.Prelude.{◌==◌, nat_lt}
 use Rattle.mac_frame.specs.declared.frame.Unread.{Unread}
 use Rattle.association.specs.Request.{Request, Probe, Auth, Assoc, Disassoc, Deauth, Msdu, Null, Poll, sender}
 use Rattle.association.specs.Asked.{class_of}
 use Rattle.association.specs.Status.{success}
-use Rattle.beacon.specs.Beacon.{dtim_count}
 use Rattle.encapsulation.specs.Encapsulation.{on_wire}
 use Rattle.encapsulation.specs.Ethernet.{Ethernet}
 use Rattle.powersave.specs.Keep.{units_for}
 use Rattle.powersave.specs.declared.unit.Unit.{Unit as DataUnit}
-use Rattle.powersave.specs.declared.unit.Whom.TheVariants.{One, Group}
+use Rattle.powersave.specs.declared.unit.Whom.TheVariants.{One}
 use Rattle.station_state.specs.ClassFault.{class_fault}
 use Rattle.station_state.specs.declared.class.Notice.{Notice}
 use Rattle.ap_config.specs.declared.setting.Setting.{Setting}
-use Rattle.network.specs.Network.{Network, asks_for, answer, answer_wired, serve, notify_or_serve, change_state, change_where_served, change_stations, lose, deliver, deliver_by, drop_units, send_unit, send_each, put_on_wire, relay, forward_by, set_power_mode, serve_poll, tick, send, beacon_frame, authentication_status, association_status, step}
+use Rattle.network.specs.Network.{Network, asks_for, answer, answer_wired, serve, notify_or_serve, change_state, change_where_served, change_stations, lose, deliver, deliver_by, send_unit, send_each, put_on_wire, relay, forward_by, set_power_mode, serve_poll, authentication_status, association_status, step}
 use Rattle.stations.specs.Stations.{Table, state_of, is_dozing, set_mode, standing_of, authenticate, associate}
 use Rattle.network.specs.Units.{unit, unit_of, delivery_of, goes_on_wire, may_poll, others_follow}
 use Rattle.network.specs.declared.reply.unit.Delivery.{Delivery}
@@ -82,9 +81,3 @@ answered s (Err fault) n = refl
 pub wired : (s : Setting) (read : Result Ethernet Unread) → KeepsClock (answer_wired s read)
 wired s (Ok w) n = let u : DataUnit = unit_of n.clock w in delivered_by s u (delivery_of u.to n.stations n.kept) n
 wired s (Err fault) n = refl
-
-pub ticked : (s : Setting) (n : Network) → (tick s n).clock ≡ n.clock + 1
-ticked s n =
-    let sent : Network = send (beacon_frame s (n.clock + 1) n.stations n.kept) (record n { clock = n.clock + 1 }) in
-    chosen (dtim_count sent.clock s.network.dtim == 0) (send_each s true (units_for Group sent.kept) (drop_units Group sent)) sent sent
-    (each s true (units_for Group sent.kept) (drop_units Group sent)) refl

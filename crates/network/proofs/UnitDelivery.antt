@@ -1,5 +1,5 @@
 -- How a reply goes on: a frame is sent, a unit is delivered.
-use Rattle.std.proofs.Common.{◌≡◌, ℕ, zero, suc, ◌+◌, ◌<◌, ◌≤◌, Bool, true, false, not, ◌||◌, ◌&&◌, List, [], ◌∷◌, ◌++◌, length, drop, slice_get, Option, Some, None, option_map, option_to_list, refl, sym, ap, subst, ◌∙◌, arith, rules}
+use Rattle.std.proofs.Common.{◌≡◌, ℕ, zero, suc, ◌+◌, ◌<◌, Bool, true, false, not, ◌||◌, ◌&&◌, List, [], ◌∷◌, ◌++◌, length, drop, slice_get, Option, Some, None, option_map, option_to_list, refl, sym, ap, subst, ◌∙◌, arith, rules}
 use Rattle.std.specs.Prelude.{nat_lt, if◌then◌else◌}
 use Rattle.std.specs.Str.{bytes_eq}
 use Rattle.std.proofs.lemmas.Bool.{both_ways, lt-ltb, le-ltb}
@@ -139,13 +139,6 @@ one-more s shows_more us k u r n here =
     ap (λ (vs : List DataUnit). send_each s shows_more vs (after_reply r n)) first
     ∙ ap (λ (b : Bool). send_each s shows_more rest (send_unit s (shows_more && b) u (after_reply r n))) more
     ∙ ap (send_each s shows_more rest) (after-sent r n (unit_frame s.network.bssid (shows_more && nat_lt (k + 1) (length us)) u))
-
--- none is left
-pub all-sent : (us : List DataUnit) (k : ℕ) → length us ≤ k → drop k us ≡ []
-all-sent [] zero h = refl
-all-sent [] (suc k) h = refl
-all-sent (u ∷ us) zero h = absurd (omega (arith, h))
-all-sent (u ∷ us) (suc k) h = all-sent us k (omega (arith, h))
 
 -- one stands at each place
 pub some-at : (us : List DataUnit) (k : ℕ) → k < length us → (u : DataUnit) × (slice_get us k ≡ Some u)
