@@ -1,11 +1,11 @@
 -- Units one after the other, and those that are too old.
-use Rattle.std.proofs.Common.{◌≡◌, ℕ, ◌+◌, Bool, true, false, not, ◌&&◌, cond, List, [], ◌∷◌, length, Option, None, refl, ap, ◌∙◌, arith}
+use Rattle.std.proofs.Common.{◌≡◌, ℕ, ◌+◌, Bool, true, false, not, ◌&&◌, cond, List, [], ◌∷◌, length, refl, ap, ◌∙◌, arith}
 use Rattle.std.specs.Prelude.{filter, nat_lt}
 use Rattle.powersave.specs.Keep.{Entry, is_for, units_for}
 use Rattle.powersave.specs.declared.unit.Whom.TheVariants.{Group}
 use Rattle.ap_config.specs.declared.setting.Setting.{Setting}
 use Rattle.network.specs.Network.{Network, has_aged, drop_lost, age_units}
-use Rattle.network.specs.Replies.{before_reply, served}
+use Rattle.network.specs.Replies.{Replied, before_outcome}
 use Rattle.roster.specs.KeptUnits.{group_is_kept, is_too_old}
 use Rattle.network.specs.declared.reply.Reply.{Reply}
 use Rattle.roster.proofs.Aging.{group-young, none-leaves}
@@ -70,9 +70,9 @@ all-stay s r n none =
     kept-count : n.lost + 0 ≡ n.lost
     kept-count = omega arith
 
-pub before-none : (s : Setting) (polled : Option (List ℕ)) (r : Reply) (n : Network) → r.clock ≡ 0 → before_reply s polled r n ≡ served polled n
-before-none s polled r n none = all-stay s r (served polled n) none
+pub before-none : (s : Setting) (r : Reply) (n : Network) → r.clock ≡ 0 → before_outcome s (Replied r) n ≡ n
+before-none s r n none = all-stay s r n none
 
 -- where one begins
-pub before-tick : (s : Setting) (r : Reply) (n : Network) → r.clock ≡ 1 → before_reply s None r n ≡ age_units s n
+pub before-tick : (s : Setting) (r : Reply) (n : Network) → r.clock ≡ 1 → before_outcome s (Replied r) n ≡ age_units s n
 before-tick s r n one = ap (λ (c : ℕ). drop_lost (λ e. (nat_lt 0 c && s.network.aging) && is_too_old n.clock n.stations e) n) one

@@ -15,7 +15,7 @@ use Rattle.powersave.specs.declared.unit.Whom.TheVariants.{One, Group}
 use Rattle.powersave.specs.declared.unit.Unit.{Unit as DataUnit}
 use Rattle.ap_config.specs.declared.setting.Setting.{Setting}
 use Rattle.network.specs.Network.{Network, send, send_unit, send_each, change_state, drop_units, serve_poll, answer_poll, set_power_mode, deliver_by, deliver}
-use Rattle.network.specs.Replies.{after_reply, no_reply, sending, serving, served, done, IsAwake, IsFitting}
+use Rattle.network.specs.Replies.{after_reply, no_reply, sending, serving, Served, unit_taken, after_answer, IsAwake, IsFitting}
 use Rattle.roster.specs.Keeping.{without, entry_of, aid_at, aid_for, is_leaving}
 use Rattle.roster.specs.KeptUnits.{IsKeptFor, group_is_kept}
 use Rattle.stations.specs.Stations.{Table, state_of, is_dozing, set_mode, some_station_dozes, changed, IsModeAlone}
@@ -149,28 +149,24 @@ some-at (u ∷ us) (suc k) h = some-at us k (omega (arith, h))
 -- ---- polls
 
 -- the first of these units, where there is one, is sent and leaves
-poll-carried : (s : Setting) (from : List ℕ) (us : List DataUnit) (n : Network) → units_for (One from) n.kept ≡ us → serve_poll s from us n ≡ after_reply (serving s us (no_reply n.sequence)) (served (Some from) n)
+poll-carried : (s : Setting) (from : List ℕ) (us : List DataUnit) (n : Network) → units_for (One from) n.kept ≡ us → serve_poll s from us n ≡ after_reply (serving s us (no_reply n.sequence)) (unit_taken (Served from) n)
 poll-carried s from [] n none =
-    sym (nothing-replied (served (Some from) n) ∙ ap (λ (es : List Entry). record n { kept = es }) (oldest-none (One from) n.kept none))
+    sym (nothing-replied (unit_taken (Served from) n) ∙ ap (λ (es : List Entry). record n { kept = es }) (oldest-none (One from) n.kept none))
 poll-carried s from (u ∷ us) n is =
-    let left : Network = served (Some from) n in
+    let left : Network = unit_taken (Served from) n in
     ap (send (unit_frame s.network.bssid (others_follow us) u)) (sym (nothing-replied left))
     ∙ after-sent (no_reply n.sequence) left (unit_frame s.network.bssid (others_follow us) u)
 
-pub poll-served : (s : Setting) (from : List ℕ) (aid : ℕ) (n : Network) → may_poll aid (state_of from n.stations) ≡ true → answer_poll s from aid n ≡ after_reply (done s n (Some from) (no_reply n.sequence)) (served (Some from) n)
+pub poll-served : (s : Setting) (from : List ℕ) (aid : ℕ) (n : Network) → may_poll aid (state_of from n.stations) ≡ true → answer_poll s from aid n ≡ after_answer s (Served from) n
 poll-served s from aid n may = rw may (poll-carried s from (units_for (One from) n.kept) n refl)
 
-pub poll-refused : (s : Setting) (from : List ℕ) (aid : ℕ) (n : Network) → may_poll aid (state_of from n.stations) ≡ false → answer_poll s from aid n ≡ after_reply (done s n None (no_reply n.sequence)) (served None n)
+pub poll-refused : (s : Setting) (from : List ℕ) (aid : ℕ) (n : Network) → may_poll aid (state_of from n.stations) ≡ false → answer_poll s from aid n ≡ after_reply (no_reply n.sequence) n
 poll-refused s from aid n not = rw not (sym (nothing-replied n))
 
 -- such a reply can be carried out
-pub poll-fits : (s : Setting) (n : Network) (polled : Option (List ℕ)) (sequence : ℕ) → IsFitting s (done s n polled (no_reply sequence)) (served polled n)
-poll-fits s n None sequence = record { change = tt; keeping = tt }
-poll-fits s n (Some from) sequence = by (units_for (One from) n.kept)
-  where
-    by : (us : List DataUnit) → IsFitting s (serving s us (no_reply sequence)) (served (Some from) n)
-    by [] = record { change = tt; keeping = tt }
-    by (u ∷ us) = record { change = tt; keeping = tt }
+pub poll-fits : (s : Setting) (us : List DataUnit) (sequence : ℕ) (n : Network) → IsFitting s (serving s us (no_reply sequence)) n
+poll-fits s [] sequence n = record { change = tt; keeping = tt }
+poll-fits s (u ∷ us) sequence n = record { change = tt; keeping = tt }
 
 -- ---- units that leave with a change
 
@@ -181,6 +177,6 @@ pub dtim-replied : (frame : ℕ → List ℕ) (n : Network) → after_reply (rec
 dtim-replied frame n = search rules
 
 -- with the poll of a station no beacon interval begins
-pub polled-clock : (s : Setting) (us : List DataUnit) (sequence : ℕ) → (serving s us (no_reply sequence)).clock ≡ 0
-polled-clock s [] sequence = refl
-polled-clock s (u ∷ us) sequence = refl
+pub poll-clock : (s : Setting) (us : List DataUnit) (sequence : ℕ) → (serving s us (no_reply sequence)).clock ≡ 0
+poll-clock s [] sequence = refl
+poll-clock s (u ∷ us) sequence = refl

@@ -1,9 +1,9 @@
 -- What contracts see of a network that runs without its history (profile).
-use Rattle.std.specs.Prelude.{ℕ, ◌≡◌, ◌+◌, ◌*◌, ◌<◌, ◌≤◌, ◌^◌, List, [], ◌++◌, Option, None}
+use Rattle.std.specs.Prelude.{ℕ, ◌≡◌, ◌+◌, ◌*◌, ◌<◌, ◌≤◌, ◌^◌, List, [], ◌++◌, None}
 use Rattle.ap_config.specs.Configuration.{network_fault}
 use Rattle.ap_config.specs.declared.setting.Setting.{Setting}
 use Rattle.network.specs.Network.{Network, empty_network, step}
-use Rattle.network.specs.Replies.{after_reply, before_reply, served, IsFitting}
+use Rattle.network.specs.Replies.{Outcome, reply_of, before_outcome, after_outcome, IsFitting}
 use Rattle.roster.specs.Roster.{RosterState}
 use Rattle.network.specs.Sound.{IsSoundNetwork}
 use Rattle.events.specs.declared.event.Event.{Event}
@@ -32,26 +32,21 @@ new_network s = record { setting = s; events = 0; network = empty_network }
 abbrev pub took_event : Event → NetworkState → NetworkState
 took_event e n = record n { events = n.events + 1; network = unsent (step n.setting n.network e) }
 
--- one that did what a reply says, and served the poll of a station besides, if there is one, while no unit aged
-abbrev pub replied : (polled : Option (List ℕ)) → Reply → NetworkState → NetworkState
-replied polled r n = record n { events = n.events + 1; network = unsent (after_reply r (served polled n.network)) }
-
--- one that did so where units age
-abbrev pub carried_out : (polled : Option (List ℕ)) → Reply → NetworkState → NetworkState
-carried_out polled r n =
-    record n { events = n.events + 1; network = unsent (after_reply r (before_reply n.setting polled r n.network)) }
+-- one that took an event with this outcome
+abbrev pub carried_out : Outcome → NetworkState → NetworkState
+carried_out o n = record n { events = n.events + 1; network = unsent (after_outcome n.setting o n.network) }
 
 -- a reply with which a beacon interval begins changes no station, and no unit comes with it
 abbrev pub IsStill : Reply → Type 0
 IsStill r = 0 < r.clock → (r.change ≡ changes.Nothing) × (r.keeping.arriving ≡ None)
 
--- the reply can be carried out, and leaves a network within its bounds
-pub record MayFollow (n : NetworkState) (polled : Option (List ℕ)) (r : Reply) : Type 0 where
-  pub still : IsStill r
-  pub fitting : IsFitting n.setting r (before_reply n.setting polled r n.network)
+-- the outcome can be carried out, and leaves a network within its bounds
+pub record MayFollow (n : NetworkState) (o : Outcome) : Type 0 where
+  pub still : IsStill (reply_of n.setting o n.network)
+  pub fitting : IsFitting n.setting (reply_of n.setting o n.network) (before_outcome n.setting o n.network)
   pub sound : IsSoundNetwork n.setting (n.events + 1) (2 * (n.events + 1))
-      (unsent (after_reply r (before_reply n.setting polled r n.network)))
-  pub clock : n.network.clock + r.clock < 2 ^ 32
+      (unsent (after_outcome n.setting o n.network))
+  pub clock : n.network.clock + (reply_of n.setting o n.network).clock < 2 ^ 32
 
 -- ---- what is kept of it
 

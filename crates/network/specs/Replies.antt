@@ -4,7 +4,7 @@ use Rattle.std.specs.Prelude.{option_to_list}
 use Rattle.powersave.specs.declared.unit.Unit.{Unit as DataUnit}
 use Rattle.network.specs.Units.{unit_frame, others_follow}
 use Rattle.roster.specs.KeptUnits.{is_too_old}
-use Rattle.powersave.specs.Keep.{Entry, units_for, without_oldest}
+use Rattle.powersave.specs.Keep.{units_for, without_oldest}
 use Rattle.powersave.specs.declared.unit.Whom.TheVariants.{One, Group}
 use Rattle.ap_config.specs.declared.setting.Setting.{Setting}
 use Rattle.network.specs.Network.{Network, next_sequence, drop_lost}
@@ -30,21 +30,6 @@ no_reply sequence = record {
   clock = 0;
   spare = tt;
 }
-
--- the units that stay where the poll of a station is served besides, if one is: the first for it leaves (11.2.3.6)
-abbrev pub kept_beside : Option (List ℕ) → List Entry → List Entry
-kept_beside None kept = kept
-kept_beside (Some from) kept = without_oldest (One from) kept
-
--- the network once it left
-abbrev pub served : Option (List ℕ) → Network → Network
-served polled n = record n { kept = kept_beside polled n.kept }
-
--- the network that a reply is carried out on: the unit that a poll brings left, and where a beacon interval begins,
--- units age first
-abbrev pub before_reply : Setting → (polled : Option (List ℕ)) → Reply → Network → Network
-before_reply s polled r n =
-    drop_lost (λ entry. (nat_lt 0 r.clock && s.network.aging) && is_too_old n.clock n.stations entry) (served polled n)
 
 -- the network after a reply, effect by effect
 abbrev pub after_reply : Reply → Network → Network
@@ -75,10 +60,43 @@ abbrev pub serving : Setting → List DataUnit → Reply → Reply
 serving s [] r = r
 serving s (u ∷ us) r = sending r (unit_frame s.network.bssid (others_follow us) u)
 
--- the whole reply, where a station's poll may have to be served besides
-abbrev pub done : Setting → Network → Option (List ℕ) → Reply → Reply
-done s n None r = r
-done s n (Some from) r = serving s (units_for (One from) n.kept) r
+-- ---- outcomes
+
+-- what a network does about an event
+pub data Outcome : Type 0 where
+  -- what a reply says
+  Replied : (reply : Reply) → Outcome
+  -- it serves the poll of a station, and nothing else
+  Served : (from : List ℕ) → Outcome
+
+-- the outcome, by the station whose poll is served, if one is, and by the reply where none is
+abbrev pub outcome : Option (List ℕ) → Reply → Outcome
+outcome None r = Replied r
+outcome (Some from) r = Served from
+
+-- the reply of an outcome: that to a poll sends the first unit that is kept for the station
+abbrev pub reply_of : Setting → Outcome → Network → Reply
+reply_of s (Replied r) n = r
+reply_of s (Served from) n = serving s (units_for (One from) n.kept) (no_reply n.sequence)
+
+-- the network once the unit that a poll brings was taken out
+abbrev pub unit_taken : Outcome → Network → Network
+unit_taken (Replied r) n = n
+unit_taken (Served from) n = record n { kept = without_oldest (One from) n.kept }
+
+-- the network that the reply of an outcome is carried out on: where a beacon interval begins, units age first
+abbrev pub before_outcome : Setting → Outcome → Network → Network
+before_outcome s (Replied r) n =
+    drop_lost (λ entry. (nat_lt 0 r.clock && s.network.aging) && is_too_old n.clock n.stations entry) n
+before_outcome s (Served from) n = unit_taken (Served from) n
+
+-- the network after an outcome
+abbrev pub after_outcome : Setting → Outcome → Network → Network
+after_outcome s o n = after_reply (reply_of s o n) (before_outcome s o n)
+
+-- the network after the answer to a request, with which no unit ages
+abbrev pub after_answer : Setting → Outcome → Network → Network
+after_answer s o n = after_reply (reply_of s o n) (unit_taken o n)
 
 -- ---- a reply that sets a mode, to which something is added
 

@@ -3,7 +3,7 @@
 ghost use Rattle.std.specs.Prelude.{◌≡◌, ◌<◌, IfOk, IfSome};
 ghost use Rattle.association.specs.Request.{request_of};
 ghost use Rattle.network.specs.Network.{answer};
-ghost use Rattle.network.specs.Replies.{no_reply, done, served, after_reply, IsFitting};
+ghost use Rattle.network.specs.Replies.{no_reply, outcome, reply_of, unit_taken, after_answer, IsFitting};
 
 mod authentication;
 mod data;
@@ -33,11 +33,11 @@ impl Network {
         requires nothing { reply.old ≡ no_reply self.now.network.sequence }
         requires sequence { reply.old.sequence < 4096 }
         ensures fitting { IfOk result (λ polled. IsFitting self.now.setting
-            (done self.now.setting self.now.network polled reply.new) (served polled self.now.network)) }
+            (reply_of self.now.setting (outcome polled reply.new) self.now.network)
+            (unit_taken (outcome polled reply.new) self.now.network)) }
         ensures answer { IfOk result (λ polled.
             answer self.now.setting (request_of self.now.setting.network.bssid frame.now) self.now.network
-            ≡ after_reply (done self.now.setting self.now.network polled reply.new)
-            (served polled self.now.network)) }
+            ≡ after_answer self.now.setting (outcome polled reply.new) self.now.network) }
         ensures alone { IfOk result (λ polled. IfSome polled (λ _. reply.new ≡ no_reply self.now.network.sequence)) }
     {
         let Ok(request) = frame.request_for(self.setting().network.bssid) else {

@@ -5,10 +5,10 @@ ghost use Rattle.std.specs.Prelude.{IfOk, OnOk, OnErr, [], length, slice_get, op
 ghost use Rattle.ap_config.specs.Configuration.{setting_fault, network_fault};
 ghost use Rattle.beacon.specs.ProbeResponse.{response_elements};
 ghost use Rattle.network.specs.Network.{step, table_of, age_units, announced_at};
-ghost use Rattle.network.specs.NetworkView.{new_network, took_event, replied, carried_out, MayFollow};
+ghost use Rattle.network.specs.NetworkView.{new_network, took_event, carried_out, MayFollow};
 ghost use Rattle.network.specs.Sizes.{AreAtMost, IsWithinSizes, most_on_air, most_on_wire};
 ghost use Rattle.network.specs.Sound.{IsSoundNetwork};
-ghost use Rattle.network.specs.Replies.{no_reply, done, serving, before_reply, after_reply};
+ghost use Rattle.network.specs.Replies.{no_reply, Replied, Served, outcome, reply_of, after_outcome};
 ghost use Rattle.roster.specs.Roster.{AreWaitedFor};
 ghost use Rattle.events.specs.LentEvents.{event_of};
 ghost use Rattle.network.specs.ReadEvents.{event_read};
@@ -325,10 +325,9 @@ impl Network {
         requires sequence { reply.old.sequence < 4096 }
         requires ticks { event_read event.now ≡ events.Tick → self.now.network.clock < 4294967295 }
         ensures follows { IfOk result (λ polled.
-            MayFollow self.now polled (done self.now.setting self.now.network polled reply.new)) }
+            MayFollow self.now (outcome polled reply.new)) }
         ensures step { IfOk result (λ polled. step self.now.setting self.now.network (event_read event.now)
-            ≡ after_reply (done self.now.setting self.now.network polled reply.new) (before_reply self.now.setting
-            polled (done self.now.setting self.now.network polled reply.new) self.now.network)) }
+            ≡ after_outcome self.now.setting (outcome polled reply.new) self.now.network) }
         ensures alone { IfOk result (λ polled. IfSome polled (λ _. reply.new ≡ no_reply self.now.network.sequence)) }
     {
         // what it keeps to stays so
@@ -356,15 +355,14 @@ impl Network {
         reply: &mut Reply,
         polled: Option<MacAddr>,
     ) -> Result<(), NoMemory>
-        requires follows { MayFollow self.old polled (done self.old.setting self.old.network polled reply.old) }
+        requires follows { MayFollow self.old (outcome polled reply.old) }
         requires countable { self.old.events < 2 ^ 62 }
         requires alone { IfSome polled (λ _. reply.old ≡ no_reply self.old.network.sequence) }
-        ensures after { OnOk result
-            (self.new ≡ carried_out polled (done self.old.setting self.old.network polled reply.old) self.old) }
+        ensures after { OnOk result (self.new ≡ carried_out (outcome polled reply.old) self.old) }
         ensures air { OnOk result
-            (reply.new.frames ≡ (done self.old.setting self.old.network polled reply.old).frames) }
+            (reply.new.frames ≡ (reply_of self.old.setting (outcome polled reply.old) self.old.network).frames) }
         ensures wire { OnOk result
-            (reply.new.wired ≡ (done self.old.setting self.old.network polled reply.old).wired) }
+            (reply.new.wired ≡ (reply_of self.old.setting (outcome polled reply.old) self.old.network).wired) }
         ensures few { OnOk result
             ((room : ℕ) → 1 ≤ room → length reply.old.frames ≤ room → length reply.new.frames ≤ room) }
         ensures err { OnErr result (self.new ≡ self.old) }
@@ -380,13 +378,11 @@ impl Network {
     fn serve_poll(&mut self, frames: &mut Frames, from: MacAddr) -> Result<(), NoMemory>
         requires none { frames.old ≡ [] }
         requires sound { IsSoundNetwork self.old.setting (self.old.events + 1) (2 * (self.old.events + 1))
-            (replied (Some from) (serving self.old.setting (units_for (whoms.One from) self.old.network.kept)
-            (no_reply self.old.network.sequence)) self.old).network }
+            (carried_out (Served from) self.old).network }
         requires countable { self.old.events < 2 ^ 62 }
-        ensures after { OnOk result (self.new ≡ replied (Some from) (serving self.old.setting
-            (units_for (whoms.One from) self.old.network.kept) (no_reply self.old.network.sequence)) self.old) }
-        ensures air { OnOk result (frames.new ≡ (serving self.old.setting
-            (units_for (whoms.One from) self.old.network.kept) (no_reply self.old.network.sequence)).frames) }
+        ensures after { OnOk result (self.new ≡ carried_out (Served from) self.old) }
+        ensures air { OnOk result
+            (frames.new ≡ (reply_of self.old.setting (Served from) self.old.network).frames) }
         ensures few { OnOk result (length frames.new ≤ 1) }
         ensures err { OnErr result (self.new ≡ self.old) }
     {
@@ -405,9 +401,9 @@ impl Network {
     /// changed.
     #[inline(always)]
     fn carry_out(&mut self, reply: &mut Reply) -> Result<(), NoMemory>
-        requires follows { MayFollow self.old None reply.old }
+        requires follows { MayFollow self.old (Replied reply.old) }
         requires countable { self.old.events < 2 ^ 62 }
-        ensures after { OnOk result (self.new ≡ carried_out None reply.old self.old) }
+        ensures after { OnOk result (self.new ≡ carried_out (Replied reply.old) self.old) }
         ensures air { reply.new.frames ≡ reply.old.frames }
         ensures wire { reply.new.wired ≡ reply.old.wired }
         ensures err { OnErr result (self.new ≡ self.old) }

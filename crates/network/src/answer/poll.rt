@@ -2,7 +2,7 @@
 
 ghost use Rattle.std.specs.Prelude.{◌≡◌};
 ghost use Rattle.network.specs.Network.{answer_poll};
-ghost use Rattle.network.specs.Replies.{no_reply, done, served, after_reply, IsFitting};
+ghost use Rattle.network.specs.Replies.{no_reply, outcome, reply_of, unit_taken, after_answer, IsFitting};
 ghost use Rattle.stations.specs.Stations.{state_of};
 ghost use Rattle.network.specs.Units.{may_poll};
 
@@ -24,10 +24,10 @@ impl Network {
         requires nothing { reply.now ≡ no_reply self.now.network.sequence }
         requires state { state ≡ state_of from self.now.network.stations }
         ensures fitting { IsFitting self.now.setting
-            (done self.now.setting self.now.network result reply.now) (served result self.now.network) }
+            (reply_of self.now.setting (outcome result reply.now) self.now.network)
+            (unit_taken (outcome result reply.now) self.now.network) }
         ensures answer { answer_poll self.now.setting from aid self.now.network
-            ≡ after_reply (done self.now.setting self.now.network result reply.now)
-            (served result self.now.network) }
+            ≡ after_answer self.now.setting (outcome result reply.now) self.now.network }
     {
         if may_poll(aid, state) {
             Some(from)

@@ -5,7 +5,7 @@ use Rattle.std.proofs.lemmas.Option.{none-some}
 use Rattle.ap_config.specs.declared.setting.Setting.{Setting}
 use Rattle.network.specs.Network.{Network}
 use Rattle.network.specs.NetworkView.{NetworkState, IsStill, MayFollow, carried_out, network_with, unsent}
-use Rattle.network.specs.Replies.{after_reply, before_reply}
+use Rattle.network.specs.Replies.{Replied, after_reply, before_outcome}
 use Rattle.roster.specs.Keeping.{kept_after, IsWithin}
 use Rattle.roster.specs.Roster.{RosterState, is_aged}
 use Rattle.network.specs.Sound.{IsSoundNetwork}
@@ -25,27 +25,27 @@ not-begun r a still comes = by (nat_lt 0 r.clock) refl
     by false none = let most = ltb-false 0 r.clock none in omega (arith, most)
 
 -- one that comes after units aged comes while none did
-within-now : (quota : ℕ) (s : Setting) (r : Reply) (n : Network) → IsStill r → IsWithin quota r.change r.keeping.leaving (before_reply s None r n).stations (before_reply s None r n).kept r.keeping.arriving
+within-now : (quota : ℕ) (s : Setting) (r : Reply) (n : Network) → IsStill r → IsWithin quota r.change r.keeping.leaving (before_outcome s (Replied r) n).stations (before_outcome s (Replied r) n).kept r.keeping.arriving
     → IsWithin quota r.change r.keeping.leaving n.stations n.kept r.keeping.arriving
 within-now quota s r n still = by r.keeping.arriving refl
   where
-    by : (o : Option Arriving) → r.keeping.arriving ≡ o → IsWithin quota r.change r.keeping.leaving (before_reply s None r n).stations (before_reply s None r n).kept o → IsWithin quota r.change r.keeping.leaving n.stations n.kept o
+    by : (o : Option Arriving) → r.keeping.arriving ≡ o → IsWithin quota r.change r.keeping.leaving (before_outcome s (Replied r) n).stations (before_outcome s (Replied r) n).kept o → IsWithin quota r.change r.keeping.leaving n.stations n.kept o
     by None is within = tt
     by (Some a) is within =
-        subst (λ (m : Network). IsWithin quota r.change r.keeping.leaving m.stations m.kept (Some a)) (before-none s None r n (not-begun r a still is)) within
+        subst (λ (m : Network). IsWithin quota r.change r.keeping.leaving m.stations m.kept (Some a)) (before-none s r n (not-begun r a still is)) within
 
 -- the network in the end
 ended : (n : NetworkState) (r : Reply) (last : RosterState) (keeping : Keeping) (ages : Bool) (aged lost unread : ℕ) → keeping ≡ r.keeping → ages ≡ (nat_lt 0 r.clock && n.setting.network.aging)
     → last.stations.table ≡ changed r.change n.network.stations → last.kept.entries ≡ kept_after keeping (filter (λ e. not (is_aged ages n.network.clock n.network.stations e)) n.network.kept)
     → aged ≡ length (filter (is_aged ages n.network.clock n.network.stations) n.network.kept) → lost ≡ r.lost → unread ≡ r.unread
-    → network_with last (n.network.clock + r.clock) r.sequence (n.network.lost + aged + lost) (n.network.unread + unread) ≡ unsent (after_reply r (before_reply n.setting None r n.network))
+    → network_with last (n.network.clock + r.clock) r.sequence (n.network.lost + aged + lost) (n.network.unread + unread) ≡ unsent (after_reply r (before_outcome n.setting (Replied r) n.network))
 ended n r last keeping ages aged lost unread same is table entries count lost_is unread_is =
-    let kept : last.kept.entries ≡ kept_after r.keeping (before_reply n.setting None r n.network).kept =
+    let kept : last.kept.entries ≡ kept_after r.keeping (before_outcome n.setting (Replied r) n.network).kept =
     entries ∙ ap (λ (k : Keeping). kept_after k (filter (λ e. not (is_aged ages n.network.clock n.network.stations e)) n.network.kept)) same
     ∙ ap (λ (b : Bool). kept_after r.keeping (filter (λ e. not (is_aged b n.network.clock n.network.stations e)) n.network.kept)) is in
-    let gone : n.network.lost + aged ≡ (before_reply n.setting None r n.network).lost =
+    let gone : n.network.lost + aged ≡ (before_outcome n.setting (Replied r) n.network).lost =
     ap (λ (k : ℕ). n.network.lost + k) (count ∙ ap (λ (b : Bool). length (filter (is_aged b n.network.clock n.network.stations) n.network.kept)) is) in
-    let all : n.network.lost + aged + lost ≡ (before_reply n.setting None r n.network).lost + r.lost = ap (λ (k : ℕ). k + lost) gone ∙ ap (λ (k : ℕ). (before_reply n.setting None r n.network).lost + k) lost_is in
+    let all : n.network.lost + aged + lost ≡ (before_outcome n.setting (Replied r) n.network).lost + r.lost = ap (λ (k : ℕ). k + lost) gone ∙ ap (λ (k : ℕ). (before_outcome n.setting (Replied r) n.network).lost + k) lost_is in
     λ i. record {
       stations = table i;
       kept = kept i;
@@ -61,7 +61,7 @@ pub carry_out-requires-clause-within : goal.carry_out-requires-clause-within
 carry_out-requires-clause-within c =
     let r : Reply = c.args.reply.now in
     let n : NetworkState = record { setting = c.self.inside.setting; events = c.self.inside.events; network = network_with c.self.inside.roster c.self.inside.clock c.self.inside.sequence c.self.inside.lost c.self.inside.unread } in
-    let follows = subst (λ (k : NetworkState). MayFollow k None r) (sym c.self.view_is) c.requires.follows in
+    let follows = subst (λ (k : NetworkState). MayFollow k (Replied r)) (sym c.self.view_is) c.requires.follows in
     subst (λ (k : Keeping). IsWithin c.self.inside.roster.kept.quota r.change k.leaving n.network.stations n.network.kept k.arriving) (sym c.replace-keeping.ensures.value)
     (subst (λ (quota : ℕ). IsWithin quota r.change r.keeping.leaving n.network.stations n.network.kept r.keeping.arriving) (sym c.self.invariant.quota)
     (within-now n.setting.network.quota n.setting r n.network follows.still follows.fitting.keeping))
@@ -75,7 +75,7 @@ pub invariant_of-self-2 : goal.invariant_of-self-2
 invariant_of-self-2 c =
     let r : Reply = c.args.reply.now in
     let n : NetworkState = record { setting = c.self.inside.setting; events = c.self.inside.events; network = network_with c.self.inside.roster c.self.inside.clock c.self.inside.sequence c.self.inside.lost c.self.inside.unread } in
-    let follows = subst (λ (k : NetworkState). MayFollow k None r) (sym c.self.view_is) c.requires.follows in
+    let follows = subst (λ (k : NetworkState). MayFollow k (Replied r)) (sym c.self.view_is) c.requires.follows in
     let told = c.in_ok-aged.ensures in
     let ages : c.units_age-ages.result ≡ (nat_lt 0 r.clock && n.setting.network.aging) = c.units_age-ages.ensures ∙ ap (λ (s : Setting). nat_lt 0 r.clock && s.network.aging) c.get.ensures in
     let is = ended n r c.carry_out.new.self c.replace-keeping.result c.units_age-ages.result c.from.result c.from-2.result c.from-3.result c.replace-keeping.ensures.value ages (ap (λ (k : StationTable). k.table) told.stations) told.entries (c.from.ensures ∙ told.count) c.from-2.ensures c.from-3.ensures in
@@ -95,4 +95,4 @@ returns-clause-after c =
     let told = c.in_ok-aged.ensures in
     let ages : c.units_age-ages.result ≡ (nat_lt 0 r.clock && n.setting.network.aging) = c.units_age-ages.ensures ∙ ap (λ (s : Setting). nat_lt 0 r.clock && s.network.aging) c.get.ensures in
     let is = ended n r c.carry_out.new.self c.replace-keeping.result c.units_age-ages.result c.from.result c.from-2.result c.from-3.result c.replace-keeping.ensures.value ages (ap (λ (k : StationTable). k.table) told.stations) told.entries (c.from.ensures ∙ told.count) c.from-2.ensures c.from-3.ensures in
-    ap (λ (m : Network). record n { events = n.events + 1; network = m }) is ∙ ap (carried_out None r) c.self.view_is
+    ap (λ (m : Network). record n { events = n.events + 1; network = m }) is ∙ ap (carried_out (Replied r)) c.self.view_is

@@ -1,9 +1,9 @@
-use Rattle.std.proofs.Common.{◌∙◌, Result, Ok, Err, None, ap, subst}
+use Rattle.std.proofs.Common.{◌∙◌, Result, Ok, Err, ap, subst}
 use Rattle.std.specs.Prelude.{IfOk}
 use Rattle.encapsulation.specs.Ethernet.{ethernet_of}
 use Rattle.association.specs.Request.{request_of}
 use Rattle.network.specs.Network.{step}
-use Rattle.network.specs.Replies.{done}
+use Rattle.network.specs.Replies.{Replied, outcome}
 use Rattle.network.specs.NetworkView.{NetworkState, IsNetwork}
 use Rattle.network.specs.ReadEvents.{event_read}
 use Rattle.events.specs.declared.event.Event.TheVariants.{Air, Wire}
@@ -23,7 +23,7 @@ returns-in-Air-clause-follows c =
     let asked = request_of n.setting.network.bssid c.in-Air.frame in
     of_all c.answer.result
     (λ polled fits is.
-    (still-follows c.stays_sound.ensures n (Air c.in-Air.frame) polled (done n.setting n.network polled c.answer.new.reply) kept.accepted kept.sound fits is (answered n.setting asked n.network) kept.clock).0)
+    (still-follows c.stays_sound.ensures n (Air c.in-Air.frame) (outcome polled c.answer.new.reply) kept.accepted kept.sound fits is (answered n.setting asked n.network) kept.clock).0)
     c.answer.ensures.fitting c.answer.ensures.answer
 
 pub returns-in-Air-clause-step : goal.returns-in-Air-clause-step
@@ -34,7 +34,7 @@ returns-in-Air-clause-step c =
     of_all c.answer.result
     (λ polled fits is.
     ap (λ e. step n.setting n.network (event_read e)) c.in-Air.is
-    ∙ (still-follows c.stays_sound.ensures n (Air c.in-Air.frame) polled (done n.setting n.network polled c.answer.new.reply) kept.accepted kept.sound fits is (answered n.setting asked n.network) kept.clock).1)
+    ∙ (still-follows c.stays_sound.ensures n (Air c.in-Air.frame) (outcome polled c.answer.new.reply) kept.accepted kept.sound fits is (answered n.setting asked n.network) kept.clock).1)
     c.answer.ensures.fitting c.answer.ensures.answer
 
 pub returns-in_ok-answer_wired-in-Wire-clause-follows : goal.returns-in_ok-answer_wired-in-Wire-clause-follows
@@ -43,7 +43,7 @@ returns-in_ok-answer_wired-in-Wire-clause-follows c =
     let kept : IsNetwork c.self.inside.roster n = subst (IsNetwork c.self.inside.roster) c.self.view_is c.self.invariant in
     let read = ethernet_of c.in-Wire.frame.now in
     let said = c.in_ok-answer_wired-in-Wire.ensures in
-    (still-follows c.stays_sound.ensures n (Wire c.in-Wire.frame.now) None c.answer_wired.new.reply kept.accepted kept.sound said.fitting said.answer (wired n.setting read n.network) kept.clock).0
+    (still-follows c.stays_sound.ensures n (Wire c.in-Wire.frame.now) (Replied c.answer_wired.new.reply) kept.accepted kept.sound said.fitting said.answer (wired n.setting read n.network) kept.clock).0
 
 pub returns-in_ok-answer_wired-in-Wire-clause-step : goal.returns-in_ok-answer_wired-in-Wire-clause-step
 returns-in_ok-answer_wired-in-Wire-clause-step c =
@@ -52,7 +52,7 @@ returns-in_ok-answer_wired-in-Wire-clause-step c =
     let read = ethernet_of c.in-Wire.frame.now in
     let said = c.in_ok-answer_wired-in-Wire.ensures in
     ap (λ e. step n.setting n.network (event_read e)) c.in-Wire.is
-    ∙ (still-follows c.stays_sound.ensures n (Wire c.in-Wire.frame.now) None c.answer_wired.new.reply kept.accepted kept.sound said.fitting said.answer (wired n.setting read n.network) kept.clock).1
+    ∙ (still-follows c.stays_sound.ensures n (Wire c.in-Wire.frame.now) (Replied c.answer_wired.new.reply) kept.accepted kept.sound said.fitting said.answer (wired n.setting read n.network) kept.clock).1
 
 pub returns-in_ok-tick-in-Tick-clause-follows : goal.returns-in_ok-tick-in-Tick-clause-follows
 returns-in_ok-tick-in-Tick-clause-follows c =

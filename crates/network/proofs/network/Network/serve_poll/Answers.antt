@@ -6,8 +6,8 @@ use Rattle.powersave.specs.declared.unit.Unit.{Unit as DataUnit}
 use Rattle.powersave.specs.declared.unit.Whom.TheVariants.{One}
 use Rattle.ap_config.specs.declared.setting.Setting.{Setting}
 use Rattle.network.specs.Network.{Network, next_sequence, send}
-use Rattle.network.specs.NetworkView.{NetworkState, network_with, replied, unsent}
-use Rattle.network.specs.Replies.{after_reply, no_reply, served, serving}
+use Rattle.network.specs.NetworkView.{NetworkState, network_with, carried_out, unsent}
+use Rattle.network.specs.Replies.{after_reply, no_reply, Served, serving, unit_taken}
 use Rattle.network.specs.Sound.{IsSoundNetwork}
 use Rattle.network.specs.Units.{others_follow, unit_frame}
 use Rattle.stations.specs.Stations.{StationTable}
@@ -16,10 +16,10 @@ use Rattle.network.proofs.network.Network.serve_poll.Goals as goal
 
 -- where a unit is sent, it leaves, and its frame takes a sequence number
 sent-one : (s : Setting) (from bss frame : List ℕ) (us : List DataUnit) (n : Network) → option_map (λ first. first.0) (first_frame bss n.sequence us) ≡ Some frame
-    → unsent (after_reply (serving s us (no_reply n.sequence)) (served (Some from) n)) ≡ unsent (record (served (Some from) n) { sequence = next_sequence n.sequence })
+    → unsent (after_reply (serving s us (no_reply n.sequence)) (unit_taken (Served from) n)) ≡ unsent (record (unit_taken (Served from) n) { sequence = next_sequence n.sequence })
 sent-one s from bss frame [] n is = absurd (none-some frame is)
 sent-one s from bss frame (u ∷ us) n is =
-    let left : Network = served (Some from) n in
+    let left : Network = unit_taken (Served from) n in
     let sent = unit_frame s.network.bssid (others_follow us) u in
     ap unsent (sym (ap (send sent) (sym (nothing-replied left)) ∙ after-sent (no_reply n.sequence) left sent))
 
@@ -28,9 +28,9 @@ invariant_of-self-2 c =
     let n : NetworkState = record { setting = c.self.inside.setting; events = c.self.inside.events; network = network_with c.self.inside.roster c.self.inside.clock c.self.inside.sequence c.self.inside.lost c.self.inside.unread } in
     let us : List DataUnit = units_for (One c.args.from) n.network.kept in
     let told = c.in_ok-sent.ensures in
-    let sound : IsSoundNetwork n.setting (n.events + 1) (2 * (n.events + 1)) (replied (Some c.args.from) (serving n.setting us (no_reply n.network.sequence)) n).network =
-    subst (λ (k : NetworkState). IsSoundNetwork k.setting (k.events + 1) (2 * (k.events + 1)) (replied (Some c.args.from) (serving k.setting (units_for (One c.args.from) k.network.kept) (no_reply k.network.sequence)) k).network) (sym c.self.view_is) c.requires.sound in
-    let is : network_with c.send_oldest.new.self n.network.clock (next_sequence n.network.sequence) n.network.lost n.network.unread ≡ unsent (record (served (Some c.args.from) n.network) { sequence = next_sequence n.network.sequence }) =
+    let sound : IsSoundNetwork n.setting (n.events + 1) (2 * (n.events + 1)) (carried_out (Served c.args.from) n).network =
+    subst (λ (k : NetworkState). IsSoundNetwork k.setting (k.events + 1) (2 * (k.events + 1)) (carried_out (Served c.args.from) k).network) (sym c.self.view_is) c.requires.sound in
+    let is : network_with c.send_oldest.new.self n.network.clock (next_sequence n.network.sequence) n.network.lost n.network.unread ≡ unsent (record (unit_taken (Served c.args.from) n.network) { sequence = next_sequence n.network.sequence }) =
     λ i. record n.network { stations = ap (λ (k : StationTable). k.table) told.stations i; kept = told.entries i; sequence = next_sequence n.network.sequence } in
     record {
       accepted = c.self.invariant.accepted;
