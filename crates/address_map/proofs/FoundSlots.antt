@@ -1,5 +1,5 @@
 -- The slots of the entries of a network: which entries they have, and where each is found.
-use Rattle.std.proofs.Common.{◌≡◌, ℕ, zero, suc, ◌+◌, ◌<◌, Bool, true, false, cond, List, [], ◌∷◌, ◌++◌, length, take, set, get_or, filter, slice_get, Option, Some, None, is_some, option_map, refl, sym, ap, subst, ◌∙◌, arith, Result, Ok, Err}
+use Rattle.std.proofs.Common.{◌≡◌, ℕ, zero, suc, ◌+◌, ◌<◌, Bool, true, false, cond, List, [], ◌∷◌, ◌++◌, length, take, set, get_or, filter, slice_get, Option, Some, None, is_some, option_map, refl, sym, ap, subst, ◌∙◌, Result, Ok, Err}
 use Rattle.std.specs.Prelude.{if◌then◌else◌, IfNone, OnErr}
 use Rattle.std.specs.Str.{bytes_eq}
 use Rattle.std.specs.Map.{lookup, set_value, remove_entry}
@@ -264,11 +264,6 @@ module _ {V : Type 0} where
 
   pub read-found : (addr : List ℕ) (index : List (List ℕ × ℕ)) (slots : Slots V) (i : ℕ) → AreFound index slots → lookup (bytes_eq addr) index ≡ Some i → (value : V) × IsAt addr slots i value
   read-found addr index slots i found h = slot_of-at addr slots i (sym (found addr) ∙ h)
-
-  pub some-at : (t : Entries V) (i : ℕ) → i < length t → is_some (slice_get t i) ≡ true
-  some-at [] i h = absurd (omega (arith, h))
-  some-at (e ∷ t) zero h = refl
-  some-at (e ∷ t) (suc i) h = some-at t i (omega (arith, h))
 
 pub if_none-from : {X : Type 0} (o : Option X) (P : Type 0) → P → IfNone o P
 if_none-from None P p = p

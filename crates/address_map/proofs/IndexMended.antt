@@ -86,12 +86,6 @@ slot-left row [] (suc i) = refl
 slot-left row (e ∷ es) zero = refl
 slot-left row (e ∷ es) (suc i) = slot-left row es i
 
-pub as-many : (row : List ℕ) (es : List (List ℕ × ℕ)) (i : ℕ) → length (with_places row (take i es) ++ drop i es) ≡ length es
-as-many row [] zero = refl
-as-many row [] (suc i) = refl
-as-many row (e ∷ es) zero = refl
-as-many row (e ∷ es) (suc i) = ap (λ n. suc n) (as-many row es i)
-
 pub place-put : (row : List ℕ) (es : List (List ℕ × ℕ)) (i : ℕ) (e : List ℕ × ℕ) → slice_get es i ≡ Some e → set_value_at (with_places row (take i es) ++ drop i es) i (place_in row e.1) ≡ with_places row (take (suc i) es) ++ drop (suc i) es
 place-put row [] i e at = absurd (cc)
 place-put row (x ∷ es) zero e at = let same : x ≡ e = cc in ap (λ (y : List ℕ × ℕ). (x.0, place_in row y.1) ∷ es) (sym same)

@@ -196,10 +196,6 @@ module _ {V : Type 0} where
 
 -- ---- the numbers of slots
 
-pub within-more : (row : List ℕ) (n m : ℕ) → n ≤ m → AllByRecursion (λ i. i < n) row → AllByRecursion (λ i. i < m) row
-within-more [] n m le h = tt
-within-more (r ∷ row) n m le h = (omega (arith, le, h.0), within-more row n m le h.1)
-
 pub within-append : (row : List ℕ) (n : ℕ) → AllByRecursion (λ i. i < n) row → AllByRecursion (λ i. i < suc n) (row ++ n ∷ [])
 within-append [] n h = (omega arith, tt)
 within-append (r ∷ row) n h = (omega (arith, h.0), within-append row n h.1)

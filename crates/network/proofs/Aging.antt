@@ -8,7 +8,7 @@ use Rattle.network.specs.Network.{Network, has_aged, drop_lost, age_units}
 use Rattle.network.specs.Replies.{Replied, before_outcome}
 use Rattle.roster.specs.KeptUnits.{group_is_kept, is_too_old}
 use Rattle.network.specs.declared.reply.Reply.{Reply}
-use Rattle.roster.proofs.Aging.{group-young, none-leaves}
+use Rattle.roster.specs.Changes.{GroupStays}
 
 -- those that age are no units for the group
 module _ (p : Entry → Bool) (group : (e : Entry) → is_for Group e ≡ true → p e ≡ false) where
@@ -37,12 +37,17 @@ module _ (p : Entry → Bool) (group : (e : Entry) → is_for Group e ≡ true �
       by false other rest = late (p e) other rest
 
 -- in a network of whatever setting
-pub group-stays_young : (s : Setting) (n : Network) (e : Entry) → is_for Group e ≡ true → has_aged s n e ≡ false
-group-stays_young s n e h = by s.network.aging
+pub group-stays_young : GroupStays → (s : Setting) (n : Network) (e : Entry) → is_for Group e ≡ true → has_aged s n e ≡ false
+group-stays_young group s n e h = by s.network.aging
   where
     by : (b : Bool) → (b && is_too_old n.clock n.stations e) ≡ false
-    by true = group-young n.clock n.stations e h
+    by true = group.young n.clock n.stations e h
     by false = refl
+
+-- where none leaves, all stay
+none-leaves : (p : Entry → Bool) (es : List Entry) → ((e : Entry) → p e ≡ false) → (filter (λ e. not (p e)) es ≡ es) × (filter p es ≡ [])
+none-leaves p [] none = (refl, refl)
+none-leaves p (e ∷ es) none = let rest = none-leaves p es none in (rw (none e) (ap (λ fs. e ∷ fs) rest.0), rw (none e) rest.1)
 
 -- where units don't age
 pub unaged : (s : Setting) (n : Network) → s.network.aging ≡ false → age_units s n ≡ n

@@ -28,14 +28,11 @@ use Rattle.beacon.specs.Beacon.{dtim_count}
 use Rattle.station_state.specs.declared.state.StationState.{StationState}
 use Rattle.network.specs.declared.reply.unit.Delivery.{Delivery}
 use Rattle.network.specs.declared.reply.unit.Delivery.TheVariants.{Now, Kept, Nowhere}
-use Rattle.roster.proofs.UnitsKept.{kept-elsewhere, kept-where, kept-filtered, kept-without_first, kept-push, length-filtered, length-without_first}
-use Rattle.stations.proofs.StationStates.{state_of-set, state_of-forgotten, state_of-moded, mode-stays}
 use Rattle.station_state.specs.declared.state.StationState.TheVariants.{Authenticated, Associated}
 use Rattle.stations.specs.Sound.{AreSound}
 use Rattle.network.proofs.Clocks.{modes}
 use Rattle.network.proofs.FrameSizes.{AreFrames, AreEthernet, IsShort, IsShortRead, all-push, those-fit, others-fit, ethernet-fits, request-short}
 use Rattle.network.specs.Sizes.{FitsFrame, AreFitting}
-use Rattle.roster.proofs.Aging.{came-filtered, came-without_first, came-push, came-later}
 use Rattle.std.proofs.lemmas.List.Filters.{length-filter_both}
 use Rattle.network.proofs.Statuses.{room-authenticated, room-associated, known-where_taken, known-where_associated}
 use Rattle.ap_config.specs.declared.setting.Setting.{Setting}
@@ -43,7 +40,9 @@ use Rattle.network.specs.Network.{Network, empty_network, send, count_unread, ch
 use Rattle.ap_config.specs.Configuration.{network_fault}
 use Rattle.ap_config.specs.declared.config.NetConfig.{NetConfig}
 use Rattle.network.specs.Sound.{IsSoundNetwork}
-use Rattle.stations.proofs.StationsSound.{length-set_state, length-forgotten, length-moded, mode-sound, authenticate-sound, associate-sound, disassociate-sound, forget-sound}
+use Rattle.stations.specs.Changes.{OthersStay, ModesAlone, StaySound, LengthsAfter}
+use Rattle.stations.specs.declared.table.Change.TheVariants as changes
+use Rattle.roster.specs.Changes.{KeptForDozing, CameInTurn, KeptCounts}
 use Rattle.beacon.specs.ProbeResponse.{probe_response}
 use Rattle.events.specs.declared.event.Event.{Event}
 use Rattle.events.specs.declared.event.Event.TheVariants.{Air, Wire, Tick}
@@ -77,62 +76,27 @@ empty-sound s = record {
   lost = omega arith;
 }
 
--- of a network with the same stations and kept units, where its counts stay within their bounds
-counts-sound : (s : Setting) (events units more most : ℕ) (n other : Network) → (other.stations ≡ n.stations) × (other.kept ≡ n.kept) × (n.clock ≤ other.clock) → other.sequence < 4096 → other.unread ≤ more → other.clock ≤ more → other.lost + length other.kept ≤ most → IsSoundNetwork s events units n → IsSoundNetwork s more most other
-counts-sound s events units more most n other same sequence unread clock lost h = record {
-  stations = rw same.0 h.stations;
-  known = rw same.0 h.known;
-  kept = rw (same.0, same.1) h.kept;
-  came = rw same.1 (came-later n.clock other.clock n.kept same.2 h.came);
-  sizes = rw same.1 h.sizes;
-  quota = rw same.1 h.quota;
-  sequence = sequence;
-  unread = unread;
-  clock = clock;
-  lost = lost;
-}
-
 -- more events and units are no less
 pub more-sound : (s : Setting) (events units more most : ℕ) (n : Network) → events ≤ more → units ≤ most → IsSoundNetwork s events units n → IsSoundNetwork s more most n
-more-sound s events units more most n e u h = counts-sound s events units more most n n (refl, refl, omega arith) h.sequence (omega (arith, e, h.unread)) (omega (arith, e, h.clock)) (omega (arith, u, h.lost)) h
-
-send-sound : (s : Setting) (events units : ℕ) (n : Network) (frame : ℕ → List ℕ) → IsSoundNetwork s events units n → IsSoundNetwork s events units (send frame n)
-send-sound s events units n frame h = counts-sound s events units events units n (send frame n) (refl, refl, omega arith) (omega arith) h.unread h.clock h.lost h
-
-count_unread-sound : (s : Setting) (events units : ℕ) (n : Network) → IsSoundNetwork s events units n → IsSoundNetwork s (events + 1) units (count_unread n)
-count_unread-sound s events units n h = counts-sound s events units (events + 1) units n (count_unread n) (refl, refl, omega arith) h.sequence (omega (arith, h.unread)) (omega (arith, h.clock)) h.lost h
-
-clock-sound : (s : Setting) (events units : ℕ) (n : Network) → IsSoundNetwork s events units n → IsSoundNetwork s (events + 1) units (record n { clock = n.clock + 1 })
-clock-sound s events units n h = counts-sound s events units (events + 1) units n (record n { clock = n.clock + 1 }) (refl, refl, omega arith) h.sequence (omega (arith, h.unread)) (omega (arith, h.clock)) h.lost h
-
-lose-sound : (s : Setting) (events units : ℕ) (n : Network) → IsSoundNetwork s events units n → IsSoundNetwork s events (units + 1) (lose n)
-lose-sound s events units n h = counts-sound s events units events (units + 1) n (lose n) (refl, refl, omega arith) h.sequence h.unread h.clock (omega (arith, h.lost)) h
+more-sound s events units more most n e u h = record {
+  stations = h.stations;
+  known = h.known;
+  kept = h.kept;
+  came = h.came;
+  sizes = h.sizes;
+  quota = h.quota;
+  sequence = h.sequence;
+  unread = omega (arith, e, h.unread);
+  clock = omega (arith, e, h.clock);
+  lost = omega (arith, u, h.lost);
+}
 
 -- which frames were sent, on the air or on the wire, is nothing to it
 pub frames-sound : (s : Setting) (events units : ℕ) (n : Network) (air wire : List (List ℕ)) → IsSoundNetwork s events units n → IsSoundNetwork s events units (record n { air = air; wire = wire })
-frames-sound s events units n air wire h = counts-sound s events units events units n (record n { air = air; wire = wire }) (refl, refl, omega arith) h.sequence h.unread h.clock h.lost h
-
--- some units leave
-kept-sound : (s : Setting) (events units : ℕ) (n : Network) (kept : List Entry) → AreKeptFor n.stations kept → CameBy n.clock kept → AreFitting kept → length kept ≤ length n.kept → IsSoundNetwork s events units n → IsSoundNetwork s events units (record n { kept = kept })
-kept-sound s events units n kept for came sizes fewer h = record {
+frames-sound s events units n air wire h = record {
   stations = h.stations;
   known = h.known;
-  kept = for;
-  came = came;
-  sizes = sizes;
-  quota = omega (arith, fewer, h.quota);
-  sequence = h.sequence;
-  unread = h.unread;
-  clock = h.clock;
-  lost = omega (arith, fewer, h.lost);
-}
-
--- the stations change, and stay sound, and whoever units are kept for dozes
-stations-sound : (s : Setting) (events units : ℕ) (n : Network) (table : Table) → AreSound s.network.max_stations table → length table ≤ s.network.max_known → AreKeptFor table n.kept → IsSoundNetwork s events units n → IsSoundNetwork s events units (record n { stations = table })
-stations-sound s events units n table sound few for h = record {
-  stations = sound;
-  known = few;
-  kept = for;
+  kept = h.kept;
   came = h.came;
   sizes = h.sizes;
   quota = h.quota;
@@ -141,44 +105,6 @@ stations-sound s events units n table sound few for h = record {
   clock = h.clock;
   lost = h.lost;
 }
-
--- one of them changes, and the units for it leave
-state-sound : (s : Setting) (addr : List ℕ) (change : Table → Table) (events units : ℕ) (n : Network) → AreSound s.network.max_stations (change n.stations) → length (change n.stations) ≤ s.network.max_known → ((b : List ℕ) → bytes_eq b addr ≡ false → state_of b (change n.stations) ≡ state_of b n.stations) → IsSoundNetwork s events units n → IsSoundNetwork s events units (change_state addr change n)
-state-sound s addr change events units n sound few elsewhere h = record {
-  stations = sound;
-  known = few;
-  kept = kept-elsewhere addr n.stations (change n.stations) elsewhere n.kept h.kept;
-  came = came-filtered (λ entry. not (is_for (One addr) entry)) n.clock n.kept h.came;
-  sizes = those-fit (λ entry. not (is_for (One addr) entry)) n.kept h.sizes;
-  quota = omega (arith, length-filtered (λ entry. not (is_for (One addr) entry)) n.kept, h.quota);
-  sequence = h.sequence;
-  unread = h.unread;
-  clock = h.clock;
-  lost = omega (arith, length-filtered (λ entry. not (is_for (One addr) entry)) n.kept, h.lost);
-}
-
--- ---- units
-
-keep-sound : (s : Setting) (whom : Whom) (u : DataUnit) (events units : ℕ) (n : Network) → u.at ≡ n.clock → FitsFrame u → IsKeptFor n.stations whom → IsSoundNetwork s events units n → IsSoundNetwork s events (units + 1) (keep_or_lose s whom u n)
-keep-sound s whom u events units n at size for h = by (nat_lt (length n.kept) s.network.quota) refl
-  where
-    by : (b : Bool) → nat_lt (length n.kept) s.network.quota ≡ b → IsSoundNetwork s events (units + 1) (keep_or_lose s whom u n)
-    by false is = rw is (lose-sound s events units n h)
-    by true is =
-        let room : length n.kept < s.network.quota = ltb-true (length n.kept) s.network.quota is in
-        let len : length (n.kept ++ (whom, u) ∷ []) ≡ length n.kept + 1 = length-append n.kept ((whom, u) ∷ []) in
-        rw is (record {
-          stations = h.stations;
-          known = h.known;
-          kept = kept-push n.stations whom u n.kept h.kept for;
-          came = came-push whom u n.clock n.kept at h.came;
-          sizes = all-push _ n.kept (whom, u) h.sizes size;
-          quota = omega (arith, room, len);
-          sequence = h.sequence;
-          unread = h.unread;
-          clock = h.clock;
-          lost = omega (arith, len, h.lost);
-        })
 
 -- who a unit is kept for dozes
 pub delivery-for : (to : List ℕ) (t : Table) (kept : List Entry) (whom : Whom) → delivery_of to t kept ≡ Kept whom → IsKeptFor t whom
@@ -198,208 +124,314 @@ delivery-for to t kept whom h = by (is_group to) refl
     by true is = to_group (some_station_dozes t || group_is_kept kept) (sym (rw is refl) ∙ h)
     by false is = to_one (state_of to t) refl (sym (rw is refl) ∙ h)
 
-deliver-sound : (s : Setting) (u : DataUnit) (events units : ℕ) (n : Network) → u.at ≡ n.clock → FitsFrame u → IsSoundNetwork s events units n → IsSoundNetwork s events (units + 1) (deliver s u n)
-deliver-sound s u events units n at size h = by (delivery_of u.to n.stations n.kept) refl
-  where
-    by : (d : Delivery) → delivery_of u.to n.stations n.kept ≡ d → IsSoundNetwork s events (units + 1) (deliver s u n)
-    by Now is = rw is (more-sound s events units events (units + 1) _ (omega arith) (omega arith) (send-sound s events units n (unit_frame s.network.bssid false u) h))
-    by (Kept whom) is = rw is (keep-sound s whom u events units n at size (delivery-for u.to n.stations n.kept whom is) h)
-    by Nowhere is = rw is (more-sound s events units events (units + 1) n (omega arith) (omega arith) h)
-
-send_each-sound : (s : Setting) (shows_more : Bool) (us : List DataUnit) (events units : ℕ) (n : Network) → IsSoundNetwork s events units n → IsSoundNetwork s events units (send_each s shows_more us n)
-send_each-sound s shows_more [] events units n h = h
-send_each-sound s shows_more (u ∷ us) events units n h =
-    send_each-sound s shows_more us events units (send_unit s (shows_more && others_follow us) u n) (send-sound s events units n (unit_frame s.network.bssid (shows_more && others_follow us) u) h)
-
-put_on_wire-sound : (s : Setting) (wired : Option (List ℕ)) (events units : ℕ) (n : Network) → IsSoundNetwork s events units n → IsSoundNetwork s events (units + 1) (put_on_wire wired n)
-put_on_wire-sound s (Some octets) events units n h = more-sound s events units events (units + 1) _ (omega arith) (omega arith) (frames-sound s events units n n.air (n.wire ++ octets ∷ []) h)
-put_on_wire-sound s None events units n h = lose-sound s events units n h
-
-relay-sound : (s : Setting) (u : DataUnit) (events units : ℕ) (n : Network) → u.at ≡ n.clock → FitsFrame u → IsSoundNetwork s events units n → IsSoundNetwork s events (units + 1) (relay s u n)
-relay-sound s u events units n at size h = by s.network.relay
-  where
-    by : (b : Bool) → IsSoundNetwork s events (units + 1) (if b then deliver s u n else n)
-    by true = deliver-sound s u events units n at size h
-    by false = more-sound s events units events (units + 1) n (omega arith) (omega arith) h
-
-forward-sound : (s : Setting) (u : DataUnit) (events units : ℕ) (n : Network) → u.at ≡ n.clock → FitsFrame u → IsSoundNetwork s events units n → IsSoundNetwork s events (units + 2) (forward s u n)
-forward-sound s u events units n at size h = by (goes_on_wire s.network.relay u.to n.stations) refl
-  where
-    by : (b : Bool) → goes_on_wire s.network.relay u.to n.stations ≡ b → IsSoundNetwork s events (units + 2) (forward s u n)
-    by true is =
-        rw is (more-sound s events (units + 1 + 1) events (units + 2) _ (omega arith) (omega arith)
-        (put_on_wire-sound s (on_wire u.to u.source u.body) events (units + 1) (relay s u n) (relay-sound s u events units n at size h)))
-    by false is = rw is (more-sound s events (units + 1) events (units + 2) _ (omega arith) (omega arith) (relay-sound s u events units n at size h))
-
-mode_set-sound : (s : Setting) (from : List ℕ) (doze : Bool) (events units : ℕ) (n : Network) → IsSoundNetwork s events units n → IsSoundNetwork s events units (set_power_mode s from doze n)
-mode_set-sound s from doze events units n h = by (is_dozing from n.stations && not doze) refl
-  where
-    few : length (set_mode from doze n.stations) ≤ s.network.max_known
-    few = omega (arith, length-moded from doze n.stations, h.known)
-
-    by : (b : Bool) → (is_dozing from n.stations && not doze) ≡ b → IsSoundNetwork s events units (set_power_mode s from doze n)
-    by true is =
-        rw is (send_each-sound s false (units_for (One from) n.kept) events units (change_state from (set_mode from doze) n)
-        (state-sound s from (set_mode from doze) events units n (mode-sound s.network.max_stations from doze n.stations h.stations) few (λ b other. state_of-moded from b doze n.stations other) h))
-    by false is =
-        rw is (stations-sound s events units n (set_mode from doze n.stations) (mode-sound s.network.max_stations from doze n.stations h.stations) few
-        (kept-where n.stations (set_mode from doze n.stations) (λ b dozes. mode-stays from b doze n.stations is dozes) n.kept h.kept) h)
-
-poll-sound : (s : Setting) (from : List ℕ) (us : List DataUnit) (events units : ℕ) (n : Network) → IsSoundNetwork s events units n → IsSoundNetwork s events units (serve_poll s from us n)
-poll-sound s from [] events units n h = h
-poll-sound s from (u ∷ us) events units n h =
-    send-sound s events units _ (unit_frame s.network.bssid (others_follow us) u)
-    (kept-sound s events units n (without_oldest (One from) n.kept) (kept-without_first n.stations (is_for (One from)) n.kept h.kept) (came-without_first (is_for (One from)) n.clock n.kept h.came) (others-fit (One from) n.kept h.sizes) (length-without_first (is_for (One from)) n.kept) h)
-
-polled-sound : (s : Setting) (from : List ℕ) (aid events units : ℕ) (n : Network) → IsSoundNetwork s events units n → IsSoundNetwork s events units (answer_poll s from aid n)
-polled-sound s from aid events units n h = by (may_poll aid (state_of from n.stations)) refl
-  where
-    by : (b : Bool) → may_poll aid (state_of from n.stations) ≡ b → IsSoundNetwork s events units (answer_poll s from aid n)
-    by true is = rw is (poll-sound s from (units_for (One from) n.kept) events units n h)
-    by false is = rw is h
-
-release-sound : (s : Setting) (events units : ℕ) (n : Network) → IsSoundNetwork s events units n → IsSoundNetwork s events units (release s n)
-release-sound s events units n h = by (dtim_count n.clock s.network.dtim == 0) refl
-  where
-    by : (b : Bool) → (dtim_count n.clock s.network.dtim == 0) ≡ b → IsSoundNetwork s events units (release s n)
-    by true is =
-        rw is (send_each-sound s true (units_for Group n.kept) events units (drop_units Group n)
-        (kept-sound s events units n (without_all Group n.kept) (kept-filtered n.stations (λ entry. not (is_for Group entry)) n.kept h.kept) (came-filtered (λ entry. not (is_for Group entry)) n.clock n.kept h.came) (those-fit (λ entry. not (is_for Group entry)) n.kept h.sizes) (length-filtered (λ entry. not (is_for Group entry)) n.kept) h))
-    by false is = rw is h
-
-tick-sound : (s : Setting) (events units : ℕ) (n : Network) → IsSoundNetwork s events units n → IsSoundNetwork s (events + 1) units (tick s n)
-tick-sound s events units n h =
-    release-sound s (events + 1) units _
-    (send-sound s (events + 1) units (record n { clock = n.clock + 1 }) (beacon_frame s (n.clock + 1) n.stations n.kept) (clock-sound s events units n h))
-
--- units that leave are lost, and no more are lost or kept than were
-age-sound : (s : Setting) (events units : ℕ) (n : Network) → IsSoundNetwork s events units n → IsSoundNetwork s events units (age_units s n)
-age-sound s events units n h =
-    let leaves : Entry → Bool = has_aged s n in
-    let stay : Entry → Bool = λ entry. not (leaves entry) in
-    let both = length-filter_both leaves stay (λ entry. refl) n.kept in
-    record {
-      stations = h.stations;
-      known = h.known;
-      kept = kept-filtered n.stations stay n.kept h.kept;
-      came = came-filtered stay n.clock n.kept h.came;
-      sizes = those-fit stay n.kept h.sizes;
-      quota = omega (arith, length-filtered stay n.kept, h.quota);
-      sequence = h.sequence;
-      unread = h.unread;
-      clock = h.clock;
-      lost = omega (arith, both, h.lost);
-    }
-
--- ---- and so by each answer, step and history
-
-probe-sound : (s : Setting) (from : List ℕ) (ssid : Option (List ℕ)) (events units : ℕ) (n : Network) → IsSoundNetwork s events units n → IsSoundNetwork s events units (answer_probe s from ssid n)
-probe-sound s from ssid events units n h = cases (asks_for s.network.ssid ssid) refl
-  where
-    cases : (b : Bool) → asks_for s.network.ssid ssid ≡ b → IsSoundNetwork s events units (answer_probe s from ssid n)
-    cases true e = rw e (send-sound s events units n (probe_response (announced_at s n.clock) from) h)
-    cases false e = rw e h
-
-either : (a b : Bool) → (a || b) ≡ true → (a ≡ true) ⊎ (b ≡ true)
-either true b h = inl refl
-either false b h = inr h
-
-authenticated-few : (s : Setting) (from : List ℕ) (n : Network) → may_be_known s from n ≡ true → length n.stations ≤ s.network.max_known → length (authenticate from n.stations) ≤ s.network.max_known
-authenticated-few s from n room few =
-    let len = length-set_state from Authenticated n.stations in
-    elim (either (is_some (state_of from n.stations)) (nat_lt (length n.stations) s.network.max_known) room) [
-      | inl known ↦ let same = rw known at len in omega (arith, few, same)
-      | inr fewer ↦ omega (arith, len, ltb-true (length n.stations) s.network.max_known fewer, at_most_one (is_some (state_of from n.stations)))
-    ]
-  where
-    at_most_one : (b : Bool) → (if b then 0 else 1) ≤ 1
-    at_most_one true = omega arith
-    at_most_one false = omega arith
-
-served-sound : (s : Setting) (status : ℕ) (addr : List ℕ) (change : Table → Table) (events units : ℕ) (n : Network) → (status ≡ success → IsSoundNetwork s events units (change_state addr change n)) → IsSoundNetwork s events units n → IsSoundNetwork s events units (change_where_served status addr change n)
-served-sound s status addr change events units n served h = by (status == success) refl
-  where
-    by : (b : Bool) → (status == success) ≡ b → IsSoundNetwork s events units (change_where_served status addr change n)
-    by true is = let yes : status ≡ success = eqb-true status success is in rw is (served yes)
-    by false is = rw is h
-
-authentication-sound : (s : Setting) (from : List ℕ) (algorithm step events units : ℕ) (n : Network) → IsSoundNetwork s events units n → IsSoundNetwork s events units (answer_authentication s from algorithm step n)
-authentication-sound s from algorithm step events units n h =
-    send-sound s events units _ (λ sequence. authentication from s.network.bssid sequence algorithm (authentication_status s from algorithm step n))
-    (served-sound s (authentication_status s from algorithm step n) from (authenticate from) events units n
-    (λ served. state-sound s from (authenticate from) events units n (authenticate-sound s.network.max_stations from n.stations h.stations)
-    (authenticated-few s from n (room-authenticated algorithm step (may_be_known s from n) served) h.known)
-    (λ b other. state_of-set from b Authenticated n.stations other) h) h)
-
-association-sound : (s : Setting) (from : List ℕ) (again : Bool) (listen : ℕ) (es : List Pair) (events units : ℕ) (n : Network) → s.network.max_stations ≤ 2007 → is_some (state_of from n.stations) ≡ true → IsSoundNetwork s events units n → IsSoundNetwork s events units (answer_association s from again listen es n)
-association-sound s from again listen es events units n limit known h =
-    send-sound s events units _ (λ sequence. association_response from s.network.bssid sequence again (association_status s from es n) (next_aid from n.stations) s.network.rates)
-    (served-sound s (association_status s from es n) from (associate from listen) events units n
-    (λ served. state-sound s from (associate from listen) events units n
-    (associate-sound s.network.max_stations from listen n.stations limit known (room-associated s.network.ssid s.network.rates (may_associate s.network.max_stations from n.stations) es served) h.stations)
-    (let len = length-set_state from (Associated (next_aid from n.stations) listen false) n.stations in let same = rw known at len in omega (arith, same, h.known))
-    (λ b other. state_of-set from b (Associated (next_aid from n.stations) listen false) n.stations other) h) h)
-
-disassociation-sound : (s : Setting) (from : List ℕ) (events units : ℕ) (n : Network) → IsSoundNetwork s events units n → IsSoundNetwork s events units (change_state from (disassociate from) n)
-disassociation-sound s from events units n h =
-    state-sound s from (disassociate from) events units n (disassociate-sound s.network.max_stations from n.stations h.stations) (few (is_some (aid_of from n.stations)) refl)
-    (λ b other. elsewhere b other (is_some (aid_of from n.stations)) refl) h
-  where
-    few : (b : Bool) → is_some (aid_of from n.stations) ≡ b → length (disassociate from n.stations) ≤ s.network.max_known
-    few true is =
-        let known = known-where_associated (state_of from n.stations) is in
-        let len = length-set_state from Authenticated n.stations in
-        let same = rw known at len in
-        rw is (omega (arith, same, h.known))
-    few false is = rw is h.known
-
-    elsewhere : (b : List ℕ) → bytes_eq b from ≡ false → (r : Bool) → is_some (aid_of from n.stations) ≡ r → state_of b (disassociate from n.stations) ≡ state_of b n.stations
-    elsewhere b other true is = rw is (state_of-set from b Authenticated n.stations other)
-    elsewhere b other false is = rw is refl
-
-serve-sound : (s : Setting) (r : Request) (events units : ℕ) (n : Network) → IsShort r → s.network.max_stations ≤ 2007 → class_fault (standing_of (sender r) n.stations) (class_of r) ≡ None → IsSoundNetwork s events units n → IsSoundNetwork s events (units + 2) (serve s r n)
-serve-sound s (Probe from ssid) events units n short limit taken h = more-sound s events units events (units + 2) _ (omega arith) (omega arith) (probe-sound s from ssid events units n h)
-serve-sound s (Auth from algorithm step) events units n short limit taken h = more-sound s events units events (units + 2) _ (omega arith) (omega arith) (authentication-sound s from algorithm step events units n h)
-serve-sound s (Assoc from again listen es) events units n short limit taken h = more-sound s events units events (units + 2) _ (omega arith) (omega arith) (association-sound s from again listen es events units n limit (known-where_taken (state_of from n.stations) taken) h)
-serve-sound s (Disassoc from) events units n short limit taken h = more-sound s events units events (units + 2) _ (omega arith) (omega arith) (disassociation-sound s from events units n h)
-serve-sound s (Deauth from) events units n short limit taken h =
-    more-sound s events units events (units + 2) _ (omega arith) (omega arith)
-    (state-sound s from (forget from) events units n (forget-sound s.network.max_stations from n.stations h.stations) (omega (arith, length-forgotten from n.stations, h.known))
-    (λ b other. state_of-forgotten from b n.stations other) h)
-serve-sound s (Msdu from doze to body) events units n short limit taken h =
-    forward-sound s (unit n.clock to from body) events units (set_power_mode s from doze n) (sym (modes s from doze n)) (record { to = short.passed.0; source = short.from; body = short.passed.1 }) (mode_set-sound s from doze events units n h)
-serve-sound s (Null from doze) events units n short limit taken h = more-sound s events units events (units + 2) _ (omega arith) (omega arith) (mode_set-sound s from doze events units n h)
-serve-sound s (Poll from aid) events units n short limit taken h = more-sound s events units events (units + 2) _ (omega arith) (omega arith) (polled-sound s from aid events units n h)
-
-notified-sound : (s : Setting) (r : Request) (fault : Option Notice) (events units : ℕ) (n : Network) → IsShort r → s.network.max_stations ≤ 2007 → class_fault (standing_of (sender r) n.stations) (class_of r) ≡ fault → IsSoundNetwork s events units n → IsSoundNetwork s events (units + 2) (notify_or_serve fault s r n)
-notified-sound s r (Some notice) events units n short limit is h = more-sound s events units events (units + 2) _ (omega arith) (omega arith) (send-sound s events units n (λ sequence. notice_frame (sender r) s.network.bssid sequence notice) h)
-notified-sound s r None events units n short limit is h = serve-sound s r events units n short limit is h
-
-answer-sound : (s : Setting) (asked : Result Request Fault) (events units : ℕ) (n : Network) → IsShortRead asked → s.network.max_stations ≤ 2007 → IsSoundNetwork s events units n → IsSoundNetwork s (events + 1) (units + 2) (answer s asked n)
-answer-sound s (Ok r) events units n short limit h = more-sound s events (units + 2) (events + 1) (units + 2) _ (omega arith) (omega arith) (notified-sound s r (class_fault (standing_of (sender r) n.stations) (class_of r)) events units n short limit refl h)
-answer-sound s (Err fault) events units n short limit h = more-sound s (events + 1) units (events + 1) (units + 2) _ (omega arith) (omega arith) (count_unread-sound s events units n h)
-
-wired-sound : (s : Setting) (read : Result Ethernet Fault) (events units : ℕ) (n : Network) → ((w : Ethernet) → read ≡ Ok w → FitsFrame (unit_of n.clock w)) → IsSoundNetwork s events units n → IsSoundNetwork s (events + 1) (units + 2) (answer_wired s read n)
-wired-sound s (Ok w) events units n size h = more-sound s events (units + 1) (events + 1) (units + 2) _ (omega arith) (omega arith) (deliver-sound s (unit_of n.clock w) events units n refl (size w refl) h)
-wired-sound s (Err fault) events units n size h = more-sound s (events + 1) units (events + 1) (units + 2) _ (omega arith) (omega arith) (count_unread-sound s events units n h)
-
-pub step-sound : AreFrames → AreEthernet → (s : Setting) (events units : ℕ) (n : Network) (e : Event) → s.network.max_stations ≤ 2007 → IsSoundNetwork s events units n → IsSoundNetwork s (events + 1) (units + 2) (step s n e)
-step-sound frames ethernet s events units n (Air x) limit h = answer-sound s (request_of s.network.bssid x) events units n (request-short frames s.network.bssid x) limit h
-step-sound frames ethernet s events units n (Wire y) limit h =
-    wired-sound s (ethernet_of y) events units n (λ w is. ethernet-fits n.clock y w ((ethernet y w).0 is)) h
-step-sound frames ethernet s events units n Tick limit h = more-sound s (events + 1) units (events + 1) (units + 2) _ (omega arith) (omega arith) (tick-sound s events units (age_units s n) (age-sound s events units n h))
-
-after-sound : AreFrames → AreEthernet → (s : Setting) (events units : ℕ) (n : Network) (es : List Event) → s.network.max_stations ≤ 2007 → IsSoundNetwork s events units n → IsSoundNetwork s (events + length es) (units + 2 * length es) (after s n es)
-after-sound frames ethernet s events units n [] limit h = more-sound s events units _ _ n (omega arith) (omega arith) h
-after-sound frames ethernet s events units n (e ∷ es) limit h =
-    more-sound s _ _ _ _ (after s (step s n e) es) (omega arith) (omega arith)
-    (after-sound frames ethernet s (events + 1) (units + 2) (step s n e) es limit (step-sound frames ethernet s events units n e limit h))
-
 -- in a network without a fault there are identifiers for all stations that may associate
 abbrev pub StationsFit : Type 0
 StationsFit = (n : NetConfig) → network_fault n ≡ None → n.max_stations ≤ 2007
 
-pub alone-sound : StationsFit → AreFrames → AreEthernet → (s : Setting) (es : List Event) → network_fault s.network ≡ None → IsSoundNetwork s (length es) (2 * length es) (alone s es)
-unfolding alone
-alone-sound fit frames ethernet s es h =
-    more-sound s _ _ _ _ (after s empty_network es) (omega arith) (omega arith) (after-sound frames ethernet s 0 0 empty_network es (fit s.network h) (empty-sound s))
+-- what the laws of the crates below say of a table, and of the units that are kept for its stations
+pub record LawsBelow : Type 0 where
+  pub others : OthersStay
+  pub modes : ModesAlone
+  pub sound : StaySound
+  pub lengths : LengthsAfter
+  pub kept : KeptForDozing
+  pub came : CameInTurn
+  pub counts : KeptCounts
+
+module _ (below : LawsBelow) where
+  -- of a network with the same stations and kept units, where its counts stay within their bounds
+  counts-sound : (s : Setting) (events units more most : ℕ) (n other : Network) → (other.stations ≡ n.stations) × (other.kept ≡ n.kept) × (n.clock ≤ other.clock) → other.sequence < 4096 → other.unread ≤ more → other.clock ≤ more → other.lost + length other.kept ≤ most → IsSoundNetwork s events units n → IsSoundNetwork s more most other
+  counts-sound s events units more most n other same sequence unread clock lost h = record {
+    stations = rw same.0 h.stations;
+    known = rw same.0 h.known;
+    kept = rw (same.0, same.1) h.kept;
+    came = rw same.1 (below.came.later n.clock other.clock n.kept same.2 h.came);
+    sizes = rw same.1 h.sizes;
+    quota = rw same.1 h.quota;
+    sequence = sequence;
+    unread = unread;
+    clock = clock;
+    lost = lost;
+  }
+
+  send-sound : (s : Setting) (events units : ℕ) (n : Network) (frame : ℕ → List ℕ) → IsSoundNetwork s events units n → IsSoundNetwork s events units (send frame n)
+  send-sound s events units n frame h = counts-sound s events units events units n (send frame n) (refl, refl, omega arith) (omega arith) h.unread h.clock h.lost h
+
+  count_unread-sound : (s : Setting) (events units : ℕ) (n : Network) → IsSoundNetwork s events units n → IsSoundNetwork s (events + 1) units (count_unread n)
+  count_unread-sound s events units n h = counts-sound s events units (events + 1) units n (count_unread n) (refl, refl, omega arith) h.sequence (omega (arith, h.unread)) (omega (arith, h.clock)) h.lost h
+
+  clock-sound : (s : Setting) (events units : ℕ) (n : Network) → IsSoundNetwork s events units n → IsSoundNetwork s (events + 1) units (record n { clock = n.clock + 1 })
+  clock-sound s events units n h = counts-sound s events units (events + 1) units n (record n { clock = n.clock + 1 }) (refl, refl, omega arith) h.sequence (omega (arith, h.unread)) (omega (arith, h.clock)) h.lost h
+
+  lose-sound : (s : Setting) (events units : ℕ) (n : Network) → IsSoundNetwork s events units n → IsSoundNetwork s events (units + 1) (lose n)
+  lose-sound s events units n h = counts-sound s events units events (units + 1) n (lose n) (refl, refl, omega arith) h.sequence h.unread h.clock (omega (arith, h.lost)) h
+
+  -- some units leave
+  kept-sound : (s : Setting) (events units : ℕ) (n : Network) (kept : List Entry) → AreKeptFor n.stations kept → CameBy n.clock kept → AreFitting kept → length kept ≤ length n.kept → IsSoundNetwork s events units n → IsSoundNetwork s events units (record n { kept = kept })
+  kept-sound s events units n kept for came sizes fewer h = record {
+    stations = h.stations;
+    known = h.known;
+    kept = for;
+    came = came;
+    sizes = sizes;
+    quota = omega (arith, fewer, h.quota);
+    sequence = h.sequence;
+    unread = h.unread;
+    clock = h.clock;
+    lost = omega (arith, fewer, h.lost);
+  }
+
+  -- the stations change, and stay sound, and whoever units are kept for dozes
+  stations-sound : (s : Setting) (events units : ℕ) (n : Network) (table : Table) → AreSound s.network.max_stations table → length table ≤ s.network.max_known → AreKeptFor table n.kept → IsSoundNetwork s events units n → IsSoundNetwork s events units (record n { stations = table })
+  stations-sound s events units n table sound few for h = record {
+    stations = sound;
+    known = few;
+    kept = for;
+    came = h.came;
+    sizes = h.sizes;
+    quota = h.quota;
+    sequence = h.sequence;
+    unread = h.unread;
+    clock = h.clock;
+    lost = h.lost;
+  }
+
+  -- one of them changes, and the units for it leave
+  state-sound : (s : Setting) (addr : List ℕ) (change : Table → Table) (events units : ℕ) (n : Network) → AreSound s.network.max_stations (change n.stations) → length (change n.stations) ≤ s.network.max_known → ((b : List ℕ) → bytes_eq b addr ≡ false → state_of b (change n.stations) ≡ state_of b n.stations) → IsSoundNetwork s events units n → IsSoundNetwork s events units (change_state addr change n)
+  state-sound s addr change events units n sound few elsewhere h = record {
+    stations = sound;
+    known = few;
+    kept = below.kept.beside addr n.stations (change n.stations) elsewhere n.kept h.kept;
+    came = below.came.some (λ entry. not (is_for (One addr) entry)) n.clock n.kept h.came;
+    sizes = those-fit (λ entry. not (is_for (One addr) entry)) n.kept h.sizes;
+    quota = omega (arith, below.counts.some (λ entry. not (is_for (One addr) entry)) n.kept, h.quota);
+    sequence = h.sequence;
+    unread = h.unread;
+    clock = h.clock;
+    lost = omega (arith, below.counts.some (λ entry. not (is_for (One addr) entry)) n.kept, h.lost);
+  }
+
+  -- ---- units
+
+  keep-sound : (s : Setting) (whom : Whom) (u : DataUnit) (events units : ℕ) (n : Network) → u.at ≡ n.clock → FitsFrame u → IsKeptFor n.stations whom → IsSoundNetwork s events units n → IsSoundNetwork s events (units + 1) (keep_or_lose s whom u n)
+  keep-sound s whom u events units n at size for h = by (nat_lt (length n.kept) s.network.quota) refl
+    where
+      by : (b : Bool) → nat_lt (length n.kept) s.network.quota ≡ b → IsSoundNetwork s events (units + 1) (keep_or_lose s whom u n)
+      by false is = rw is (lose-sound s events units n h)
+      by true is =
+          let room : length n.kept < s.network.quota = ltb-true (length n.kept) s.network.quota is in
+          let len : length (n.kept ++ (whom, u) ∷ []) ≡ length n.kept + 1 = length-append n.kept ((whom, u) ∷ []) in
+          rw is (record {
+            stations = h.stations;
+            known = h.known;
+            kept = below.kept.one_came n.stations whom u n.kept h.kept for;
+            came = below.came.one_came whom u n.clock n.kept at h.came;
+            sizes = all-push _ n.kept (whom, u) h.sizes size;
+            quota = omega (arith, room, len);
+            sequence = h.sequence;
+            unread = h.unread;
+            clock = h.clock;
+            lost = omega (arith, len, h.lost);
+          })
+
+  deliver-sound : (s : Setting) (u : DataUnit) (events units : ℕ) (n : Network) → u.at ≡ n.clock → FitsFrame u → IsSoundNetwork s events units n → IsSoundNetwork s events (units + 1) (deliver s u n)
+  deliver-sound s u events units n at size h = by (delivery_of u.to n.stations n.kept) refl
+    where
+      by : (d : Delivery) → delivery_of u.to n.stations n.kept ≡ d → IsSoundNetwork s events (units + 1) (deliver s u n)
+      by Now is = rw is (more-sound s events units events (units + 1) _ (omega arith) (omega arith) (send-sound s events units n (unit_frame s.network.bssid false u) h))
+      by (Kept whom) is = rw is (keep-sound s whom u events units n at size (delivery-for u.to n.stations n.kept whom is) h)
+      by Nowhere is = rw is (more-sound s events units events (units + 1) n (omega arith) (omega arith) h)
+
+  send_each-sound : (s : Setting) (shows_more : Bool) (us : List DataUnit) (events units : ℕ) (n : Network) → IsSoundNetwork s events units n → IsSoundNetwork s events units (send_each s shows_more us n)
+  send_each-sound s shows_more [] events units n h = h
+  send_each-sound s shows_more (u ∷ us) events units n h =
+      send_each-sound s shows_more us events units (send_unit s (shows_more && others_follow us) u n) (send-sound s events units n (unit_frame s.network.bssid (shows_more && others_follow us) u) h)
+
+  put_on_wire-sound : (s : Setting) (wired : Option (List ℕ)) (events units : ℕ) (n : Network) → IsSoundNetwork s events units n → IsSoundNetwork s events (units + 1) (put_on_wire wired n)
+  put_on_wire-sound s (Some octets) events units n h = more-sound s events units events (units + 1) _ (omega arith) (omega arith) (frames-sound s events units n n.air (n.wire ++ octets ∷ []) h)
+  put_on_wire-sound s None events units n h = lose-sound s events units n h
+
+  relay-sound : (s : Setting) (u : DataUnit) (events units : ℕ) (n : Network) → u.at ≡ n.clock → FitsFrame u → IsSoundNetwork s events units n → IsSoundNetwork s events (units + 1) (relay s u n)
+  relay-sound s u events units n at size h = by s.network.relay
+    where
+      by : (b : Bool) → IsSoundNetwork s events (units + 1) (if b then deliver s u n else n)
+      by true = deliver-sound s u events units n at size h
+      by false = more-sound s events units events (units + 1) n (omega arith) (omega arith) h
+
+  forward-sound : (s : Setting) (u : DataUnit) (events units : ℕ) (n : Network) → u.at ≡ n.clock → FitsFrame u → IsSoundNetwork s events units n → IsSoundNetwork s events (units + 2) (forward s u n)
+  forward-sound s u events units n at size h = by (goes_on_wire s.network.relay u.to n.stations) refl
+    where
+      by : (b : Bool) → goes_on_wire s.network.relay u.to n.stations ≡ b → IsSoundNetwork s events (units + 2) (forward s u n)
+      by true is =
+          rw is (more-sound s events (units + 1 + 1) events (units + 2) _ (omega arith) (omega arith)
+          (put_on_wire-sound s (on_wire u.to u.source u.body) events (units + 1) (relay s u n) (relay-sound s u events units n at size h)))
+      by false is = rw is (more-sound s events (units + 1) events (units + 2) _ (omega arith) (omega arith) (relay-sound s u events units n at size h))
+
+  mode_set-sound : (s : Setting) (from : List ℕ) (doze : Bool) (events units : ℕ) (n : Network) → s.network.max_stations ≤ 2007 → IsSoundNetwork s events units n → IsSoundNetwork s events units (set_power_mode s from doze n)
+  mode_set-sound s from doze events units n limit h = by (is_dozing from n.stations && not doze) refl
+    where
+      few : length (set_mode from doze n.stations) ≤ s.network.max_known
+      few = omega (arith, below.lengths.moded from doze n.stations, h.known)
+
+      by : (b : Bool) → (is_dozing from n.stations && not doze) ≡ b → IsSoundNetwork s events units (set_power_mode s from doze n)
+      by true is =
+          rw is (send_each-sound s false (units_for (One from) n.kept) events units (change_state from (set_mode from doze) n)
+          (state-sound s from (set_mode from doze) events units n (below.sound s.network.max_stations (changes.SetMode from doze) n.stations limit tt h.stations) few (λ b other. below.others.moded from b doze n.stations other) h))
+      by false is =
+          rw is (stations-sound s events units n (set_mode from doze n.stations) (below.sound s.network.max_stations (changes.SetMode from doze) n.stations limit tt h.stations) few
+          (below.kept.dozing n.stations (set_mode from doze n.stations) (λ b dozes. below.modes.stays from b doze n.stations is dozes) n.kept h.kept) h)
+
+  poll-sound : (s : Setting) (from : List ℕ) (us : List DataUnit) (events units : ℕ) (n : Network) → IsSoundNetwork s events units n → IsSoundNetwork s events units (serve_poll s from us n)
+  poll-sound s from [] events units n h = h
+  poll-sound s from (u ∷ us) events units n h =
+      send-sound s events units _ (unit_frame s.network.bssid (others_follow us) u)
+      (kept-sound s events units n (without_oldest (One from) n.kept) (below.kept.one_left n.stations (is_for (One from)) n.kept h.kept) (below.came.one_left (is_for (One from)) n.clock n.kept h.came) (others-fit (One from) n.kept h.sizes) (below.counts.one_left (is_for (One from)) n.kept) h)
+
+  polled-sound : (s : Setting) (from : List ℕ) (aid events units : ℕ) (n : Network) → IsSoundNetwork s events units n → IsSoundNetwork s events units (answer_poll s from aid n)
+  polled-sound s from aid events units n h = by (may_poll aid (state_of from n.stations)) refl
+    where
+      by : (b : Bool) → may_poll aid (state_of from n.stations) ≡ b → IsSoundNetwork s events units (answer_poll s from aid n)
+      by true is = rw is (poll-sound s from (units_for (One from) n.kept) events units n h)
+      by false is = rw is h
+
+  release-sound : (s : Setting) (events units : ℕ) (n : Network) → IsSoundNetwork s events units n → IsSoundNetwork s events units (release s n)
+  release-sound s events units n h = by (dtim_count n.clock s.network.dtim == 0) refl
+    where
+      by : (b : Bool) → (dtim_count n.clock s.network.dtim == 0) ≡ b → IsSoundNetwork s events units (release s n)
+      by true is =
+          rw is (send_each-sound s true (units_for Group n.kept) events units (drop_units Group n)
+          (kept-sound s events units n (without_all Group n.kept) (below.kept.some n.stations (λ entry. not (is_for Group entry)) n.kept h.kept) (below.came.some (λ entry. not (is_for Group entry)) n.clock n.kept h.came) (those-fit (λ entry. not (is_for Group entry)) n.kept h.sizes) (below.counts.some (λ entry. not (is_for Group entry)) n.kept) h))
+      by false is = rw is h
+
+  tick-sound : (s : Setting) (events units : ℕ) (n : Network) → IsSoundNetwork s events units n → IsSoundNetwork s (events + 1) units (tick s n)
+  tick-sound s events units n h =
+      release-sound s (events + 1) units _
+      (send-sound s (events + 1) units (record n { clock = n.clock + 1 }) (beacon_frame s (n.clock + 1) n.stations n.kept) (clock-sound s events units n h))
+
+  -- units that leave are lost, and no more are lost or kept than were
+  age-sound : (s : Setting) (events units : ℕ) (n : Network) → IsSoundNetwork s events units n → IsSoundNetwork s events units (age_units s n)
+  age-sound s events units n h =
+      let leaves : Entry → Bool = has_aged s n in
+      let stay : Entry → Bool = λ entry. not (leaves entry) in
+      let both = length-filter_both leaves stay (λ entry. refl) n.kept in
+      record {
+        stations = h.stations;
+        known = h.known;
+        kept = below.kept.some n.stations stay n.kept h.kept;
+        came = below.came.some stay n.clock n.kept h.came;
+        sizes = those-fit stay n.kept h.sizes;
+        quota = omega (arith, below.counts.some stay n.kept, h.quota);
+        sequence = h.sequence;
+        unread = h.unread;
+        clock = h.clock;
+        lost = omega (arith, both, h.lost);
+      }
+
+  -- ---- and so by each answer, step and history
+
+  probe-sound : (s : Setting) (from : List ℕ) (ssid : Option (List ℕ)) (events units : ℕ) (n : Network) → IsSoundNetwork s events units n → IsSoundNetwork s events units (answer_probe s from ssid n)
+  probe-sound s from ssid events units n h = cases (asks_for s.network.ssid ssid) refl
+    where
+      cases : (b : Bool) → asks_for s.network.ssid ssid ≡ b → IsSoundNetwork s events units (answer_probe s from ssid n)
+      cases true e = rw e (send-sound s events units n (probe_response (announced_at s n.clock) from) h)
+      cases false e = rw e h
+
+  either : (a b : Bool) → (a || b) ≡ true → (a ≡ true) ⊎ (b ≡ true)
+  either true b h = inl refl
+  either false b h = inr h
+
+  authenticated-few : (s : Setting) (from : List ℕ) (n : Network) → may_be_known s from n ≡ true → length n.stations ≤ s.network.max_known → length (authenticate from n.stations) ≤ s.network.max_known
+  authenticated-few s from n room few =
+      let len = below.lengths.set from Authenticated n.stations in
+      elim (either (is_some (state_of from n.stations)) (nat_lt (length n.stations) s.network.max_known) room) [
+        | inl known ↦ let same = rw known at len in omega (arith, few, same)
+        | inr fewer ↦ omega (arith, len, ltb-true (length n.stations) s.network.max_known fewer, at_most_one (is_some (state_of from n.stations)))
+      ]
+    where
+      at_most_one : (b : Bool) → (if b then 0 else 1) ≤ 1
+      at_most_one true = omega arith
+      at_most_one false = omega arith
+
+  served-sound : (s : Setting) (status : ℕ) (addr : List ℕ) (change : Table → Table) (events units : ℕ) (n : Network) → (status ≡ success → IsSoundNetwork s events units (change_state addr change n)) → IsSoundNetwork s events units n → IsSoundNetwork s events units (change_where_served status addr change n)
+  served-sound s status addr change events units n served h = by (status == success) refl
+    where
+      by : (b : Bool) → (status == success) ≡ b → IsSoundNetwork s events units (change_where_served status addr change n)
+      by true is = let yes : status ≡ success = eqb-true status success is in rw is (served yes)
+      by false is = rw is h
+
+  authentication-sound : (s : Setting) (from : List ℕ) (algorithm step events units : ℕ) (n : Network) → s.network.max_stations ≤ 2007 → IsSoundNetwork s events units n → IsSoundNetwork s events units (answer_authentication s from algorithm step n)
+  authentication-sound s from algorithm step events units n limit h =
+      send-sound s events units _ (λ sequence. authentication from s.network.bssid sequence algorithm (authentication_status s from algorithm step n))
+      (served-sound s (authentication_status s from algorithm step n) from (authenticate from) events units n
+      (λ served. state-sound s from (authenticate from) events units n (below.sound s.network.max_stations (changes.Authenticate from) n.stations limit tt h.stations)
+      (authenticated-few s from n (room-authenticated algorithm step (may_be_known s from n) served) h.known)
+      (λ b other. below.others.set from b Authenticated n.stations other) h) h)
+
+  association-sound : (s : Setting) (from : List ℕ) (again : Bool) (listen : ℕ) (es : List Pair) (events units : ℕ) (n : Network) → s.network.max_stations ≤ 2007 → is_some (state_of from n.stations) ≡ true → IsSoundNetwork s events units n → IsSoundNetwork s events units (answer_association s from again listen es n)
+  association-sound s from again listen es events units n limit known h =
+      send-sound s events units _ (λ sequence. association_response from s.network.bssid sequence again (association_status s from es n) (next_aid from n.stations) s.network.rates)
+      (served-sound s (association_status s from es n) from (associate from listen) events units n
+      (λ served. state-sound s from (associate from listen) events units n
+      (below.sound s.network.max_stations (changes.Associate from listen) n.stations limit (known, room-associated s.network.ssid s.network.rates (may_associate s.network.max_stations from n.stations) es served) h.stations)
+      (let len = below.lengths.set from (Associated (next_aid from n.stations) listen false) n.stations in let same = rw known at len in omega (arith, same, h.known))
+      (λ b other. below.others.set from b (Associated (next_aid from n.stations) listen false) n.stations other) h) h)
+
+  disassociation-sound : (s : Setting) (from : List ℕ) (events units : ℕ) (n : Network) → s.network.max_stations ≤ 2007 → IsSoundNetwork s events units n → IsSoundNetwork s events units (change_state from (disassociate from) n)
+  disassociation-sound s from events units n limit h =
+      state-sound s from (disassociate from) events units n (below.sound s.network.max_stations (changes.Disassociate from) n.stations limit tt h.stations) (few (is_some (aid_of from n.stations)) refl)
+      (λ b other. elsewhere b other (is_some (aid_of from n.stations)) refl) h
+    where
+      few : (b : Bool) → is_some (aid_of from n.stations) ≡ b → length (disassociate from n.stations) ≤ s.network.max_known
+      few true is =
+          let known = known-where_associated (state_of from n.stations) is in
+          let len = below.lengths.set from Authenticated n.stations in
+          let same = rw known at len in
+          rw is (omega (arith, same, h.known))
+      few false is = rw is h.known
+
+      elsewhere : (b : List ℕ) → bytes_eq b from ≡ false → (r : Bool) → is_some (aid_of from n.stations) ≡ r → state_of b (disassociate from n.stations) ≡ state_of b n.stations
+      elsewhere b other true is = rw is (below.others.set from b Authenticated n.stations other)
+      elsewhere b other false is = rw is refl
+
+  serve-sound : (s : Setting) (r : Request) (events units : ℕ) (n : Network) → IsShort r → s.network.max_stations ≤ 2007 → class_fault (standing_of (sender r) n.stations) (class_of r) ≡ None → IsSoundNetwork s events units n → IsSoundNetwork s events (units + 2) (serve s r n)
+  serve-sound s (Probe from ssid) events units n short limit taken h = more-sound s events units events (units + 2) _ (omega arith) (omega arith) (probe-sound s from ssid events units n h)
+  serve-sound s (Auth from algorithm step) events units n short limit taken h = more-sound s events units events (units + 2) _ (omega arith) (omega arith) (authentication-sound s from algorithm step events units n limit h)
+  serve-sound s (Assoc from again listen es) events units n short limit taken h = more-sound s events units events (units + 2) _ (omega arith) (omega arith) (association-sound s from again listen es events units n limit (known-where_taken (state_of from n.stations) taken) h)
+  serve-sound s (Disassoc from) events units n short limit taken h = more-sound s events units events (units + 2) _ (omega arith) (omega arith) (disassociation-sound s from events units n limit h)
+  serve-sound s (Deauth from) events units n short limit taken h =
+      more-sound s events units events (units + 2) _ (omega arith) (omega arith)
+      (state-sound s from (forget from) events units n (below.sound s.network.max_stations (changes.Forget from) n.stations limit tt h.stations) (omega (arith, below.lengths.forgotten from n.stations, h.known))
+      (λ b other. below.others.forgotten from b n.stations other) h)
+  serve-sound s (Msdu from doze to body) events units n short limit taken h =
+      forward-sound s (unit n.clock to from body) events units (set_power_mode s from doze n) (sym (modes s from doze n)) (record { to = short.passed.0; source = short.from; body = short.passed.1 }) (mode_set-sound s from doze events units n limit h)
+  serve-sound s (Null from doze) events units n short limit taken h = more-sound s events units events (units + 2) _ (omega arith) (omega arith) (mode_set-sound s from doze events units n limit h)
+  serve-sound s (Poll from aid) events units n short limit taken h = more-sound s events units events (units + 2) _ (omega arith) (omega arith) (polled-sound s from aid events units n h)
+
+  notified-sound : (s : Setting) (r : Request) (fault : Option Notice) (events units : ℕ) (n : Network) → IsShort r → s.network.max_stations ≤ 2007 → class_fault (standing_of (sender r) n.stations) (class_of r) ≡ fault → IsSoundNetwork s events units n → IsSoundNetwork s events (units + 2) (notify_or_serve fault s r n)
+  notified-sound s r (Some notice) events units n short limit is h = more-sound s events units events (units + 2) _ (omega arith) (omega arith) (send-sound s events units n (λ sequence. notice_frame (sender r) s.network.bssid sequence notice) h)
+  notified-sound s r None events units n short limit is h = serve-sound s r events units n short limit is h
+
+  answer-sound : (s : Setting) (asked : Result Request Fault) (events units : ℕ) (n : Network) → IsShortRead asked → s.network.max_stations ≤ 2007 → IsSoundNetwork s events units n → IsSoundNetwork s (events + 1) (units + 2) (answer s asked n)
+  answer-sound s (Ok r) events units n short limit h = more-sound s events (units + 2) (events + 1) (units + 2) _ (omega arith) (omega arith) (notified-sound s r (class_fault (standing_of (sender r) n.stations) (class_of r)) events units n short limit refl h)
+  answer-sound s (Err fault) events units n short limit h = more-sound s (events + 1) units (events + 1) (units + 2) _ (omega arith) (omega arith) (count_unread-sound s events units n h)
+
+  wired-sound : (s : Setting) (read : Result Ethernet Fault) (events units : ℕ) (n : Network) → ((w : Ethernet) → read ≡ Ok w → FitsFrame (unit_of n.clock w)) → IsSoundNetwork s events units n → IsSoundNetwork s (events + 1) (units + 2) (answer_wired s read n)
+  wired-sound s (Ok w) events units n size h = more-sound s events (units + 1) (events + 1) (units + 2) _ (omega arith) (omega arith) (deliver-sound s (unit_of n.clock w) events units n refl (size w refl) h)
+  wired-sound s (Err fault) events units n size h = more-sound s (events + 1) units (events + 1) (units + 2) _ (omega arith) (omega arith) (count_unread-sound s events units n h)
+
+  pub step-sound : AreFrames → AreEthernet → (s : Setting) (events units : ℕ) (n : Network) (e : Event) → s.network.max_stations ≤ 2007 → IsSoundNetwork s events units n → IsSoundNetwork s (events + 1) (units + 2) (step s n e)
+  step-sound frames ethernet s events units n (Air x) limit h = answer-sound s (request_of s.network.bssid x) events units n (request-short frames s.network.bssid x) limit h
+  step-sound frames ethernet s events units n (Wire y) limit h =
+      wired-sound s (ethernet_of y) events units n (λ w is. ethernet-fits n.clock y w ((ethernet y w).0 is)) h
+  step-sound frames ethernet s events units n Tick limit h = more-sound s (events + 1) units (events + 1) (units + 2) _ (omega arith) (omega arith) (tick-sound s events units (age_units s n) (age-sound s events units n h))
+
+  after-sound : AreFrames → AreEthernet → (s : Setting) (events units : ℕ) (n : Network) (es : List Event) → s.network.max_stations ≤ 2007 → IsSoundNetwork s events units n → IsSoundNetwork s (events + length es) (units + 2 * length es) (after s n es)
+  after-sound frames ethernet s events units n [] limit h = more-sound s events units _ _ n (omega arith) (omega arith) h
+  after-sound frames ethernet s events units n (e ∷ es) limit h =
+      more-sound s _ _ _ _ (after s (step s n e) es) (omega arith) (omega arith)
+      (after-sound frames ethernet s (events + 1) (units + 2) (step s n e) es limit (step-sound frames ethernet s events units n e limit h))
+
+  pub alone-sound : StationsFit → AreFrames → AreEthernet → (s : Setting) (es : List Event) → network_fault s.network ≡ None → IsSoundNetwork s (length es) (2 * length es) (alone s es)
+  unfolding alone
+  alone-sound fit frames ethernet s es h =
+      more-sound s _ _ _ _ (after s empty_network es) (omega arith) (omega arith) (after-sound frames ethernet s 0 0 empty_network es (fit s.network h) (empty-sound s))

@@ -30,8 +30,8 @@ use Rattle.roster.specs.declared.keeping.Leaving.TheVariants as leavings
 use Rattle.network.specs.declared.reply.Reply.{Reply}
 use Rattle.network.specs.declared.reply.unit.Delivery.{Delivery}
 use Rattle.network.specs.declared.reply.unit.Delivery.TheVariants.{Now, Kept}
-use Rattle.roster.proofs.UnitsKept.{aid_for-mode, group-stays, oldest-none}
-use Rattle.stations.proofs.StationStates.{set_mode-same}
+use Rattle.stations.specs.Changes.{ModesAlone}
+use Rattle.roster.specs.Changes.{KeptCounts, GroupStays, ModesKeepIdentifiers}
 
 -- ---- a frame is sent
 
@@ -55,10 +55,10 @@ never_both true = refl
 never_both false = refl
 
 -- a mode that stays
-pub mode-kept : (s : Setting) (from : List ℕ) (doze : Bool) (n : Network) → is_dozing from n.stations ≡ doze → set_power_mode s from doze n ≡ n
-mode-kept s from doze n is =
+pub mode-kept : ModesAlone → (s : Setting) (from : List ℕ) (doze : Bool) (n : Network) → is_dozing from n.stations ≡ doze → set_power_mode s from doze n ≡ n
+mode-kept modes s from doze n is =
     let stays : (is_dozing from n.stations && not doze) ≡ false = ap (λ (b : Bool). b && not doze) is ∙ never_both doze in
-    rw stays (ap (λ (t : Table). record n { stations = t }) (set_mode-same from doze n.stations is))
+    rw stays (ap (λ (t : Table). record n { stations = t }) (modes.same from doze n.stations is))
 
 -- ---- where a unit goes
 
@@ -77,22 +77,22 @@ left-apart (leavings.All (One a)) t (One b) awake for = by (bytes_eq b a) refl
 left-apart (leavings.All Group) t whom awake for = absurd awake
 
 -- the units of a station that leave are nothing to where another goes
-delivery-left : (leaving : Leaving) (t : Table) (kept : List Entry) (to : List ℕ) → IsAwake leaving t → delivery_of to t (without leaving kept ++ []) ≡ delivery_of to t kept
-delivery-left leavings.Nothing t kept to awake = ap (delivery_of to t) (append-nil kept)
-delivery-left (leavings.All (One a)) t kept to awake =
-    let same : group_is_kept (without_all (One a) kept ++ []) ≡ group_is_kept kept = ap group_is_kept (append-nil (without_all (One a) kept)) ∙ group-stays a kept in
+delivery-left : GroupStays → (leaving : Leaving) (t : Table) (kept : List Entry) (to : List ℕ) → IsAwake leaving t → delivery_of to t (without leaving kept ++ []) ≡ delivery_of to t kept
+delivery-left group leavings.Nothing t kept to awake = ap (delivery_of to t) (append-nil kept)
+delivery-left group (leavings.All (One a)) t kept to awake =
+    let same : group_is_kept (without_all (One a) kept ++ []) ≡ group_is_kept kept = ap group_is_kept (append-nil (without_all (One a) kept)) ∙ group.beside a kept in
     ap (λ b. if is_group to then (if some_station_dozes t || b then Kept Group else Now) else delivery_with (state_of to t) to) same
-delivery-left (leavings.All Group) t kept to awake = absurd awake
+delivery-left group (leavings.All Group) t kept to awake = absurd awake
 
-pub delivery-after : (r : Reply) (n : Network) (to : List ℕ) → IsAwake r.keeping.leaving (changed r.change n.stations) → r.keeping.arriving ≡ None → delivery_of to (after_reply r n).stations (after_reply r n).kept ≡ delivery_of to (changed r.change n.stations) n.kept
-delivery-after r n to awake none =
+pub delivery-after : GroupStays → (r : Reply) (n : Network) (to : List ℕ) → IsAwake r.keeping.leaving (changed r.change n.stations) → r.keeping.arriving ≡ None → delivery_of to (after_reply r n).stations (after_reply r n).kept ≡ delivery_of to (changed r.change n.stations) n.kept
+delivery-after group r n to awake none =
     ap (λ (a : Option Arriving). delivery_of to (changed r.change n.stations) (without r.keeping.leaving n.kept ++ option_to_list (option_map entry_of a))) none
-    ∙ delivery-left r.keeping.leaving (changed r.change n.stations) n.kept to awake
+    ∙ delivery-left group r.keeping.leaving (changed r.change n.stations) n.kept to awake
 
 -- a unit is delivered so
-pub delivered : (s : Setting) (u : DataUnit) (r : Reply) (n : Network) (d : Delivery) → IsAwake r.keeping.leaving (changed r.change n.stations) → r.keeping.arriving ≡ None → d ≡ delivery_of u.to (changed r.change n.stations) n.kept → deliver s u (after_reply r n) ≡ deliver_by d s u (after_reply r n)
-delivered s u r n d awake none is =
-    ap (λ (e : Delivery). deliver_by e s u (after_reply r n)) (delivery-after r n u.to awake none ∙ sym is)
+pub delivered : GroupStays → (s : Setting) (u : DataUnit) (r : Reply) (n : Network) (d : Delivery) → IsAwake r.keeping.leaving (changed r.change n.stations) → r.keeping.arriving ≡ None → d ≡ delivery_of u.to (changed r.change n.stations) n.kept → deliver s u (after_reply r n) ≡ deliver_by d s u (after_reply r n)
+delivered group s u r n d awake none is =
+    ap (λ (e : Delivery). deliver_by e s u (after_reply r n)) (delivery-after group r n u.to awake none ∙ sym is)
 
 -- the identifier of the state that a kept unit goes by is that of its station
 identifier-of_kept : (to : List ℕ) (t : Table) (kept : List Entry) (whom : Whom) → delivery_of to t kept ≡ Kept whom → aid_at whom (state_of to t) ≡ aid_for whom t
@@ -113,9 +113,9 @@ identifier-of_kept to t kept whom h = by (is_group to) refl
     by false is = to_one (state_of to t) (sym (rw is refl) ∙ h)
 
 -- and so it was before a mode was set
-pub identifier-told : (change : Change) (to : List ℕ) (t : Table) (kept : List Entry) (whom : Whom) (state : Option StationState) → IsModeAlone change → state ≡ state_of to (changed change t) → delivery_of to (changed change t) kept ≡ Kept whom → aid_at whom state ≡ aid_for whom t
-identifier-told change to t kept whom state alone is goes =
-    ap (aid_at whom) is ∙ identifier-of_kept to (changed change t) kept whom goes ∙ aid_for-mode change whom t alone
+pub identifier-told : ModesKeepIdentifiers → (change : Change) (to : List ℕ) (t : Table) (kept : List Entry) (whom : Whom) (state : Option StationState) → IsModeAlone change → state ≡ state_of to (changed change t) → delivery_of to (changed change t) kept ≡ Kept whom → aid_at whom state ≡ aid_for whom t
+identifier-told keep change to t kept whom state alone is goes =
+    ap (aid_at whom) is ∙ identifier-of_kept to (changed change t) kept whom goes ∙ keep change whom t alone
 
 -- ---- units in order
 
@@ -149,16 +149,16 @@ some-at (u ∷ us) (suc k) h = some-at us k (omega (arith, h))
 -- ---- polls
 
 -- the first of these units, where there is one, is sent and leaves
-poll-carried : (s : Setting) (from : List ℕ) (us : List DataUnit) (n : Network) → units_for (One from) n.kept ≡ us → serve_poll s from us n ≡ after_reply (serving s us (no_reply n.sequence)) (unit_taken (Served from) n)
-poll-carried s from [] n none =
-    sym (nothing-replied (unit_taken (Served from) n) ∙ ap (λ (es : List Entry). record n { kept = es }) (oldest-none (One from) n.kept none))
-poll-carried s from (u ∷ us) n is =
+poll-carried : KeptCounts → (s : Setting) (from : List ℕ) (us : List DataUnit) (n : Network) → units_for (One from) n.kept ≡ us → serve_poll s from us n ≡ after_reply (serving s us (no_reply n.sequence)) (unit_taken (Served from) n)
+poll-carried counts s from [] n none =
+    sym (nothing-replied (unit_taken (Served from) n) ∙ ap (λ (es : List Entry). record n { kept = es }) (counts.none (One from) n.kept none))
+poll-carried counts s from (u ∷ us) n is =
     let left : Network = unit_taken (Served from) n in
     ap (send (unit_frame s.network.bssid (others_follow us) u)) (sym (nothing-replied left))
     ∙ after-sent (no_reply n.sequence) left (unit_frame s.network.bssid (others_follow us) u)
 
-pub poll-served : (s : Setting) (from : List ℕ) (aid : ℕ) (n : Network) → may_poll aid (state_of from n.stations) ≡ true → answer_poll s from aid n ≡ after_answer s (Served from) n
-poll-served s from aid n may = rw may (poll-carried s from (units_for (One from) n.kept) n refl)
+pub poll-served : KeptCounts → (s : Setting) (from : List ℕ) (aid : ℕ) (n : Network) → may_poll aid (state_of from n.stations) ≡ true → answer_poll s from aid n ≡ after_answer s (Served from) n
+poll-served counts s from aid n may = rw may (poll-carried counts s from (units_for (One from) n.kept) n refl)
 
 pub poll-refused : (s : Setting) (from : List ℕ) (aid : ℕ) (n : Network) → may_poll aid (state_of from n.stations) ≡ false → answer_poll s from aid n ≡ after_reply (no_reply n.sequence) n
 poll-refused s from aid n not = rw not (sym (nothing-replied n))

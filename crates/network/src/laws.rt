@@ -13,6 +13,8 @@ ghost use Rattle.network.specs.BssView.{sent_by};
 use ap_config::checked_numbers;
 use encapsulation::one_ethernet_frame;
 use mac_frame::one_frame;
+use roster::{came_in_turn, kept_counts, kept_for_dozing};
+use stations::{changes_stay_sound, lengths_after, modes_alone, others_stay};
 use tim::one_tim;
 
 /// What holds of every network that events make of an empty one, where its configuration has no fault: what it keeps
@@ -23,6 +25,15 @@ pub fn reachable()
 {
     // no more stations may associate than there are identifiers
     checked_numbers();
+    // what a change of one station leaves as it was
+    others_stay();
+    modes_alone();
+    changes_stay_sound();
+    lengths_after();
+    // and what of the units that are kept
+    kept_for_dozing();
+    came_in_turn();
+    kept_counts();
     // what is read is of the lengths that its relation says
     one_frame();
     one_ethernet_frame();
@@ -34,6 +45,13 @@ pub(crate) fn stays_sound()
         → IsSoundNetwork s events units n → IsSoundNetwork s (events + 1) (units + 2) (step s n e) }
 {
     checked_numbers();
+    others_stay();
+    modes_alone();
+    changes_stay_sound();
+    lengths_after();
+    kept_for_dozing();
+    came_in_turn();
+    kept_counts();
     one_frame();
     one_ethernet_frame();
 }

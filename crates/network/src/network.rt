@@ -28,7 +28,7 @@ use beacon::ResponseElements;
 use events::{Event, LentEvent, StationRow};
 use mac_frame::{MacAddr, NoMemory, Octets};
 use powersave::{Keep, Whom};
-use roster::{Keeping, Roster};
+use roster::{Keeping, Roster, kept_counts};
 use stations::Stations;
 use std::alloc::Global;
 use std::marker::Model;
@@ -192,6 +192,7 @@ impl Network {
     {
         // the quota is counted by 32 bits
         checked_numbers();
+        kept_counts();
         self.roster.kept().count_for(Whom::One(addr)) as u32
     }
 

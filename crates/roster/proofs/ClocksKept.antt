@@ -18,17 +18,16 @@ use Rattle.powersave.specs.declared.unit.Whom.TheVariants.{One, Group}
 use Rattle.roster.specs.AgingClocks.{IsClockOf, HasClock, HaveClocks, IsEntered, IsNoted, IsListed, StayAt, is_due, due_with, due_at}
 use Rattle.roster.specs.declared.aging_clocks.AgingClock.{AgingClock}
 use Rattle.roster.specs.Roster.{AreWaitedFor, AreAmong, is_number, renumbered}
+use Rattle.stations.specs.Changes.{OthersStay, ModesAlone, IdentifiersDiffer}
 use Rattle.stations.specs.Sound.{AreSound}
 use Rattle.roster.specs.KeptUnits.{CameBy, has_unit, is_waited_for, is_too_old_for}
-use Rattle.stations.specs.Stations.{Table, state_of, aid_of, aid_with, listen_with, identifiers, AreIdentifiers, forget, disassociate, set_mode, with_mode, changed}
+use Rattle.stations.specs.Stations.{Table, state_of, aid_of, aid_with, listen_with, identifiers, AreIdentifiers, disassociate, set_mode, with_mode, changed}
 use Rattle.stations.specs.declared.table.Change.{Change}
 use Rattle.stations.specs.declared.table.Change.TheVariants as changes
 use Rattle.station_state.specs.declared.state.StationState.{StationState}
 use Rattle.station_state.specs.declared.state.StationState.TheVariants.{Authenticated, Associated}
-use Rattle.stations.proofs.StationTables.{Numbers, is_among-at, without, numbers-of_associated, range-of_associated}
 use Rattle.roster.proofs.RosterAging.{FirstOf, firsts, same_whom}
-use Rattle.stations.proofs.StationStates.{state_of-set, state_of-forgotten, state_of-moded, state_of-mode}
-use Rattle.roster.proofs.WaitedFor.{waited-parted, rest-none}
+use Rattle.roster.proofs.WaitedFor.{Numbers, waited-parted, rest-none}
 
 -- ---- one of a list is set
 
@@ -86,28 +85,13 @@ stand (e ∷ es) = ((λ whom is. ap (λ b. b || list_any (is_for whom) es) is), 
 pub itself : (a : List ℕ) → bytes_eq a a ≡ true
 itself a = (bytes_eq-Decides a a).1 refl
 
--- ---- no two stations have one identifier
-
-among-here : (p q : List ℕ) (n : ℕ) → is_among (p ++ n ∷ q) n ≡ true
-among-here p q n = is_among-at p q n n ∙ ap (λ b. b || is_among (p ++ q) n) (eq-eqb n n refl)
-
-pub one-station : (a b : List ℕ) (t : Table) (n : ℕ) → AreIdentifiers (identifiers t) → aid_of a t ≡ Some n → aid_of b t ≡ Some n → a ≡ b
-one-station a b t n sound one other = by (bytes_eq b a) refl
-  where
-    by : (r : Bool) → bytes_eq b a ≡ r → a ≡ b
-    by true same = sym ((bytes_eq-Decides b a).0 same)
-    by false apart =
-        let p = numbers-of_associated a t n one in
-        let gone : is_among (p.0 ++ p.1) n ≡ false = (without p.0 p.1 n (subst AreIdentifiers p.2 sound)).1 in
-        let still : aid_of b (forget a t) ≡ Some n = ap aid_with (state_of-forgotten a b t apart) ∙ other in
-        let q = numbers-of_associated b (forget a t) n still in
-        absurd (both_ways (is_among (identifiers (forget a t)) n) (ap (λ ns. is_among ns n) p.4 ∙ gone) (ap (λ ns. is_among ns n) q.2 ∙ among-here q.0 q.1 n))
+-- ---- the bits of those that units are kept for
 
 -- a number is waited for where units are kept for its station
-pub waited-own : (addr : List ℕ) (t : Table) (es : List Entry) (n : ℕ) → AreIdentifiers (identifiers t) → aid_of addr t ≡ Some n → is_waited_for t es n ≡ has_unit addr es
-waited-own addr t es n sound is =
+pub waited-own : IdentifiersDiffer → (addr : List ℕ) (t : Table) (es : List Entry) (n : ℕ) → AreIdentifiers (identifiers t) → aid_of addr t ≡ Some n → is_waited_for t es n ≡ has_unit addr es
+waited-own differ addr t es n sound is =
     waited-parted addr t es n
-    ∙ ap (λ b. (has_unit addr es && is_number (aid_of addr t) n) || b) (rest-none addr t es n is sound)
+    ∙ ap (λ b. (has_unit addr es && is_number (aid_of addr t) n) || b) (rest-none differ addr t es n is sound)
     ∙ ap (λ (o : Option ℕ). (has_unit addr es && is_number o n) || false) is
     ∙ ap (λ b. (has_unit addr es && b) || false) (eq-eqb n n refl)
     ∙ alone (has_unit addr es)
@@ -117,13 +101,13 @@ waited-own addr t es n sound is =
     alone false = refl
 
 -- so the bit of each that a unit is kept for is set
-pub bits-set : (t : Table) (es : List Entry) (numbers : Numbers) → AreIdentifiers (identifiers t) → AreWaitedFor numbers t es
+pub bits-set : IdentifiersDiffer → (t : Table) (es : List Entry) (numbers : Numbers) → AreIdentifiers (identifiers t) → AreWaitedFor numbers t es
     → AllByRecursion (λ e. (addr : List ℕ) (n : ℕ) → e.0 ≡ One addr → aid_of addr t ≡ Some n → bits.contains numbers n ≡ true) es
-bits-set t es numbers sound told = each es by (stand es)
+bits-set differ t es numbers sound told = each es by (stand es)
   where
     by : (e : Entry) → ((whom : Whom) → is_for whom e ≡ true → list_any (is_for whom) es ≡ true) → (addr : List ℕ) (n : ℕ) → e.0 ≡ One addr → aid_of addr t ≡ Some n → bits.contains numbers n ≡ true
     by e among addr n is aid =
-        told n (range-of_associated addr t n aid sound) ∙ waited-own addr t es n sound aid
+        told n (differ.range addr t n aid sound) ∙ waited-own differ addr t es n sound aid
         ∙ among (One addr) (ap (λ (w : Whom). is_same w (One addr)) is ∙ itself addr)
 
 -- ---- the clock of one is set
@@ -173,12 +157,12 @@ module _ (t : Table) where
 
 -- ---- a unit comes
 
-pub noted : (most : ℕ) (t : Table) (es : List Entry) (numbers : Numbers) (clocks new : List AgingClock) (aids : List ℕ) (addr : List ℕ) (at n : ℕ) → AreSound most t → aid_of addr t ≡ Some n → AreWaitedFor numbers t es → bits.contains numbers n ≡ true
+pub noted : IdentifiersDiffer → (most : ℕ) (t : Table) (es : List Entry) (numbers : Numbers) (clocks new : List AgingClock) (aids : List ℕ) (addr : List ℕ) (at n : ℕ) → AreSound most t → aid_of addr t ≡ Some n → AreWaitedFor numbers t es → bits.contains numbers n ≡ true
     → IsNoted n at clocks new → HaveClocks clocks aids t es → HaveClocks new aids t es × HasClock new aids t (One addr) at
-noted most t es numbers clocks new aids addr at n sound is told bit step h = by (slice_get clocks n) refl step
+noted differ most t es numbers clocks new aids addr at n sound is told bit step h = by (slice_get clocks n) refl step
   where
     waits : list_any (is_for (One addr)) es ≡ true
-    waits = sym (waited-own addr t es n sound.aids is) ∙ sym (told n (range-of_associated addr t n is sound.aids)) ∙ bit
+    waits = sym (waited-own differ addr t es n sound.aids is) ∙ sym (told n (differ.range addr t n is sound.aids)) ∙ bit
 
     own : (is_among aids n ≡ true) × IsSomeAnd (slice_get clocks n) (λ c. (c.addr ≡ addr) × (c.listen ≤ listen_with (state_of addr t)))
     own =
@@ -213,11 +197,11 @@ noted most t es numbers clocks new aids addr at n sound is told bit step h = by 
             let le_old = own.1 in
             (ap (λ (x : AgingClock). x.addr) is_c ∙ own.0, omega (arith, le, le_old, ap (λ (x : AgingClock). x.at) is_c), omega (arith, own.2, ap (λ (x : AgingClock). x.listen) is_c))
 
-pub entered : (most : ℕ) (t : Table) (es : List Entry) (numbers : Numbers) (clocks new : List AgingClock) (old_aids aids : List ℕ) (addr : List ℕ) (at n : ℕ) (c : AgingClock) → AreSound most t → aid_of addr t ≡ Some n → AreWaitedFor numbers t es → bits.contains numbers n ≡ false
+pub entered : IdentifiersDiffer → (most : ℕ) (t : Table) (es : List Entry) (numbers : Numbers) (clocks new : List AgingClock) (old_aids aids : List ℕ) (addr : List ℕ) (at n : ℕ) (c : AgingClock) → AreSound most t → aid_of addr t ≡ Some n → AreWaitedFor numbers t es → bits.contains numbers n ≡ false
     → IsClockOf t addr at c → IsEntered n c clocks old_aids new aids → HaveClocks clocks old_aids t es → HaveClocks new aids t es × HasClock new aids t (One addr) at
-entered most t es numbers clocks new old_aids aids addr at n c sound is told no_bit own step h =
+entered differ most t es numbers clocks new old_aids aids addr at n c sound is told no_bit own step h =
     subst (λ (cs : List AgingClock). HaveClocks cs aids t es × HasClock cs aids t (One addr) at) (sym step.1) (
-      each-two es (λ e bit had. has-set t clocks old_aids aids e.0 e.1.at n c step.0 step.3 (λ a whom aid old was was_own. absurd (both_ways (bits.contains numbers n) no_bit (bit a n whom aid))) had) (bits-set t es numbers sound.aids told) h,
+      each-two es (λ e bit had. has-set t clocks old_aids aids e.0 e.1.at n c step.0 step.3 (λ a whom aid old was was_own. absurd (both_ways (bits.contains numbers n) no_bit (bit a n whom aid))) had) (bits-set differ t es numbers sound.aids told) h,
       has-own t clocks aids addr at n c step.0 is step.2 own,
     )
 
@@ -233,8 +217,8 @@ filtered-among p (m ∷ ns) n is among = by (nat_eq m n) refl (p m) refl among (
     by false other true stays later rest = rw other (rest later)
     by false other false leaves later rest = rest later
 
-pub gone-dropped : (most : ℕ) (t : Table) (es : List Entry) (numbers : Numbers) (clocks : List AgingClock) (aids : List ℕ) → AreSound most t → AreWaitedFor numbers t es → HaveClocks clocks aids t es → HaveClocks clocks (filter (is_shown (bits.contains numbers)) aids) t es
-gone-dropped most t es numbers clocks aids sound told h = each-two es by (bits-set t es numbers sound.aids told) h
+pub gone-dropped : IdentifiersDiffer → (most : ℕ) (t : Table) (es : List Entry) (numbers : Numbers) (clocks : List AgingClock) (aids : List ℕ) → AreSound most t → AreWaitedFor numbers t es → HaveClocks clocks aids t es → HaveClocks clocks (filter (is_shown (bits.contains numbers)) aids) t es
+gone-dropped differ most t es numbers clocks aids sound told h = each-two es by (bits-set differ t es numbers sound.aids told) h
   where
     shown : (n : ℕ) → IsAid n → bits.contains numbers n ≡ true → is_shown (bits.contains numbers) n ≡ true
     shown n aid bit = rw (le-leb 1 n aid.0) (rw (le-leb n 2007 aid.1) bit)
@@ -243,7 +227,7 @@ gone-dropped most t es numbers clocks aids sound told h = each-two es by (bits-s
         → IsSomeAnd o (λ m. (is_among aids m ≡ true) × IsSomeAnd (slice_get clocks m) (IsClockOf t addr at))
         → IsSomeAnd o (λ m. (is_among (filter (is_shown (bits.contains numbers)) aids) m ≡ true) × IsSomeAnd (slice_get clocks m) (IsClockOf t addr at))
     one addr at bit None is k = k
-    one addr at bit (Some n) is k = (filtered-among (is_shown (bits.contains numbers)) aids n (shown n (range-of_associated addr t n is sound.aids) (bit n is)) k.0, k.1)
+    one addr at bit (Some n) is k = (filtered-among (is_shown (bits.contains numbers)) aids n (shown n (differ.range addr t n is sound.aids) (bit n is)) k.0, k.1)
 
     whom_by : (w : Whom) (at : ℕ) → ((addr : List ℕ) (n : ℕ) → w ≡ One addr → aid_of addr t ≡ Some n → bits.contains numbers n ≡ true) → HasClock clocks aids t w at → HasClock clocks (filter (is_shown (bits.contains numbers)) aids) t w at
     whom_by Group at bit k = tt
@@ -323,16 +307,7 @@ listing-goes-on most t one rest clocks new old_aids aids es sound h step = recor
 pub listing-ends : (t : Table) (clocks : List AgingClock) (aids : List ℕ) (es : List Entry) → AreListing t [] clocks aids es → HaveClocks clocks aids t es
 listing-ends t clocks aids es h = each es (λ e listed. listed refl) h.listed
 
--- one that has no station needs no clock
-pub group-listed : (t : Table) (one : Oldest) (clocks : List AgingClock) (aids : List ℕ) → one.whom ≡ Group → IsListed t one clocks aids clocks aids
-group-listed t one clocks aids group = λ most sound. ((λ whom at other had. had), (λ at le. subst (λ (w : Whom). HasClock clocks aids t w at) (sym group) tt))
-
 -- more clocks
-
-pub stay-more : (clocks more : List AgingClock) → StayAt clocks (clocks ++ more)
-stay-more [] more n c h = absurd (cc)
-stay-more (x ∷ clocks) more zero c h = h
-stay-more (x ∷ clocks) more (suc n) c h = stay-more clocks more n c h
 
 has-more : (t : Table) (clocks new : List AgingClock) (aids : List ℕ) → StayAt clocks new → (whom : Whom) (at : ℕ) → HasClock clocks aids t whom at → HasClock new aids t whom at
 has-more t clocks new aids stay Group at h = tt
@@ -349,9 +324,9 @@ has-more t clocks new aids stay (One addr) at h = by (aid_of addr t) h
 pub listed-more : (t : Table) (one : Oldest) (clocks more new : List AgingClock) (old_aids aids : List ℕ) → StayAt clocks more → IsListed t one more old_aids new aids → IsListed t one clocks old_aids new aids
 listed-more t one clocks more new old_aids aids stay step = λ most sound. ((λ whom at other had. (step most sound).0 whom at other (has-more t clocks more old_aids stay whom at had)), (step most sound).1)
 
-pub station-listed : (t : Table) (one : Oldest) (clocks new : List AgingClock) (old_aids aids : List ℕ) (addr : List ℕ) (n listen place : ℕ) (doze : Bool) → one.whom ≡ One addr → state_of addr t ≡ Some (Associated n listen doze)
+pub station-listed : IdentifiersDiffer → (t : Table) (one : Oldest) (clocks new : List AgingClock) (old_aids aids : List ℕ) (addr : List ℕ) (n listen place : ℕ) (doze : Bool) → one.whom ≡ One addr → state_of addr t ≡ Some (Associated n listen doze)
     → IsEntered n (record { addr = addr; place = place; at = one.at; listen = listen }) clocks old_aids new aids → IsListed t one clocks old_aids new aids
-station-listed t one clocks new old_aids aids addr n listen place doze is state step = λ most sound. (
+station-listed differ t one clocks new old_aids aids addr n listen place doze is state step = λ most sound. (
   λ whom at other had. subst (λ (cs : List AgingClock). HasClock cs aids t whom at) (sym step.1)
       (has-set t clocks old_aids aids whom at n c step.0 step.3 (λ a whom_is aid old was own. absurd (apart most sound whom a other whom_is aid)) had),
   λ at le. subst (λ (w : Whom). HasClock new aids t w at) (sym is) (subst (λ (cs : List AgingClock). HasClock cs aids t (One addr) at) (sym step.1)
@@ -369,7 +344,7 @@ station-listed t one clocks new old_aids aids addr n listen place doze is state 
 
     apart : (most : ℕ) → AreSound most t → (whom : Whom) (a : List ℕ) → is_same one.whom whom ≡ false → whom ≡ One a → aid_of a t ≡ Some n → ⊥
     apart most sound whom a other whom_is aid =
-        let same : addr ≡ a = one-station addr a t n sound.aids mine aid in
+        let same : addr ≡ a = differ.one addr a t n sound.aids mine aid in
         both_ways (is_same one.whom whom) other (ap (λ (w : Whom). is_same w whom) is ∙ ap (is_same (One addr)) whom_is ∙ ap (bytes_eq addr) (sym same) ∙ itself addr)
 
 -- ---- those of whom a unit may be too old
@@ -427,17 +402,17 @@ has-same clocks aids addr at t u aid listen h =
     subst (λ (o : Option ℕ). HasClockBy clocks aids addr at o (listen_with (state_of addr u))) (sym aid)
     (subst (λ (l : ℕ). HasClockBy clocks aids addr at (aid_of addr t) l) (sym listen) h)
 
-state-other : (change : Change) (addr b : List ℕ) (t : Table) → renumbered change ≡ Some addr → bytes_eq b addr ≡ false → state_of b (changed change t) ≡ state_of b t
-state-other changes.Nothing addr b t is other = absurd (cc)
-state-other (changes.Authenticate a) addr b t is other = let same : a ≡ addr = cc in rw same (state_of-set addr b Authenticated t other)
-state-other (changes.Associate a listen) addr b t is other = let same : a ≡ addr = cc in rw same (state_of-set addr b _ t other)
-state-other (changes.Disassociate a) addr b t is other = let same : a ≡ addr = cc in rw same (by (is_some (aid_of addr t)) refl)
+state-other : OthersStay → (change : Change) (addr b : List ℕ) (t : Table) → renumbered change ≡ Some addr → bytes_eq b addr ≡ false → state_of b (changed change t) ≡ state_of b t
+state-other others changes.Nothing addr b t is other = absurd (cc)
+state-other others (changes.Authenticate a) addr b t is other = let same : a ≡ addr = cc in rw same (others.set addr b Authenticated t other)
+state-other others (changes.Associate a listen) addr b t is other = let same : a ≡ addr = cc in rw same (others.set addr b _ t other)
+state-other others (changes.Disassociate a) addr b t is other = let same : a ≡ addr = cc in rw same (by (is_some (aid_of addr t)) refl)
   where
     by : (r : Bool) → is_some (aid_of addr t) ≡ r → state_of b (disassociate addr t) ≡ state_of b t
-    by true associated = rw associated (state_of-set addr b Authenticated t other)
+    by true associated = rw associated (others.set addr b Authenticated t other)
     by false not_associated = rw not_associated refl
-state-other (changes.Forget a) addr b t is other = let same : a ≡ addr = cc in rw same (state_of-forgotten addr b t other)
-state-other (changes.SetMode a doze) addr b t is other = absurd (cc)
+state-other others (changes.Forget a) addr b t is other = let same : a ≡ addr = cc in rw same (others.forgotten addr b t other)
+state-other others (changes.SetMode a doze) addr b t is other = absurd (cc)
 
 none-for : (whom : Whom) (es : List Entry) → list_any (is_for whom) es ≡ false → AllByRecursion (λ e. is_for whom e ≡ false) es
 none-for whom [] none = tt
@@ -447,12 +422,12 @@ none-for whom (e ∷ es) none = by (is_for whom e) refl none (none-for whom es)
     by true is later rest = absurd (both_ways true later refl)
     by false is later rest = (is, rest later)
 
-pub clocks-unkept : (clocks : List AgingClock) (aids : List ℕ) (change : Change) (addr : List ℕ) (t : Table) (es : List Entry) → renumbered change ≡ Some addr → has_unit addr es ≡ false → HaveClocks clocks aids t es → HaveClocks clocks aids (changed change t) es
-clocks-unkept clocks aids change addr t es is none h = each-two es (λ e other had. by e.0 e.1.at other had) (none-for (One addr) es none) h
+pub clocks-unkept : OthersStay → (clocks : List AgingClock) (aids : List ℕ) (change : Change) (addr : List ℕ) (t : Table) (es : List Entry) → renumbered change ≡ Some addr → has_unit addr es ≡ false → HaveClocks clocks aids t es → HaveClocks clocks aids (changed change t) es
+clocks-unkept others clocks aids change addr t es is none h = each-two es (λ e other had. by e.0 e.1.at other had) (none-for (One addr) es none) h
   where
     by : (w : Whom) (at : ℕ) → is_same w (One addr) ≡ false → HasClock clocks aids t w at → HasClock clocks aids (changed change t) w at
     by Group at other had = tt
-    by (One b) at other had = let same = state-other change addr b t is other in has-same clocks aids b at t (changed change t) (ap aid_with same) (ap listen_with same) had
+    by (One b) at other had = let same = state-other others change addr b t is other in has-same clocks aids b at t (changed change t) (ap aid_with same) (ap listen_with same) had
 
 mode-aid : (doze : Bool) (state : Option StationState) → aid_with (option_map (with_mode doze) state) ≡ aid_with state
 mode-aid doze None = refl
@@ -464,20 +439,20 @@ mode-listen doze None = refl
 mode-listen doze (Some Authenticated) = refl
 mode-listen doze (Some (Associated aid listen before)) = refl
 
-pub clocks-renumbered_not : (clocks : List AgingClock) (aids : List ℕ) (change : Change) (t : Table) (es : List Entry) → renumbered change ≡ None → HaveClocks clocks aids t es → HaveClocks clocks aids (changed change t) es
-clocks-renumbered_not clocks aids changes.Nothing t es is h = h
-clocks-renumbered_not clocks aids (changes.Authenticate a) t es is h = absurd (cc)
-clocks-renumbered_not clocks aids (changes.Associate a listen) t es is h = absurd (cc)
-clocks-renumbered_not clocks aids (changes.Disassociate a) t es is h = absurd (cc)
-clocks-renumbered_not clocks aids (changes.Forget a) t es is h = absurd (cc)
-clocks-renumbered_not clocks aids (changes.SetMode a doze) t es is h = each es (λ e had. by e.0 e.1.at had) h
+pub clocks-renumbered_not : OthersStay → ModesAlone → (clocks : List AgingClock) (aids : List ℕ) (change : Change) (t : Table) (es : List Entry) → renumbered change ≡ None → HaveClocks clocks aids t es → HaveClocks clocks aids (changed change t) es
+clocks-renumbered_not others modes clocks aids changes.Nothing t es is h = h
+clocks-renumbered_not others modes clocks aids (changes.Authenticate a) t es is h = absurd (cc)
+clocks-renumbered_not others modes clocks aids (changes.Associate a listen) t es is h = absurd (cc)
+clocks-renumbered_not others modes clocks aids (changes.Disassociate a) t es is h = absurd (cc)
+clocks-renumbered_not others modes clocks aids (changes.Forget a) t es is h = absurd (cc)
+clocks-renumbered_not others modes clocks aids (changes.SetMode a doze) t es is h = each es (λ e had. by e.0 e.1.at had) h
   where
     moded : (b : List ℕ) (at : ℕ) (r : Bool) → bytes_eq b a ≡ r → HasClock clocks aids t (One b) at → HasClock clocks aids (set_mode a doze t) (One b) at
     moded b at true same had =
         let one : b ≡ a = (bytes_eq-Decides b a).0 same in
-        let state : state_of b (set_mode a doze t) ≡ option_map (with_mode doze) (state_of b t) = ap (λ k. state_of k (set_mode a doze t)) one ∙ state_of-mode a doze t ∙ ap (λ k. option_map (with_mode doze) (state_of k t)) (sym one) in
+        let state : state_of b (set_mode a doze t) ≡ option_map (with_mode doze) (state_of b t) = ap (λ k. state_of k (set_mode a doze t)) one ∙ modes.state a doze t ∙ ap (λ k. option_map (with_mode doze) (state_of k t)) (sym one) in
         has-same clocks aids b at t (set_mode a doze t) (ap aid_with state ∙ mode-aid doze (state_of b t)) (ap listen_with state ∙ mode-listen doze (state_of b t)) had
-    moded b at false other had = let state = state_of-moded a b doze t other in has-same clocks aids b at t (set_mode a doze t) (ap aid_with state) (ap listen_with state) had
+    moded b at false other had = let state = others.moded a b doze t other in has-same clocks aids b at t (set_mode a doze t) (ap aid_with state) (ap listen_with state) had
 
     by : (w : Whom) (at : ℕ) → HasClock clocks aids t w at → HasClock clocks aids (set_mode a doze t) w at
     by Group at had = tt

@@ -1,5 +1,5 @@
 -- The units that are kept, and whoever they are kept for.
-use Rattle.std.proofs.Common.{◌≡◌, ℕ, suc, ◌+◌, ◌≤◌, Bool, true, false, ◌&&◌, cond, List, [], ◌∷◌, ◌++◌, length, refl, sym, ap, ◌∙◌, arith}
+use Rattle.std.proofs.Common.{◌≡◌, ℕ, suc, ◌+◌, ◌≤◌, Bool, true, false, cond, List, [], ◌∷◌, ◌++◌, length, refl, sym, ap, ◌∙◌, arith}
 use Rattle.std.specs.Prelude.{filter, map, nat_lt}
 use Rattle.std.specs.List.{list_any}
 use Rattle.std.specs.Str.{bytes_eq}
@@ -13,18 +13,18 @@ use Rattle.stations.specs.Stations.{Table, state_of, dozes_with, is_dozing, chan
 use Rattle.roster.specs.KeptUnits.{IsKeptFor, AreKeptFor, group_is_kept}
 use Rattle.stations.specs.declared.table.Change.{Change}
 use Rattle.stations.specs.declared.table.Change.TheVariants as changes
-use Rattle.stations.proofs.StationStates.{aid_of-mode}
+use Rattle.stations.specs.Changes.{ModesAlone}
 
 -- ---- a mode is nothing to an identifier
 
-pub aid_for-mode : (change : Change) (whom : Whom) (t : Table) → IsModeAlone change → aid_for whom (changed change t) ≡ aid_for whom t
-aid_for-mode changes.Nothing whom t alone = refl
-aid_for-mode (changes.Authenticate a) whom t alone = absurd alone
-aid_for-mode (changes.Associate a listen) whom t alone = absurd alone
-aid_for-mode (changes.Disassociate a) whom t alone = absurd alone
-aid_for-mode (changes.Forget a) whom t alone = absurd alone
-aid_for-mode (changes.SetMode a doze) (One b) t alone = aid_of-mode a b doze t
-aid_for-mode (changes.SetMode a doze) Group t alone = refl
+pub aid_for-mode : ModesAlone → (change : Change) (whom : Whom) (t : Table) → IsModeAlone change → aid_for whom (changed change t) ≡ aid_for whom t
+aid_for-mode modes changes.Nothing whom t alone = refl
+aid_for-mode modes (changes.Authenticate a) whom t alone = absurd alone
+aid_for-mode modes (changes.Associate a listen) whom t alone = absurd alone
+aid_for-mode modes (changes.Disassociate a) whom t alone = absurd alone
+aid_for-mode modes (changes.Forget a) whom t alone = absurd alone
+aid_for-mode modes (changes.SetMode a doze) (One b) t alone = modes.identifier a b doze t
+aid_for-mode modes (changes.SetMode a doze) Group t alone = refl
 
 -- ---- who units are kept for
 

@@ -1,9 +1,11 @@
 -- Who has units waiting: one station, and the others.
-use Rattle.std.proofs.Common.{◌≡◌, ◌≢◌, ℕ, Bool, true, false, not, ◌||◌, ◌&&◌, List, [], ◌∷◌, ◌++◌, length, Option, Some, None, IfSome, is_some, refl, sym, ap, subst, ◌∙◌}
+use Rattle.std.proofs.Common.{◌≡◌, ◌≢◌, ℕ, Bool, true, false, not, ◌||◌, ◌&&◌, List, [], ◌∷◌, ◌++◌, length, Option, Some, None, IfSome, is_some, cond, refl, sym, ap, ◌∙◌, inl, inr}
 use Rattle.std.specs.Prelude.{◌==◌, nat_lt, nat_eq}
 use Rattle.std.specs.FinSet as set
+use Rattle.std.specs.FinSet.{FinSet}
+use Rattle.std.specs.Ordering.{nat_cmp}
 use Rattle.std.specs.Str.{bytes_eq}
-use Rattle.std.proofs.lemmas.Bool.{both_ways}
+use Rattle.std.proofs.lemmas.Bool.{both_ways, cases_eq, ne_eqb}
 use Rattle.std.proofs.lemmas.Slice.Eq.{bytes_eq-Decides}
 use borrow.Author.Tests.{eqb-true}
 use Rattle.aid_pool.specs.LeastFree.{is_among}
@@ -13,19 +15,32 @@ use Rattle.powersave.specs.declared.unit.Whom.{Whom}
 use Rattle.powersave.specs.declared.unit.Whom.TheVariants.{One, Group}
 use Rattle.roster.specs.Keeping.{aid_for}
 use Rattle.roster.specs.Roster.{AreWaitedFor, StayBeside, is_number, renumbered}
+use Rattle.stations.specs.Changes.{OthersStay, IdentifiersDiffer}
 use Rattle.stations.specs.Sound.{AreApart}
-use Rattle.stations.specs.Stations.{Table, state_of, aid_of, aid_with, identifiers, identifier_of, AreIdentifiers, set_state, forget, disassociate, set_mode, with_mode, changed}
+use Rattle.stations.specs.Stations.{Table, state_of, aid_of, aid_with, identifiers, identifier_of, AreIdentifiers, forget, disassociate, set_mode, with_mode, changed}
 use Rattle.roster.specs.KeptUnits.{has_aid, has_unit, is_waited_for}
 use Rattle.stations.specs.declared.table.Change.{Change}
 use Rattle.stations.specs.declared.table.Change.TheVariants as changes
 use Rattle.station_state.specs.declared.state.StationState.{StationState}
 use Rattle.station_state.specs.declared.state.StationState.TheVariants.{Authenticated, Associated}
 use Rattle.roster.proofs.RosterAging.{same_whom}
-use Rattle.stations.proofs.StationTables.{Numbers, eqb-flip, neither, numbers-of_associated, range-of_associated, without, forget-unknown}
-use Rattle.stations.proofs.StationsSound.{not-here}
 use Rattle.roster.proofs.UnitsKept.{some-for}
 
+abbrev pub Numbers : Type 0
+Numbers = FinSet nat_cmp
+
 -- ---- truth values
+
+neither : (a b : Bool) → (a || b) ≡ false → (a ≡ false) × (b ≡ false)
+neither true b h = absurd (both_ways true h refl)
+neither false b h = (refl, h)
+
+eqb-flip : (a b : ℕ) → nat_eq a b ≡ nat_eq b a
+eqb-flip a b = elim (cases_eq a b) [ inl same ↦ rw same refl | inr other ↦ ne_eqb a b other ∙ sym (ne_eqb b a (λ e. other (sym e))) ]
+
+not-here : (b : Bool) (state : StationState) (rest : Option StationState) → cond b (Some state) rest ≡ None → (b ≡ false) × (rest ≡ None)
+not-here true state rest h = absurd (cc)
+not-here false state rest h = (refl, h)
 
 no-bit : (w : Bool) → false ≡ ((w && false) || false)
 no-bit true = refl
@@ -87,22 +102,19 @@ not-waited (e ∷ t) kept n h = by e.1 h (not-waited t kept n)
         rw other (later both.1)
 
 -- the identifier of a station is no other's
-pub rest-none : (addr : List ℕ) (t : Table) (kept : List Entry) (aid : ℕ) → aid_of addr t ≡ Some aid → AreIdentifiers (identifiers t) → is_waited_for (forget addr t) kept aid ≡ false
-rest-none addr t kept aid h sound =
-    let n = numbers-of_associated addr t aid h in
-    let parts = without n.0 n.1 aid (subst AreIdentifiers n.2 sound) in
-    not-waited (forget addr t) kept aid (ap (λ ns. is_among ns aid) n.4 ∙ parts.1)
+pub rest-none : IdentifiersDiffer → (addr : List ℕ) (t : Table) (kept : List Entry) (aid : ℕ) → aid_of addr t ≡ Some aid → AreIdentifiers (identifiers t) → is_waited_for (forget addr t) kept aid ≡ false
+rest-none differ addr t kept aid h sound = not-waited (forget addr t) kept aid (differ.rest addr t aid h sound)
 
 -- the bits of a station that had one identifier and has another
 abbrev pub AreShown : (before after : Option ℕ) → (waits : Bool) → (old new : Numbers) → Type 0
 AreShown before after waits old new = (n : ℕ) → set.contains new n ≡ ((waits && is_number after n) || (not (is_number before n) && set.contains old n))
 
 -- where the identifier of one station, or the units for it, changed, and its bits are changed so
-pub waited-one : (addr : List ℕ) (t u : Table) (before after : List Entry) (old new : Numbers) (waits : Bool) → AreIdentifiers (identifiers t)
+pub waited-one : IdentifiersDiffer → (addr : List ℕ) (t u : Table) (before after : List Entry) (old new : Numbers) (waits : Bool) → AreIdentifiers (identifiers t)
     → ((n : ℕ) → is_waited_for (forget addr u) after n ≡ is_waited_for (forget addr t) before n)
     → waits ≡ nat_lt 0 (length (units_for (One addr) after))
     → AreShown (aid_of addr t) (aid_of addr u) waits old new → AreWaitedFor old t before → AreWaitedFor new u after
-waited-one addr t u before after old new waits sound others is now told n aid =
+waited-one differ addr t u before after old new waits sound others is now told n aid =
     let a : Option ℕ = aid_of addr u in
     let has : has_unit addr after ≡ waits = some-for (One addr) after ∙ sym is in
     now n ∙ ap (λ b. (waits && is_number a n) || b) (left (is_number (aid_of addr t) n) refl)
@@ -111,7 +123,7 @@ waited-one addr t u before after old new waits sound others is now told n aid =
     ∙ sym (waited-parted addr u after n)
   where
     left : (b : Bool) → is_number (aid_of addr t) n ≡ b → (not (is_number (aid_of addr t) n) && set.contains old n) ≡ is_waited_for (forget addr t) before n
-    left true h = rw h (sym (rest-none addr t before n (number-is (aid_of addr t) n h) sound))
+    left true h = rw h (sym (rest-none differ addr t before n (number-is (aid_of addr t) n h) sound))
     left false h =
         let both : is_waited_for t before n ≡ is_waited_for (forget addr t) before n =
         waited-parted addr t before n ∙ ap (λ b. (has_unit addr before && b) || is_waited_for (forget addr t) before n) h
@@ -141,22 +153,12 @@ group-waits_not (e ∷ t) before after n stay =
     ap (λ b. (has_aid n e.1 && b) || is_waited_for t after n) (unit-stays Group before after e.0 stay (λ h. absurd cc))
     ∙ ap (λ b. (has_aid n e.1 && has_unit e.0 before) || b) (group-waits_not t before after n stay)
 
-pub forgotten : (addr : List ℕ) (t : Table) → AreApart t → state_of addr (forget addr t) ≡ None
-forgotten addr [] h = refl
-forgotten addr (e ∷ t) h = by (bytes_eq addr e.0) refl (forgotten addr t h.1)
-  where
-    by : (r : Bool) → bytes_eq addr e.0 ≡ r → state_of addr (forget addr t) ≡ None → state_of addr (forget addr (e ∷ t)) ≡ None
-    by true same later =
-        let is : addr ≡ e.0 = (bytes_eq-Decides addr e.0).0 same in
-        rw same (subst (λ (k : List ℕ). state_of k t ≡ None) (sym is) h.0)
-    by false other later = rw other (rw other later)
-
 -- the units for one changed, and its bit follows
-pub followed : (addr : List ℕ) (t : Table) (before after : List Entry) (old new : Numbers) (waits : Bool) → AreApart t → AreIdentifiers (identifiers t)
+pub followed : OthersStay → IdentifiersDiffer → (addr : List ℕ) (t : Table) (before after : List Entry) (old new : Numbers) (waits : Bool) → AreApart t → AreIdentifiers (identifiers t)
     → StayBeside (One addr) before after → waits ≡ nat_lt 0 (length (units_for (One addr) after))
     → AreShown (aid_of addr t) (aid_of addr t) waits old new → AreWaitedFor old t before → AreWaitedFor new t after
-followed addr t before after old new waits apart sound stay is now told =
-    waited-one addr t t before after old new waits sound (λ n. others-stay addr (forget addr t) before after n (forgotten addr t apart) stay) is now told
+followed others differ addr t before after old new waits apart sound stay is now told =
+    waited-one differ addr t t before after old new waits sound (λ n. others-stay addr (forget addr t) before after n (others.gone addr t apart) stay) is now told
 
 -- where units for one left, and some stay, nothing of it changes
 same-waiting : (whom : Whom) (t : Table) (before after : List Entry) (n : ℕ) → StayBeside whom before after → nat_lt 0 (length (units_for whom before)) ≡ true → nat_lt 0 (length (units_for whom after)) ≡ true
@@ -183,42 +185,34 @@ set-is_shown : (a b : Bool) → (a || b) ≡ ((true && a) || (not a && b))
 set-is_shown true b = refl
 set-is_shown false b = refl
 
-pub put-followed : (whom : Whom) (t : Table) (before after : List Entry) (old new : Numbers) (aid : Option ℕ) → AreApart t → AreIdentifiers (identifiers t)
+pub put-followed : OthersStay → IdentifiersDiffer → (whom : Whom) (t : Table) (before after : List Entry) (old new : Numbers) (aid : Option ℕ) → AreApart t → AreIdentifiers (identifiers t)
     → StayBeside whom before after → true ≡ nat_lt 0 (length (units_for whom after)) → aid ≡ aid_for whom t
     → ((n : ℕ) → set.contains new n ≡ (is_number aid n || set.contains old n)) → AreWaitedFor old t before → AreWaitedFor new t after
-put-followed (One addr) t before after old new aid apart sound stay some is now told =
-    followed addr t before after old new true apart sound stay some
+put-followed others differ (One addr) t before after old new aid apart sound stay some is now told =
+    followed others differ addr t before after old new true apart sound stay some
     (λ n. now n ∙ ap (λ (o : Option ℕ). is_number o n || set.contains old n) is ∙ set-is_shown (is_number (aid_of addr t) n) (set.contains old n)) told
-put-followed Group t before after old new aid apart sound stay some is now told =
+put-followed others differ Group t before after old new aid apart sound stay some is now told =
     λ n among. now n ∙ ap (λ (o : Option ℕ). is_number o n || set.contains old n) is ∙ told n among ∙ sym (group-waits_not t before after n stay)
 
-pub identifier-range : (whom : Whom) (t : Table) (o : Option ℕ) → o ≡ aid_for whom t → AreIdentifiers (identifiers t) → IfSome o IsAid
-identifier-range whom t None is sound = tt
-identifier-range (One addr) t (Some aid) is sound = range-of_associated addr t aid (sym is) sound
-identifier-range Group t (Some aid) is sound = absurd (cc)
+pub identifier-range : IdentifiersDiffer → (whom : Whom) (t : Table) (o : Option ℕ) → o ≡ aid_for whom t → AreIdentifiers (identifiers t) → IfSome o IsAid
+identifier-range differ whom t None is sound = tt
+identifier-range differ (One addr) t (Some aid) is sound = differ.range addr t aid (sym is) sound
+identifier-range differ Group t (Some aid) is sound = absurd (cc)
 
 -- ---- one station changes
 
-forgotten-set : (addr : List ℕ) (l : StationState) (t : Table) → forget addr (set_state addr l t) ≡ forget addr t
-forgotten-set addr l [] = let same : bytes_eq addr addr ≡ true = (bytes_eq-Decides addr addr).1 refl in rw same refl
-forgotten-set addr l (e ∷ t) = by (bytes_eq addr e.0) refl (forgotten-set addr l t)
-  where
-    by : (r : Bool) → bytes_eq addr e.0 ≡ r → forget addr (set_state addr l t) ≡ forget addr t → forget addr (set_state addr l (e ∷ t)) ≡ forget addr (e ∷ t)
-    by true same later = rw same (rw same refl)
-    by false other later = rw other (rw other (ap (λ (s : Table). e ∷ s) later))
-
 -- the others stay
-pub forgotten-changed : (change : Change) (addr : List ℕ) (t : Table) → renumbered change ≡ Some addr → AreApart t → forget addr (changed change t) ≡ forget addr t
-forgotten-changed changes.Nothing addr t is apart = absurd (cc)
-forgotten-changed (changes.Authenticate a) addr t is apart = let same : a ≡ addr = cc in rw same (forgotten-set addr Authenticated t)
-forgotten-changed (changes.Associate a listen) addr t is apart = let same : a ≡ addr = cc in rw same (forgotten-set addr _ t)
-forgotten-changed (changes.Disassociate a) addr t is apart = let same : a ≡ addr = cc in rw same (by (is_some (aid_of addr t)) refl)
+pub forgotten-changed : OthersStay → (change : Change) (addr : List ℕ) (t : Table) → renumbered change ≡ Some addr → AreApart t → forget addr (changed change t) ≡ forget addr t
+forgotten-changed others changes.Nothing addr t is apart = absurd (cc)
+forgotten-changed others (changes.Authenticate a) addr t is apart = let same : a ≡ addr = cc in rw same (others.rest_set addr Authenticated t)
+forgotten-changed others (changes.Associate a listen) addr t is apart = let same : a ≡ addr = cc in rw same (others.rest_set addr _ t)
+forgotten-changed others (changes.Disassociate a) addr t is apart = let same : a ≡ addr = cc in rw same (by (is_some (aid_of addr t)) refl)
   where
     by : (b : Bool) → is_some (aid_of addr t) ≡ b → forget addr (disassociate addr t) ≡ forget addr t
-    by true associated = rw associated (forgotten-set addr Authenticated t)
+    by true associated = rw associated (others.rest_set addr Authenticated t)
     by false not_associated = rw not_associated refl
-forgotten-changed (changes.Forget a) addr t is apart = let same : a ≡ addr = cc in rw same (forget-unknown addr (forget addr t) (forgotten addr t apart))
-forgotten-changed (changes.SetMode a doze) addr t is apart = absurd (cc)
+forgotten-changed others (changes.Forget a) addr t is apart = let same : a ≡ addr = cc in rw same (others.rest_forgotten addr t apart)
+forgotten-changed others (changes.SetMode a doze) addr t is apart = absurd (cc)
 
 same-aid : (doze : Bool) (l : StationState) (n : ℕ) → has_aid n (with_mode doze l) ≡ has_aid n l
 same-aid doze Authenticated n = refl

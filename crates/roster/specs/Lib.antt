@@ -2,3 +2,4 @@ pub mod KeptUnits
 pub mod Keeping
 pub mod AgingClocks
 pub mod Roster
+pub mod Changes

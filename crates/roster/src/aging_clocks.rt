@@ -21,7 +21,7 @@ ghost use Rattle.stations.specs.Stations.{Table, state_of, listen_with};
 use mac_frame::{MAX_AID, MacAddr, NoMemory};
 use powersave::{Keep, Oldest, Whom};
 use station_state::StationState;
-use stations::{Stations, listen_with};
+use stations::{Stations, identifiers_differ, listen_with};
 use std::alloc::Global;
 use tim::Bitmap;
 
@@ -90,6 +90,8 @@ impl AgingClocks {
             → self.new.complete ≡ true → HaveClocks self.new.clocks.items self.new.aids.items table kept
             × HasClock self.new.clocks.items self.new.aids.items table whom.now at }
     {
+        // no other station has the identifier
+        identifiers_differ();
         if !self.complete {
             return;
         }
@@ -130,6 +132,8 @@ impl AgingClocks {
         ensures listed { IsTrue result → IsListed stations.now.table one.now self.old.clocks.items self.old.aids.items
             self.new.clocks.items self.new.aids.items }
     {
+        // no other station has the identifier
+        identifiers_differ();
         let Whom::One(addr) = one.whom else {
             return true;
         };
@@ -222,6 +226,8 @@ impl AgingClocks {
             → HaveClocks self.old.clocks.items self.old.aids.items stations.now.table kept.now.entries
             → HaveClocks self.new.clocks.items self.new.aids.items stations.now.table kept.now.entries }
     {
+        // no other station has the identifier
+        identifiers_differ();
         self.drop_gone(traffic);
         for place in 0..self.aids.len() {
             self.look_up(stations, kept, place, clock);

@@ -9,7 +9,9 @@
 
 mod aging_clocks;
 mod keeping;
+mod laws;
 mod roster;
 
 pub use keeping::{Arriving, Keeping, Leaving};
+pub use laws::{came_in_turn, group_stays, kept_counts, kept_for_dozing, modes_keep_identifiers};
 pub use roster::Roster;

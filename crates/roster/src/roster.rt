@@ -18,7 +18,9 @@ use crate::aging_clocks::AgingClocks;
 use crate::keeping::{Arriving, Keeping, Leaving};
 use mac_frame::{MAX_AID, MacAddr, NoMemory, Octets};
 use powersave::{Keep, Whom, parts_stay};
-use stations::{Change, Stations};
+use stations::{
+    Change, Stations, changes_stay_sound, identifiers_differ, modes_alone, others_stay,
+};
 use std::alloc::Global;
 use std::marker::Model;
 use tim::Bitmap;
@@ -92,6 +94,11 @@ impl Roster {
         ensures err { OnErr result (self.new ≡ self.old) }
         ensures mode { IsModeAlone change → IsOk result }
     {
+        // the other stations stay, and all stay sound
+        others_stay();
+        modes_alone();
+        identifiers_differ();
+        changes_stay_sound();
         let Some(addr) = renumbered(&change) else {
             return self.stations.change(change);
         };
@@ -172,6 +179,8 @@ impl Roster {
         }) }
         ensures err { OnErr result (self.new ≡ self.old) }
     {
+        // a mode is nothing to an identifier
+        modes_alone();
         if matches!(leaving, Leaving::Nothing) {
             self.put(arriving)?;
             // A mode is set without memory.
@@ -275,8 +284,10 @@ impl Roster {
         ensures err { OnErr result (self.new ≡ self.old) }
         ensures room { self.old.kept.reserved ≡ Some arriving.whom → IsOk result }
     {
-        // the units for the others stay
+        // the units for the others stay, and no other has its identifier
         parts_stay();
+        others_stay();
+        identifiers_differ();
         let Arriving { whom, aid, unit } = arriving;
         let at = unit.at;
         self.kept.put(whom, unit)?;
@@ -313,6 +324,9 @@ fn follow(traffic: &mut Bitmap, stations: &Stations, whom: &Whom, waits: bool)
     ensures { AreSound stations.now.most stations.now.table
         → Follows stations.now whom.now waits traffic.old traffic.new }
 {
+    // no other has its identifier
+    others_stay();
+    identifiers_differ();
     let Whom::One(addr) = whom else {
         return;
     };

@@ -1,12 +1,15 @@
 -- One station of a table is changed: what becomes of the states, identifiers and modes.
-use Rattle.std.proofs.Common.{◌≡◌, ℕ, Bool, true, false, not, ◌&&◌, List, [], ◌∷◌, Option, Some, None, refl, sym, ap, ◌∙◌}
+use Rattle.std.proofs.Common.{◌≡◌, ℕ, Bool, true, false, not, ◌&&◌, List, [], ◌∷◌, Option, Some, None, refl, sym, ap, subst, ◌∙◌}
 use Rattle.std.specs.Prelude.{option_map}
 use Rattle.std.specs.Str.{bytes_eq}
 use Rattle.std.proofs.lemmas.Bool.{both_ways}
 use Rattle.std.proofs.lemmas.Slice.Eq.{bytes_eq-Decides}
-use Rattle.stations.specs.Stations.{Table, state_of, aid_of, aid_with, dozes, dozes_with, is_dozing, with_mode, set_state, forget, set_mode}
+use Rattle.aid_pool.specs.LeastFree.{is_among}
+use Rattle.stations.specs.Stations.{Table, state_of, aid_of, aid_with, identifiers, AreIdentifiers, dozes, dozes_with, is_dozing, with_mode, set_state, forget, set_mode}
+use Rattle.stations.specs.Sound.{AreApart}
 use Rattle.station_state.specs.declared.state.StationState.{StationState}
 use Rattle.station_state.specs.declared.state.StationState.TheVariants.{Authenticated, Associated}
+use Rattle.stations.proofs.StationTables.{forget-unknown, rest-apart, own-among}
 
 -- ---- another station keeps its state
 
@@ -43,6 +46,29 @@ state_of-moded a b doze (e ∷ t) other = by (bytes_eq a e.0) refl (state_of-mod
     by : (r : Bool) → bytes_eq a e.0 ≡ r → state_of b (set_mode a doze t) ≡ state_of b t → state_of b (set_mode a doze (e ∷ t)) ≡ state_of b (e ∷ t)
     by true same later = let away = other-key a b e.0 other same in rw (same, away) refl
     by false apart later = rw (apart, later) refl
+
+-- ---- the others together
+
+pub forgotten : (addr : List ℕ) (t : Table) → AreApart t → state_of addr (forget addr t) ≡ None
+forgotten addr [] h = refl
+forgotten addr (e ∷ t) h = by (bytes_eq addr e.0) refl (forgotten addr t h.1)
+  where
+    by : (r : Bool) → bytes_eq addr e.0 ≡ r → state_of addr (forget addr t) ≡ None → state_of addr (forget addr (e ∷ t)) ≡ None
+    by true same later =
+        let is : addr ≡ e.0 = (bytes_eq-Decides addr e.0).0 same in
+        rw same (subst (λ (k : List ℕ). state_of k t ≡ None) (sym is) h.0)
+    by false other later = rw other (rw other later)
+
+pub forgotten-set : (addr : List ℕ) (l : StationState) (t : Table) → forget addr (set_state addr l t) ≡ forget addr t
+forgotten-set addr l [] = let same : bytes_eq addr addr ≡ true = (bytes_eq-Decides addr addr).1 refl in rw same refl
+forgotten-set addr l (e ∷ t) = by (bytes_eq addr e.0) refl (forgotten-set addr l t)
+  where
+    by : (r : Bool) → bytes_eq addr e.0 ≡ r → forget addr (set_state addr l t) ≡ forget addr t → forget addr (set_state addr l (e ∷ t)) ≡ forget addr (e ∷ t)
+    by true same later = rw same (rw same refl)
+    by false other later = rw other (rw other (ap (λ (s : Table). e ∷ s) later))
+
+pub forgotten-twice : (addr : List ℕ) (t : Table) → AreApart t → forget addr (forget addr t) ≡ forget addr t
+forgotten-twice addr t apart = forget-unknown addr (forget addr t) (forgotten addr t apart)
 
 -- ---- and the station itself its state in the mode
 
@@ -134,3 +160,14 @@ mode-stays a b false t none h = by (bytes_eq b a) refl
         let dozed : is_dozing a t ≡ true = ap (λ k. is_dozing k t) (sym is) ∙ h in
         absurd (both_ways (is_dozing a t) (none_wakes (is_dozing a t) none) dozed)
     by false other = ap dozes_with (state_of-moded a b false t other) ∙ h
+
+-- ---- no two stations have one identifier
+
+pub one-station : (a b : List ℕ) (t : Table) (n : ℕ) → AreIdentifiers (identifiers t) → aid_of a t ≡ Some n → aid_of b t ≡ Some n → a ≡ b
+one-station a b t n sound one other = by (bytes_eq b a) refl
+  where
+    by : (r : Bool) → bytes_eq b a ≡ r → a ≡ b
+    by true same = sym ((bytes_eq-Decides b a).0 same)
+    by false apart =
+        let still : aid_of b (forget a t) ≡ Some n = ap aid_with (state_of-forgotten a b t apart) ∙ other in
+        absurd (both_ways (is_among (identifiers (forget a t)) n) (rest-apart a t n one sound) (own-among b (forget a t) n still))

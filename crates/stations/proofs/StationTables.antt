@@ -1,5 +1,5 @@
 -- One station of a table is changed: what becomes of the identifiers.
-use Rattle.std.proofs.Common.{◌≡◌, ℕ, zero, suc, ◌+◌, ◌-◌, ◌<◌, ◌≤◌, Bool, true, false, not, ◌&&◌, ◌||◌, cond, nat_eq, List, [], ◌∷◌, ◌++◌, length, slice_get, Option, Some, None, ◌≢◌, ◌↔◌, refl, sym, ap, subst, ◌∙◌, arith, is_some, inl, inr}
+use Rattle.std.proofs.Common.{◌≡◌, ℕ, zero, suc, ◌+◌, ◌-◌, ◌<◌, ◌≤◌, Bool, true, false, not, ◌&&◌, ◌||◌, cond, nat_eq, List, [], ◌∷◌, ◌++◌, length, Option, Some, None, ◌≢◌, ◌↔◌, refl, sym, ap, subst, ◌∙◌, arith, is_some, inl, inr}
 use Rattle.std.specs.Prelude.{nat_lt, IsNone, IfSome, IfNone, if◌then◌else◌}
 use Rattle.std.proofs.lemmas.Bool.{lt-ltb, le-ltb, eq-eqb, ne_eqb, cases_eq, both_ways}
 use Rattle.std.proofs.lemmas.List.{length-append, append-nil}
@@ -145,6 +145,18 @@ numbers-of_associated addr t aid h =
     let q = parts.1 in
     (p, q, parts.2.whole ∙ ap (λ ns. p ++ (ns ++ q)) found.2, parts.2.changed, parts.2.removed)
 
+-- which is no other's
+pub rest-apart : (addr : List ℕ) (t : Table) (aid : ℕ) → aid_of addr t ≡ Some aid → AreIdentifiers (identifiers t) → is_among (identifiers (forget addr t)) aid ≡ false
+rest-apart addr t aid h sound =
+    let n = numbers-of_associated addr t aid h in
+    ap (λ ns. is_among ns aid) n.4 ∙ (without n.0 n.1 aid (subst AreIdentifiers n.2 sound)).1
+
+-- and stands among all
+pub own-among : (addr : List ℕ) (t : Table) (aid : ℕ) → aid_of addr t ≡ Some aid → is_among (identifiers t) aid ≡ true
+own-among addr t aid h =
+    let n = numbers-of_associated addr t aid h in
+    ap (λ ns. is_among ns aid) n.2 ∙ is_among-at n.0 n.1 aid aid ∙ rw (eq-eqb aid aid refl) refl
+
 -- ---- a station that is not associated has no number
 
 pub numbers-kept : (addr : List ℕ) (t : Table) → aid_of addr t ≡ None → (identifiers (set_state addr Authenticated t) ≡ identifiers t) × (identifiers (forget addr t) ≡ identifiers t)
@@ -202,9 +214,7 @@ out-inserted most out p q i first last free room h = record {
 -- ---- the pool after a change of one station
 
 pub out-of_associated : (most : ℕ) (out : Numbers) (addr : List ℕ) (t : Table) (aid : ℕ) → aid_of addr t ≡ Some aid → AreOut most out (identifiers t) → set.contains out aid ≡ true
-out-of_associated most out addr t aid h o =
-    let n = numbers-of_associated addr t aid h in
-    o.numbers aid ∙ ap (λ ns. is_among ns aid) n.2 ∙ is_among-at n.0 n.1 aid aid ∙ rw (eq-eqb aid aid refl) refl
+out-of_associated most out addr t aid h o = o.numbers aid ∙ own-among addr t aid h
 
 pub out-freed : (most : ℕ) (out : Numbers) (addr : List ℕ) (t : Table) (aid : ℕ) → aid_of addr t ≡ Some aid → AreOut most out (identifiers t) → AreOut most (set.remove out aid) (identifiers (set_state addr Authenticated t)) × AreOut most (set.remove out aid) (identifiers (forget addr t))
 out-freed most out addr t aid h o =
@@ -397,18 +407,3 @@ other-dozes addr doze t h =
     shifted at count (suc rest) sum = lt-ltb at count (omega (arith, sum)) ∙ sym (lt-ltb 0 (suc rest) (omega arith))
 
 -- ---- the identifier of the station at a place
-
-rest-sound : (l : StationState) (ns : List ℕ) → AreIdentifiers (identifier_of l ++ ns) → AreIdentifiers ns
-rest-sound Authenticated ns h = h
-rest-sound (Associated aid listen doze) ns h = h.3
-
-pub aid-range : (t : Table) (place : ℕ) (station : List ℕ × StationState) (aid : ℕ) → slice_get t place ≡ Some station → aid_with (Some station.1) ≡ Some aid → AreIdentifiers (identifiers t) → (1 ≤ aid) × (aid ≤ 2007)
-aid-range [] place station aid here is h = absurd (cc)
-aid-range (e ∷ t) zero station aid here is h =
-    let same : e ≡ station = cc in
-    of e.1 (ap (λ (k : List ℕ × StationState). aid_with (Some k.1)) same ∙ is) h
-  where
-    of : (l : StationState) → aid_with (Some l) ≡ Some aid → AreIdentifiers (identifier_of l ++ identifiers t) → (1 ≤ aid) × (aid ≤ 2007)
-    of Authenticated k sound = absurd (cc)
-    of (Associated n listen doze) k sound = let number : n ≡ aid = cc in subst (λ m. (1 ≤ m) × (m ≤ 2007)) number (sound.0, sound.1)
-aid-range (e ∷ t) (suc place) station aid here is h = aid-range t place station aid here is (rest-sound e.1 (identifiers t) h)

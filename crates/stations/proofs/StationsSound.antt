@@ -6,8 +6,7 @@ use Rattle.std.proofs.lemmas.Bool.{both_ways}
 use Rattle.std.proofs.lemmas.List.{length-append}
 use Rattle.std.proofs.lemmas.Slice.Eq.{bytes_eq-Decides}
 use borrow.Author.Tests.{ltb-true}
-use Rattle.aid_pool.specs.LeastFree.{least_free, is_among}
-use Rattle.aid_pool.proofs.Least.{least_of_list}
+use Rattle.aid_pool.specs.LeastFree.{IsLeastFree, least_free, is_among}
 use Rattle.stations.specs.Stations.{Table, state_of, aid_of, identifiers, AreIdentifiers, may_associate, next_aid, set_state, authenticate, associate, disassociate, forget, set_mode, with_mode, identifier_of, changed, IsAllowed}
 use Rattle.stations.specs.Sound.{AreApart, AreSound}
 use Rattle.station_state.specs.declared.state.StationState.{StationState}
@@ -127,8 +126,12 @@ few-authenticated most a t h = by (aid_of a t) refl
         let less = few-less most n.0 n.1 aid (subst (AreFew most) n.2 h) in
         (subst (AreFew most) (sym (n.3 Authenticated)) less, subst (AreFew most) (sym n.4) less)
 
-few-associated : (most : ℕ) (a : List ℕ) (listen : ℕ) (t : Table) → most ≤ 2007 → is_some (state_of a t) ≡ true → may_associate most a t ≡ true → AreFew most (identifiers t) → AreFew most (identifiers (associate a listen t))
-few-associated most a listen t limit known room h = by (aid_of a t) refl
+-- fewer numbers than there are leave a least one free
+abbrev LeavesOneFree : Type 0
+LeavesOneFree = (ns : List ℕ) → length ns < 2007 → IsLeastFree (is_among ns) (least_free (is_among ns))
+
+few-associated : LeavesOneFree → (most : ℕ) (a : List ℕ) (listen : ℕ) (t : Table) → most ≤ 2007 → is_some (state_of a t) ≡ true → may_associate most a t ≡ true → AreFew most (identifiers t) → AreFew most (identifiers (associate a listen t))
+few-associated leaves most a listen t limit known room h = by (aid_of a t) refl
   where
     by : (o : Option ℕ) → aid_of a t ≡ o → AreFew most (identifiers (associate a listen t))
     by (Some aid) had =
@@ -139,15 +142,15 @@ few-associated most a listen t limit known room h = by (aid_of a t) refl
     by None none =
         let few : nat_lt (length (identifiers t)) most ≡ true = sym (ap (λ (o : Option ℕ). is_some o || nat_lt (length (identifiers t)) most) none) ∙ room in
         let fewer : length (identifiers t) < most = ltb-true (length (identifiers t)) most few in
-        let least = least_of_list (identifiers t) (omega arith) in
+        let least = leaves (identifiers t) (omega arith) in
         let parts = parted a Authenticated t (authenticated-where a t known none) in
         let p = parts.0 in
         let q = parts.1 in
         let whole : identifiers t ≡ p ++ q = parts.2.whole in
-        let free : is_among (p ++ q) (least_free (is_among (identifiers t))) ≡ false = ap (λ (ns : List ℕ). is_among ns (least_free (is_among (identifiers t)))) (sym whole) ∙ least.0.free in
+        let free : is_among (p ++ q) (least_free (is_among (identifiers t))) ≡ false = ap (λ (ns : List ℕ). is_among ns (least_free (is_among (identifiers t)))) (sym whole) ∙ least.free in
         let more : AreFew most (p ++ least_free (is_among (identifiers t)) ∷ q) = (
           omega (arith, fewer, ap length whole, length-append p q, length-append p (least_free (is_among (identifiers t)) ∷ q)),
-          within p q (least_free (is_among (identifiers t))) least.0.first least.0.last (subst AreIdentifiers whole h.1) free,
+          within p q (least_free (is_among (identifiers t))) least.first least.last (subst AreIdentifiers whole h.1) free,
         ) in
         let same : next_aid a t ≡ least_free (is_among (identifiers t)) = ap (λ (o : Option ℕ). unwrap_or o (least_free (is_among (identifiers t)))) none in
         subst (λ (m : ℕ). AreFew most (identifiers (set_state a (Associated m listen false) t))) (sym same)
@@ -190,15 +193,15 @@ disassociate-sound most a t h = by (is_some (aid_of a t)) refl
     by true is = rw is (authenticate-sound most a t h)
     by false is = rw is h
 
-pub associate-sound : (most : ℕ) (a : List ℕ) (listen : ℕ) (t : Table) → most ≤ 2007 → is_some (state_of a t) ≡ true → may_associate most a t ≡ true → AreSound most t → AreSound most (associate a listen t)
-associate-sound most a listen t limit known room h =
-    let few = few-associated most a listen t limit known room (h.associated, h.aids) in
+pub associate-sound : LeavesOneFree → (most : ℕ) (a : List ℕ) (listen : ℕ) (t : Table) → most ≤ 2007 → is_some (state_of a t) ≡ true → may_associate most a t ≡ true → AreSound most t → AreSound most (associate a listen t)
+associate-sound leaves most a listen t limit known room h =
+    let few = few-associated leaves most a listen t limit known room (h.associated, h.aids) in
     record { addresses = apart-set a (Associated (next_aid a t) listen false) t h.addresses; aids = few.1; associated = few.0 }
 
-pub changed-sound : (most : ℕ) (change : Change) (t : Table) → most ≤ 2007 → IsAllowed most change t → AreSound most t → AreSound most (changed change t)
-changed-sound most changes.Nothing t limit allowed h = h
-changed-sound most (changes.Authenticate a) t limit allowed h = authenticate-sound most a t h
-changed-sound most (changes.Associate a listen) t limit allowed h = associate-sound most a listen t limit allowed.0 allowed.1 h
-changed-sound most (changes.Disassociate a) t limit allowed h = disassociate-sound most a t h
-changed-sound most (changes.Forget a) t limit allowed h = forget-sound most a t h
-changed-sound most (changes.SetMode a doze) t limit allowed h = mode-sound most a doze t h
+pub changed-sound : LeavesOneFree → (most : ℕ) (change : Change) (t : Table) → most ≤ 2007 → IsAllowed most change t → AreSound most t → AreSound most (changed change t)
+changed-sound leaves most changes.Nothing t limit allowed h = h
+changed-sound leaves most (changes.Authenticate a) t limit allowed h = authenticate-sound most a t h
+changed-sound leaves most (changes.Associate a listen) t limit allowed h = associate-sound leaves most a listen t limit allowed.0 allowed.1 h
+changed-sound leaves most (changes.Disassociate a) t limit allowed h = disassociate-sound most a t h
+changed-sound leaves most (changes.Forget a) t limit allowed h = forget-sound most a t h
+changed-sound leaves most (changes.SetMode a doze) t limit allowed h = mode-sound most a doze t h

@@ -1,3 +1,4 @@
 pub mod Stations
 pub mod StationsKept
 pub mod Sound
+pub mod Changes

@@ -8,8 +8,10 @@
 //! The units that are kept for stations, and what is answered to them, are left to the crates above.
 #![tactic(auto)]
 
+mod laws;
 mod table;
 
+pub use laws::{changes_stay_sound, identifiers_differ, lengths_after, modes_alone, others_stay};
 pub use table::{
     Change, Stations, aid_with, dozes_with, is_associated, listen_with, standing_with,
 };

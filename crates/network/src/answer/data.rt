@@ -17,7 +17,7 @@ use encapsulation::to_wire;
 use mac_frame::{MacAddr, NoMemory};
 use powersave::Whom;
 use station_state::StationState;
-use stations::{Change, dozes_with, is_associated};
+use stations::{Change, dozes_with, is_associated, modes_alone};
 
 impl Network {
     /// The reply to a unit of an associated station: its mode is set, and then the unit is delivered on the air, put on
@@ -74,6 +74,8 @@ impl Network {
             set_power_mode self.now.setting from doze self.now.network ≡ after_reply reply.new self.now.network) }
         ensures mode { OnOk result (IsModeReply reply.new self.now.network) }
     {
+        // a mode that is set again changes nothing
+        modes_alone();
         let dozed = dozes_with(state);
         if dozed == doze {
             return Ok(());
@@ -96,6 +98,8 @@ impl Network {
             ≡ after_reply reply.new self.now.network) }
         ensures mode { OnOk result (IsModeReply reply.new self.now.network) }
     {
+        // it doesn't doze then
+        modes_alone();
         let awake = Change::SetMode {
             addr: from,
             doze: false,

@@ -16,7 +16,7 @@ use crate::network::Network;
 use crate::reply::{Arrival, Delivery, Reply};
 use mac_frame::{MacAddr, NoMemory};
 use powersave::Whom;
-use roster::Arriving;
+use roster::{Arriving, group_stays, kept_counts, modes_keep_identifiers};
 use station_state::StationState;
 use stations::{Change, aid_with};
 
@@ -40,6 +40,9 @@ impl Network {
         ensures wired { reply.new.wired ≡ reply.old.wired }
         ensures lost { reply.new.lost ≤ 1 }
     {
+        // units that leave are none of the group's, and identifiers stay
+        group_stays();
+        modes_keep_identifiers();
         match self.delivery_of(reply.change, unit.to, state) {
             Delivery::Now => {
                 let bssid = self.setting().network.bssid;
@@ -81,6 +84,8 @@ impl Network {
     pub(crate) fn group_is_kept(&self) -> bool
         ensures { result ≡ group_is_kept self.now.network.kept }
     {
+        // some are kept where one stands among them
+        kept_counts();
         self.kept().count_for(Whom::Group) > 0
     }
 

@@ -9,6 +9,7 @@ ghost use Rattle.network.specs.Units.{may_poll};
 use crate::network::Network;
 use crate::reply::Reply;
 use mac_frame::MacAddr;
+use roster::kept_counts;
 use station_state::StationState;
 
 impl Network {
@@ -29,6 +30,8 @@ impl Network {
         ensures answer { answer_poll self.now.setting from aid self.now.network
             ≡ after_answer self.now.setting (outcome result reply.now) self.now.network }
     {
+        // none leaves where none is kept
+        kept_counts();
         if may_poll(aid, state) {
             Some(from)
         } else {

@@ -13,7 +13,7 @@ use ap_config::checked_numbers;
 use beacon::{dtim_count, write_beacon};
 use mac_frame::NoMemory;
 use powersave::Whom;
-use roster::Leaving;
+use roster::{Leaving, group_stays};
 use tim::{Bitmap, one_tim};
 
 impl Network {
@@ -32,6 +32,8 @@ impl Network {
     {
         // there is a DTIM period
         checked_numbers();
+        // units for the group don't age
+        group_stays();
         let clock = self.clock() + 1;
         reply.clock = 1;
         self.announce(reply, clock)?;
@@ -72,6 +74,8 @@ impl Network {
     {
         // a beacon is the same for sets with the same identifiers
         one_tim();
+        // units for the group don't age
+        group_stays();
         let setting = self.setting();
         let group = self.group_is_kept();
         let advert = announcement(setting, clock, reply.sequence);

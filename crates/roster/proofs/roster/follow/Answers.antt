@@ -22,5 +22,5 @@ returns c sound before after stay waits told =
     let addr : List ℕ = c.in-One.addr in
     let t : Table = c.args.stations.now.table in
     let shown = subst (λ (o : Option ℕ). AreShown o o c.args.waits c.args.traffic.now c.show.new.traffic) c.aid_of-aid.ensures.aid c.show.ensures in
-    followed addr t before after c.args.traffic.now c.show.new.traffic c.args.waits sound.addresses sound.aids (subst (λ (w : Whom). StayBeside w before after) c.in-One.is stay)
+    followed c.others_stay.ensures c.identifiers_differ.ensures addr t before after c.args.traffic.now c.show.new.traffic c.args.waits sound.addresses sound.aids (subst (λ (w : Whom). StayBeside w before after) c.in-One.is stay)
     (waits ∙ ap (λ (w : Whom). nat_lt 0 (length (units_for w after))) c.in-One.is) shown told

@@ -30,7 +30,7 @@ returns-in-Now-clause-ok c =
     let u = unit_shown c.args.unit.now in
     let sent : (bss : List ℕ) → Reply = λ bss. sending r (unit_frame bss false u) in
     where-ok c.send_unit.result
-    (λ is. delivered s u r n Now c.requires.mode.awake c.requires.mode.none_arrives (sym c.in-Now.is ∙ c.delivery_of.ensures)
+    (λ is. delivered c.group_stays.ensures s u r n Now c.requires.mode.awake c.requires.mode.none_arrives (sym c.in-Now.is ∙ c.delivery_of.ensures)
     ∙ after-sent r n (unit_frame s.network.bssid false u)
     ∙ ap (λ (t : Setting). after_reply (sent t.network.bssid) n) (sym c.setting.ensures.setting)
     ∙ ap (λ (q : Reply). after_reply q n) (sym is))
@@ -42,7 +42,7 @@ returns-in-Kept-clause-ok c =
     let n = c.args.self.now.network in
     let r : Reply = c.args.reply.now in
     where-ok c.keep_or_lose.result
-    (λ is. delivered s (unit_shown c.args.unit.now) r n (Kept c.in-Kept.whom) c.requires.mode.awake c.requires.mode.none_arrives (sym c.in-Kept.is ∙ c.delivery_of.ensures) ∙ is)
+    (λ is. delivered c.group_stays.ensures s (unit_shown c.args.unit.now) r n (Kept c.in-Kept.whom) c.requires.mode.awake c.requires.mode.none_arrives (sym c.in-Kept.is ∙ c.delivery_of.ensures) ∙ is)
     c.keep_or_lose.ensures.ok
 
 pub keep_or_lose-requires-clause-aid : goal.keep_or_lose-requires-clause-aid
@@ -50,4 +50,4 @@ keep_or_lose-requires-clause-aid c =
     let n = c.args.self.now.network in
     let r : Reply = c.args.reply.now in
     c.aid_at-aid.ensures
-    ∙ identifier-told r.change c.args.unit.now.to n.stations n.kept c.in-Kept.whom c.args.state c.requires.mode.change c.requires.state (sym c.delivery_of.ensures ∙ c.in-Kept.is)
+    ∙ identifier-told c.modes_keep_identifiers.ensures r.change c.args.unit.now.to n.stations n.kept c.in-Kept.whom c.args.state c.requires.mode.change c.requires.state (sym c.delivery_of.ensures ∙ c.in-Kept.is)

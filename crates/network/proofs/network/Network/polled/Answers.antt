@@ -14,7 +14,7 @@ returns-then-may_poll-clause-fitting c =
 
 pub returns-then-may_poll-clause-answer : goal.returns-then-may_poll-clause-answer
 returns-then-may_poll-clause-answer c =
-    poll-served c.args.self.now.setting c.args.from c.args.aid c.args.self.now.network
+    poll-served c.kept_counts.ensures c.args.self.now.setting c.args.from c.args.aid c.args.self.now.network
     (ap (may_poll c.args.aid) (sym c.requires.state) ∙ sym c.may_poll.ensures ∙ c.if-may_poll.true)
 
 pub returns-else-may_poll-clause-answer : goal.returns-else-may_poll-clause-answer

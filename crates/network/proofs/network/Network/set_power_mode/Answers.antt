@@ -10,5 +10,5 @@ returns-then-dozed-doze-clause-answer c =
     let n = c.args.self.now.network in
     let is : is_dozing c.args.from n.stations ≡ c.args.doze =
     sym (c.dozes_with-dozed.ensures ∙ ap dozes_with c.requires.state) ∙ same-truth _ _ c.if-dozed-doze.true in
-    mode-kept c.args.self.now.setting c.args.from c.args.doze n is
+    mode-kept c.modes_alone.ensures c.args.self.now.setting c.args.from c.args.doze n is
     ∙ sym (ap (λ (r : Reply). after_reply r n) c.requires.nothing ∙ nothing-replied n)

@@ -32,6 +32,6 @@ returns-in_ok-send_kept-clause-answer c =
     ∙ ap (λ (k : ℕ). sending (record (no_reply n.sequence) { clock = 1 }) (frame k)) clock in
     let is = ap (λ (q : Reply). record q { keeping = record q.keeping { leaving = leavings.All Group } }) begun in
     ap (λ (b : Bool). if b then send_each s true (units_for Group aged.kept) (drop_units Group sent) else sent) dtim
-    ∙ ap (λ (vs : List DataUnit). send_each s true vs (drop_units Group sent)) (group-units (has_aged s n) (group-stays_young s n) n.kept)
+    ∙ ap (λ (vs : List DataUnit). send_each s true vs (drop_units Group sent)) (group-units (has_aged s n) (group-stays_young c.group_stays.ensures s n) n.kept)
     ∙ ap (send_each s true us) (sym (ap (λ (q : Reply). after_reply q aged) is ∙ dtim-replied (frame (n.clock + 1)) aged))
     ∙ c.in_ok-send_kept.ensures.ok aged

@@ -12,7 +12,6 @@ use Rattle.network.specs.declared.reply.Reply.{Reply}
 use Rattle.stations.specs.declared.table.Change.{Change}
 use Rattle.stations.specs.declared.table.Change.TheVariants.{SetMode}
 use Rattle.network.proofs.UnitDelivery.{woken-replied}
-use Rattle.stations.proofs.StationStates.{active-moded}
 use Rattle.network.proofs.network.Network.wake.Goals as goal
 
 pub returns-clause-mode : goal.returns-clause-mode
@@ -24,7 +23,7 @@ returns-clause-mode c =
     record {
       change = rw change tt;
       awake = subst (λ (l : Leaving). IsAwake l (changed c.send_kept.new.reply.change t)) (sym leaving)
-          (subst (λ (k : Change). IsAwake (All (One c.args.from)) (changed k t)) (sym change) (active-moded c.args.from t));
+          (subst (λ (k : Change). IsAwake (All (One c.args.from)) (changed k t)) (sym change) (c.modes_alone.ensures.active c.args.from t));
       none_arrives = ap (λ (r : Reply). r.keeping.arriving) c.send_kept.ensures.same ∙ ap (λ (r : Reply). r.keeping.arriving) c.change_state.ensures ∙ ap (λ (r : Reply). r.keeping.arriving) none;
       sequence = c.send_kept.ensures.sequence;
       lost = ap (λ (r : Reply). r.lost) c.send_kept.ensures.same ∙ ap (λ (r : Reply). r.lost) c.change_state.ensures ∙ ap (λ (r : Reply). r.lost) none;

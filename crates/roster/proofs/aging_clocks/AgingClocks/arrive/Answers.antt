@@ -16,10 +16,10 @@ returns-after-has c most table kept sound aid told before complete =
     let own = sym (ap (λ (w : Whom). aid_for w table) c.in-One-Some.is-0) ∙ sym aid ∙ c.in-One-Some.is-1 in
     elim c.if-has.branch [
       | then-has w ↦
-          let done = noted most table kept c.args.traffic.now c.args.self.now.clocks.items w.note-self.new.self.clocks.items c.args.self.now.aids.items addr c.args.at n sound own told (sym c.has.ensures ∙ w.if-has.true) (w.note-self.ensures.clocks (noted-so w.self2-is complete)) (before all) in
+          let done = noted c.identifiers_differ.ensures most table kept c.args.traffic.now c.args.self.now.clocks.items w.note-self.new.self.clocks.items c.args.self.now.aids.items addr c.args.at n sound own told (sym c.has.ensures ∙ w.if-has.true) (w.note-self.ensures.clocks (noted-so w.self2-is complete)) (before all) in
           rw (w.self-is, w.note-self.ensures.aids, c.in-One-Some.is-0) done
       | else-has w ↦
           let step = w.enter-self.ensures.entered (noted-so w.self2-is complete) in
-          let done = entered most table kept c.args.traffic.now c.args.self.now.clocks.items w.enter-self.new.self.clocks.items c.args.self.now.aids.items w.enter-self.new.self.aids.items addr c.args.at n _ sound own told (sym c.has.ensures ∙ w.if-has.false) (refl, omega arith, omega arith) step.1 (before all) in
+          let done = entered c.identifiers_differ.ensures most table kept c.args.traffic.now c.args.self.now.clocks.items w.enter-self.new.self.clocks.items c.args.self.now.aids.items w.enter-self.new.self.aids.items addr c.args.at n _ sound own told (sym c.has.ensures ∙ w.if-has.false) (refl, omega arith, omega arith) step.1 (before all) in
           rw (w.self-is, c.in-One-Some.is-0) done
     ]

@@ -6,5 +6,5 @@ pub returns-clause-listed : goal.returns-clause-listed
 returns-clause-listed c is =
     let entered = rw c.make_room.ensures.aids at c.enter.ensures.entered is in
     listed-more c.args.stations.now.table c.args.one.now c.args.self.now.clocks.items c.make_room.new.self.clocks.items c.enter.new.self.clocks.items c.args.self.now.aids.items c.enter.new.self.aids.items c.make_room.ensures.clocks
-    (station-listed c.args.stations.now.table c.args.one.now c.make_room.new.self.clocks.items c.enter.new.self.clocks.items c.args.self.now.aids.items c.enter.new.self.aids.items c.in-One.addr c.in-Some-Associated.aid c.in-Some-Associated.listen entered.0 c.in-Some-Associated.field-0-2
+    (station-listed c.identifiers_differ.ensures c.args.stations.now.table c.args.one.now c.make_room.new.self.clocks.items c.enter.new.self.clocks.items c.args.self.now.aids.items c.enter.new.self.aids.items c.in-One.addr c.in-Some-Associated.aid c.in-Some-Associated.listen entered.0 c.in-Some-Associated.field-0-2
     c.in-One.is (sym c.state_of.ensures ∙ c.in-Some-Associated.is ∙ ap Some c.in-Some-Associated.field-0-is) entered.1)

@@ -22,7 +22,7 @@ pub returns-clause-clocks : goal.returns-clause-clocks
 returns-clause-clocks c most last sound came told h =
     let t = c.args.stations.now.table in
     let es = c.args.kept.now.entries in
-    let dropped = gone-dropped most t es c.args.traffic.now c.args.self.now.clocks.items c.args.self.now.aids.items sound told h in
+    let dropped = gone-dropped c.identifiers_differ.ensures most t es c.args.traffic.now c.args.self.now.clocks.items c.args.self.now.aids.items sound told h in
     c.loop-place.invariant.clocks most last sound came
     (subst (λ (clocks : List AgingClock). HaveClocks clocks c.drop_gone.new.self.aids.items t es) (sym c.drop_gone.ensures.clocks)
     (subst (λ (aids : List ℕ). HaveClocks c.args.self.now.clocks.items aids t es) (sym c.drop_gone.ensures.aids) dropped))

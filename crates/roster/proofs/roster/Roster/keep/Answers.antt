@@ -9,7 +9,7 @@ pub put-requires-2-clause-aid : goal.put-requires-2-clause-aid
 put-requires-2-clause-aid c =
     let whom = c.args.arriving.whom in
     let is = rw c.unwrap-2.ensures at c.change-2.ensures.ok in
-    c.requires.within.3 ∙ sym (aid_for-mode c.args.change whom c.args.self.now.stations.table c.requires.within.2)
+    c.requires.within.3 ∙ sym (aid_for-mode c.modes_alone.ensures c.args.change whom c.args.self.now.stations.table c.requires.within.2)
     ∙ ap (λ (r : RosterState). aid_for whom (changed c.args.change r.stations.table)) (sym c.in_ok-reserve.ensures.ok)
     ∙ ap (λ (r : RosterState). aid_for whom r.stations.table) (sym is)
     ∙ ap (λ (r : RosterState). aid_for whom r.stations.table) (sym c.leave.ensures)

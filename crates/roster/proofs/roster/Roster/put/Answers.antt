@@ -20,13 +20,13 @@ pub arrive-requires : goal.arrive-requires
 arrive-requires c =
     let table : Table = c.self.inside.stations.table in
     let told = c.requires.aid ∙ ap (λ (r : RosterState). aid_for c.args.arriving.whom r.stations.table) (sym c.self.view_is) in
-    identifier-range c.args.arriving.whom table c.args.arriving.aid told c.self.invariant.sound.aids
+    identifier-range c.identifiers_differ.ensures c.args.arriving.whom table c.args.arriving.aid told c.self.invariant.sound.aids
 
 pub set_bit-requires : goal.set_bit-requires
 set_bit-requires c =
     let table : Table = c.self.inside.stations.table in
     let told = c.requires.aid ∙ ap (λ (r : RosterState). aid_for c.args.arriving.whom r.stations.table) (sym c.self.view_is) in
-    identifier-range c.args.arriving.whom table c.args.arriving.aid told c.self.invariant.sound.aids
+    identifier-range c.identifiers_differ.ensures c.args.arriving.whom table c.args.arriving.aid told c.self.invariant.sound.aids
 
 pub invariant_of-self-2 : goal.invariant_of-self-2
 invariant_of-self-2 c =
@@ -39,7 +39,7 @@ invariant_of-self-2 c =
       limit = c.self.invariant.limit;
       sound = c.self.invariant.sound;
       traffic =
-          put-followed whom table es (es ++ (whom, unit) ∷ []) c.self.inside.traffic c.set_bit.new.traffic c.args.arriving.aid
+          put-followed c.others_stay.ensures c.identifiers_differ.ensures whom table es (es ++ (whom, unit) ∷ []) c.self.inside.traffic c.set_bit.new.traffic c.args.arriving.aid
           c.self.invariant.sound.addresses c.self.invariant.sound.aids
           (λ other apart. c.parts_stay.ensures.others_put whom other unit es apart)
           (some (units_for whom es) unit ∙ sym (ap (λ us. nat_lt 0 (length us)) (c.parts_stay.ensures.put whom unit es)))
