@@ -9,7 +9,7 @@ use Rattle.stations.specs.Stations.{Table, state_of, aid_of, identifiers, AreIde
 use Rattle.stations.specs.Stations.{set_mode, with_mode, changed, IsAllowed}
 use Rattle.stations.specs.Sound.{AreApart, AreSound}
 use Rattle.stations.specs.declared.table.Change.{Change}
-use Rattle.stations.specs.declared.table.StationState.{StationState}
+use Rattle.station_state.specs.declared.state.StationState.{StationState}
 
 -- every other station keeps its state
 pub record OthersStay : Type 0 where
