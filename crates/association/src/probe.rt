@@ -9,6 +9,7 @@ use mac_frame::Unread;
 
 /// The SSID that the body of a probe request names, if it names one (9.3.3.10, 9.4.2.2): of any length, empty for the
 /// wildcard SSID. [`Unread::Body`] where the body is no list of elements. It takes no memory.
+#[inline(always)]
 pub fn read_probe(body: &[u8]) -> Result<Option<&[u8]>, Unread>
     ensures { MatchResult result
         (λ ssid. probe_of body.now ≡ Ok (option_map (λ s. s.now) ssid))

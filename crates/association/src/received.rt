@@ -1,14 +1,16 @@
 //! A frame as it was received, for each network that hears it (IEEE Std 802.11-2016, 9.3.3.10, 11.1.4.3): a broadcast
 //! probe request is read once for all of them.
 
-ghost use Rattle.std.specs.Prelude.{◌≡◌, ◌≢◌, List, ℕ, Option, Ok, Err, IfOk, IsOkAnd, MatchResult};
+ghost use Rattle.std.specs.Prelude.{◌≡◌, ◌≢◌, List, ℕ, Option, Ok, Err, IfOk, IfSome, IsOkAnd, MatchResult};
 ghost use Rattle.mac_frame.specs.Address.{broadcast};
 ghost use Rattle.association.specs.Asked.{shown};
-ghost use Rattle.association.specs.Received.{IsReadOf};
-ghost use Rattle.association.specs.Request.{Request as Asking, Probe, IsRequest, request_of};
+ghost use Rattle.mac_frame.specs.Rx.{shown as frame_shown};
+ghost use Rattle.association.specs.Received.{IsReadOf, probe_shown};
+ghost use Rattle.association.specs.Request.{Request as Asking, Probe, IsRequest, asked_by, request_in, request_of};
 
+use crate::probe::read_probe;
 use crate::request::{Request, one_request, read};
-use mac_frame::{MacAddr, Unread, addressed};
+use mac_frame::{MacAddr, PROBE_REQUEST, Rx, Unread, addressed, decode_broadcast};
 use std::marker::Model;
 
 /// A probe request to all stations and for any network (9.3.3.10).
@@ -88,14 +90,42 @@ impl<'a> ReceivedFrame<'a> {
 fn broadcast_probe(octets: &[u8]) -> Option<BroadcastProbe<'_>>
     ensures { IsReadOf octets.now result }
 {
+    one_request();
     if !addressed(octets)?.is_broadcast() {
         return None;
     }
-    let request = read(MacAddr::BROADCAST, octets).ok()?;
-    match request {
-        Request::Probe { from, ssid } => Some(BroadcastProbe { from, ssid }),
+    match decode_broadcast(octets) {
+        Some(rx) => probe_in(rx),
+        None => None,
+    }
+}
+
+/// The probe request that a frame is, if it is one.
+fn probe_in(rx: Rx<'_>) -> Option<BroadcastProbe<'_>>
+    ensures { IfSome result (λ probe. request_in (frame_shown rx.entry) ≡ Ok (probe_shown probe)) }
+{
+    match rx {
+        Rx::Mgmt {
+            subtype,
+            from,
+            body,
+            ..
+        } => probe_with(subtype, from, body),
         _ => None,
     }
+}
+
+/// The same by its subtype, its station and its body.
+fn probe_with(subtype: u8, from: MacAddr, body: &[u8]) -> Option<BroadcastProbe<'_>>
+    ensures { IfSome result (λ probe. asked_by subtype from body.now ≡ Ok (probe_shown probe)) }
+{
+    if subtype != PROBE_REQUEST {
+        return None;
+    }
+    let Ok(ssid) = read_probe(body) else {
+        return None;
+    };
+    Some(BroadcastProbe { from, ssid })
 }
 
 /// A broadcast probe request is the same request for each network, but for one with the address of its sender (9.3.3.10,

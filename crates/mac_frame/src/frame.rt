@@ -1,6 +1,7 @@
 //! Frames heard on the air (IEEE Std 802.11-2016, 9.2.3 and 9.3): which strings of octets are which frame.
 
-ghost use Rattle.std.specs.Prelude.{◌≡◌, Ok, Err, IsOkAnd, IfOk, MatchResult};
+ghost use Rattle.std.specs.Prelude.{◌≡◌, Ok, Err, IsOkAnd, IfOk, IfSome, MatchResult};
+ghost use Rattle.mac_frame.specs.Address.{broadcast};
 ghost use Rattle.mac_frame.specs.Frame.{Frame, IsFrame, shown, frame_of};
 
 use crate::address::MacAddr;
@@ -102,5 +103,24 @@ pub fn decode(bss: MacAddr, frame: &[u8]) -> Result<Rx<'_>, Unread>
         ps_poll_of(bss, control, frame)
     } else {
         Err(Unread::Kind)
+    }
+}
+
+/// The management frame that a string of octets is for a network with the broadcast address, which is the wildcard BSSID
+/// (9.2.4.3.4), if it is one: of a probe request to all stations and for any network it tells what each network reads.
+/// It takes no memory.
+pub fn decode_broadcast(frame: &[u8]) -> Option<Rx<'_>>
+    ensures { IfSome result (λ rx. frame_of broadcast frame.now ≡ Ok (shown rx)) }
+{
+    if frame.len() < HEADER_LEN {
+        return None;
+    }
+    let control = control_at(frame);
+    if control.version != 0 || !is_management_read(control) {
+        return None;
+    }
+    match management_of(MacAddr::BROADCAST, control, frame) {
+        Ok(rx) => Some(rx),
+        Err(_) => None,
     }
 }

@@ -21,7 +21,7 @@ mod ps_poll;
 
 pub use address::MacAddr;
 pub use data::write_msdu;
-pub use frame::{Rx, Unread, decode};
+pub use frame::{Rx, Unread, decode, decode_broadcast};
 pub use header::{ADDRESS_LEN, HEADER_LEN, MAX_BODY_LEN, address_at, addressed};
 pub use item_list::List;
 pub use laws::{address_comes_back, body_has_octets, frame_is_addressed, hearing, one_frame};

@@ -55,6 +55,7 @@ pub const CAPABILITY: u16 = 1;
 pub const MAX_AID: u16 = 2007;
 
 /// Whether a frame is a management frame of a subtype that is read (9.2.4.1.3).
+#[inline(always)]
 pub fn is_management_read(control: FrameControl) -> bool
     ensures { result ≡ is_management_read control }
 {
@@ -75,6 +76,7 @@ fn is_individual_subtype(subtype: u8) -> bool
 
 /// The management frame that a string of octets is for the network `bss`, or its first fault after that of its kind
 /// (9.3.3.2).
+#[inline(always)]
 pub fn management_of(bss: MacAddr, control: FrameControl, frame: &[u8]) -> Result<Rx<'_>, Unread>
     requires long { HEADER_LEN ≤ length frame.now }
     requires control { control ≡ control_at frame.now }
@@ -103,6 +105,7 @@ pub fn management_of(bss: MacAddr, control: FrameControl, frame: &[u8]) -> Resul
 }
 
 /// Whether Address 1 and Address 3 of a management frame of this subtype are those of a frame for the network `bss`.
+#[inline(always)]
 fn is_management_addressed(bss: MacAddr, subtype: u8, frame: &[u8]) -> bool
     requires long { HEADER_LEN ≤ length frame.now }
     requires subtype { subtype ≡ (control_at frame.now).subtype }
@@ -116,6 +119,7 @@ fn is_management_addressed(bss: MacAddr, subtype: u8, frame: &[u8]) -> bool
 }
 
 /// Whether a probe request is sent to the network `bss` or to all, and for it or for any (11.1.4.3).
+#[inline(always)]
 fn is_probe_addressed(bss: MacAddr, frame: &[u8]) -> bool
     requires { HEADER_LEN ≤ length frame.now }
     ensures { result ≡ is_probe_addressed bss frame.now }
@@ -125,6 +129,7 @@ fn is_probe_addressed(bss: MacAddr, frame: &[u8]) -> bool
 }
 
 /// Whether a frame is sent to the network `bss` alone, and for it (9.3.3.5 to 9.3.3.8, 9.3.3.12, 9.3.3.13).
+#[inline(always)]
 fn is_individually_addressed(bss: MacAddr, frame: &[u8]) -> bool
     requires { HEADER_LEN ≤ length frame.now }
     ensures { result ≡ is_individually_addressed bss frame.now }

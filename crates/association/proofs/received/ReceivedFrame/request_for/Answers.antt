@@ -1,6 +1,5 @@
 use Rattle.std.proofs.Common.{List, ℕ, Option, subst, rules}
-use Rattle.association.specs.Received.{IsReadOf, probe_shown}
-use Rattle.association.specs.Request.{IsRequest}
+use Rattle.association.specs.Received.{IsReadOf}
 use Rattle.association.specs.declared.received.BroadcastProbe.{BroadcastProbe}
 use Rattle.association.proofs.received.ReceivedFrame.request_for.Goals as goal
 
