@@ -1,6 +1,6 @@
 -- The addresses of a map with their values, in the order in which they came (profile).
 use Rattle.std.specs.Prelude.{ℕ, ◌≡◌, List, [], ◌∷◌, Option, None}
-use Rattle.std.specs.Map.{lookup}
+use Rattle.std.specs.Map.{lookup, remove_entry}
 use Rattle.std.specs.Str.{bytes_eq}
 use Rattle.indexmap.specs.IndexMap.{insert_entry}
 
@@ -20,3 +20,10 @@ with_entry addr value entries = insert_entry bytes_eq entries addr value
 abbrev pub AreApart : {V : Type 0} → Entries V → Type 0
 AreApart [] = Unit {0}
 AreApart (entry ∷ entries) = (value_of entry.0 entries ≡ None) × AreApart entries
+
+-- so it is where the value of one is set, and where one is taken out
+pub record StayApart (V : Type 0) : Type 0 where
+  pub set : (addr : List ℕ) (value : V) (entries : Entries V) → AreApart entries
+      → AreApart (with_entry addr value entries)
+  pub removed : (addr : List ℕ) (entries : Entries V) → AreApart entries
+      → AreApart (remove_entry (bytes_eq addr) entries)

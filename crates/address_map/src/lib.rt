@@ -10,7 +10,9 @@
 #![tactic(auto)]
 
 mod address_key;
+mod laws;
 mod map;
 mod order;
 
+pub use laws::addresses_stay_apart;
 pub use map::AddressMap;

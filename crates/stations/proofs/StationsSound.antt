@@ -2,66 +2,23 @@
 use Rattle.std.proofs.Common.{◌≡◌, ℕ, ◌+◌, ◌<◌, ◌≤◌, Bool, true, false, cond, ◌||◌, List, [], ◌∷◌, ◌++◌, length, Option, Some, None, is_some, unwrap_or, refl, sym, ap, subst, ◌∙◌, arith}
 use Rattle.std.specs.Prelude.{nat_lt, if◌then◌else◌}
 use Rattle.std.specs.Str.{bytes_eq}
-use Rattle.std.proofs.lemmas.Bool.{both_ways}
 use Rattle.std.proofs.lemmas.List.{length-append}
-use Rattle.std.proofs.lemmas.Slice.Eq.{bytes_eq-Decides}
 use borrow.Author.Tests.{ltb-true}
 use Rattle.aid_pool.specs.LeastFree.{IsLeastFree, least_free, is_among}
 use Rattle.stations.specs.Stations.{Table, state_of, aid_of, identifiers, AreIdentifiers, may_associate, next_aid, set_state, authenticate, associate, disassociate, forget, set_mode, with_mode, identifier_of, changed, IsAllowed}
+use Rattle.address_map.specs.Entries.{StayApart}
 use Rattle.stations.specs.Sound.{AreApart, AreSound}
 use Rattle.station_state.specs.declared.state.StationState.{StationState}
 use Rattle.station_state.specs.declared.state.StationState.TheVariants.{Authenticated, Associated}
 use Rattle.stations.specs.declared.table.Change.{Change}
 use Rattle.stations.specs.declared.table.Change.TheVariants as changes
-use Rattle.stations.proofs.StationTables.{parted, without, within, numbers-of_associated, numbers-kept, authenticated-where}
+use Rattle.stations.proofs.StationTables.{with_entry-is_set_state, parted, without, within, numbers-of_associated, numbers-kept, authenticated-where}
 
 -- ---- no station stands twice
-
-other_way : (a b : List ℕ) → bytes_eq a b ≡ false → bytes_eq b a ≡ false
-other_way a b h = by (bytes_eq b a) refl
-  where
-    by : (r : Bool) → bytes_eq b a ≡ r → bytes_eq b a ≡ false
-    by false e = e
-    by true e =
-        let same : a ≡ b = sym ((bytes_eq-Decides b a).0 e) in
-        absurd (both_ways (bytes_eq a b) h ((bytes_eq-Decides a b).1 same))
 
 pub not-here : (b : Bool) (state : StationState) (rest : Option StationState) → cond b (Some state) rest ≡ None → (b ≡ false) × (rest ≡ None)
 not-here true state rest h = absurd (cc)
 not-here false state rest h = (refl, h)
-
--- another station that is not there does not come
-pub unknown-stays : (k a : List ℕ) (l : StationState) (t : Table) → bytes_eq k a ≡ false → state_of k t ≡ None → state_of k (set_state a l t) ≡ None
-unknown-stays k a l [] other h = rw other refl
-unknown-stays k a l (e ∷ t) other h = by (bytes_eq a e.0) refl (not-here (bytes_eq k e.0) e.1 (state_of k t) h) (unknown-stays k a l t other)
-  where
-    by : (b : Bool) → bytes_eq a e.0 ≡ b → (bytes_eq k e.0 ≡ false) × (state_of k t ≡ None) → (state_of k t ≡ None → state_of k (set_state a l t) ≡ None) → state_of k (set_state a l (e ∷ t)) ≡ None
-    by true same parts later = let away = parts.0 in rw (same, away) parts.1
-    by false apart parts later = let away = parts.0 in rw (apart, away) (later parts.1)
-
-unknown-stays_forgotten : (k a : List ℕ) (t : Table) → state_of k t ≡ None → state_of k (forget a t) ≡ None
-unknown-stays_forgotten k a [] h = refl
-unknown-stays_forgotten k a (e ∷ t) h = by (bytes_eq a e.0) refl (not-here (bytes_eq k e.0) e.1 (state_of k t) h) (unknown-stays_forgotten k a t)
-  where
-    by : (b : Bool) → bytes_eq a e.0 ≡ b → (bytes_eq k e.0 ≡ false) × (state_of k t ≡ None) → (state_of k t ≡ None → state_of k (forget a t) ≡ None) → state_of k (forget a (e ∷ t)) ≡ None
-    by true same parts later = rw same parts.1
-    by false apart parts later = let away = parts.0 in rw (apart, away) (later parts.1)
-
-pub apart-set : (a : List ℕ) (l : StationState) (t : Table) → AreApart t → AreApart (set_state a l t)
-apart-set a l [] h = (refl, tt)
-apart-set a l (e ∷ t) h = by (bytes_eq a e.0) refl (apart-set a l t)
-  where
-    by : (b : Bool) → bytes_eq a e.0 ≡ b → (AreApart t → AreApart (set_state a l t)) → AreApart (set_state a l (e ∷ t))
-    by true same later = rw same h
-    by false apart later = rw apart (unknown-stays e.0 a l t (other_way a e.0 apart) h.0, later h.1)
-
-pub apart-forgotten : (a : List ℕ) (t : Table) → AreApart t → AreApart (forget a t)
-apart-forgotten a [] h = tt
-apart-forgotten a (e ∷ t) h = by (bytes_eq a e.0) refl (apart-forgotten a t)
-  where
-    by : (b : Bool) → bytes_eq a e.0 ≡ b → (AreApart t → AreApart (forget a t)) → AreApart (forget a (e ∷ t))
-    by true same later = rw same h.1
-    by false apart later = rw apart (unknown-stays_forgotten e.0 a t h.0, later h.1)
 
 unknown-stays_moded : (k a : List ℕ) (doze : Bool) (t : Table) → state_of k t ≡ None → state_of k (set_mode a doze t) ≡ None
 unknown-stays_moded k a doze [] h = refl
@@ -176,32 +133,32 @@ mode-sound most a doze t h =
     let same = identifiers-moded a doze t in
     record { addresses = apart-moded a doze t h.addresses; aids = subst AreIdentifiers (sym same) h.aids; associated = subst (λ (ns : List ℕ). length ns ≤ most) (sym same) h.associated }
 
-pub authenticate-sound : (most : ℕ) (a : List ℕ) (t : Table) → AreSound most t → AreSound most (authenticate a t)
-authenticate-sound most a t h =
+pub authenticate-sound : StayApart StationState → (most : ℕ) (a : List ℕ) (t : Table) → AreSound most t → AreSound most (authenticate a t)
+authenticate-sound apart most a t h =
     let few = (few-authenticated most a t (h.associated, h.aids)).0 in
-    record { addresses = apart-set a Authenticated t h.addresses; aids = few.1; associated = few.0 }
+    record { addresses = subst AreApart (with_entry-is_set_state a Authenticated t) (apart.set a Authenticated t h.addresses); aids = few.1; associated = few.0 }
 
-pub forget-sound : (most : ℕ) (a : List ℕ) (t : Table) → AreSound most t → AreSound most (forget a t)
-forget-sound most a t h =
+pub forget-sound : StayApart StationState → (most : ℕ) (a : List ℕ) (t : Table) → AreSound most t → AreSound most (forget a t)
+forget-sound apart most a t h =
     let few = (few-authenticated most a t (h.associated, h.aids)).1 in
-    record { addresses = apart-forgotten a t h.addresses; aids = few.1; associated = few.0 }
+    record { addresses = apart.removed a t h.addresses; aids = few.1; associated = few.0 }
 
-pub disassociate-sound : (most : ℕ) (a : List ℕ) (t : Table) → AreSound most t → AreSound most (disassociate a t)
-disassociate-sound most a t h = by (is_some (aid_of a t)) refl
+pub disassociate-sound : StayApart StationState → (most : ℕ) (a : List ℕ) (t : Table) → AreSound most t → AreSound most (disassociate a t)
+disassociate-sound apart most a t h = by (is_some (aid_of a t)) refl
   where
     by : (b : Bool) → is_some (aid_of a t) ≡ b → AreSound most (disassociate a t)
-    by true is = rw is (authenticate-sound most a t h)
+    by true is = rw is (authenticate-sound apart most a t h)
     by false is = rw is h
 
-pub associate-sound : LeavesOneFree → (most : ℕ) (a : List ℕ) (listen : ℕ) (t : Table) → most ≤ 2007 → is_some (state_of a t) ≡ true → may_associate most a t ≡ true → AreSound most t → AreSound most (associate a listen t)
-associate-sound leaves most a listen t limit known room h =
+pub associate-sound : StayApart StationState → LeavesOneFree → (most : ℕ) (a : List ℕ) (listen : ℕ) (t : Table) → most ≤ 2007 → is_some (state_of a t) ≡ true → may_associate most a t ≡ true → AreSound most t → AreSound most (associate a listen t)
+associate-sound apart leaves most a listen t limit known room h =
     let few = few-associated leaves most a listen t limit known room (h.associated, h.aids) in
-    record { addresses = apart-set a (Associated (next_aid a t) listen false) t h.addresses; aids = few.1; associated = few.0 }
+    record { addresses = subst AreApart (with_entry-is_set_state a (Associated (next_aid a t) listen false) t) (apart.set a (Associated (next_aid a t) listen false) t h.addresses); aids = few.1; associated = few.0 }
 
-pub changed-sound : LeavesOneFree → (most : ℕ) (change : Change) (t : Table) → most ≤ 2007 → IsAllowed most change t → AreSound most t → AreSound most (changed change t)
-changed-sound leaves most changes.Nothing t limit allowed h = h
-changed-sound leaves most (changes.Authenticate a) t limit allowed h = authenticate-sound most a t h
-changed-sound leaves most (changes.Associate a listen) t limit allowed h = associate-sound leaves most a listen t limit allowed.0 allowed.1 h
-changed-sound leaves most (changes.Disassociate a) t limit allowed h = disassociate-sound most a t h
-changed-sound leaves most (changes.Forget a) t limit allowed h = forget-sound most a t h
-changed-sound leaves most (changes.SetMode a doze) t limit allowed h = mode-sound most a doze t h
+pub changed-sound : StayApart StationState → LeavesOneFree → (most : ℕ) (change : Change) (t : Table) → most ≤ 2007 → IsAllowed most change t → AreSound most t → AreSound most (changed change t)
+changed-sound apart leaves most changes.Nothing t limit allowed h = h
+changed-sound apart leaves most (changes.Authenticate a) t limit allowed h = authenticate-sound apart most a t h
+changed-sound apart leaves most (changes.Associate a listen) t limit allowed h = associate-sound apart leaves most a listen t limit allowed.0 allowed.1 h
+changed-sound apart leaves most (changes.Disassociate a) t limit allowed h = disassociate-sound apart most a t h
+changed-sound apart leaves most (changes.Forget a) t limit allowed h = forget-sound apart most a t h
+changed-sound apart leaves most (changes.SetMode a doze) t limit allowed h = mode-sound most a doze t h

@@ -1,11 +1,8 @@
 -- What holds of the stations of every network that events make of an empty one (profile, but where a clause is named).
-use Rattle.std.specs.Prelude.{ℕ, ◌≡◌, ◌≤◌, [], ◌∷◌, None, length}
-use Rattle.stations.specs.Stations.{Table, state_of, identifiers, AreIdentifiers}
-
+use Rattle.std.specs.Prelude.{ℕ, ◌≤◌, length}
 -- no station stands twice
-abbrev pub AreApart : Table → Type 0
-AreApart [] = Unit {0}
-AreApart (station ∷ stations) = (state_of station.0 stations ≡ None) × AreApart stations
+pub use Rattle.address_map.specs.Entries.{AreApart}
+use Rattle.stations.specs.Stations.{Table, identifiers, AreIdentifiers}
 
 -- stations of which at most `most` are associated
 pub record AreSound (most : ℕ) (stations : Table) : Type 0 where

@@ -2,6 +2,8 @@
 
 ghost use Rattle.stations.specs.Changes.{OthersStay, ModesAlone, IdentifiersDiffer, StaySound, LengthsAfter};
 
+use crate::table::StationState;
+use address_map::addresses_stay_apart;
 use aid_pool::least_is_free;
 
 /// Where the state of one station is set, where it is forgotten or its mode is set, every other keeps its state
@@ -29,6 +31,7 @@ pub fn identifiers_differ()
 pub fn changes_stay_sound()
     ensures { StaySound }
 {
+    addresses_stay_apart::<StationState>();
     least_is_free();
 }
 
