@@ -37,7 +37,7 @@ module _ {V : Type 0} where
 
 -- ---- no address stands twice
 
-other_way : (a b : List ℕ) → bytes_eq a b ≡ false → bytes_eq b a ≡ false
+pub other_way : (a b : List ℕ) → bytes_eq a b ≡ false → bytes_eq b a ≡ false
 other_way a b h = by (bytes_eq b a) refl
   where
     by : (r : Bool) → bytes_eq b a ≡ r → bytes_eq b a ≡ false

@@ -9,7 +9,7 @@ use Rattle.std.proofs.lemmas.Option.{slice_get_within, get_or_from_slice_get}
 use Rattle.std.proofs.lemmas.Slice.Eq.{bytes_eq-Decides}
 use Rattle.address_map.specs.Entries.{Entries, value_of, with_entry, AreApart}
 use Rattle.address_map.specs.Slots.{Slots, entries_in, slot_of, IsAt, AreFound}
-use Rattle.address_map.proofs.ChangedEntries.{set_value-is_with_entry, not-here}
+use Rattle.address_map.proofs.ChangedEntries.{other_way, set_value-is_with_entry, not-here}
 
 -- ---- addresses
 
@@ -18,13 +18,6 @@ same_addr a b h = (bytes_eq-Decides a b).0 h
 
 pub equal_addr : (a : List ℕ) → bytes_eq a a ≡ true
 equal_addr a = (bytes_eq-Decides a a).1 refl
-
-pub other_addr : (a b : List ℕ) → bytes_eq a b ≡ false → bytes_eq b a ≡ false
-other_addr a b h = by (bytes_eq b a) refl
-  where
-    by : (r : Bool) → bytes_eq b a ≡ r → bytes_eq b a ≡ false
-    by false e = e
-    by true e = absurd (both_ways (bytes_eq a b) h (ap (bytes_eq a) (same_addr b a e) ∙ equal_addr a))
 
 -- ---- one slot further
 
@@ -204,7 +197,7 @@ module _ {V : Type 0} where
           let none : slot_of b slots ≡ None = slot_of-none b slots (ap (λ (a : List ℕ). value_of a (entries_in slots)) (sym name) ∙ apart.0) in
           ap (option_map (λ n. suc n)) none
       here false other same =
-          let away : bytes_eq b e.0 ≡ false = ap (bytes_eq b) (sym (same_addr addr e.0 same)) ∙ other_addr addr b other in
+          let away : bytes_eq b e.0 ≡ false = ap (bytes_eq b) (sym (same_addr addr e.0 same)) ∙ other_way addr b other in
           rw away refl
 
       by : (r : Bool) → bytes_eq addr e.0 ≡ r → ((j : ℕ) → slot_of addr slots ≡ Some j → slot_of b (set slots j None) ≡ cond (bytes_eq addr b) None (slot_of b slots)) → slot_of b (set (Some e ∷ slots) i None) ≡ cond (bytes_eq addr b) None (slot_of b (Some e ∷ slots))
@@ -230,7 +223,7 @@ module _ {V : Type 0} where
     where
       by : (r : Bool) → bytes_eq addr b ≡ r → slot_of b (Some (addr, value) ∷ []) ≡ cond (bytes_eq addr b) (Some 0) None
       by true same = let here : bytes_eq b addr ≡ true = ap (λ (a : List ℕ). bytes_eq a addr) (sym (same_addr addr b same)) ∙ equal_addr addr in rw (same, here) refl
-      by false other = let away : bytes_eq b addr ≡ false = other_addr addr b other in rw (other, away) refl
+      by false other = let away : bytes_eq b addr ≡ false = other_way addr b other in rw (other, away) refl
   found-last b addr value (None ∷ slots) h =
       ap (option_map (λ n. suc n)) (found-last b addr value slots (further-none (slot_of addr slots) h)) ∙ further-cond (bytes_eq addr b) (Some (length slots)) (slot_of b slots)
   found-last b addr value (Some e ∷ slots) h = by (bytes_eq addr e.0) refl (found-last b addr value slots)

@@ -14,7 +14,8 @@ use Rattle.std.proofs.lemmas.Map.Made.{lookup-map_values}
 use Rattle.std.proofs.lemmas.Option.{slice_get_read, slice_get_within, get_or_from_slice_get}
 use Rattle.address_map.specs.Entries.{value_of, AreApart}
 use Rattle.address_map.specs.Slots.{Slots, entries_in, slot_of, AreFound, slot_at, listed, holes_from, Rises, place_in, AreIn, with_places, IsListed}
-use Rattle.address_map.proofs.FoundSlots.{equal_addr, other_addr, slot_of-at, slot_of-none, unknown-where}
+use Rattle.address_map.proofs.ChangedEntries.{other_way}
+use Rattle.address_map.proofs.FoundSlots.{equal_addr, slot_of-at, slot_of-none, unknown-where}
 use Rattle.address_map.proofs.SlotOrder.{one_slot, slot_at-get, slot_at-some, slot_of-here, listed-get, place-of, holes-count, order-all, rises-from, rises-order}
 
 -- ---- a place in a row
@@ -75,7 +76,7 @@ lookup-own (x ∷ es) zero e h at =
     let here : bytes_eq e.0 x.0 ≡ true = ap (λ (y : List ℕ × ℕ). bytes_eq e.0 y.0) same ∙ equal_addr e.0 in
     rw here (ap (λ (y : List ℕ × ℕ). Some y.1) same)
 lookup-own (x ∷ es) (suc i) e h at =
-    let other : bytes_eq e.0 x.0 ≡ false = other_addr x.0 e.0 (key-apart x.0 es i e (IsDistinct-head bytes_eq x.0 (keys_of es) h) at) in
+    let other : bytes_eq e.0 x.0 ≡ false = other_way x.0 e.0 (key-apart x.0 es i e (IsDistinct-head bytes_eq x.0 (keys_of es) h) at) in
     rw other (lookup-own es i e (IsDistinct-tail bytes_eq x.0 (keys_of es) h) at)
 
 -- ---- so many entries have their places

@@ -1,9 +1,9 @@
 //! The stations that a network knows (IEEE Std 802.11-2016, 11.3).
 //!
 //! Two types to know first: [`Stations`] is the table, each station with its [`station_state::StationState`], and a
-//! [`Change`] is what becomes of one of them. The table promises that a station is found by its address without a walk
-//! over it, that it stays in the order of first authentication, and that no two stations have the same association
-//! identifier.
+//! [`Change`] is what becomes of one of them. The table promises to be the list of the stations in order of first
+//! authentication, in which no two have the same association identifier and no more are associated than may be. A
+//! station is found in it by its address, with no walk over the others.
 //!
 //! The units that are kept for stations, and what is answered to them, are left to the crates above.
 #![tactic(auto)]
