@@ -1,6 +1,7 @@
--- Which lines a network hears, and which of them it takes (profile). A network is named by its place in the
+-- Which event a line is to which network, and which of them it takes (profile). A network is named by its place in the
 -- configuration.
-use Rattle.std.specs.Prelude.{ℕ, ◌==◌, nat_lt, List, [], ◌∷◌, length, take, flat_map, if◌then◌else◌}
+use Rattle.std.specs.Prelude.{ℕ, ◌==◌, nat_lt, List, [], length, take, flat_map, if◌then◌else◌, Option, Some, None}
+use Rattle.std.specs.Prelude.{option_to_list}
 use Rattle.mac_frame.specs.Hearing.{is_heard}
 use Rattle.ap_config.specs.declared.config.NetConfig.{NetConfig}
 use Rattle.events.specs.declared.event.Event.{Event}
@@ -8,12 +9,22 @@ use Rattle.events.specs.declared.event.Event.TheVariants as event
 use Rattle.events.specs.declared.line.Line.{Line}
 use Rattle.events.specs.declared.line.Line.TheVariants as line
 
--- The event of a line, where the network with this place and this BSSID hears it: a string on the air by its Address 1,
--- a frame on the wire by the place that it names, and every tick.
+-- the event of a line, to each network that hears it
+abbrev pub event_of_line : Line → Event
+event_of_line (line.Air x) = event.Air x
+event_of_line (line.Wire place x) = event.Wire x
+event_of_line line.Tick = event.Tick
+
+-- The event that a line is to the network with this place and this BSSID, at most one: a string on the air where the
+-- network hears it by its Address 1, a frame on the wire where the line names its place, and every tick.
+abbrev pub event_for : ℕ → List ℕ → Line → Option Event
+event_for place bss (line.Air x) = if is_heard bss x then Some (event.Air x) else None
+event_for place bss (line.Wire named x) = if named == place then Some (event.Wire x) else None
+event_for place bss line.Tick = Some event.Tick
+
+-- as a list
 abbrev pub heard_of : ℕ → List ℕ → Line → List Event
-heard_of place bss (line.Air x) = if is_heard bss x then event.Air x ∷ [] else []
-heard_of place bss (line.Wire named x) = if named == place then event.Wire x ∷ [] else []
-heard_of place bss line.Tick = event.Tick ∷ []
+heard_of place bss line = option_to_list (event_for place bss line)
 
 -- the events of the lines that a network hears, in their order
 abbrev pub heard : ℕ → List ℕ → List Line → List Event

@@ -5,7 +5,7 @@ use Rattle.std.specs.List.{AllByRecursion}
 use Rattle.network.specs.NetworkView.{NetworkState, new_network}
 use Rattle.ap_config.specs.declared.config.NetConfig.{NetConfig}
 use Rattle.ap_config.specs.declared.config.RadioConfig.{RadioConfig}
-use Rattle.events.specs.LentEvents.{event_of}
+use Rattle.events.specs.LentEvents.{line_of}
 use Rattle.events.specs.declared.event.Event.{Event}
 use Rattle.events.specs.declared.line.Line.{Line}
 use Rattle.trace.specs.Buffers.{CanWrite, Puts}
@@ -16,7 +16,7 @@ use Rattle.trace.specs.Texts.{ended}
 use Rattle.live_answers.specs.AnswerText.{fault_words}
 use Rattle.live_answers.specs.Asked.{Asked, HasFault, ForTables, Brings, Says}
 use Rattle.live_answers.specs.Answers.{Answer, MayAnswer, after_line_from, after_answer, Answers, Faulty, Replies, Unread}
-use Rattle.live_answers.specs.Dispatch.{event_at, line_as}
+use Rattle.live_answers.specs.Dispatch.{event_at}
 use Rattle.live_answers.specs.Moments.{Moment, one_line_more, bssid_of, bssids_at, Reply, taken_if, after_if}
 use Rattle.live.specs.Networks.{IsMoment}
 use Rattle.live.specs.Output.{AreAnswered, through, watch}
@@ -174,7 +174,7 @@ answered-fault taken failed face lines number ns said fault old new count (inr i
 said-for : (reading : Reading) → (said : Asked) × IsReading reading said
 said-for reading.Nothing = (Says (Ok None), refl)
 said-for (reading.Line said) = (Says (Ok (Some said)), refl)
-said-for (reading.Record e) = (Brings (line_as e.place (event_of e.event)), refl)
+said-for (reading.Record lent) = (Brings (line_of lent), refl)
 said-for reading.Tables = (ForTables, refl)
 said-for (reading.Fault fault) = (HasFault fault, inl refl)
 

@@ -1,12 +1,11 @@
 -- What was read of a line or a record.
 use Rattle.std.specs.Prelude.{◌≡◌, ◌⊎◌, Option, Some, None, Result, Ok, Err}
 use Rattle.mac_frame.specs.declared.memory.NoMemory.{NoMemory}
-use Rattle.events.specs.LentEvents.{event_of}
+use Rattle.events.specs.LentEvents.{line_of}
 use Rattle.events.specs.declared.line.Line.{Line}
 use Rattle.trace.specs.declared.fault.LineFault.{LineFault}
 use Rattle.live_answers.specs.Answers.{MayBeUnread}
 use Rattle.live_answers.specs.Asked.{Asked, HasFault, ForTables, Brings, Says}
-use Rattle.live_answers.specs.Dispatch.{line_as}
 use Rattle.live.specs.declared.reading.Reading.{Reading}
 use Rattle.live.specs.declared.reading.Reading.TheVariants as reading
 
@@ -14,7 +13,7 @@ use Rattle.live.specs.declared.reading.Reading.TheVariants as reading
 abbrev pub IsReading : Reading → Asked → Type 0
 IsReading reading.Nothing asked = asked ≡ Says (Ok None)
 IsReading (reading.Line said) asked = asked ≡ Says (Ok (Some said))
-IsReading (reading.Record e) asked = asked ≡ Brings (line_as e.place (event_of e.event))
+IsReading (reading.Record lent) asked = asked ≡ Brings (line_of lent)
 IsReading reading.Tables asked = asked ≡ ForTables
 IsReading (reading.Fault fault) asked = (asked ≡ HasFault fault) ⊎ (asked ≡ Says (Err fault))
 

@@ -4,8 +4,9 @@ ghost use Rattle.std.specs.Prelude.{◌≡◌, ◌<◌, ◌≤◌, ◌^◌, [], 
 ghost use Rattle.std.specs.List.{AllByRecursion};
 ghost use Rattle.std.specs.Str.{bytes_eq};
 ghost use Rattle.trace.specs.Buffers.{CanWrite, Puts};
-ghost use Rattle.events.specs.LentEvents.{event_of};
-ghost use Rattle.live_answers.specs.Dispatch.{line_as};
+ghost use Rattle.events.specs.LentEvents.{event_of, line_of};
+ghost use Rattle.events.specs.Lines.{event_of_line};
+ghost use Rattle.events.specs.declared.line.Line.{Line};
 ghost use Rattle.live_answers.specs.Moments.{Reply, MayReply, taken_if, after_if, bssid_of};
 ghost use Rattle.live.specs.Audiences.{IsAudience, is_in};
 ghost use Rattle.live.specs.Output.{HasReplied, HaveReplied, through, watch, numbered, placed};
@@ -13,57 +14,10 @@ ghost use Rattle.live.specs.Written.{written_reply};
 
 use crate::face::Face;
 use crate::written::{put_refusal, put_sent};
-use events::{LentEvent, Line};
+use events::{LentEvent, LentLine};
 use mac_frame::{MacAddr, addressed};
 use network::{Network, Spare};
 use trace::{Buffered, Sink};
-
-/// A line or a record as an event of the networks that hear it, whose octets stay where they are.
-#[derive(Clone, Copy)]
-pub struct LineEvent<'a> {
-    /// What happened.
-    pub event: LentEvent<'a>,
-    /// The place of the network that it came to, where it came over the wire.
-    pub place: usize,
-}
-
-impl LineEvent<'_> {
-    /// The event of a line.
-    pub fn of(line: &Line) -> LineEvent<'_>
-        ensures { line_as result.place (event_of result.event) ≡ line.now }
-    {
-        match line {
-            Line::Air(octets) => LineEvent {
-                event: LentEvent::Air(octets.as_slice()),
-                place: 0,
-            },
-            Line::Wire { place, octets } => LineEvent {
-                event: LentEvent::Wire(octets.as_slice()),
-                place: *place,
-            },
-            Line::Tick => LineEvent {
-                event: LentEvent::Tick,
-                place: 0,
-            },
-        }
-    }
-
-    /// To which networks it is an event.
-    #[inline(always)]
-    fn audience(&self) -> Audience
-        ensures { IsAudience result (line_as self.now.place (event_of self.now.event)) (event_of self.now.event) }
-    {
-        match self.event {
-            LentEvent::Air(octets) => match addressed(octets) {
-                None => Audience::Nobody,
-                Some(to) if to.is_broadcast() => Audience::All,
-                Some(to) => Audience::Addressed(to),
-            },
-            LentEvent::Wire(_) => Audience::At(self.place),
-            LentEvent::Tick => Audience::All,
-        }
-    }
-}
 
 /// The networks to which a line is an event, read from it once for all of them.
 #[derive(Clone, Copy, Debug)]
@@ -79,6 +33,22 @@ pub(crate) enum Audience {
 }
 
 impl Audience {
+    /// To which networks a line is an event.
+    #[inline(always)]
+    fn of(line: LentLine<'_>) -> Audience
+        ensures { IsAudience result (line_of line.entry) }
+    {
+        match line {
+            LentLine::Air(octets) => match addressed(octets) {
+                None => Audience::Nobody,
+                Some(to) if to.is_broadcast() => Audience::All,
+                Some(to) => Audience::Addressed(to),
+            },
+            LentLine::Wire { place, .. } => Audience::At(place),
+            LentLine::Tick => Audience::All,
+        }
+    }
+
     /// Two places between which all of them stand, of networks with these addresses: the first, and that after the last.
     #[inline(always)]
     fn places(&self, bssids: &[MacAddr]) -> (usize, usize)
@@ -150,7 +120,7 @@ pub fn reply_all<W: Sink>(
     face: Face,
     bssids: &[MacAddr],
     networks: &mut [Network],
-    line: &LineEvent<'_>,
+    line: LentLine<'_>,
     number: u64,
     spare: &mut Spare,
     out: &mut Buffered<'_, W>,
@@ -159,15 +129,16 @@ pub fn reply_all<W: Sink>(
     requires countable { AllByRecursion (λ n. n.events < 2 ^ 62) networks.old }
     requires can_write { CanWrite W.failed out.old }
     ensures { HaveReplied (through face (watch W.taken W.failed) out.old out.new)
-        (numbered number (line_as line.now.place (event_of line.now.event))) networks.old networks.new }
+        (numbered number (line_of line.entry)) networks.old networks.new }
 {
-    let audience = line.audience();
+    let audience = Audience::of(line);
+    let event = line.event();
     let (first, end) = audience.places(bssids);
     for place in first..end {
         reply_at(
             face,
             &mut networks[place],
-            line,
+            event,
             &audience,
             place,
             number,
@@ -177,28 +148,28 @@ pub fn reply_all<W: Sink>(
     }
 }
 
-/// Has the network at a place take the line of a number, where it is an event to it, and puts its reply.
+/// Has the network at a place take the event of the line of a number, if it is of the line's audience, and puts its
+/// reply.
 #[inline(always)]
 fn reply_at<W: Sink>(
     face: Face,
     network: &mut Network,
-    line: &LineEvent<'_>,
+    event: LentEvent<'_>,
     audience: &Audience,
     place: usize,
     number: u64,
     spare: &mut Spare,
     out: &mut Buffered<'_, W>,
 )
-    requires audience { IsAudience audience.now (line_as line.now.place (event_of line.now.event))
-        (event_of line.now.event) }
     requires countable { network.old.events < 2 ^ 62 }
     requires can_write { CanWrite W.failed out.old }
-    ensures { HasReplied (through face (watch W.taken W.failed) out.old out.new)
-        (numbered number (line_as line.now.place (event_of line.now.event))) (placed place network.old) network.new }
+    ensures { (said : Line) → IsAudience audience.now said → event_of event.entry ≡ event_of_line said
+        → HasReplied (through face (watch W.taken W.failed) out.old out.new) (numbered number said)
+        (placed place network.old) network.new }
 {
     let bssid = network.setting().network.bssid;
     if audience.has(place, bssid) {
-        reply(face, network, line.event, number, spare, out);
+        reply(face, network, event, number, spare, out);
     }
 }
 

@@ -13,7 +13,7 @@ ghost use Rattle.live_answers.specs.Records.{IsRecord, records_ask};
 ghost use Rattle.live.specs.Written.{written_tables};
 ghost use Rattle.live.specs.declared.face.Face.TheVariants as faces;
 
-use crate::dispatch::{LineEvent, reply_all};
+use crate::dispatch::reply_all;
 use crate::face::Face;
 use crate::output::put_unread;
 use crate::reading::{Reading, read_line, read_record};
@@ -164,17 +164,9 @@ fn answer_reading<W: Sink>(
     match reading {
         Reading::Nothing => {}
         Reading::Line(line) => {
-            reply_all(
-                face,
-                bssids,
-                networks,
-                &LineEvent::of(&line),
-                number,
-                spare,
-                out,
-            )
+            reply_all(face, bssids, networks, line.lend(), number, spare, out)
         }
-        Reading::Record(event) => reply_all(face, bssids, networks, &event, number, spare, out),
+        Reading::Record(line) => reply_all(face, bssids, networks, line, number, spare, out),
         Reading::Tables => put_tables(face, out, networks),
         Reading::Fault(fault) => put_fault(face, out, fault, number),
     }

@@ -8,9 +8,8 @@ ghost use Rattle.live.specs.Readings.{IsLineReading, IsReading};
 ghost use Rattle.live_answers.specs.Records.{IsRecord, air_record, kind_asks, nobody, record_asks, wire_record};
 ghost use Rattle.trace.specs.TraceText.{place_with};
 
-use crate::dispatch::LineEvent;
 use crate::record::HEADER_LEN;
-use events::{LentEvent, Line};
+use events::{LentLine, Line};
 use mac_frame::{MacAddr, NoMemory, address_at};
 use std::alloc::Global;
 use trace::{LineFault, ReadFault, read_content, without_spaces_at_end};
@@ -29,7 +28,7 @@ pub enum Reading<'a> {
     /// Something happened, as a line says.
     Line(Line),
     /// Something happened, as a record says, whose octets stay where they are.
-    Record(LineEvent<'a>),
+    Record(LentLine<'a>),
     /// The tables are asked for.
     Tables,
     /// It has this fault.
@@ -92,10 +91,7 @@ fn read_kind<'a>(bssids: &[MacAddr], kind: u8, bssid: MacAddr, octets: &'a [u8])
     match kind {
         b'A' => read_air(bssid, octets),
         b'W' => read_wire(place_with(bssid, bssids), octets),
-        b'T' if is_bare(bssid, octets) => Reading::Record(LineEvent {
-            event: LentEvent::Tick,
-            place: 0,
-        }),
+        b'T' if is_bare(bssid, octets) => Reading::Record(LentLine::Tick),
         b'I' if is_bare(bssid, octets) => Reading::Tables,
         _ => Reading::Fault(LineFault::UnknownKind),
     }
@@ -111,10 +107,7 @@ fn read_air(bssid: MacAddr, octets: &[u8]) -> Reading<'_>
     if octets.len() > MAX_OCTETS {
         return Reading::Fault(LineFault::TooMany);
     }
-    Reading::Record(LineEvent {
-        event: LentEvent::Air(octets),
-        place: 0,
-    })
+    Reading::Record(LentLine::Air(octets))
 }
 
 /// What a record says of a frame that came over the wire to the network at a place, if there is one.
@@ -127,10 +120,7 @@ fn read_wire(place: Option<usize>, octets: &[u8]) -> Reading<'_>
     if octets.len() > MAX_OCTETS {
         return Reading::Fault(LineFault::TooMany);
     }
-    Reading::Record(LineEvent {
-        event: LentEvent::Wire(octets),
-        place,
-    })
+    Reading::Record(LentLine::Wire { place, octets })
 }
 
 /// The place of the first network that has an address.

@@ -1,6 +1,6 @@
 -- The lines of a trace, answered as its report tells them.
 use Rattle.std.proofs.Common.{◌≡◌, ℕ, zero, suc, ◌+◌, ◌*◌, ◌<◌, ◌≤◌, Bool, true, false, List, [], ◌∷◌, ◌++◌, length, map, Option, Some, None, Result, Ok, Err, refl, sym, ap, ◌∙◌, arith, append-nil, length-append}
-use Rattle.std.specs.Prelude.{slice_get, nat_lt, codes, flat_map, IfSome, ◌==◌, if◌then◌else◌}
+use Rattle.std.specs.Prelude.{slice_get, nat_lt, codes, flat_map, IfSome, if◌then◌else◌}
 use Rattle.std.specs.List.{slice_index_or, AllByRecursion}
 use Rattle.std.specs.Option.{option_to_list}
 use Rattle.std.specs.Str.Lines.{lines}
@@ -10,9 +10,8 @@ use Rattle.std.proofs.lemmas.List.Concat.{flat_map-append}
 use Rattle.std.proofs.lemmas.List.FromFn.{get_or-map-range_with_len, length-map-range_with_len}
 use Rattle.std.proofs.lemmas.Option.{slice_get-get_or}
 use Rattle.std.proofs.lemmas.Slice.Eq.{bytes_eq-Decides}
-use Rattle.mac_frame.specs.Hearing.{is_heard}
 use Rattle.ap_config.specs.Configuration.{fault_of, network_fault}
-use Rattle.events.specs.Lines.{heard_of, heard, own_events}
+use Rattle.events.specs.Lines.{event_for, heard_of, heard, own_events}
 use Rattle.network.specs.Section.{sections_of_lines, section_of}
 use Rattle.network.specs.Network.{alone}
 use Rattle.network.specs.NetworkView.{NetworkState}
@@ -23,7 +22,6 @@ use Rattle.ap_config.specs.declared.config.RadioConfig.{RadioConfig}
 use Rattle.events.specs.declared.event.Event.{Event}
 use Rattle.events.specs.declared.event.Event.TheVariants as event
 use Rattle.events.specs.declared.line.Line.{Line}
-use Rattle.events.specs.declared.line.Line.TheVariants as line
 use Rattle.network.specs.declared.network.NetworkRefusal.TheVariants.{NoMemory, Clock}
 use Rattle.events.specs.declared.section.Section.{Section}
 use Rattle.ap_config.specs.declared.setting.Setting.{Setting}
@@ -34,7 +32,6 @@ use Rattle.trace.specs.declared.fault.LineFault.TheVariants.{UnknownKind, TooMan
 use Rattle.trace.specs.declared.fault.TraceFault.{TraceFault}
 use Rattle.live_answers.specs.Asked.{Asked, HasFault, ForTables, Brings, Says, asks_for_tables, asked_by, asked_by_all, asked_in}
 use Rattle.live_answers.specs.Answers.{Answer, Nothing, Replies, Tables, Faulty, Unread, MayAnswer, after_answer, Answers, HasMemory, IsUnrefused, AreUnrefused}
-use Rattle.live_answers.specs.Dispatch.{event_for}
 use Rattle.live_answers.specs.Moments.{Moment, first_moment, bssid_of, Reply, Sends, Refuses, is_past_clock, sending, MayReplyIf, taken_if}
 use Rattle.live_answers.specs.Own.{event_in, reply_in, events_taken, events_at, alone_after, course, line_said, AreLines, IsTrace, IsLikeTrace, IsShown, IsAlone}
 use Rattle.live_answers.specs.TextLines.{max_line, line_with, lines_of_text}
@@ -121,21 +118,6 @@ says-both bssids number line others all e =
 
 -- ---- no event was refused
 
--- what the network hears of the line is the event that the line is to it
-heard-event : (place : ℕ) (bssid : List ℕ) (said : Line)
-    → heard_of place bssid said ≡ option_to_list (event_for place bssid said)
-heard-event place bssid (line.Air x) = by (is_heard bssid x)
-  where
-    by : (b : Bool) → (if b then event.Air x ∷ [] else []) ≡ option_to_list (if b then Some (event.Air x) else None)
-    by true = refl
-    by false = refl
-heard-event place bssid (line.Wire named x) = by (named == place)
-  where
-    by : (b : Bool) → (if b then event.Wire x ∷ [] else []) ≡ option_to_list (if b then Some (event.Wire x) else None)
-    by true = refl
-    by false = refl
-heard-event place bssid line.Tick = refl
-
 memory-at : (place : ℕ) (rs : List (Option Reply)) → AllByRecursion (λ reply. IfSome reply HasMemory) rs
     → IfSome (slice_index_or rs place None) HasMemory
 memory-at place [] h = tt
@@ -206,7 +188,7 @@ reply-read place m n (Says (Ok (Some line))) said Unread is h k e = absurd k
 
 event-line : (place : ℕ) (bssid : List ℕ) (line : Line)
     → option_to_list (event_for place bssid line) ≡ heard place bssid (option_to_list (Some line))
-event-line place bssid line = sym (heard-event place bssid line) ∙ sym (append-nil (heard_of place bssid line))
+event-line place bssid line = sym (append-nil (heard_of place bssid line))
 
 event-said : (place : ℕ) (bssid : List ℕ) (asked : Asked) (said : Option Line) → line_said asked ≡ Some said
     → option_to_list (event_in place bssid asked) ≡ heard place bssid (option_to_list said)

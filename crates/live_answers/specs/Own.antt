@@ -3,7 +3,7 @@ use Rattle.std.specs.Prelude.{ℕ, ◌<◌, ◌≤◌, ◌≡◌, List, [], ◌�
 use Rattle.std.specs.Prelude.{Some, None, option_to_list}
 use Rattle.std.specs.List.{slice_index_or, AllByRecursion}
 use Rattle.std.specs.Str.Lines.{lines}
-use Rattle.events.specs.Lines.{heard}
+use Rattle.events.specs.Lines.{event_for, heard}
 use Rattle.ap_config.specs.Configuration.{fault_of}
 use Rattle.network.specs.Network.{alone, table_of, counts_of}
 use Rattle.ap_config.specs.declared.setting.Setting.{Setting}
@@ -15,7 +15,6 @@ use Rattle.events.specs.declared.line.Line.{Line}
 use Rattle.events.specs.declared.section.Section.{Section}
 use Rattle.trace.specs.TraceText.{lines_of}
 use Rattle.live_answers.specs.TextLines.{max_line}
-use Rattle.live_answers.specs.Dispatch.{event_for}
 use Rattle.live_answers.specs.Moments.{Moment, first_moment, Reply, Sends, taken_if}
 use Rattle.live_answers.specs.Asked.{Asked, Brings, Says}
 use Rattle.live_answers.specs.Answers.{Answer, Replies, Tables, Answers, AreUnrefused}

@@ -1,9 +1,61 @@
 -- A line is taken at one place after another.
-use Rattle.std.proofs.Common.{◌≡◌, ℕ, ◌<◌, ◌≤◌, ◌++◌}
+use Rattle.std.proofs.Common.{◌≡◌, ℕ, ◌+◌, ◌<◌, ◌≤◌, Bool, true, false, cond, ltb, List, [], ◌∷◌, ◌++◌, Option, Some, None, length, refl, sym, ap, ◌∙◌, subst, arith, append-nil, inl, inr}
+use Rattle.std.specs.Prelude.{option_to_list}
+use Rattle.std.proofs.lemmas.Bool.{cases_lt}
 use Rattle.ap_config.specs.Places.{network_at}
+use Rattle.ap_config.specs.declared.config.NetConfig.{NetConfig}
 use Rattle.bss_core.specs.RadioView.{RadioView, view_at}
-use Rattle.events.specs.Lines.{taken_of}
+use Rattle.events.specs.Lines.{event_for, taken_of}
+use Rattle.events.specs.declared.event.Event.{Event}
 use Rattle.events.specs.declared.line.Line.{Line}
+use Rattle.replay.specs.Replay.{IsUnheardFrom, TakesAt, TakesLine, TakesOf}
+
+-- ---- what a network takes of a line
+
+-- the event that it is to the network
+pub taken-some : (place : ℕ) (n : NetConfig) (history : List Event) (line : Line) (e : Event)
+    → event_for place n.bssid line ≡ Some e
+    → cond (ltb (length history) n.max_events) (e ∷ []) [] ≡ taken_of place n history line
+taken-some place n history line e some =
+    ap (λ (o : Option Event). cond (ltb (length history) n.max_events) (option_to_list o) []) (sym some)
+
+none-either : (b : Bool) → cond b (option_to_list {X = Event} None) [] ≡ []
+none-either true = refl
+none-either false = refl
+
+-- or none
+pub taken-none : (place : ℕ) (n : NetConfig) (history : List Event) (line : Line) → event_for place n.bssid line ≡ None
+    → history ≡ history ++ taken_of place n history line
+taken-none place n history line none =
+    sym (append-nil history)
+    ∙ ap (λ (new : List Event). history ++ new)
+    (sym
+    (ap (λ (o : Option Event). cond (ltb (length history) n.max_events) (option_to_list o) []) none
+    ∙ none-either (ltb (length history) n.max_events)))
+
+-- ---- one place
+
+pub takes-some : (place : ℕ) (line : Line) (e : Event) (old new : RadioView)
+    → event_for place (network_at old.config place).bssid line ≡ Some e → TakesAt place e old new
+    → TakesOf place line old new
+takes-some place line e old new some t = record {
+  config = t.config;
+  there =
+      t.there
+      ∙ ap (λ (es : List Event). (view_at old place).history ++ es)
+      (taken-some place (network_at old.config place) (view_at old place).history line e some);
+  others = t.others;
+}
+
+pub takes-none : (place : ℕ) (line : Line) (r : RadioView)
+    → event_for place (network_at r.config place).bssid line ≡ None → TakesOf place line r r
+takes-none place line r none = record {
+  config = refl;
+  there = taken-none place (network_at r.config place) (view_at r place).history line none;
+  others = λ other ne. refl;
+}
+
+-- ---- one place after another
 
 -- the networks before a place took what they hear of a line, and the others nothing
 pub record TakesBelow (count : ℕ) (line : Line) (old new : RadioView) : Type 0 where
@@ -14,3 +66,56 @@ pub record TakesBelow (count : ℕ) (line : Line) (old new : RadioView) : Type 0
       → (view_at new place).history
       ≡ (view_at old place).history ++ taken_of place (network_at old.config place) (view_at old place).history line
   pub rest : (place : ℕ) → count ≤ place → (view_at new place).history ≡ (view_at old place).history
+
+pub takes-nowhere : (line : Line) (r : RadioView) → TakesBelow 0 line r r
+takes-nowhere line r = record {
+  config = refl;
+  below = λ place low. absurd (omega (arith, low));
+  rest = λ place high. refl;
+}
+
+pub takes-next : (place : ℕ) (line : Line) (r0 r1 r2 : RadioView) → TakesBelow place line r0 r1
+    → TakesOf place line r1 r2 → TakesBelow (place + 1) line r0 r2
+takes-next place line r0 r1 r2 b t = record {
+  config = t.config ∙ b.config;
+  below = λ k low. elim (cases_lt k place) [
+    | inl less ↦ t.others k (omega (arith, less)) ∙ b.below k less
+    | inr high ↦
+        let same : place ≡ k = omega (arith, low, high) in
+        subst
+        (λ (p : ℕ). (view_at r2 p).history ≡ (view_at r0 p).history ++ taken_of p (network_at r0.config p) (view_at r0 p).history line)
+        same
+        here
+  ];
+  rest = λ k high. t.others k (omega (arith, high)) ∙ b.rest k (omega (arith, high));
+}
+  where
+    was : (view_at r1 place).history ≡ (view_at r0 place).history
+    was = b.rest place (omega arith)
+
+    here : (view_at r2 place).history
+        ≡ (view_at r0 place).history ++ taken_of place (network_at r0.config place) (view_at r0 place).history line
+    here = t.there ∙ (λ i. was i ++ taken_of place (network_at (b.config i) place) (was i) line)
+
+-- the last network that hears it took it too
+pub takes-all : (last : ℕ) (line : Line) (r0 r1 r2 : RadioView) → TakesBelow last line r0 r1 → TakesOf last line r1 r2
+    → IsUnheardFrom r0 (last + 1) line → TakesLine line r0 r2
+takes-all last line r0 r1 r2 b t unheard = record {
+  config = all.config;
+  each = λ k there. elim (cases_lt k (last + 1)) [
+    | inl low ↦ all.below k low
+    | inr high ↦
+        all.rest k high
+        ∙ taken-none k (network_at r0.config k) (view_at r0 k).history line (unheard k high there)
+  ];
+}
+  where
+    all : TakesBelow (last + 1) line r0 r2
+    all = takes-next last line r0 r1 r2 b t
+
+-- none hears it
+pub takes-unheard : (line : Line) (r : RadioView) → IsUnheardFrom r 0 line → TakesLine line r r
+takes-unheard line r unheard = record {
+  config = refl;
+  each = λ k there. taken-none k (network_at r.config k) (view_at r k).history line (unheard k (omega arith) there);
+}

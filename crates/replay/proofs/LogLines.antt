@@ -1,5 +1,5 @@
 -- A line is taken by the networks without their histories, at one place after another.
-use Rattle.std.proofs.Common.{◌≡◌, ℕ, ◌<◌, ◌≤◌, Bool, true, false, cond, ltb, List, [], ◌∷◌, ◌++◌, length, map, get_or}
+use Rattle.std.proofs.Common.{◌≡◌, ℕ, ◌<◌, ◌≤◌, List, [], ◌∷◌, ◌++◌, length, map, get_or}
 use Rattle.std.proofs.Common.{refl, sym, ap, ◌∙◌, arith}
 use Rattle.std.specs.Prelude.{flat_map}
 use Rattle.std.specs.List.{range_with_len}
@@ -12,41 +12,17 @@ use Rattle.ap_config.specs.declared.config.RadioConfig.{RadioConfig}
 use Rattle.ap_config.specs.declared.setting.Setting.{Setting}
 use Rattle.events.specs.Lines.{own_events, taken_of}
 use Rattle.events.specs.declared.event.Event.{Event}
-use Rattle.events.specs.declared.event.Event.TheVariants as events
 use Rattle.events.specs.declared.line.Line.{Line}
-use Rattle.events.specs.declared.line.Line.TheVariants.{Air, Tick}
 use Rattle.network.specs.Section.{section_of, sections_of_lines}
 use Rattle.trace.specs.Report.{report_text, section_text}
-use Rattle.replay.specs.Log.{log_of, hears_event, heard_next, SaysToEach, LogsLine, logs_of_lines, log_text}
+use Rattle.replay.specs.Log.{log_of, LogsLine, logs_of_lines, log_text}
 use Rattle.replay.specs.declared.logged_network.LoggedNetwork.{LoggedNetwork}
 use Rattle.replay.proofs.ReplayLemmas.{own_events-none, own_events-push}
 
--- ---- what a network takes of a line
-
--- two choices come in either order
-either_order : (a b : Bool) (es : List Event) → cond a (cond b es []) [] ≡ cond b (cond a es []) []
-either_order true true es = refl
-either_order true false es = refl
-either_order false true es = refl
-either_order false false es = refl
-
-taken_as_heard : (line : Line) (e : Event) (place : ℕ) (s : Setting) (es : List Event) → SaysToEach line e
-    → heard_next s es e ≡ taken_of place s.network es line
-taken_as_heard line e place s es says =
-    either_order (hears_event s.network.bssid e) (ltb (length es) s.network.max_events) (e ∷ [])
-    ∙ ap (λ (new : List Event). cond (ltb (length es) s.network.max_events) new [])
-    (sym (says.each place s.network.bssid))
-
-pub air_says : (x : List ℕ) → SaysToEach (Air x) (events.Air x)
-air_says x = record { each = λ place bss. refl }
-
-pub tick_says : SaysToEach Tick events.Tick
-tick_says = record { each = λ place bss. refl }
-
 -- ---- one place after another
 
--- the networks before a place took what they hear of an event, and the others are as they were
-pub record LogsBelow (place : ℕ) (e : Event) (old new : List LoggedNetwork) : Type 0 where
+-- the networks before a place took what they hear of a line, and the others are as they were
+pub record LogsBelow (place : ℕ) (line : Line) (old new : List LoggedNetwork) : Type 0 where
   pub count : length new ≡ length old
   pub below :
       (other : ℕ)
@@ -55,16 +31,14 @@ pub record LogsBelow (place : ℕ) (e : Event) (old new : List LoggedNetwork) : 
       → (s : Setting)
       (es : List Event)
       → get_or old other d ≡ log_of s es
-      → get_or new other d ≡ log_of s (es ++ heard_next s es e)
+      → get_or new other d ≡ log_of s (es ++ taken_of other s.network es line)
   pub rest : (other : ℕ) (d : LoggedNetwork) → place ≤ other → get_or new other d ≡ get_or old other d
 
-pub logs-all : (place : ℕ) (line : Line) (e : Event) (old new : List LoggedNetwork) → LogsBelow place e old new
-    → length old ≤ place → SaysToEach line e → LogsLine line old new
-logs-all place line e old new b past says = record {
+pub logs-all : (place : ℕ) (line : Line) (old new : List LoggedNetwork) → LogsBelow place line old new
+    → length old ≤ place → LogsLine line old new
+logs-all place line old new b past = record {
   count = b.count;
-  each = λ k d lt s es was.
-      b.below k d (omega arith) s es was
-      ∙ ap (λ (added : List Event). log_of s (es ++ added)) (taken_as_heard line e k s es says);
+  each = λ k d lt s es was. b.below k d (omega arith) s es was;
 }
 
 -- ---- the networks of a configuration

@@ -1,24 +1,17 @@
 -- The events of a network, line by line.
-use Rattle.std.proofs.Common.{◌≡◌, ℕ, ◌≤◌, Bool, true, false, cond, ltb, eqb, List, [], ◌∷◌, ◌++◌, length, take, refl, sym, ap, ◌∙◌, append-nil, arith, inl, inr}
+use Rattle.std.proofs.Common.{◌≡◌, ℕ, ◌≤◌, cond, ltb, List, [], ◌∷◌, ◌++◌, Option, Some, None, length, take, refl, sym, ap, ◌∙◌, append-nil, arith, inl, inr}
+use Rattle.std.specs.Prelude.{option_to_list}
 use Rattle.std.proofs.lemmas.Bool.{cases_lt, lt-ltb, le-ltb}
 use Rattle.std.proofs.lemmas.List.{length-append, length-take-le, take_all, take-append-le, flat_map_more}
-use Rattle.mac_frame.specs.Hearing.{is_heard}
 use Rattle.ap_config.specs.declared.config.NetConfig.{NetConfig}
 use Rattle.events.specs.declared.event.Event.{Event}
-use Rattle.events.specs.declared.event.Event.TheVariants as event
-use Rattle.events.specs.Lines.{heard_of, heard, own_events, taken_of}
+use Rattle.events.specs.Lines.{event_for, heard_of, heard, own_events, taken_of}
 use Rattle.events.specs.declared.line.Line.{Line}
-use Rattle.events.specs.declared.line.Line.TheVariants.{Air, Wire, Tick}
 
 -- a line has one event at most
-cond_length : (b : Bool) (e : Event) → length (cond b (e ∷ []) []) ≤ 1
-cond_length true e = omega arith
-cond_length false e = omega arith
-
-one_at_most : (place : ℕ) (bss : List ℕ) (l : Line) → length (heard_of place bss l) ≤ 1
-one_at_most place bss (Air x) = cond_length (is_heard bss x) (event.Air x)
-one_at_most place bss (Wire named x) = cond_length (eqb named place) (event.Wire x)
-one_at_most place bss Tick = omega arith
+one_at_most : (event : Option Event) → length (option_to_list event) ≤ 1
+one_at_most None = omega arith
+one_at_most (Some e) = omega arith
 
 -- the prefix of a list with at most one item more
 take-push : (m : ℕ) (xs ys : List Event) → length ys ≤ 1
@@ -43,4 +36,4 @@ pub own_events-push : (place : ℕ) (n : NetConfig) (ls : List Line) (l : Line)
     → own_events place n (ls ++ l ∷ []) ≡ own_events place n ls ++ taken_of place n (own_events place n ls) l
 own_events-push place n ls l =
     ap (take n.max_events) (sym (flat_map_more (heard_of place n.bssid) [] ls l))
-    ∙ take-push n.max_events (heard place n.bssid ls) (heard_of place n.bssid l) (one_at_most place n.bssid l)
+    ∙ take-push n.max_events (heard place n.bssid ls) (heard_of place n.bssid l) (one_at_most (event_for place n.bssid l))

@@ -1,14 +1,12 @@
 -- Networks that keep no history, with the frames that they sent.
-use Rattle.std.specs.Prelude.{◌≡◌, ℕ, ◌<◌, nat_lt, Bool, true, List, [], ◌∷◌, ◌++◌, length, map, codes, flat_map}
+use Rattle.std.specs.Prelude.{◌≡◌, ℕ, ◌<◌, nat_lt, List, [], ◌∷◌, ◌++◌, length, map, codes, flat_map}
 use Rattle.std.specs.Prelude.{if◌then◌else◌}
 use Rattle.std.specs.List.{range_with_len, slice_index_or}
-use Rattle.mac_frame.specs.Hearing.{is_heard}
 use Rattle.ap_config.specs.Places.{network_at, setting_at}
 use Rattle.ap_config.specs.declared.config.RadioConfig.{RadioConfig}
 use Rattle.ap_config.specs.declared.setting.Setting.{Setting}
-use Rattle.events.specs.Lines.{heard_of, own_events, taken_of}
+use Rattle.events.specs.Lines.{own_events, taken_of}
 use Rattle.events.specs.declared.event.Event.{Event}
-use Rattle.events.specs.declared.event.Event.TheVariants.{Air, Wire, Tick}
 use Rattle.events.specs.declared.line.Line.{Line}
 use Rattle.network.specs.Network.{alone, table_of, counts_of}
 use Rattle.network.specs.NetworkView.{unsent}
@@ -29,20 +27,6 @@ abbrev pub taken_next : Setting → List Event → Event → List Event
 taken_next s es e = if nat_lt (length es) s.network.max_events then e ∷ [] else []
 
 -- ---- a line
-
--- whether a network with this BSSID hears an event that comes to all
-abbrev pub hears_event : List ℕ → Event → Bool
-hears_event bss (Air x) = is_heard bss x
-hears_event bss (Wire x) = true
-hears_event bss Tick = true
-
--- what it takes of one then
-abbrev pub heard_next : Setting → List Event → Event → List Event
-heard_next s es e = if hears_event s.network.bssid e then taken_next s es e else []
-
--- a line is this event, to each network that hears it
-pub record SaysToEach (line : Line) (e : Event) : Type 0 where
-  pub each : (place : ℕ) (bss : List ℕ) → heard_of place bss line ≡ (if hears_event bss e then e ∷ [] else [])
 
 -- each network, by its place, took what it hears of a line
 pub record LogsLine (line : Line) (old new : List LoggedNetwork) : Type 0 where

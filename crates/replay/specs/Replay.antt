@@ -1,8 +1,7 @@
 -- What a trace makes of the networks of a configuration: each network takes what it hears, alone.
 use Rattle.std.specs.Prelude.{ℕ, ◌<◌, ◌≤◌, ◌≡◌, ◌≢◌, ◌++◌, nat_lt, Bool, true, false, List, [], ◌∷◌, length, slice_set}
-use Rattle.std.specs.Prelude.{None, if◌then◌else◌}
+use Rattle.std.specs.Prelude.{Option, None, if◌then◌else◌}
 use Rattle.ap_config.specs.Configuration.{fault_of}
-use Rattle.mac_frame.specs.Hearing.{is_heard}
 use Rattle.network.specs.Network.{alone}
 use Rattle.ap_config.specs.Places.{network_at, setting_at}
 use Rattle.network.specs.Section.{sections_of}
@@ -11,7 +10,7 @@ use Rattle.ap_config.specs.declared.config.RadioConfig.{RadioConfig}
 use Rattle.events.specs.declared.event.Event.{Event}
 use Rattle.events.specs.declared.section.Section.{Section}
 use Rattle.events.specs.declared.line.Line.{Line}
-use Rattle.events.specs.Lines.{own_events, taken_of}
+use Rattle.events.specs.Lines.{event_for, own_events, taken_of}
 use Rattle.replay.specs.Frames.{FrameLists, sent_at, sends_more}
 
 -- ---- a radio between two lines
@@ -69,6 +68,13 @@ pub record TakesAt (place : ℕ) (event : Event) (old new : RadioView) : Type 0 
       else [])
   pub others : (other : ℕ) → other ≢ place → (view_at new other).history ≡ (view_at old other).history
 
+-- the network at a place took what it hears of a line, and no other network took anything
+pub record TakesOf (place : ℕ) (line : Line) (old new : RadioView) : Type 0 where
+  pub config : new.config ≡ old.config
+  pub there : (view_at new place).history
+      ≡ (view_at old place).history ++ taken_of place (network_at old.config place) (view_at old place).history line
+  pub others : (other : ℕ) → other ≢ place → (view_at new other).history ≡ (view_at old other).history
+
 -- each network took what it hears of a line
 pub record TakesLine (line : Line) (old new : RadioView) : Type 0 where
   pub config : new.config ≡ old.config
@@ -78,14 +84,14 @@ pub record TakesLine (line : Line) (old new : RadioView) : Type 0 where
       → (view_at new place).history
       ≡ (view_at old place).history ++ taken_of place (network_at old.config place) (view_at old place).history line
 
--- the network at a place hears a string of octets
-abbrev pub is_heard_at : RadioView → ℕ → List ℕ → Bool
-is_heard_at r place x = is_heard (network_at r.config place).bssid x
+-- the event that a line is to the network at a place
+abbrev pub event_at : RadioView → ℕ → Line → Option Event
+event_at r place line = event_for place (network_at r.config place).bssid line
 
 -- no network from a place on hears it
-abbrev pub IsUnheardFrom : RadioView → ℕ → List ℕ → Type 0
-IsUnheardFrom r first x =
-    (place : ℕ) → first ≤ place → place < length r.config.networks → is_heard_at r place x ≡ false
+abbrev pub IsUnheardFrom : RadioView → ℕ → Line → Type 0
+IsUnheardFrom r first line =
+    (place : ℕ) → first ≤ place → place < length r.config.networks → event_at r place line ≡ None
 
 -- the section of each network with what it took and the frames that left
 abbrev pub sections_at : RadioView → List Section

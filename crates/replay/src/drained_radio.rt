@@ -1,18 +1,19 @@
 //! A radio whose frames all leave before the next line.
 
-ghost use Rattle.std.specs.Prelude.{◌≡◌, ◌<◌, ◌+◌, [], None, IsTrue, IfSome, IfNone, IfOk, OnOk, length};
+ghost use Rattle.std.specs.Prelude.{◌≡◌, ◌<◌, ◌+◌, [], None, Some, IfSome, IfNone, IfOk, OnOk, length, option_map};
 ghost use Rattle.ap_config.specs.Configuration.{fault_of};
 ghost use Rattle.bss_core.specs.RadioView.{fresh_radio, view_at};
-ghost use Rattle.events.specs.declared.line.Line.TheVariants as Lines;
+ghost use Rattle.events.specs.LentEvents.{event_of, line_of};
+ghost use Rattle.events.specs.Lines.{event_of_line};
 ghost use Rattle.replay.specs.Frames.{sends_more};
-ghost use Rattle.replay.specs.Replay.{IsDrained, TakesAt, TakesLine, sections_at, is_heard_at, IsUnheardFrom, emptied};
-ghost use Rattle.replay.specs.Replay.{SendsFirst};
+ghost use Rattle.replay.specs.Replay.{IsDrained, TakesAt, TakesOf, TakesLine, sections_at, event_at, IsUnheardFrom};
+ghost use Rattle.replay.specs.Replay.{SendsFirst, emptied};
 
 use crate::sent::SentFrames;
 use ap_config::RadioConfig;
 use bss_core::Radio;
-use events::{Event, Handed, Line, Section, hears};
-use mac_frame::{List, NoMemory, Octets};
+use events::{Event, Handed, LentEvent, LentLine, Line, Section};
+use mac_frame::{List, NoMemory};
 use network::{Refusal, sent_frames};
 use std::alloc::Global;
 
@@ -36,82 +37,56 @@ impl DrainedRadio {
         Ok(DrainedRadio { alloc, radio, sent })
     }
 
-    /// Takes a line in each network that hears it, in order of place, and lets their frames leave.
+    /// Takes a line in each network that hears it, in order of place, and lets their frames leave. Its octets are
+    /// copied for each of them but the last, into which they move.
     pub fn take_line(&mut self, line: Line) -> Result<(), NoMemory>
         requires { IsDrained self.old.radio self.old.sent }
         ensures { OnOk result (IsDrained self.new.radio self.new.sent
             × TakesLine line self.old.radio self.new.radio) }
     {
-        match line {
-            Line::Air(octets) => self.take_octets(octets),
-            Line::Wire { place, octets } => self.take_wired(place, octets),
-            Line::Tick => self.take_tick(),
-        }
-    }
-
-    /// Takes a string of octets that was heard on the air in each network that hears it, in order of place, and lets
-    /// their frames leave. It is copied for each of them but the last, into which it moves.
-    fn take_octets(&mut self, octets: Octets) -> Result<(), NoMemory>
-        requires { IsDrained self.old.radio self.old.sent }
-        ensures { OnOk result (IsDrained self.new.radio self.new.sent
-            × TakesLine (Lines.Air octets) self.old.radio self.new.radio) }
-    {
-        let Some(last) = self.last_hearer(octets.as_slice()) else {
+        let lent = line.lend();
+        let Some(last) = self.last_hearer(lent) else {
             return Ok(());
         };
         for place in 0..last {
-            if self.is_heard_at(place, octets.as_slice()) {
-                let copy = octets.copy(self.alloc)?;
-                self.take_event(place, Event::Air(copy))?;
-            }
+            self.take_copy(place, lent)?;
         }
-        self.take_event(last, Event::Air(octets))
+        self.take_event(last, line.into_event())
     }
 
-    /// Takes a frame that came over the wire in the network at a place, into which it moves, and lets its frames leave.
-    /// Nothing happens where there is no network.
-    fn take_wired(&mut self, place: usize, octets: Octets) -> Result<(), NoMemory>
-        requires { IsDrained self.old.radio self.old.sent }
+    /// Takes a copy of a line in the network at a place, if that network hears it, and lets its frames leave.
+    fn take_copy(&mut self, place: usize, line: LentLine<'_>) -> Result<(), NoMemory>
+        requires there { place < length self.old.radio.config.networks }
+        requires drained { IsDrained self.old.radio self.old.sent }
         ensures { OnOk result (IsDrained self.new.radio self.new.sent
-            × TakesLine (Lines.Wire place octets) self.old.radio self.new.radio) }
+            × TakesOf place (line_of line.entry) self.old.radio self.new.radio) }
     {
-        if place >= self.radio.networks() {
+        let Some(event) = self.event_at(place, line) else {
             return Ok(());
-        }
-        self.take_event(place, Event::Wire(octets))
+        };
+        let copy = event.copy(self.alloc)?;
+        self.take_event(place, copy)
     }
 
-    /// Begins a beacon interval in each network, in order of place, and lets their frames leave.
-    fn take_tick(&mut self) -> Result<(), NoMemory>
-        requires { IsDrained self.old.radio self.old.sent }
-        ensures { OnOk result (IsDrained self.new.radio self.new.sent
-            × TakesLine Lines.Tick self.old.radio self.new.radio) }
-    {
-        for place in 0..self.radio.networks() {
-            self.take_event(place, Event::Tick)?;
-        }
-        Ok(())
-    }
-
-    /// Whether the network at a place hears a string of octets.
-    fn is_heard_at(&self, place: usize, octets: &[u8]) -> bool
+    /// The event that a line is to the network at a place, if it is one to it.
+    fn event_at<'a>(&self, place: usize, line: LentLine<'a>) -> Option<LentEvent<'a>>
         requires { place < length self.now.radio.config.networks }
-        ensures { result ≡ is_heard_at self.now.radio place octets.now }
+        ensures { option_map event_of result ≡ event_at self.now.radio place (line_of line.entry) }
     {
-        hears(self.radio.bss(place).config().bssid, octets)
+        line.event_for(place, self.radio.bss(place).config().bssid)
     }
 
-    /// The last network in order of place that hears a string of octets, if one does.
-    fn last_hearer(&self, octets: &[u8]) -> Option<usize>
+    /// The last network in order of place that hears a line, if one does.
+    fn last_hearer(&self, line: LentLine<'_>) -> Option<usize>
         ensures last { IfSome result (λ last. (last < length self.now.radio.config.networks)
-            × IsTrue (is_heard_at self.now.radio last octets.now)
-            × IsUnheardFrom self.now.radio (last + 1) octets.now) }
-        ensures none { IfNone result (IsUnheardFrom self.now.radio 0 octets.now) }
+            × (event_at self.now.radio last (line_of line.entry) ≡ Some (event_of_line (line_of line.entry)))
+            × IsUnheardFrom self.now.radio (last + 1) (line_of line.entry)) }
+        ensures none { IfNone result (IsUnheardFrom self.now.radio 0 (line_of line.entry)) }
     {
         let mut after = self.radio.networks();
         while after > 0 {
             after -= 1;
-            if self.is_heard_at(after, octets) {
+            if self.event_at(after, line).is_some() {
                 return Some(after);
             }
         }

@@ -2,6 +2,7 @@
 
 ghost use Rattle.std.specs.Prelude.{◌≡◌, ◌++◌, List, [], OnOk, option_to_list, flat_map};
 ghost use Rattle.ap_config.specs.declared.setting.Setting.{Setting};
+ghost use Rattle.events.specs.LentEvents.{event_of};
 ghost use Rattle.events.specs.declared.event.Event.{Event};
 ghost use Rattle.network.specs.Network.{table_of, counts_of};
 ghost use Rattle.trace.specs.Buffers.{CanWrite, Puts};
@@ -10,7 +11,7 @@ ghost use Rattle.replay.specs.Log.{log_of, taken_next, log_text};
 
 use crate::frame_log::FrameLog;
 use ap_config::{Setting, checked_numbers};
-use events::Event;
+use events::LentEvent;
 use mac_frame::{MacAddr, NoMemory};
 use network::{Network, NetworkRefusal, Open, Sent, Spare, one_step, reachable};
 use std::alloc::Global;
@@ -49,9 +50,9 @@ impl LoggedNetwork {
 
     /// Takes an event, unless it took as many as its history might have, and keeps the frames that it sends, which are
     /// built in spare memory.
-    pub fn take(&mut self, event: &Event, spare: &mut Spare) -> Result<(), NoMemory>
+    pub fn take(&mut self, event: LentEvent<'_>, spare: &mut Spare) -> Result<(), NoMemory>
         ensures { (s : Setting) (es : List Event) → self.old ≡ log_of s es
-            → OnOk result (self.new ≡ log_of s (es ++ taken_next s es event.now)) }
+            → OnOk result (self.new ≡ log_of s (es ++ taken_next s es (event_of event.entry))) }
     {
         // no history is so long that the network's clock or its number of events could end
         checked_numbers();
@@ -60,7 +61,7 @@ impl LoggedNetwork {
         if self.network.events() >= u64::from(self.network.setting().network.max_events) {
             return Ok(());
         }
-        match self.network.take_lent_in(event.lend(), spare) {
+        match self.network.take_lent_in(event, spare) {
             Ok(sent) => self.keep(sent, spare),
             Err(NetworkRefusal::NoMemory) => Err(NoMemory),
             // its clock counts more beacon intervals than it may take events

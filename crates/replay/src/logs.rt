@@ -3,18 +3,18 @@
 ghost use Rattle.std.specs.Prelude.{◌≡◌, ◌+◌, ◌++◌, List, [], None, Ok, IfOk, OnOk, flat_map};
 ghost use Rattle.ap_config.specs.Configuration.{fault_of};
 ghost use Rattle.ap_config.specs.declared.setting.Setting.{Setting};
+ghost use Rattle.events.specs.LentEvents.{line_of};
+ghost use Rattle.events.specs.Lines.{taken_of};
 ghost use Rattle.events.specs.declared.event.Event.{Event};
-ghost use Rattle.events.specs.declared.line.Line.{Line};
-ghost use Rattle.events.specs.declared.line.Line.TheVariants as lines;
 ghost use Rattle.trace.specs.Endings.{Ends, failures_of};
 ghost use Rattle.trace.specs.Sinks.{MayFail, report_ending, write_ending};
-ghost use Rattle.replay.specs.Log.{log_of, logs_of_lines, log_text, hears_event, heard_next, SaysToEach, LogsLine};
+ghost use Rattle.replay.specs.Log.{log_of, logs_of_lines, log_text, LogsLine};
 
 use crate::lines::TakeLines;
 use crate::logged_network::LoggedNetwork;
 use ap_config::{RadioConfig, checked_networks};
-use events::{Event, Line, hears};
-use mac_frame::{MacAddr, NoMemory, Octets};
+use events::{LentLine, Line};
+use mac_frame::NoMemory;
 use network::{Spare, open_networks};
 use std::alloc::Global;
 use trace::{Buffered, Failed, ReportFault, Sink};
@@ -34,7 +34,7 @@ impl TakeLines for Logs {
     ghost has_taken = { λ c said logs. logs.networks.items ≡ logs_of_lines c said };
 
     fn take_line(&mut self, line: Line) -> Result<(), NoMemory> {
-        take_line(self.networks.as_mut_slice(), line, &mut self.spare)
+        take_line(self.networks.as_mut_slice(), line.lend(), &mut self.spare)
     }
 }
 
@@ -93,62 +93,31 @@ fn write_through<W: Sink>(
 }
 
 /// Has each network that hears a line take it, in order of place. It is lent to them, and nothing of it is copied.
-fn take_line(networks: &mut [LoggedNetwork], line: Line, spare: &mut Spare) -> Result<(), NoMemory>
-    ensures { OnOk result (LogsLine line networks.old networks.new) }
-{
-    match line {
-        Line::Air(octets) => take_heard(networks, &Event::Air(octets), spare),
-        Line::Wire { place, octets } => take_wired(networks, place, octets, spare),
-        Line::Tick => take_heard(networks, &Event::Tick, spare),
-    }
-}
-
-/// Has each network that hears an event take it, in order of place.
-fn take_heard(
+fn take_line(
     networks: &mut [LoggedNetwork],
-    event: &Event,
+    line: LentLine<'_>,
     spare: &mut Spare,
 ) -> Result<(), NoMemory>
-    ensures { (line : Line) → SaysToEach line event.now → OnOk result (LogsLine line networks.old networks.new) }
+    ensures { OnOk result (LogsLine (line_of line.entry) networks.old networks.new) }
 {
     for place in 0..networks.len() {
-        take_at(&mut networks[place], event, spare)?;
+        take_at(&mut networks[place], place, line, spare)?;
     }
     Ok(())
 }
 
-/// Has a network take an event, if it hears it.
-fn take_at(network: &mut LoggedNetwork, event: &Event, spare: &mut Spare) -> Result<(), NoMemory>
-    ensures { (s : Setting) (es : List Event) → network.old ≡ log_of s es
-        → OnOk result (network.new ≡ log_of s (es ++ heard_next s es event.now)) }
-{
-    if !is_heard_by(network.bssid(), event) {
-        return Ok(());
-    }
-    network.take(event, spare)
-}
-
-/// Whether a network with this address hears an event that comes to all.
-fn is_heard_by(bssid: MacAddr, event: &Event) -> bool
-    ensures { result ≡ hears_event bssid event.now }
-{
-    match event {
-        Event::Air(octets) => hears(bssid, octets.as_slice()),
-        Event::Wire(_) | Event::Tick => true,
-    }
-}
-
-/// Has the network at a place take a frame that came over the wire. Nothing happens where there is no network.
-fn take_wired(
-    networks: &mut [LoggedNetwork],
+/// Has the network at a place take a line, if it hears it.
+fn take_at(
+    network: &mut LoggedNetwork,
     place: usize,
-    octets: Octets,
+    line: LentLine<'_>,
     spare: &mut Spare,
 ) -> Result<(), NoMemory>
-    ensures { OnOk result (LogsLine (lines.Wire place octets) networks.old networks.new) }
+    ensures { (s : Setting) (es : List Event) → network.old ≡ log_of s es
+        → OnOk result (network.new ≡ log_of s (es ++ taken_of place s.network es (line_of line.entry))) }
 {
-    if place >= networks.len() {
-        return Ok(());
+    match line.event_for(place, network.bssid()) {
+        Some(event) => network.take(event, spare),
+        None => Ok(()),
     }
-    networks[place].take(&Event::Wire(octets), spare)
 }

@@ -1,6 +1,6 @@
 -- What sources are answered, and what is dealt to them.
 use Rattle.std.proofs.Common.{append_assoc, ◌≡◌, ◌≢◌, ◌↔◌, ◌⊎◌, ℕ, zero, suc, ◌+◌, ◌<◌, ◌≤◌, Bool, true, false, List, [], ◌∷◌, ◌++◌, length, map, drop, get_or, Some, None, Result, Err, inl, inr, refl, sym, ap, ◌∙◌, subst, arith}
-use Rattle.std.specs.Prelude.{All, IfErr, ◌==◌, cond, if◌then◌else◌, slice_get}
+use Rattle.std.specs.Prelude.{All, IfErr, ◌==◌, cond, if◌then◌else◌, option_to_list, slice_get}
 use Rattle.std.specs.List.{AllZip, cons_option, enumerate_from, filter, flat_map}
 use Rattle.std.proofs.lemmas.Bool.{eq-eqb, eqb-true, ne_eqb, lt-ltb}
 use Rattle.std.proofs.lemmas.Grind.{flat_map-append}
@@ -8,7 +8,7 @@ use Rattle.std.proofs.lemmas.List.Elements.{All-head, All-tail, filter-append}
 use Rattle.std.proofs.lemmas.Option.{slice_get_within, slice_get-get_or}
 use Rattle.mac_frame.specs.Hearing.{is_heard}
 use Rattle.ap_config.specs.Configuration.{fault_of, most_networks}
-use Rattle.events.specs.Lines.{heard_of, heard}
+use Rattle.events.specs.Lines.{event_of_line, heard_of, heard}
 use Rattle.events.specs.Lists.{IsPrefix}
 use Rattle.ap_config.specs.Places.{names_network, network_at}
 use Rattle.network.specs.declared.bss.Refusal.TheVariants as refusals
@@ -21,7 +21,7 @@ use Rattle.events.specs.declared.line.Line.TheVariants.{Air, Wire, Tick}
 use Rattle.ap_config.specs.declared.open_fault.OpenFault.{OpenFault}
 use Rattle.ap_config.specs.declared.open_fault.OpenFault.TheVariants as opening
 use Rattle.events.specs.declared.section.Section.{Section}
-use Rattle.workers.specs.Giving.{heard_at, AreHeard, entry_of, entries_of, event_of}
+use Rattle.workers.specs.Giving.{heard_at, AreHeard, entry_of, entries_of}
 use Rattle.workers.specs.Playing.{ArePlayed, is_from, Answers, events_at, AreAnswers, AreAnswered, IsLater, play_fault_of}
 use Rattle.workers.specs.Receipts.{receipts_of, histories_of, limits_of, dealt, AreReceipts, IsFullAt, AreFullLast}
 use Rattle.workers.specs.declared.caller.Entry.{Entry}
@@ -52,11 +52,11 @@ answers-more config lines more entries added old new place within =
 -- ---- the answers to one line
 
 -- a network hears a line as its one event, or not at all
-pick : (b : Bool) (e : Event) → ((if b then e ∷ [] else []) ≡ []) ⊎ ((if b then e ∷ [] else []) ≡ e ∷ [])
+pick : (b : Bool) (e : Event) → (option_to_list (if b then Some e else None) ≡ []) ⊎ (option_to_list (if b then Some e else None) ≡ e ∷ [])
 pick true e = inr refl
 pick false e = inl refl
 
-heard-one : (place : ℕ) (bss : List ℕ) (line : Line) → (heard_of place bss line ≡ []) ⊎ (heard_of place bss line ≡ event_of line ∷ [])
+heard-one : (place : ℕ) (bss : List ℕ) (line : Line) → (heard_of place bss line ≡ []) ⊎ (heard_of place bss line ≡ event_of_line line ∷ [])
 heard-one place bss (Air x) = pick (is_heard bss x) (event.Air x)
 heard-one place bss (Wire named x) = pick (named == place) (event.Wire x)
 heard-one place bss Tick = inr refl
@@ -65,9 +65,9 @@ where-named : (b : Bool) (e : Event) (es : List Event) → (es ≡ []) ⊎ (es �
 where-named true e es one = one
 where-named false e es one = inl refl
 
-pub heard-at-one : (config : RadioConfig) (line : Line) (place : ℕ) → (heard_at config line place ≡ []) ⊎ (heard_at config line place ≡ event_of line ∷ [])
+pub heard-at-one : (config : RadioConfig) (line : Line) (place : ℕ) → (heard_at config line place ≡ []) ⊎ (heard_at config line place ≡ event_of_line line ∷ [])
 heard-at-one config line place =
-    where-named (names_network config place) (event_of line) (heard_of place (network_at config place).bssid line) (heard-one place (network_at config place).bssid line)
+    where-named (names_network config place) (event_of_line line) (heard_of place (network_at config place).bssid line) (heard-one place (network_at config place).bssid line)
 
 one-answer : (e : Event) (place : ℕ) (o : Outcome) (es : List Event) → (es ≡ []) ⊎ (es ≡ e ∷ []) → ((o ≡ NotHeard) ↔ (es ≡ [])) → o ≢ NoMemory → AllZip Answers (es ++ []) (entry_of e place o)
 one-answer e place NotHeard es one is fine = subst (λ (xs : List Event). AllZip Answers (xs ++ []) []) (sym (is.0 refl)) tt
@@ -128,15 +128,15 @@ all-at P [] i d all lt = absurd (omega (arith, lt))
 all-at P (o ∷ os) zero d all lt = All-head P o os all
 all-at P (o ∷ os) (suc i) d all lt = all-at P os i d (All-tail P o os all) (omega (arith, lt))
 
-pub answers-line : (config : RadioConfig) (line : Line) (outcomes : List Outcome) → length outcomes ≡ most_networks → AreHeard config line outcomes → All (λ o. o ≢ NoMemory) outcomes → AreAnswers config (line ∷ []) (entries_of (event_of line) outcomes)
+pub answers-line : (config : RadioConfig) (line : Line) (outcomes : List Outcome) → length outcomes ≡ most_networks → AreHeard config line outcomes → All (λ o. o ≢ NoMemory) outcomes → AreAnswers config (line ∷ []) (entries_of (event_of_line line) outcomes)
 answers-line config line outcomes count heard fine place within =
     let inside : place < length outcomes = omega (arith, count, within) in
     let o : Outcome = get_or outcomes place NotHeard in
     let got = slice_get-get_or outcomes place NotHeard inside in
     let is : (o ≡ NotHeard) ↔ (heard_at config line place ≡ []) = ((λ none. (heard place within).0 (got ∙ ap Some none)), (λ none. (let e : Some o ≡ Some NotHeard = sym got ∙ (heard place within).1 none in cc))) in
     subst (λ (es : List Entry). AllZip Answers (heard_at config line place ++ []) es)
-    (sym (entries-at (event_of line) place 0 place outcomes (omega arith) inside))
-    (one-answer (event_of line) place o (heard_at config line place) (heard-at-one config line place) is (all-at (λ o. o ≢ NoMemory) outcomes place NotHeard fine inside))
+    (sym (entries-at (event_of_line line) place 0 place outcomes (omega arith) inside))
+    (one-answer (event_of_line line) place o (heard_at config line place) (heard-at-one config line place) is (all-at (λ o. o ≢ NoMemory) outcomes place NotHeard fine inside))
 
 -- ---- what was taken of what was heard
 

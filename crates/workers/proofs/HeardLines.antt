@@ -1,40 +1,35 @@
 -- What a source is answered to some of its lines, network by network.
-use Rattle.std.proofs.Common.{◌≡◌, ◌≢◌, ◌⊎◌, ℕ, zero, suc, ◌+◌, ◌-◌, ◌<◌, ◌≤◌, Bool, true, false, List, [], ◌∷◌, ◌++◌, length, map, take, get_or, inl, inr, refl, sym, ap, ◌∙◌, subst, arith, append_assoc, add-zero, add-one}
-use Rattle.std.specs.Prelude.{◌==◌, if◌then◌else◌}
+use Rattle.std.proofs.Common.{◌≡◌, ◌≢◌, ◌⊎◌, ℕ, zero, suc, ◌+◌, ◌-◌, ◌<◌, ◌≤◌, Bool, List, [], ◌∷◌, ◌++◌, length, map, take, get_or, inl, inr, refl, sym, ap, ◌∙◌, subst, arith, append_assoc, add-zero, add-one}
+use Rattle.std.specs.Prelude.{if◌then◌else◌, Option, option_to_list}
 use Rattle.std.specs.List.{AllZip, filter, flat_map, range_with_len}
-use Rattle.std.proofs.lemmas.Bool.{eq-eqb, ne_eqb, cases_eq, cases_lt, lt-ltb, le-ltb}
+use Rattle.std.proofs.lemmas.Bool.{eq-eqb, ne_eqb, cases_lt, lt-ltb, le-ltb}
 use Rattle.std.proofs.lemmas.Grind.{flat_map-append}
 use Rattle.std.proofs.lemmas.List.{append-nil, map-append, take_more}
 use Rattle.std.proofs.lemmas.List.Elements.{filter-append}
-use Rattle.ap_config.specs.Configuration.{most_networks}
-use Rattle.events.specs.Lines.{heard_of}
+use Rattle.events.specs.Lines.{event_for, event_of_line, heard_of}
 use Rattle.ap_config.specs.Places.{network_at, no_network}
-use Rattle.network.specs.declared.bss.Refusal.TheVariants as refusals
 use Rattle.ap_config.specs.declared.config.NetConfig.{NetConfig}
 use Rattle.ap_config.specs.declared.config.RadioConfig.{RadioConfig}
 use Rattle.events.specs.declared.event.Event.{Event}
 use Rattle.events.specs.declared.line.Line.{Line}
 use Rattle.workers.specs.Answers.{line_at, entry_made, entry_by, entries_by, lines_in, heard_by, heard_in, IsAnswerTo, AddsAnswers, AddsHeard, AddsLines}
-use Rattle.workers.specs.Giving.{heard_at, event_of, hears_line}
-use Rattle.workers.specs.Playing.{is_from, Answers, AreAnswers, events_at}
+use Rattle.workers.specs.Giving.{heard_at}
+use Rattle.workers.specs.Playing.{is_from, Answers, events_at}
 use Rattle.workers.specs.declared.answers.Answer.{Answer}
 use Rattle.workers.specs.declared.answers.Heard.{Heard}
 use Rattle.workers.specs.declared.answers.Made.{Made}
 use Rattle.workers.specs.declared.answers.Made.TheVariants.{Took, Full}
 use Rattle.workers.specs.declared.answers.Span.{Span}
 use Rattle.workers.specs.declared.caller.Entry.{Entry}
-use Rattle.workers.specs.declared.caller.Entry.TheVariants.{Receipt, Refused}
 use Rattle.workers.proofs.Answering.{heard-at-one}
-use Rattle.workers.proofs.Offering.{heard-is}
 
 -- ---- what is heard
 
-pub heard-there : (config : RadioConfig) (line : Line) (place : ℕ) (bss : List ℕ) → place < length config.networks → bss ≡ (network_at config place).bssid → (b : Bool) → hears_line place bss line ≡ b → heard_at config line place ≡ (if b then event_of line ∷ [] else [])
-heard-there config line place bss within is b hears =
+heard-there : (config : RadioConfig) (line : Line) (place : ℕ) (bss : List ℕ) → place < length config.networks → bss ≡ (network_at config place).bssid → (o : Option Event) → event_for place bss line ≡ o → heard_at config line place ≡ option_to_list o
+heard-there config line place bss within is o hears =
     ap (λ (h : Bool). if h then heard_of place (network_at config place).bssid line else []) (lt-ltb _ _ within)
     ∙ ap (λ x. heard_of place x line) (sym is)
-    ∙ heard-is place bss line
-    ∙ ap (λ (h : Bool). if h then event_of line ∷ [] else []) hears
+    ∙ ap option_to_list hears
 
 heard-nowhere : (config : RadioConfig) (line : Line) (place : ℕ) → length config.networks ≤ place → heard_at config line place ≡ []
 heard-nowhere config line place past =
@@ -63,11 +58,6 @@ heard-more config lines place a n m k more at =
     ∙ flat_map-append (heard_by config lines place) (range_with_len a n) (k ∷ [])
     ∙ ap (λ (hs : List Heard). flat_map (heard_by config lines place) (range_with_len a n) ++ hs) (append-nil (heard_by config lines place k))
 
-heard-if : (config : RadioConfig) (lines : List Line) (place n : ℕ) (bss : List ℕ) (line : Line) (b : Bool) → place < length config.networks → bss ≡ (network_at config place).bssid → line ≡ line_at lines n → hears_line place bss line ≡ b → heard_by config lines place n ≡ map (λ e. record { line = n; event = e }) (if b then event_of line ∷ [] else [])
-heard-if config lines place n bss line b within is same hears =
-    ap (λ (l : Line). map (λ (e : Event). let h : Heard = record { line = n; event = e } in h) (heard_at config l place)) (sym same)
-    ∙ ap (map (λ (e : Event). let h : Heard = record { line = n; event = e } in h)) (heard-there config line place bss within is b hears)
-
 map-at : (ns : List NetConfig) (place : ℕ) (x : List ℕ) (n : NetConfig) → place < length ns → get_or (map (λ n. n.bssid) ns) place x ≡ (get_or ns place n).bssid
 map-at [] place x n within = absurd (omega (arith, within))
 map-at (m ∷ ns) zero x n within = refl
@@ -78,14 +68,11 @@ bssid-there config bssids place bss all within at =
     at ∙ ap (λ (bs : List (List ℕ)). get_or bs place bss) all ∙ map-at config.networks place bss no_network within
 
 -- what it hears of one line
-pub heard-some : (config : RadioConfig) (lines : List Line) (place n : ℕ) (bss : List ℕ) (line : Line) (e : Event) → place < length config.networks → bss ≡ (network_at config place).bssid → line ≡ line_at lines n → hears_line place bss line ≡ true → e ≡ event_of line → record { line = n; event = e } ∷ [] ≡ heard_by config lines place n
-heard-some config lines place n bss line e within is same hears took =
-    ap (λ (x : Event). let h : Heard = record { line = n; event = x } in h ∷ []) took
-    ∙ sym (heard-if config lines place n bss line true within is same hears)
-
-pub heard-none : (config : RadioConfig) (lines : List Line) (place n : ℕ) (bss : List ℕ) (line : Line) → place < length config.networks → bss ≡ (network_at config place).bssid → line ≡ line_at lines n → hears_line place bss line ≡ false → [] ≡ heard_by config lines place n
-heard-none config lines place n bss line within is same hears =
-    sym (heard-if config lines place n bss line false within is same hears)
+pub heard-if : (config : RadioConfig) (lines : List Line) (place n : ℕ) (bss : List ℕ) (line : Line) → place < length config.networks → bss ≡ (network_at config place).bssid → line ≡ line_at lines n → (o : Option Event) → event_for place bss line ≡ o → map (λ e. record { line = n; event = e }) (option_to_list o) ≡ heard_by config lines place n
+heard-if config lines place n bss line within is same o hears =
+    sym
+    (ap (λ (l : Line). map (λ (e : Event). let h : Heard = record { line = n; event = e } in h) (heard_at config l place)) (sym same)
+    ∙ ap (map (λ (e : Event). let h : Heard = record { line = n; event = e } in h)) (heard-there config line place bss within is o hears))
 
 -- the lines of a span follow those before it
 take-more-lines : (lines : List Line) (a n : ℕ) → a + n ≤ length lines → take (a + n) lines ≡ take a lines ++ map (line_at lines) (range_with_len a n)
@@ -115,14 +102,14 @@ answers-event e taken place (Took number) same = same
 answers-event e taken place Full same = tt
 
 -- of one line
-zip-line : (lines : List Line) (place n : ℕ) (es events : List Event) (rest : List Heard) (added : List Answer) → (es ≡ []) ⊎ (es ≡ event_of (line_at lines n) ∷ []) → ((more : List Answer) → AllZip (IsAnswerTo place) rest more → AllZip Answers events (entries_by lines more)) → AllZip (IsAnswerTo place) (map (λ e. record { line = n; event = e }) es ++ rest) added → AllZip Answers (es ++ events) (entries_by lines added)
+zip-line : (lines : List Line) (place n : ℕ) (es events : List Event) (rest : List Heard) (added : List Answer) → (es ≡ []) ⊎ (es ≡ event_of_line (line_at lines n) ∷ []) → ((more : List Answer) → AllZip (IsAnswerTo place) rest more → AllZip Answers events (entries_by lines more)) → AllZip (IsAnswerTo place) (map (λ e. record { line = n; event = e }) es ++ rest) added → AllZip Answers (es ++ events) (entries_by lines added)
 zip-line lines place n [] events rest added one later zip = later added zip
 zip-line lines place n (e ∷ es) events rest added (inl none) later zip = absurd (cc)
 zip-line lines place n (e ∷ es) events rest [] (inr some) later zip = absurd zip
 zip-line lines place n (e ∷ []) events rest (a ∷ added) (inr some) later zip =
-    let same : e ≡ event_of (line_at lines n) = cc in
-    let taken : event_of (line_at lines a.line) ≡ e = ap (λ (i : ℕ). event_of (line_at lines i)) zip.0.0 ∙ sym same in
-    (answers-event e (event_of (line_at lines a.line)) a.place a.made taken, later added zip.1)
+    let same : e ≡ event_of_line (line_at lines n) = cc in
+    let taken : event_of_line (line_at lines a.line) ≡ e = ap (λ (i : ℕ). event_of_line (line_at lines i)) zip.0.0 ∙ sym same in
+    (answers-event e (event_of_line (line_at lines a.line)) a.place a.made taken, later added zip.1)
 zip-line lines place n (e ∷ d ∷ es) events rest (a ∷ added) (inr some) later zip = absurd (cc)
 
 -- of lines
@@ -148,7 +135,7 @@ all-here lines place [] (a ∷ added) zip = absurd zip
 all-here lines place (h ∷ heard) [] zip = absurd zip
 all-here lines place (h ∷ heard) (a ∷ added) zip =
     filter-append (is_from place) (entry_by lines a ∷ []) (entries_by lines added)
-    ∙ (λ k. one-here (event_of (line_at lines a.line)) place a.place a.made zip.0.1 k ++ all-here lines place heard added zip.1 k)
+    ∙ (λ k. one-here (event_of_line (line_at lines a.line)) place a.place a.made zip.0.1 k ++ all-here lines place heard added zip.1 k)
 
 none-elsewhere : (lines : List Line) (place other : ℕ) (heard : List Heard) (added : List Answer) → place ≢ other → AllZip (IsAnswerTo place) heard added → filter (is_from other) (entries_by lines added) ≡ []
 none-elsewhere lines place other [] [] ne zip = refl
@@ -157,7 +144,7 @@ none-elsewhere lines place other (h ∷ heard) [] ne zip = absurd zip
 none-elsewhere lines place other (h ∷ heard) (a ∷ added) ne zip =
     let apart : a.place ≢ other = λ same. ne (sym zip.0.1 ∙ same) in
     filter-append (is_from other) (entry_by lines a ∷ []) (entries_by lines added)
-    ∙ (λ k. one-elsewhere (event_of (line_at lines a.line)) other a.place a.made apart k ++ none-elsewhere lines place other heard added ne zip.1 k)
+    ∙ (λ k. one-elsewhere (event_of_line (line_at lines a.line)) other a.place a.made apart k ++ none-elsewhere lines place other heard added ne zip.1 k)
 
 -- ---- network by network
 

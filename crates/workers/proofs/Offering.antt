@@ -1,21 +1,23 @@
 -- Which networks are offered an event, and the entries that it leaves.
 use Rattle.std.proofs.Common.{◌≡◌, ◌≢◌, replicate, ℕ, suc, ◌+◌, ◌<◌, ◌≤◌, List, [], ◌∷◌, ◌++◌, length, map, get_or, set, take, inl, inr, Bool, true, false, Option, Some, None, refl, sym, ap, ◌∙◌, subst, arith, append_assoc}
-use Rattle.std.specs.Prelude.{if◌then◌else◌, IfSome, nat_lt}
+use Rattle.std.specs.Prelude.{◌==◌, if◌then◌else◌, IfSome, nat_lt, option_to_list}
 use Rattle.std.specs.List.{flat_map, enumerate_from, range_with_len}
 use Rattle.std.proofs.Math.ListN.{get_or-eq_default}
 use Rattle.std.proofs.lemmas.Bool.{lt-ltb, ltb-true, ltb-false, le-ltb, cases_lt, cases_eq}
 use Rattle.std.proofs.lemmas.List.{append-nil, get_or-replicate, length-replicate, get_or-set_other, get_or-set_same, take_more, take_more_set, length-take-le}
 use Rattle.std.proofs.lemmas.List.FromFn.{get_or-map-range_with_len, length-map-range_with_len}
 use Rattle.std.proofs.lemmas.Option.{slice_get-get_or}
+use Rattle.mac_frame.specs.Hearing.{is_heard}
 use Rattle.ap_config.specs.Configuration.{most_networks}
-use Rattle.events.specs.Lines.{heard_of}
+use Rattle.events.specs.Lines.{event_for, event_of_line, heard_of}
 use Rattle.ap_config.specs.Places.{network_at}
 use Rattle.ap_config.specs.declared.config.RadioConfig.{RadioConfig}
 use Rattle.events.specs.declared.event.Event.{Event}
+use Rattle.events.specs.declared.event.Event.TheVariants as event
 use Rattle.events.specs.declared.line.Line.{Line}
 use Rattle.events.specs.declared.line.Line.TheVariants.{Air, Wire, Tick}
-use Rattle.workers.specs.Copies.{copies_of, copies_of_event, copies_at, HaveNetworks, AreOf, IsOffered, AreOffered}
-use Rattle.workers.specs.Giving.{heard_at, AreHeard, entry_of, entries_of, event_of, hears_line}
+use Rattle.workers.specs.Copies.{copies_of, copies_at, HaveNetworks, AreOf, IsOffered, AreOffered}
+use Rattle.workers.specs.Giving.{heard_at, AreHeard, entry_of, entries_of}
 use Rattle.workers.specs.declared.caller.Entry.{Entry}
 use Rattle.workers.specs.declared.copies.Copies.{Copies}
 use Rattle.workers.specs.declared.outcome.Outcome.{Outcome}
@@ -23,25 +25,11 @@ use Rattle.workers.specs.declared.outcome.Outcome.TheVariants.{NotHeard}
 
 -- ---- what is heard
 
--- a network hears a line as its one event, or not at all
-pub heard-is : (place : ℕ) (bss : List ℕ) (line : Line) → heard_of place bss line ≡ (if hears_line place bss line then event_of line ∷ [] else [])
-heard-is place bss (Air x) = refl
-heard-is place bss (Wire named x) = refl
-heard-is place bss Tick = refl
-
-pub copies-heard : (config : RadioConfig) (line : Line) (place : ℕ) (bss : List ℕ) → place < length config.networks → bss ≡ (network_at config place).bssid → hears_line place bss line ≡ true → copies_at config line place ≡ Some (copies_of_event (event_of line))
-copies-heard config line place bss within is hears =
+pub copies-heard : (config : RadioConfig) (line : Line) (place : ℕ) (bss : List ℕ) → place < length config.networks → bss ≡ (network_at config place).bssid → (o : Option Event) → event_for place bss line ≡ o → copies_at config line place ≡ copies_of (option_to_list o)
+copies-heard config line place bss within is o hears =
     ap (λ (b : Bool). copies_of (if b then heard_of place (network_at config place).bssid line else [])) (lt-ltb _ _ within)
     ∙ ap (λ b. copies_of (heard_of place b line)) (sym is)
-    ∙ ap copies_of (heard-is place bss line)
-    ∙ ap (λ (b : Bool). copies_of (if b then event_of line ∷ [] else [])) hears
-
-pub copies-unheard : (config : RadioConfig) (line : Line) (place : ℕ) (bss : List ℕ) → place < length config.networks → bss ≡ (network_at config place).bssid → hears_line place bss line ≡ false → copies_at config line place ≡ None
-copies-unheard config line place bss within is hears =
-    ap (λ (b : Bool). copies_of (if b then heard_of place (network_at config place).bssid line else [])) (lt-ltb _ _ within)
-    ∙ ap (λ b. copies_of (heard_of place b line)) (sym is)
-    ∙ ap copies_of (heard-is place bss line)
-    ∙ ap (λ (b : Bool). copies_of (if b then event_of line ∷ [] else [])) hears
+    ∙ ap (λ (e : Option Event). copies_of (option_to_list e)) hears
 
 pub copies-nowhere : (config : RadioConfig) (line : Line) (place : ℕ) → length config.networks ≤ place → copies_at config line place ≡ None
 copies-nowhere config line place past =
@@ -54,16 +42,26 @@ none-heard : (es : List Event) → copies_of es ≡ None → es ≡ []
 none-heard [] e = refl
 none-heard (x ∷ es) e = absurd (cc)
 
-kept-at : (config : RadioConfig) (line : Line) (place : ℕ) (b : Bool) → nat_lt place (length config.networks) ≡ b → (h : Bool) → hears_line place (network_at config place).bssid line ≡ h → IfSome (copies_at config line place) (λ pair. (place < length config.networks) × (pair.kept ≡ event_of line))
-kept-at config line place true within true hears =
-    let at = copies-heard config line place (network_at config place).bssid (ltb-true _ _ within) refl hears in
-    subst (λ (o : Option Copies). IfSome o (λ (pair : Copies). (place < length config.networks) × (pair.kept ≡ event_of line))) (sym at) (ltb-true _ _ within, refl)
-kept-at config line place true within false hears =
-    let at = copies-unheard config line place (network_at config place).bssid (ltb-true _ _ within) refl hears in
-    subst (λ (o : Option Copies). IfSome o (λ (pair : Copies). (place < length config.networks) × (pair.kept ≡ event_of line))) (sym at) tt
-kept-at config line place false within h hears =
+-- one that is heard is the line's event
+event-is : (b : Bool) (e d : Event) → (if b then Some e else None) ≡ Some d → d ≡ e
+event-is true e d some = cc
+event-is false e d some = absurd (cc)
+
+pub heard-is : (place : ℕ) (bss : List ℕ) (line : Line) (e : Event) → event_for place bss line ≡ Some e → e ≡ event_of_line line
+heard-is place bss (Air x) e some = event-is (is_heard bss x) (event.Air x) e some
+heard-is place bss (Wire named x) e some = event-is (named == place) (event.Wire x) e some
+heard-is place bss Tick e some = cc
+
+kept-at : (config : RadioConfig) (line : Line) (place : ℕ) (b : Bool) → nat_lt place (length config.networks) ≡ b → (o : Option Event) → event_for place (network_at config place).bssid line ≡ o → IfSome (copies_at config line place) (λ pair. (place < length config.networks) × (pair.kept ≡ event_of_line line))
+kept-at config line place true within (Some e) hears =
+    let at = copies-heard config line place (network_at config place).bssid (ltb-true _ _ within) refl (Some e) hears in
+    subst (λ (o : Option Copies). IfSome o (λ (pair : Copies). (place < length config.networks) × (pair.kept ≡ event_of_line line))) (sym at) (ltb-true _ _ within, heard-is place (network_at config place).bssid line e hears)
+kept-at config line place true within None hears =
+    let at = copies-heard config line place (network_at config place).bssid (ltb-true _ _ within) refl None hears in
+    subst (λ (o : Option Copies). IfSome o (λ (pair : Copies). (place < length config.networks) × (pair.kept ≡ event_of_line line))) (sym at) tt
+kept-at config line place false within o hears =
     let at = copies-nowhere config line place (ltb-false _ _ within) in
-    subst (λ (o : Option Copies). IfSome o (λ (pair : Copies). (place < length config.networks) × (pair.kept ≡ event_of line))) (sym at) tt
+    subst (λ (o : Option Copies). IfSome o (λ (pair : Copies). (place < length config.networks) × (pair.kept ≡ event_of_line line))) (sym at) tt
 
 if-some-first : {A : Type 0} (o : Option A) (P Q : A → Type 0) → IfSome o (λ x. P x × Q x) → IfSome o P
 if-some-first None P Q h = tt
@@ -85,20 +83,20 @@ past-last config line copies place is past =
     let count : length copies ≤ place = omega (arith, ap length is, length-map-range_with_len (copies_at config line) 0 most_networks, past) in
     get_or-eq_default copies None count
 
-kept-from : (config : RadioConfig) (line : Line) (copies : List (Option Copies)) → copies ≡ map (copies_at config line) (range_with_len 0 most_networks) → (place : ℕ) → IfSome (get_or copies place None) (λ pair. (place < length config.networks) × (pair.kept ≡ event_of line))
+kept-from : (config : RadioConfig) (line : Line) (copies : List (Option Copies)) → copies ≡ map (copies_at config line) (range_with_len 0 most_networks) → (place : ℕ) → IfSome (get_or copies place None) (λ pair. (place < length config.networks) × (pair.kept ≡ event_of_line line))
 kept-from config line copies is place =
     elim (cases_lt place most_networks) [
       | inl within ↦
-          subst (λ (o : Option Copies). IfSome o (λ (pair : Copies). (place < length config.networks) × (pair.kept ≡ event_of line))) (sym (at-place config line copies place is within))
-          (kept-at config line place (nat_lt place (length config.networks)) refl (hears_line place (network_at config place).bssid line) refl)
+          subst (λ (o : Option Copies). IfSome o (λ (pair : Copies). (place < length config.networks) × (pair.kept ≡ event_of_line line))) (sym (at-place config line copies place is within))
+          (kept-at config line place (nat_lt place (length config.networks)) refl (event_for place (network_at config place).bssid line) refl)
       | inr past ↦
-          subst (λ (o : Option Copies). IfSome o (λ (pair : Copies). (place < length config.networks) × (pair.kept ≡ event_of line))) (sym (past-last config line copies place is past)) tt
+          subst (λ (o : Option Copies). IfSome o (λ (pair : Copies). (place < length config.networks) × (pair.kept ≡ event_of_line line))) (sym (past-last config line copies place is past)) tt
     ]
 
 pub networks-from : (config : RadioConfig) (line : Line) (copies : List (Option Copies)) → copies ≡ map (copies_at config line) (range_with_len 0 most_networks) → HaveNetworks config copies
 networks-from config line copies is place = if-some-first _ _ _ (kept-from config line copies is place)
 
-pub events-from : (config : RadioConfig) (line : Line) (copies : List (Option Copies)) → copies ≡ map (copies_at config line) (range_with_len 0 most_networks) → AreOf (event_of line) copies
+pub events-from : (config : RadioConfig) (line : Line) (copies : List (Option Copies)) → copies ≡ map (copies_at config line) (range_with_len 0 most_networks) → AreOf (event_of_line line) copies
 events-from config line copies is place = if-some-second _ _ _ (kept-from config line copies is place)
 
 pub heard-from : (config : RadioConfig) (line : Line) (copies : List (Option Copies)) (outcomes : List Outcome) → copies ≡ map (copies_at config line) (range_with_len 0 most_networks) → length outcomes ≡ most_networks → AreOffered copies outcomes → AreHeard config line outcomes

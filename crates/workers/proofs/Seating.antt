@@ -9,9 +9,7 @@ use Rattle.network.specs.declared.bss.Refusal.{Refusal}
 use Rattle.ap_config.specs.declared.config.RadioConfig.{RadioConfig}
 use Rattle.events.specs.declared.event.Event.{Event}
 use Rattle.ap_config.specs.declared.setting.Setting.{Setting}
-use Rattle.workers.specs.Seats.{IsSeated, IsNetworkOf, AnswersEvent}
-use Rattle.workers.specs.declared.outcome.Outcome.{Outcome}
-use Rattle.workers.specs.declared.outcome.Outcome.TheVariants.{NotHeard, Took, Full, NoMemory}
+use Rattle.workers.specs.Seats.{IsSeated, IsNetworkOf}
 
 -- frames go from the network to the pass, or stay: together they are the same
 pub seated-moved : (config : RadioConfig) (queue : QueueName) (b b' : BssView) (p p' : NetPassView) → b'.setting ≡ b.setting → b'.history ≡ b.history → p'.name ≡ p.name → p'.place ≡ p.place → p'.pushed ++ b'.waiting ≡ p.pushed ++ b.waiting → IsSeated config queue b p → IsSeated config queue b' p'

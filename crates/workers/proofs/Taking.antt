@@ -3,7 +3,7 @@ use Rattle.std.proofs.Common.{◌≡◌, ℕ, suc, ◌+◌, ◌<◌, ◌≤◌, 
 use Rattle.std.specs.Prelude.{if◌then◌else◌}
 use Rattle.std.specs.List.{AllZip}
 use Rattle.std.proofs.lemmas.Bool.{cases_lt, lt-ltb, le-ltb}
-use Rattle.std.proofs.lemmas.List.{append-nil, map-append, take_all, take-append-le, length-take-le}
+use Rattle.std.proofs.lemmas.List.{map-append, take_all, take-append-le, length-take-le}
 use Rattle.network.specs.BssView.{BssView}
 use Rattle.events.specs.declared.event.Event.{Event}
 use Rattle.workers.specs.Answers.{made_of, answers_to, IsAnswerTo, TakesEach, AddsAnswers}

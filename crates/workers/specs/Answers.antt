@@ -5,10 +5,11 @@ use Rattle.std.specs.List.{AllZip, filter, flat_map, range_with_len}
 use Rattle.network.specs.BssView.{BssView}
 use Rattle.network.specs.declared.bss.Refusal.TheVariants as refusals
 use Rattle.ap_config.specs.declared.config.RadioConfig.{RadioConfig}
+use Rattle.events.specs.Lines.{event_of_line}
 use Rattle.events.specs.declared.event.Event.{Event}
 use Rattle.events.specs.declared.line.Line.{Line}
 use Rattle.events.specs.declared.line.Line.TheVariants as line
-use Rattle.workers.specs.Giving.{event_of, heard_at}
+use Rattle.workers.specs.Giving.{heard_at}
 use Rattle.workers.specs.Playing.{is_from, events_at, Answers, AreAnswers}
 use Rattle.workers.specs.declared.answers.Answer.{Answer}
 use Rattle.workers.specs.declared.answers.Answered.{Answered}
@@ -29,7 +30,7 @@ entry_made e place (Took number) = Receipt place number e
 entry_made e place Full = Refused place refusals.HistoryFull
 
 abbrev pub entry_by : List Line → Answer → Entry
-entry_by lines a = entry_made (event_of (line_at lines a.line)) a.place a.made
+entry_by lines a = entry_made (event_of_line (line_at lines a.line)) a.place a.made
 
 abbrev pub entries_by : List Line → List Answer → List Entry
 entries_by lines answers = map (entry_by lines) answers

@@ -1,20 +1,15 @@
 -- What a caller gives to the networks of an access point, and what it keeps of their answers (profile).
-use Rattle.std.specs.Prelude.{ℕ, ◌≡◌, ◌<◌, ◌↔◌, ◌==◌, Bool, true, List, [], ◌∷◌, ◌++◌, Some, slice_get, if◌then◌else◌}
+use Rattle.std.specs.Prelude.{ℕ, ◌≡◌, ◌<◌, ◌↔◌, List, [], ◌∷◌, ◌++◌, Some, slice_get, if◌then◌else◌}
 use Rattle.std.specs.List.{flat_map, enumerate_from}
 use Rattle.ap_config.specs.Configuration.{most_networks}
-use Rattle.mac_frame.specs.Hearing.{is_heard}
 use Rattle.events.specs.Lines.{heard_of}
 use Rattle.ap_config.specs.Places.{names_network, network_at}
 use Rattle.network.specs.declared.bss.Refusal.TheVariants as refusals
 use Rattle.ap_config.specs.declared.config.RadioConfig.{RadioConfig}
 use Rattle.events.specs.declared.event.Event.{Event}
-use Rattle.events.specs.declared.event.Event.TheVariants as event
 use Rattle.events.specs.declared.line.Line.{Line}
-use Rattle.events.specs.declared.line.Line.TheVariants as line
 use Rattle.workers.specs.declared.caller.Entry.{Entry}
 use Rattle.workers.specs.declared.caller.Entry.TheVariants.{Receipt, Refused}
-use Rattle.workers.specs.declared.lent_line.LentLine.{LentLine}
-use Rattle.workers.specs.declared.lent_line.LentLine.TheVariants as given
 use Rattle.workers.specs.declared.outcome.Outcome.{Outcome}
 use Rattle.workers.specs.declared.outcome.Outcome.TheVariants.{NotHeard, Took, Full, NoMemory}
 
@@ -47,22 +42,3 @@ entries_of e outcomes = flat_map (λ o. entry_of e o.0 o.1) (enumerate_from 0 ou
 -- after the old entries
 abbrev pub AddsEntries : Event → List Entry → List Entry → List Outcome → Type 0
 AddsEntries e old new outcomes = new ≡ old ++ entries_of e outcomes
-
--- ---- a line as it is lent
-
-abbrev pub line_of : LentLine → Line
-line_of (given.Air x) = line.Air x.now
-line_of (given.Wire place octets) = line.Wire place octets.now
-line_of given.Tick = line.Tick
-
--- the event that a line is to a network that hears it
-abbrev pub event_of : Line → Event
-event_of (line.Air x) = event.Air x
-event_of (line.Wire place x) = event.Wire x
-event_of line.Tick = event.Tick
-
--- the network with this place and this BSSID hears the line
-abbrev pub hears_line : ℕ → List ℕ → Line → Bool
-hears_line place bss (line.Air x) = is_heard bss x
-hears_line place bss (line.Wire named x) = named == place
-hears_line place bss line.Tick = true

@@ -10,7 +10,6 @@ ghost use Rattle.workers.specs.Receipts.{AreFullLast, AreGivers, AreReceipts, Is
 use crate::answers::{Answer, Answered, Made};
 use crate::attribution::Attribution;
 use crate::finish::FinishFault;
-use crate::lent_line::LentLine;
 use crate::receipts::{cover, is_full, open, read_receipt};
 use events::Line;
 use mac_frame::List;
@@ -80,7 +79,7 @@ fn read_answer(
         source,
         place,
         number,
-        LentLine::of(&lines[line]),
+        lines[line].lend().event(),
         attributions,
     )
 }

@@ -4,25 +4,26 @@ ghost use Rattle.std.specs.Prelude.{◌≡◌, ◌≢◌, ◌+◌, ◌<◌, ◌�
 ghost use Rattle.std.specs.Prelude.{vec_len, vec_capacity};
 ghost use Rattle.std.specs.Fn.{FnOnceTakesAt, FnOnceReturnsAt};
 ghost use Rattle.network.specs.BssView.{BssView};
+ghost use Rattle.events.specs.LentEvents.{line_of};
+ghost use Rattle.events.specs.Lines.{event_of_line};
 ghost use Rattle.events.specs.declared.event.Event.{Event};
 ghost use Rattle.events.specs.declared.line.Line.TheVariants as line;
 ghost use Rattle.events.specs.declared.air_item.AirItem.{AirItem};
 ghost use Rattle.workers.specs.Answers.{AddsAnswers};
 ghost use Rattle.workers.specs.Copies.{copies_at, AreCopies, HaveNetworks, AreOf, AreOffered};
-ghost use Rattle.workers.specs.Giving.{AreHeard, AddsEntries, line_of, event_of, entry_of};
+ghost use Rattle.workers.specs.Giving.{AreHeard, AddsEntries, entry_of};
 ghost use Rattle.workers.specs.Seats.{IsNetworkOf};
 
 use crate::answers::{Answer, Heard};
 use crate::caller::{Caller, Entry};
 use crate::copies::Copies;
-use crate::lent_line::LentLine;
 use crate::name::ApName;
 use crate::outcome::Outcome;
 use crate::seat::{Handing, Seat};
 use crate::transmitter::Transmitter;
 use air_queue::AirQueue;
 use ap_config::MAX_NETWORKS;
-use events::Event;
+use events::{Event, LentLine};
 use mac_frame::{MacAddr, NoMemory};
 use network::Bss;
 use std::alloc::Global;
@@ -127,7 +128,7 @@ impl<N: ApName> Ap<N> {
     ) -> Result<[Outcome; MAX_NETWORKS], NoMemory>
         ensures count { IfOk result (λ outcomes. length outcomes ≡ MAX_NETWORKS) }
         ensures heard { IfOk result (AreHeard N.config (line_of given.entry)) }
-        ensures entries { IfOk result (AddsEntries (event_of (line_of given.entry)) caller.old caller.new) }
+        ensures entries { IfOk result (AddsEntries (event_of_line (line_of given.entry)) caller.old caller.new) }
         ensures err { OnErr result (caller.new ≡ caller.old) }
     {
         let copies = self.copies(given)?;
@@ -150,10 +151,13 @@ impl<N: ApName> Ap<N> {
     fn copies_at(&self, place: usize, given: LentLine<'_>) -> Result<Option<Copies>, NoMemory>
         ensures { IfOk result (λ copies. copies ≡ copies_at N.config (line_of given.entry) place) }
     {
-        if place >= self.bssids.len() || !given.is_heard(place, self.bssids[place]) {
+        if place >= self.bssids.len() {
             return Ok(None);
         }
-        Ok(Some(Copies::of(self.alloc, given)?))
+        let Some(event) = given.event_for(place, self.bssids[place]) else {
+            return Ok(None);
+        };
+        Ok(Some(Copies::of(self.alloc, event)?))
     }
 
     /// Offers the event to the network at each place that has copies of it, and keeps the entries, for which there is

@@ -1,12 +1,11 @@
 //! Who gave the events of one network.
 
 ghost use Rattle.std.specs.Prelude.{◌≡◌, ◌↔◌, IfOk, IsTrue, OnOk, Some, length, map};
+ghost use Rattle.events.specs.LentEvents.{event_of};
 ghost use Rattle.workers.specs.Attributions.{IsAdded, fresh_attribution};
-ghost use Rattle.workers.specs.Giving.{line_of, event_of};
 
 use crate::finish::FinishFault;
-use crate::lent_line::LentLine;
-use events::Event;
+use events::{Event, LentEvent};
 use mac_frame::{List, NoMemory};
 use std::alloc::Global;
 use std::marker::Model;
@@ -46,11 +45,10 @@ impl Attribution {
         history: &[Event],
         caller: usize,
         number: usize,
-        given: LentLine<'_>,
+        given: LentEvent<'_>,
     ) -> Result<(), FinishFault>
         requires { length self.old.givers ≡ length history.now }
-        ensures { OnOk result
-            (IsAdded history.now caller (number, event_of (line_of given.entry)) self.old self.new) }
+        ensures { OnOk result (IsAdded history.now caller (number, event_of given.entry) self.old self.new) }
     {
         if number >= history.len() || !is_of(&history[number], given) {
             return Err(FinishFault::BadReceipt);
@@ -80,13 +78,13 @@ impl Attribution {
 }
 
 /// Whether an event is what was given.
-fn is_of(event: &Event, given: LentLine<'_>) -> bool
-    ensures { IsTrue result ↔ (event.now ≡ event_of (line_of given.entry)) }
+fn is_of(event: &Event, given: LentEvent<'_>) -> bool
+    ensures { IsTrue result ↔ (event.now ≡ event_of given.entry) }
 {
     match (event, given) {
-        (Event::Air(took), LentLine::Air(frame)) => took.as_slice() == frame,
-        (Event::Wire(took), LentLine::Wire { octets, .. }) => took.as_slice() == octets,
-        (Event::Tick, LentLine::Tick) => true,
+        (Event::Air(took), LentEvent::Air(frame)) => took.as_slice() == frame,
+        (Event::Wire(took), LentEvent::Wire(octets)) => took.as_slice() == octets,
+        (Event::Tick, LentEvent::Tick) => true,
         _ => false,
     }
 }

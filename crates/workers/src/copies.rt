@@ -1,11 +1,10 @@
 //! Copies of an event, made before any lock is taken.
 
 ghost use Rattle.std.specs.Prelude.{◌≡◌, IfOk};
-ghost use Rattle.workers.specs.Giving.{line_of, event_of};
+ghost use Rattle.events.specs.LentEvents.{event_of};
 ghost use Rattle.workers.specs.Copies.{copies_of_event};
 
-use crate::lent_line::LentLine;
-use events::Event;
+use events::{Event, LentEvent};
 use mac_frame::NoMemory;
 use std::alloc::Global;
 
@@ -17,12 +16,12 @@ pub(crate) struct Copies {
 }
 
 impl Copies {
-    /// The copies of the event that a line is to a network which hears it.
-    pub(crate) fn of(alloc: Global, given: LentLine<'_>) -> Result<Copies, NoMemory>
-        ensures { IfOk result (λ copies. copies ≡ copies_of_event (event_of (line_of given.entry))) }
+    /// The copies of an event that is lent.
+    pub(crate) fn of(alloc: Global, event: LentEvent<'_>) -> Result<Copies, NoMemory>
+        ensures { IfOk result (λ copies. copies ≡ copies_of_event (event_of event.entry)) }
     {
-        let offered = given.event(alloc)?;
-        let kept = given.event(alloc)?;
+        let offered = event.copy(alloc)?;
+        let kept = event.copy(alloc)?;
         Ok(Copies { offered, kept })
     }
 }

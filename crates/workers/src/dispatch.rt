@@ -6,7 +6,6 @@ ghost use Rattle.workers.specs.Answers.{AddsHeard, AddsLines, heard_by, heard_in
 
 use crate::answers::{Answer, Heard, Span};
 use crate::ap::Ap;
-use crate::lent_line::LentLine;
 use crate::name::ApName;
 use crate::outlet::Relief;
 use events::Line;
@@ -108,11 +107,12 @@ impl<N: ApName> Ap<N> {
         requires place { place < length N.config.networks }
         ensures { IfOk result (λ heard. option_to_list heard ≡ heard_by N.config lines.now place line) }
     {
-        let given = LentLine::of(&lines[line]);
-        if !given.is_heard(place, self.bssids[place]) {
-            return Ok(None);
+        match lines[line].lend().event_for(place, self.bssids[place]) {
+            Some(event) => {
+                let event = event.copy(self.alloc)?;
+                Ok(Some(Heard { line, event }))
+            }
+            None => Ok(None),
         }
-        let event = given.event(self.alloc)?;
-        Ok(Some(Heard { line, event }))
     }
 }

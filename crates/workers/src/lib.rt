@@ -55,7 +55,6 @@ mod copies;
 mod dispatch;
 mod finish;
 mod gate;
-mod lent_line;
 mod name;
 mod outcome;
 mod outlet;

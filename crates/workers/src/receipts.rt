@@ -1,16 +1,16 @@
 //! The callers' entries against the networks' histories (*profile*).
 
 ghost use Rattle.std.specs.Prelude.{◌≡◌, ◌==◌, [], Some, IfOk, OnOk, length, map};
+ghost use Rattle.events.specs.LentEvents.{event_of};
 ghost use Rattle.workers.specs.Attributions.{histories, limits, fresh_attribution, AddsEntry, AreAttributed, AreLong};
 ghost use Rattle.workers.specs.Attributions.{AreUpTo, MarksFull};
-ghost use Rattle.workers.specs.Giving.{line_of, event_of};
 ghost use Rattle.workers.specs.Receipts.{AreFullLast, AreGivers, AreReceipts, IsFullLast};
 ghost use Rattle.workers.specs.declared.caller.Entry.TheVariants.{Receipt};
 
 use crate::attribution::Attribution;
 use crate::caller::{Caller, Entry};
 use crate::finish::FinishFault;
-use crate::lent_line::LentLine;
+use events::LentEvent;
 use mac_frame::{List, NoMemory};
 use network::{Bss, Refusal};
 use std::alloc::Global;
@@ -90,7 +90,7 @@ fn read_entry(
         caller,
         *place,
         *number,
-        LentLine::again(event),
+        event.lend(),
         attributions,
     )
 }
@@ -101,12 +101,12 @@ pub(crate) fn read_receipt(
     caller: usize,
     place: usize,
     number: u32,
-    given: LentLine<'_>,
+    given: LentEvent<'_>,
     attributions: &mut [Attribution],
 ) -> Result<(), FinishFault>
     requires count { length attributions.old ≡ length networks.now }
     requires long { AreLong networks.now attributions.old }
-    ensures { OnOk result (AddsEntry networks.now caller (Receipt place number (event_of (line_of given.entry)))
+    ensures { OnOk result (AddsEntry networks.now caller (Receipt place number (event_of given.entry))
         attributions.old attributions.new) }
 {
     if place >= networks.len() {

@@ -3,9 +3,8 @@ use Rattle.trace.proofs.BufferSteps.{Puts-nothing}
 use Rattle.network.specs.NetworkView.{NetworkState}
 use Rattle.live_answers.specs.Answers.{Nothing, Replies, Tables}
 use Rattle.live_answers.specs.Asked.{Brings, ForTables, Says}
-use Rattle.live_answers.specs.Dispatch.{line_as}
 use Rattle.live_answers.specs.Answers.{MayReplyFrom, after_line_from}
-use Rattle.events.specs.LentEvents.{event_of}
+use Rattle.events.specs.LentEvents.{line_of}
 use Rattle.events.specs.declared.line.Line.{Line}
 use Rattle.live.specs.Readings.{IsReading}
 use Rattle.live.specs.declared.reading.Reading.{Reading}
@@ -27,17 +26,17 @@ returns-in-Line g c lines said count is =
     answered-reading _ _ c.args.face lines c.args.number c.args.networks.now _ said
     (Says (Ok (Some l))) (Replies r.replies) _ _ count
     (subst (λ (o : Reading). IsReading o said) c.in-Line.is is)
-    (subst (λ (m : Line). MayReplyFrom 0 c.args.networks.now m r.replies) c.of.ensures r.may)
+    (subst (λ (m : Line). MayReplyFrom 0 c.args.networks.now m r.replies) c.lend.ensures r.may)
     (ap (λ (ns : List NetworkState). at (lines + 1) ns)
-    (r.after ∙ ap (λ (m : Line). after_line_from 0 c.args.networks.now m r.replies) c.of.ensures))
+    (r.after ∙ ap (λ (m : Line). after_line_from 0 c.args.networks.now m r.replies) c.lend.ensures))
     r.puts
 
 pub returns-in-Record : goal.returns-in-Record
 returns-in-Record g c lines said count is =
-    let e = c.in-Record.event in
+    let lent = c.in-Record.line in
     let r = c.reply_all-in-Record.ensures in
     answered-reading _ _ c.args.face lines c.args.number c.args.networks.now _ said
-    (Brings (line_as e.place (event_of e.event))) (Replies r.replies) _ _ count
+    (Brings (line_of lent)) (Replies r.replies) _ _ count
     (subst (λ (o : Reading). IsReading o said) c.in-Record.is is)
     r.may
     (ap (λ (ns : List NetworkState). at (lines + 1) ns) r.after)

@@ -1,14 +1,14 @@
 use Rattle.std.proofs.Common.{◌≡◌, ◌+◌, ◌++◌, ◌∷◌, [], ◌<◌, ◌≤◌, ℕ, List, length, take, get_or, sym, ap, subst, ◌∙◌, arith}
-use Rattle.std.proofs.lemmas.List.{take_more, take_all, length-take-le, length-map, map-append}
+use Rattle.std.proofs.lemmas.List.{take_more, length-take-le, length-map, map-append}
 use Rattle.events.specs.declared.line.Line.{Line}
 use Rattle.workers.specs.Answers.{entry_by, entries_by, entries_in, entries_of_all}
-use Rattle.workers.specs.Attributions.{AttributionView, attribution_at, history_at, Adds, IsAttributed, AreAttributed}
+use Rattle.workers.specs.Attributions.{AttributionView, attribution_at, history_at, Adds, IsAttributed}
 use Rattle.workers.specs.Receipts.{receipt_for}
 use Rattle.workers.specs.declared.answers.Answer.{Answer}
 use Rattle.workers.specs.declared.answers.Answered.{Answered}
 use Rattle.workers.specs.declared.answers.Made.TheVariants.{Took}
 use Rattle.workers.specs.declared.caller.Entry.{Entry}
-use Rattle.workers.proofs.Attributing.{attributed-more, attributed-next}
+use Rattle.workers.proofs.Attributing.{attributed-more}
 use Rattle.workers.proofs.accounts.read_sources.Goals as goal
 
 pub loop-answer-preserved : goal.loop-answer-preserved

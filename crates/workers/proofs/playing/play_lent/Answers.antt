@@ -1,4 +1,4 @@
-use Rattle.std.proofs.Common.{List, length, map, refl, subst}
+use Rattle.std.proofs.Common.{List, map, refl, subst}
 use Rattle.std.specs.Prelude.{IfOk}
 use Rattle.std.proofs.lemmas.Result.{err_from_is_err_and}
 use Rattle.ap_config.specs.declared.config.RadioConfig.{RadioConfig}

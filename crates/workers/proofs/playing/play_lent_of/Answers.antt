@@ -1,8 +1,7 @@
-use Rattle.std.proofs.Common.{◌≡◌, List, length, map, sym, ap, ◌∙◌}
+use Rattle.std.proofs.Common.{List, length, map, sym, ap, ◌∙◌}
 use Rattle.std.specs.Prelude.{slice_get}
 use Rattle.events.specs.declared.line.Line.{Line}
 use Rattle.events.specs.declared.section.Section.{Section}
-use Rattle.workers.specs.Attributions.{histories, limits}
 use Rattle.workers.specs.Receipts.{histories_of, limits_of}
 use Rattle.workers.proofs.Drains.{all-left, drained-played}
 use Rattle.workers.proofs.Sizes.{sizes}

@@ -1,12 +1,10 @@
-use Rattle.std.proofs.Common.{◌≡◌, ℕ, List, length, map, sym, ap, subst, ◌∙◌, arith}
+use Rattle.std.proofs.Common.{List, length, map, sym, ap, ◌∙◌, arith}
 use Rattle.std.specs.Prelude.{slice_get}
-use Rattle.std.proofs.lemmas.List.{length-map}
 use Rattle.events.specs.Items.{items_of}
 use Rattle.events.specs.declared.line.Line.{Line}
 use Rattle.events.specs.declared.section.Section.{Section}
-use Rattle.workers.specs.Attributions.{histories, limits}
-use Rattle.workers.specs.Receipts.{AreGivers, histories_of, limits_of}
-use Rattle.workers.proofs.Drains.{drained-givers, drained-played}
+use Rattle.workers.specs.Receipts.{histories_of, limits_of}
+use Rattle.workers.proofs.Drains.{drained-played}
 use Rattle.workers.proofs.Endings.{ended-at}
 use Rattle.workers.proofs.Sizes.{sizes}
 use Rattle.workers.proofs.playing.play_of.Goals as goal

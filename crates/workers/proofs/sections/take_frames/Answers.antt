@@ -1,4 +1,4 @@
-use Rattle.std.proofs.Common.{◌≡◌, [], List, map, get_or, ap, ◌∙◌, ℕ}
+use Rattle.std.proofs.Common.{[], List, map, get_or, ap, ◌∙◌, ℕ}
 use Rattle.std.proofs.lemmas.List.{map-set, get_or-set_other}
 use Rattle.workers.proofs.sections.take_frames.Goals as goal
 

@@ -1,5 +1,6 @@
 use Rattle.std.proofs.Common.{◌<◌, length, ap, arith}
 use Rattle.std.specs.Prelude.{option_to_list}
+use Rattle.events.specs.LentEvents.{event_of}
 use Rattle.ap_config.specs.declared.setting.Setting.{Setting}
 use Rattle.replay.specs.declared.logged_network.LoggedNetwork.{LoggedNetwork}
 use Rattle.replay.proofs.LogSteps.{log-kept, on_ok}
@@ -19,7 +20,6 @@ returns-in-Ok c s es h =
       ap (λ (n : LoggedNetwork). n.network.events) h,
     ) in
     on_ok c.keep.result
-    (log-kept s es c.args.event.now c.args.self.now c.keep.new.self c.take_lent_in.new.self sent.air (option_to_list sent.wire)
-    h room (rw c.lend.ensures at c.in-Ok.ensures.after) (rw c.lend.ensures at c.in-Ok.ensures.air)
-    (rw c.lend.ensures at c.in-Ok.ensures.wire))
+    (log-kept s es (event_of c.args.event) c.args.self.now c.keep.new.self c.take_lent_in.new.self sent.air (option_to_list sent.wire)
+    h room c.in-Ok.ensures.after c.in-Ok.ensures.air c.in-Ok.ensures.wire)
     c.keep.ensures

@@ -1,5 +1,6 @@
 use Rattle.std.proofs.Common.{◌≡◌, List, length, drop, subst, ◌∙◌}
 use Rattle.std.proofs.lemmas.List.{take_at}
+use Rattle.events.specs.declared.line.Line.{Line}
 use Rattle.replay.specs.Log.{LogsLine}
 use Rattle.replay.specs.declared.logged_network.LoggedNetwork.{LoggedNetwork}
 use Rattle.replay.proofs.LogSteps.{on_ok}
@@ -15,5 +16,6 @@ returns c config said h =
     (λ takes.
     take_at new (drop (length new) old) c.args.self.now.networks.len long
     ∙ logs-line config said c.args.line old new h
-    (subst (λ (ns : List LoggedNetwork). LogsLine c.args.line ns new) c.as_mut_slice.ensures.value takes))
+    (subst (λ (ns : List LoggedNetwork). LogsLine c.args.line ns new) c.as_mut_slice.ensures.value
+    (subst (λ (l : Line). LogsLine l c.as_mut_slice.result.now new) c.lend.ensures takes)))
     c.take_line.ensures

@@ -1,7 +1,7 @@
 use Rattle.std.proofs.Common.{◌≡◌, ◌+◌, ◌++◌, [], ◌∷◌, ℕ, sym, ◌∙◌, arith}
 use Rattle.std.proofs.lemmas.List.FromFn.{map-range_with_len_more}
+use Rattle.events.specs.LentEvents.{line_of}
 use Rattle.workers.specs.Copies.{copies_at}
-use Rattle.workers.specs.Giving.{line_of}
 use Rattle.workers.proofs.ap.Ap.copies.Goals as goal
 
 pub loop-place-preserved : goal.loop-place-preserved

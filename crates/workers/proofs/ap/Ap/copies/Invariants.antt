@@ -1,8 +1,8 @@
 use Rattle.std.proofs.Common.{◌≡◌, ◌≤◌, map, vec_len, vec_capacity}
 use Rattle.std.specs.List.{range_with_len}
 use Rattle.ap_config.specs.Configuration.{most_networks}
+use Rattle.events.specs.LentEvents.{line_of}
 use Rattle.workers.specs.Copies.{copies_at}
-use Rattle.workers.specs.Giving.{line_of}
 use Rattle.workers.proofs.ap.Ap.copies.Given as goal
 
 abbrev pub invariant-loop-place : goal.invariant-loop-place

@@ -1,4 +1,4 @@
-use Rattle.std.proofs.Common.{◌≡◌, ℕ, List, length, sym, ap, subst, ◌∙◌, arith}
+use Rattle.std.proofs.Common.{List, length, sym, subst}
 use Rattle.network.specs.BssView.{BssView}
 use Rattle.events.specs.declared.air_item.AirItem.{AirItem}
 use Rattle.workers.specs.Answers.{entries_of_all}

@@ -1,4 +1,4 @@
-use Rattle.std.proofs.Common.{◌≡◌, ◌≤◌, ℕ, length, sym, ap, subst}
+use Rattle.std.proofs.Common.{◌≤◌, length, subst}
 use Rattle.workers.proofs.Taking.{took-made, took-history}
 use Rattle.workers.proofs.seat.Seat.make.Goals as goal
 

@@ -1,9 +1,8 @@
-use Rattle.std.proofs.Common.{◌≡◌, ◌+◌, ◌++◌, ◌∷◌, [], ◌≤◌, ℕ, List, length, map, take, refl, sym, ap, subst, ◌∙◌, append_assoc, arith}
+use Rattle.std.proofs.Common.{◌≡◌, ◌++◌, ◌∷◌, [], ◌≤◌, ℕ, List, length, map, take, refl, sym, ap, subst, ◌∙◌, append_assoc, arith}
 use Rattle.std.proofs.lemmas.List.{append-nil, take_all}
 use Rattle.std.specs.Vec.Iter.{into_iter_items}
 use Rattle.events.specs.declared.event.Event.{Event}
 use Rattle.workers.specs.Answers.{answers_to}
-use Rattle.workers.specs.declared.answers.Answer.{Answer}
 use Rattle.workers.specs.declared.answers.Heard.{Heard}
 use Rattle.workers.proofs.Taking.{history-more, answered-more, no-heard}
 use Rattle.workers.proofs.seat.Seat.take_each.Goals as goal

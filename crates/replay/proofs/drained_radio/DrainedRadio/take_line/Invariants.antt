@@ -1,10 +1,9 @@
-use Rattle.events.specs.declared.line.Line.TheVariants.{Air}
 use Rattle.replay.specs.Replay.{IsDrained}
 use Rattle.replay.proofs.LineSteps.{TakesBelow}
-use Rattle.replay.proofs.drained_radio.DrainedRadio.take_octets.Given as goal
+use Rattle.replay.proofs.drained_radio.DrainedRadio.take_line.Given as goal
 
 abbrev pub invariant-loop-place : goal.invariant-loop-place
 invariant-loop-place l = record {
   drained : IsDrained l.self.radio l.self.sent;
-  taken : TakesBelow l.place (Air l.fn.octets) l.initial.self.radio l.self.radio;
+  taken : TakesBelow l.place l.fn.line l.initial.self.radio l.self.radio;
 }
