@@ -1,6 +1,6 @@
 -- What is said is answered, one after the other.
 use Rattle.std.specs.Prelude.{◌⊎◌}
-use Rattle.std.proofs.Common.{inl, inr, ◌≡◌, ℕ, ◌+◌, ◌≤◌, ◌<◌, ◌^◌, List, [], ◌∷◌, ◌++◌, Option, Some, None, Result, Ok, Err, map, refl, sym, ap, subst, ◌∙◌, arith, append-nil, get_or, length, suc, zero, take, drop, take_at, codes}
+use Rattle.std.proofs.Common.{inl, inr, ◌≡◌, ℕ, ◌+◌, ◌≤◌, ◌<◌, ◌^◌, List, [], ◌∷◌, ◌++◌, Option, Some, None, Result, Ok, Err, map, refl, sym, ap, subst, ◌∙◌, arith, append-nil, codes}
 use Rattle.std.specs.List.{AllByRecursion}
 use Rattle.network.specs.NetworkView.{NetworkState, new_network}
 use Rattle.ap_config.specs.declared.config.NetConfig.{NetConfig}
@@ -26,8 +26,7 @@ use Rattle.live.specs.declared.reading.Reading.{Reading}
 use Rattle.live.specs.declared.reading.Reading.TheVariants as reading
 use Rattle.live.specs.declared.face.Face.{Face}
 use Rattle.live.specs.declared.face.Face.TheVariants.{Lines}
-use Rattle.live_answers.proofs.IsolationLaws.{bssids-first}
-use Rattle.live_answers.proofs.MoreLines.{joins, bssids-answers}
+use Rattle.live_answers.proofs.MoreLines.{joins}
 use Rattle.live.proofs.MoreWritten.{texts-join}
 
 -- ---- one after the other
@@ -108,25 +107,16 @@ few-answers m (asked ∷ said) [] next h few = absurd h
 few-answers m (asked ∷ said) (answer ∷ answers) next h few =
     few-answers (after_answer m asked answer) said answers next h.1 (few-answer m asked answer few)
 
-pub moment-answered : {W : Type 0} (taken : W → Option (List ℕ)) (failed : W → ℕ) (face : Face) (bssids : List (List ℕ))
-    (m next : Moment) (said : List Asked) (old new : Buffered W) → IsMoment bssids m
-    → AreAnswered (through face (watch taken failed) old new) m next said → IsMoment bssids next
-moment-answered taken failed face bssids m next said old new h a = record {
-  addresses = h.addresses ∙ sym (bssids-answers m said a.answers next a.answered);
-  few = few-answers m said a.answers next a.answered h.few;
-}
+pub moment-answered : {W : Type 0} (taken : W → Option (List ℕ)) (failed : W → ℕ) (face : Face) (m next : Moment)
+    (said : List Asked) (old new : Buffered W) → IsMoment m
+    → AreAnswered (through face (watch taken failed) old new) m next said → IsMoment next
+moment-answered taken failed face m next said old new h a = few-answers m said a.answers next a.answered h
 
 -- each network may take an event more
 pub countable : (ns : List NetworkState) (most : ℕ) → most < 2 ^ 62 → AllByRecursion (λ n. n.events ≤ most) ns
     → AllByRecursion (λ n. n.events < 2 ^ 62) ns
 countable [] most le few = tt
 countable (n ∷ ns) most le few = (omega (arith, few.0), countable ns most le few.1)
-
-pub countable-at : (ns : List NetworkState) (place : ℕ) (d : NetworkState) → place < length ns
-    → AllByRecursion (λ n. n.events < 2 ^ 62) ns → (get_or ns place d).events < 2 ^ 62
-countable-at [] place d within all = absurd (omega arith)
-countable-at (n ∷ ns) zero d within all = all.0
-countable-at (n ∷ ns) (suc place) d within all = countable-at ns place d (omega arith) all.1
 
 -- a network that took no event
 abbrev opened : (channel interval : ℕ) → NetConfig → NetworkState
@@ -136,13 +126,9 @@ few-first : (channel interval : ℕ) (ns : List NetConfig) → AreFew 0 (map (op
 few-first channel interval [] = tt
 few-first channel interval (n ∷ ns) = (omega arith, few-first channel interval ns)
 
-pub moment-first : (c : RadioConfig) (bssids : List (List ℕ)) (ns : List NetworkState)
-    → bssids ≡ map (λ n. n.bssid) c.networks → ns ≡ map (opened c.channel c.interval) c.networks
-    → IsMoment bssids (record { lines = 0; networks = ns })
-moment-first c bssids ns addresses made = record {
-  addresses = addresses ∙ sym (bssids-first c c.networks) ∙ sym (ap (map bssid_of) made);
-  few = subst (AreFew 0) (sym made) (few-first c.channel c.interval c.networks);
-}
+pub moment-first : (c : RadioConfig) (ns : List NetworkState) → ns ≡ map (opened c.channel c.interval) c.networks
+    → IsMoment (record { lines = 0; networks = ns })
+moment-first c ns made = subst (AreFew 0) (sym made) (few-first c.channel c.interval c.networks)
 
 -- ---- what was read, by what was said
 
@@ -179,12 +165,12 @@ said-for reading.Tables = (ForTables, refl)
 said-for (reading.Fault fault) = (HasFault fault, inl refl)
 
 pub moment-reading : {W : Type 0} (taken : W → Option (List ℕ)) (failed : W → ℕ) (face : Face) (reading : Reading)
-    (bssids : List (List ℕ)) (m next : Moment) (old new : Buffered W) → IsMoment bssids m
+    (m next : Moment) (old new : Buffered W) → IsMoment m
     → ((said : Asked) → IsReading reading said → AreAnswered (through face (watch taken failed) old new) m next (said ∷ []))
-    → IsMoment bssids next
-moment-reading taken failed face reading bssids m next old new h all =
+    → IsMoment next
+moment-reading taken failed face reading m next old new h all =
     let some = said-for reading in
-    moment-answered taken failed face bssids m next (some.0 ∷ []) old new h (all some.0 some.1)
+    moment-answered taken failed face m next (some.0 ∷ []) old new h (all some.0 some.1)
 
 -- it was not read
 unread-after : (m : Moment) (said : Result (Option Line) LineFault) → one_line_more m ≡ after_answer m (Says said) Unread
@@ -204,28 +190,5 @@ answered-unread taken failed lines ns m said old new view u puts =
     (unread-after (at lines ns) u.said) puts)
 
 -- a line more has ended, and no network has changed
-pub moment-line : (bssids : List (List ℕ)) (lines : ℕ) (ns : List NetworkState) → IsMoment bssids (at lines ns)
-    → IsMoment bssids (at (lines + 1) ns)
-moment-line bssids lines ns h = record {
-  addresses = h.addresses;
-  few = few-more ns lines (lines + 1) (omega arith) h.few;
-}
-
--- the networks as they are kept
-pub answered-kept : {W : Type 0} (taken : W → Option (List ℕ)) (failed : W → ℕ) (face : Face) (lines : ℕ)
-    (ns lent lent' now : List NetworkState) (m : Moment) (said : Asked) (old new : Buffered W)
-    → at lines ns ≡ m → lent ≡ ns → now ≡ lent'
-    → AreAnswered (through face (watch taken failed) old new) (at lines lent) (at (lines + 1) lent') (said ∷ [])
-    → AreAnswered (through face (watch taken failed) old new) m (at (lines + 1) now) (said ∷ [])
-answered-kept taken failed face lines ns lent lent' now m said old new view before after answered =
-    subst
-    (λ (o : Moment). AreAnswered (through face (watch taken failed) old new) o (at (lines + 1) now) (said ∷ []))
-    (ap (at lines) before ∙ view)
-    (subst
-    (λ (ms : List NetworkState). AreAnswered (through face (watch taken failed) old new) (at lines lent) (at (lines + 1) ms) (said ∷ []))
-    (sym after)
-    answered)
-
--- all of a list is lent and given back
-pub given-back : (lent ns : List NetworkState) (len : ℕ) → length lent ≡ len → take len (lent ++ drop (length lent) ns) ≡ lent
-given-back lent ns len same = take_at lent (drop (length lent) ns) len same
+pub moment-line : (lines : ℕ) (ns : List NetworkState) → IsMoment (at lines ns) → IsMoment (at (lines + 1) ns)
+moment-line lines ns h = few-more ns lines (lines + 1) (omega arith) h

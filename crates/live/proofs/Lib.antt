@@ -3,7 +3,6 @@ pub mod Rows
 pub mod PartialSteps
 pub mod UnreadLines
 pub mod ReplySteps
-pub mod DispatchSteps
 pub mod AnswerSteps
 pub mod FeedSteps
 pub mod RecordSteps

@@ -1,5 +1,5 @@
 -- What a network replied is what it may reply.
-use Rattle.std.proofs.Common.{◌≡◌, ℕ, Bool, true, false, List, Option, Some, None, Result, Ok, Err, Bor, refl, sym, ap, ◌∙◌}
+use Rattle.std.proofs.Common.{◌≡◌, ℕ, ◌+◌, Bool, true, false, List, [], ◌∷◌, map, Option, Some, None, Result, Ok, Err, Bor, refl, sym, ap, subst, ◌∙◌}
 use Rattle.std.specs.Prelude.{◌↔◌, ◌==◌, option_to_list, option_map, if◌then◌else◌}
 use Rattle.std.specs.Option.{option_copied}
 use Rattle.std.proofs.lemmas.Bool.{eqb-true}
@@ -9,7 +9,17 @@ use Rattle.events.specs.declared.event.Event.TheVariants.{Air, Wire, Tick}
 use Rattle.network.specs.declared.network.NetworkRefusal.{NetworkRefusal}
 use Rattle.network.specs.declared.network.NetworkRefusal.TheVariants.{NoMemory, Clock}
 use Rattle.network.specs.declared.network.Sent.{Sent}
-use Rattle.live_answers.specs.Moments.{Sends, Refuses, is_past_clock, sending, MayReply}
+use Rattle.events.specs.declared.line.Line.{Line}
+use Rattle.trace.specs.Buffers.{CanWrite, Puts}
+use Rattle.trace.specs.declared.report.buffer.Buffered.{Buffered}
+use Rattle.trace.proofs.BufferSteps.{Puts-then, Puts-nothing}
+use Rattle.access_point.specs.Takes.{Takes, TakesIf}
+use Rattle.live_answers.specs.Answers.{MayReplyFrom, after_line_from}
+use Rattle.live_answers.specs.Dispatch.{event_at}
+use Rattle.live_answers.specs.Moments.{Reply, Sends, Refuses, is_past_clock, sending, MayReply, MayReplyIf, taken_if, after_if, bssid_of}
+use Rattle.live.specs.Output.{HasReplied, Through, Watch, through}
+use Rattle.live.specs.Written.{written_reply_if, written_replies}
+use Rattle.live.specs.declared.face.Face.{Face}
 
 -- a beacon interval is to begin that the clock can't count
 abbrev pub IsPast : NetworkState → Event → Type 0
@@ -50,3 +60,64 @@ refuses-may n e result Clock is clock =
 pub copied : {X : Type 0} (o : Option (Bor X)) → option_copied o ≡ option_map (λ x. x.now) o
 copied None = refl
 copied (Some x) = refl
+
+-- ---- one network
+
+-- the event changes no setting
+pub setting-after : (n : NetworkState) (e : Event) (reply : Reply) → bssid_of (after_if n (taken_if (Some e) (Some reply))) ≡ bssid_of n
+setting-after n e (Sends air wire) = refl
+setting-after n e (Refuses why) = refl
+
+-- a network that took the event that a line is to it or refused it, if it is one to it, and the reply that was put
+record MayHaveReplied {W : Type 0} (o : Through W) (number place : ℕ) (said : Line) (n next : NetworkState) : Type 0 where
+  reply : Option Reply
+  may : MayReplyIf n (event_at place n said) reply
+  after : next ≡ after_if n (taken_if (event_at place n said) reply)
+  puts : Puts o.sink.taken o.sink.failed o.old o.new (written_reply_if o.face number (bssid_of n) reply)
+
+may-have : {W : Type 0} (sink : Watch W) (face : Face) (number place : ℕ) (said : Line) (n next : NetworkState) (old new : Buffered W)
+    → CanWrite sink.failed old → (event : Option Event) → event_at place n said ≡ event
+    → TakesIf (λ e n next old new. HasReplied (through face sink old new) number e n next) event n next old new
+    → MayHaveReplied (through face sink old new) number place said n next
+may-have sink face number place said n next old new can None is h = record {
+  reply = None;
+  may = subst (λ (o : Option Event). MayReplyIf n o None) (sym is) refl;
+  after = h.0 ∙ sym (ap (λ (o : Option Event). after_if n (taken_if o None)) is);
+  puts = subst (λ (w : Buffered _). Puts sink.taken sink.failed old w []) (sym h.1) (Puts-nothing old can);
+}
+may-have sink face number place said n next old new can (Some e) is h = record {
+  reply = Some h.reply;
+  may = subst (λ (o : Option Event). MayReplyIf n o (Some h.reply)) (sym is) h.may;
+  after = h.after ∙ sym (ap (λ (o : Option Event). after_if n (taken_if o (Some h.reply))) is);
+  puts = h.puts;
+}
+
+-- ---- all networks
+
+-- those from a place on
+pub record HaveRepliedFrom {W : Type 0} (o : Through W) (number place : ℕ) (said : Line) (ns next : List NetworkState) : Type 0 where
+  pub replies : List (Option Reply)
+  pub may : MayReplyFrom place ns said replies
+  pub after : next ≡ after_line_from place ns said replies
+  pub puts : Puts o.sink.taken o.sink.failed o.old o.new (written_replies o.face number (map bssid_of ns) replies)
+
+pub have-replied : {W : Type 0} (sink : Watch W) (face : Face) (number place : ℕ) (said : Line) (ns next : List NetworkState)
+    (old new : Buffered W) → CanWrite sink.failed old
+    → Takes bssid_of (λ e n next old new. HasReplied (through face sink old new) number e n next) place said ns next old new
+    → HaveRepliedFrom (through face sink old new) number place said ns next
+have-replied sink face number place said [] next old new can h = record {
+  replies = [];
+  may = refl;
+  after = h.0;
+  puts = subst (λ (w : Buffered _). Puts sink.taken sink.failed old w []) (sym h.1) (Puts-nothing old can);
+}
+have-replied sink face number place said (n ∷ ns) [] old new can h = absurd h
+have-replied sink face number place said (n ∷ ns) (m ∷ ms) old new can h =
+    let one = may-have sink face number place said n m old h.0 can (event_at place n said) refl h.1 in
+    let others = have-replied sink face number (place + 1) said ns ms h.0 new one.puts.can_write h.2 in
+    record {
+      replies = one.reply ∷ others.replies;
+      may = (one.may, others.may);
+      after = λ k. one.after k ∷ others.after k;
+      puts = Puts-then one.puts others.puts;
+    }

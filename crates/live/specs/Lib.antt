@@ -2,7 +2,6 @@ pub mod PartialLine
 pub mod Readings
 pub mod AnswerOctets
 pub mod Written
-pub mod Audiences
 pub mod Output
 pub mod Networks
 pub mod Inputs

@@ -1,7 +1,8 @@
 -- What is put into the output about what is said, and what becomes of the networks meanwhile.
-use Rattle.std.specs.Prelude.{◌≡◌, ℕ, ◌+◌, ◌≤◌, List, ◌++◌, Option, flat_map, length, map}
+use Rattle.std.specs.Prelude.{◌≡◌, ℕ, ◌+◌, ◌≤◌, List, ◌++◌, Option, Some, flat_map, length, map}
 use Rattle.std.specs.List.{AllByRecursion}
 use Rattle.network.specs.NetworkView.{NetworkState}
+use Rattle.events.specs.declared.event.Event.{Event}
 use Rattle.events.specs.declared.line.Line.{Line}
 use Rattle.trace.specs.Buffers.{Puts}
 use Rattle.trace.specs.Report.{frame_line}
@@ -9,12 +10,11 @@ use Rattle.trace.specs.declared.report.buffer.Buffered.{Buffered}
 use Rattle.live.specs.AnswerOctets.{record_of}
 use Rattle.live_answers.specs.AnswerText.{frame_words}
 use Rattle.live_answers.specs.Answers.{Answer, Answers, MayReplyFrom, after_line_from}
-use Rattle.live_answers.specs.Dispatch.{event_at}
-use Rattle.live_answers.specs.Moments.{Moment, Reply, MayReplyIf, taken_if, after_if, bssid_of, bssids_at}
+use Rattle.live_answers.specs.Moments.{Moment, Reply, MayReply, taken_if, after_if, bssid_of, bssids_at}
 use Rattle.live_answers.specs.Asked.{Asked}
 use Rattle.live.specs.Inputs.{IsSaidIn, saying}
 use Rattle.live_answers.specs.Records.{IsBegun, IsRecord, all_octets, records_ask}
-use Rattle.live.specs.Written.{written_reply_if, written_replies, written_after}
+use Rattle.live.specs.Written.{written_reply, written_replies, written_after}
 use Rattle.live.specs.declared.partial_input.PartialInput.{PartialInput}
 use Rattle.live.specs.declared.face.Face.{Face}
 
@@ -54,35 +54,19 @@ PutsThrough o text = Puts o.sink.taken o.sink.failed o.old o.new text
 
 -- ---- one line or record
 
--- what the line or record of a number says
-pub record Numbered : Type 0 where
-  pub number : ℕ
-  pub line : Line
+-- A network took the event of the line or record of a number or refused it, and its reply was put.
+pub record HasReplied {W : Type 0} (o : Through W) (number : ℕ) (e : Event) (n next : NetworkState) : Type 0 where
+  pub reply : Reply
+  pub may : MayReply n e reply
+  pub after : next ≡ after_if n (taken_if (Some e) (Some reply))
+  pub puts : PutsThrough o (written_reply o.face number (bssid_of n) reply)
 
-abbrev pub numbered : ℕ → Line → Numbered
-numbered number line = record { number = number; line = line }
-
--- the network at a place
-pub record Placed : Type 0 where
-  pub place : ℕ
-  pub network : NetworkState
-
-abbrev pub placed : ℕ → NetworkState → Placed
-placed place network = record { place = place; network = network }
-
--- The network at a place took the line or record or refused it, if it is an event to it, and its reply was put.
-pub record HasReplied {W : Type 0} (o : Through W) (said : Numbered) (n : Placed) (next : NetworkState) : Type 0 where
-  pub reply : Option Reply
-  pub may : MayReplyIf n.network (event_at n.place n.network said.line) reply
-  pub after : next ≡ after_if n.network (taken_if (event_at n.place n.network said.line) reply)
-  pub puts : PutsThrough o (written_reply_if o.face said.number (bssid_of n.network) reply)
-
--- All networks did so, and their replies were put in order of place.
-pub record HaveReplied {W : Type 0} (o : Through W) (said : Numbered) (ns next : List NetworkState) : Type 0 where
+-- Each network to which it is an event did so, and the replies were put in order of place.
+pub record HaveReplied {W : Type 0} (o : Through W) (number : ℕ) (said : Line) (ns next : List NetworkState) : Type 0 where
   pub replies : List (Option Reply)
-  pub may : MayReplyFrom 0 ns said.line replies
-  pub after : next ≡ after_line_from 0 ns said.line replies
-  pub puts : PutsThrough o (written_replies o.face said.number (map bssid_of ns) replies)
+  pub may : MayReplyFrom 0 ns said replies
+  pub after : next ≡ after_line_from 0 ns said replies
+  pub puts : PutsThrough o (written_replies o.face number (map bssid_of ns) replies)
 
 -- ---- all that is said
 

@@ -20,7 +20,6 @@
 //! Where the input comes from, and where the answers go, is left to the program.
 #![tactic(auto)]
 
-mod dispatch;
 mod engine;
 mod face;
 mod fault;
@@ -36,6 +35,7 @@ mod reading;
 mod record;
 mod record_output;
 mod records;
+mod reply;
 mod run;
 mod written;
 

@@ -1,11 +1,11 @@
 //! The networks of a configuration, which answer one line or record after another.
 
-ghost use Rattle.std.specs.Prelude.{◌≡◌, ◌+◌, ◌<◌, ◌^◌, ◌∷◌, [], ℕ, None, IfOk, map, option_map};
+ghost use Rattle.std.specs.Prelude.{◌≡◌, ◌+◌, ◌<◌, ◌^◌, ◌∷◌, [], ℕ, None, IfOk, option_map};
 ghost use Rattle.std.specs.List.{AllByRecursion};
 ghost use Rattle.ap_config.specs.Configuration.{fault_of};
 ghost use Rattle.trace.specs.Buffers.{CanWrite, Puts};
 ghost use Rattle.live_answers.specs.Asked.{Asked, asked_in};
-ghost use Rattle.live_answers.specs.Moments.{bssid_of, bssids_at, first_moment};
+ghost use Rattle.live_answers.specs.Moments.{bssids_at, first_moment};
 ghost use Rattle.live.specs.Output.{AreAnswered, through, watch};
 ghost use Rattle.live.specs.PartialLine.{line_in};
 ghost use Rattle.live.specs.Readings.{IsReading, IsUnread};
@@ -13,26 +13,25 @@ ghost use Rattle.live_answers.specs.Records.{IsRecord, records_ask};
 ghost use Rattle.live.specs.Written.{written_tables};
 ghost use Rattle.live.specs.declared.face.Face.TheVariants as faces;
 
-use crate::dispatch::reply_all;
 use crate::face::Face;
 use crate::output::put_unread;
 use crate::reading::{Reading, read_line, read_record};
+use crate::reply::reply_all;
 use crate::written::{put_fault, put_tables};
-use ap_config::{RadioConfig, checked_networks};
-use mac_frame::{MacAddr, NoMemory};
-use network::{Network, Spare, open_networks};
+use access_point::AccessPoint;
+use ap_config::RadioConfig;
+use mac_frame::NoMemory;
+use network::Network;
 use std::alloc::Global;
 use std::marker::Model;
-use trace::{Buffered, Sink, bssids_of};
+use trace::{Buffered, Sink};
 
 /// The networks of a configuration, between two lines. Contracts see the moment.
 #[derive(Drop)]
 pub struct Networks {
     alloc: Global,
-    bssids: Vec<MacAddr>,
-    networks: Vec<Network>,
+    access_point: AccessPoint<Network>,
     lines: u64,
-    spare: Spare,
 }
 
 impl Model for Networks {
@@ -41,9 +40,9 @@ impl Model for Networks {
 
     ghost Value = { Moment };
 
-    ghost view = { λ n. record { lines = n.lines; networks = n.networks.items } };
+    ghost view = { λ n. record { lines = n.lines; networks = n.access_point } };
 
-    ghost invariant = { λ n. IsMoment n.bssids.items (record { lines = n.lines; networks = n.networks.items }) };
+    ghost invariant = { λ n. IsMoment (record { lines = n.lines; networks = n.access_point }) };
 }
 
 impl Networks {
@@ -52,20 +51,10 @@ impl Networks {
         requires { fault_of config ≡ None }
         ensures { IfOk result (λ networks. networks ≡ first_moment config) }
     {
-        checked_networks();
-        let bssids = bssids_of(alloc, config.networks.as_slice())?;
-        let RadioConfig {
-            channel,
-            interval,
-            queue: _,
-            networks,
-        } = config;
         Ok(Networks {
             alloc,
-            bssids,
-            networks: open_networks::<Network>(alloc, channel, interval, networks)?,
+            access_point: AccessPoint::open(alloc, config)?,
             lines: 0,
-            spare: Spare::new(alloc),
         })
     }
 
@@ -84,7 +73,7 @@ impl Networks {
         ensures { AreAnswered (through faces.Lines (watch W.taken W.failed) out.old out.new)
             self.old self.new (asked_in self.old (line_in (option_map (λ octets. octets.now) line.entry) ∷ [])) }
     {
-        match read_line(self.alloc, self.bssids.as_slice(), line) {
+        match read_line(self.alloc, self.access_point.bssids(), line) {
             Ok(reading) => self.answer(Face::Lines, reading, out),
             Err(NoMemory) => self.answer_unread(out),
         }
@@ -110,7 +99,7 @@ impl Networks {
         ensures { AreAnswered (through faces.Records (watch W.taken W.failed) out.old out.new)
             self.old self.new (records_ask (bssids_at self.old) (octets.now ∷ [])) }
     {
-        let reading = read_record(self.bssids.as_slice(), octets);
+        let reading = read_record(self.access_point.bssids(), octets);
         self.answer(Face::Records, reading, out);
     }
 
@@ -123,15 +112,7 @@ impl Networks {
     {
         self.lines += 1;
         let number = self.lines;
-        answer_reading(
-            face,
-            self.bssids.as_slice(),
-            self.networks.as_mut_slice(),
-            reading,
-            number,
-            &mut self.spare,
-            out,
-        );
+        answer_reading(face, &mut self.access_point, reading, number, out);
     }
 
     /// Puts the table of each network, in order of place.
@@ -139,35 +120,30 @@ impl Networks {
         requires { CanWrite W.failed out.old }
         ensures { Puts W.taken W.failed out.old out.new (written_tables face self.now.networks) }
     {
-        put_tables(face, out, self.networks.as_slice());
+        put_tables(face, out, self.access_point.networks());
     }
 }
 
 /// Answers what was read of the line or record of a number.
 fn answer_reading<W: Sink>(
     face: Face,
-    bssids: &[MacAddr],
-    networks: &mut [Network],
+    access_point: &mut AccessPoint<Network>,
     reading: Reading<'_>,
     number: u64,
-    spare: &mut Spare,
     out: &mut Buffered<'_, W>,
 )
-    requires addresses { bssids.now ≡ map bssid_of networks.old }
-    requires countable { AllByRecursion (λ n. n.events < 2 ^ 62) networks.old }
+    requires countable { AllByRecursion (λ n. n.events < 2 ^ 62) access_point.old }
     requires can_write { CanWrite W.failed out.old }
     ensures { (lines : ℕ) (said : Asked) → number ≡ lines + 1 → IsReading reading.entry said
         → AreAnswered (through face (watch W.taken W.failed) out.old out.new)
-        (record { lines = lines; networks = networks.old }) (record { lines = number; networks = networks.new })
+        (record { lines = lines; networks = access_point.old }) (record { lines = number; networks = access_point.new })
         (said ∷ []) }
 {
     match reading {
         Reading::Nothing => {}
-        Reading::Line(line) => {
-            reply_all(face, bssids, networks, line.lend(), number, spare, out)
-        }
-        Reading::Record(line) => reply_all(face, bssids, networks, line, number, spare, out),
-        Reading::Tables => put_tables(face, out, networks),
+        Reading::Line(line) => reply_all(face, access_point, line.lend(), number, out),
+        Reading::Record(line) => reply_all(face, access_point, line, number, out),
+        Reading::Tables => put_tables(face, out, access_point.networks()),
         Reading::Fault(fault) => put_fault(face, out, fault, number),
     }
 }

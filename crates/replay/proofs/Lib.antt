@@ -14,5 +14,4 @@ pub mod StreamEnds
 pub mod ReplayRows
 pub mod AnswerRows
 pub mod FrameSteps
-pub mod LogSteps
 pub mod LogLines

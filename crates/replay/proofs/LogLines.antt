@@ -1,45 +1,26 @@
--- A line is taken by the networks without their histories, at one place after another.
-use Rattle.std.proofs.Common.{◌≡◌, ℕ, ◌<◌, ◌≤◌, List, [], ◌∷◌, ◌++◌, length, map, get_or}
-use Rattle.std.proofs.Common.{refl, sym, ap, ◌∙◌, arith}
+-- The networks without their histories take a line.
+use Rattle.std.proofs.Common.{◌≡◌, ℕ, zero, suc, ◌+◌, List, [], ◌∷◌, ◌++◌, length, map, get_or, subst}
+use Rattle.std.proofs.Common.{Option, Some, None, refl, sym, ap, ◌∙◌}
 use Rattle.std.specs.Prelude.{flat_map}
-use Rattle.std.specs.List.{range_with_len}
+use Rattle.std.specs.List.{AllByRecursion, range_with_len}
 use Rattle.std.proofs.lemmas.List.{get_or-map, length-map}
 use Rattle.std.proofs.lemmas.List.Folds.{flat_map-map}
-use Rattle.std.proofs.lemmas.List.FromFn.{fill_by_all, get_or-map-range_with_len, length-map-range_with_len}
+use Rattle.std.proofs.lemmas.List.FromFn.{fill_by_all}
 use Rattle.ap_config.specs.Places.{network_at, no_network, setting_at, setting_in}
 use Rattle.ap_config.specs.declared.config.NetConfig.{NetConfig}
 use Rattle.ap_config.specs.declared.config.RadioConfig.{RadioConfig}
 use Rattle.ap_config.specs.declared.setting.Setting.{Setting}
-use Rattle.events.specs.Lines.{own_events, taken_of}
+use Rattle.events.specs.Lines.{event_for, own_events, taken_of}
 use Rattle.events.specs.declared.event.Event.{Event}
 use Rattle.events.specs.declared.line.Line.{Line}
 use Rattle.network.specs.Section.{section_of, sections_of_lines}
 use Rattle.trace.specs.Report.{report_text, section_text}
-use Rattle.replay.specs.Log.{log_of, LogsLine, logs_of_lines, log_text}
-use Rattle.replay.specs.declared.logged_network.LoggedNetwork.{LoggedNetwork}
+use Rattle.access_point.specs.Log.{Logs, log_of}
+use Rattle.access_point.specs.Takes.{Takes, TakesIf}
+use Rattle.replay.specs.Log.{logs_of_lines, log_text}
+use Rattle.access_point.specs.declared.logged_network.LoggedNetwork.{LoggedNetwork}
+use Rattle.replay.proofs.LineSteps.{taken-none, taken-some}
 use Rattle.replay.proofs.ReplayLemmas.{own_events-none, own_events-push}
-
--- ---- one place after another
-
--- the networks before a place took what they hear of a line, and the others are as they were
-pub record LogsBelow (place : ℕ) (line : Line) (old new : List LoggedNetwork) : Type 0 where
-  pub count : length new ≡ length old
-  pub below :
-      (other : ℕ)
-      (d : LoggedNetwork)
-      → other < place
-      → (s : Setting)
-      (es : List Event)
-      → get_or old other d ≡ log_of s es
-      → get_or new other d ≡ log_of s (es ++ taken_of other s.network es line)
-  pub rest : (other : ℕ) (d : LoggedNetwork) → place ≤ other → get_or new other d ≡ get_or old other d
-
-pub logs-all : (place : ℕ) (line : Line) (old new : List LoggedNetwork) → LogsBelow place line old new
-    → length old ≤ place → LogsLine line old new
-logs-all place line old new b past = record {
-  count = b.count;
-  each = λ k d lt s es was. b.below k d (omega arith) s es was;
-}
 
 -- ---- the networks of a configuration
 
@@ -55,20 +36,53 @@ logs-fresh c logs fresh =
     ∙ get_or-map g c.networks k no_network (f 0) lt
     ∙ ap (log_of (setting_at c k)) (sym (own_events-none k (network_at c k))))
 
--- after one more
-pub logs-line : (c : RadioConfig) (said : List Line) (line : Line) (old new : List LoggedNetwork)
-    → old ≡ logs_of_lines c said → LogsLine line old new → new ≡ logs_of_lines c (said ++ line ∷ [])
-logs-line c said line old new was takes =
-    let count : ℕ = length c.networks in
-    let before : ℕ → LoggedNetwork = λ k. log_of (setting_at c k) (own_events k (network_at c k) said) in
-    let f : ℕ → LoggedNetwork = λ k. log_of (setting_at c k) (own_events k (network_at c k) (said ++ line ∷ [])) in
-    let long : length old ≡ count = ap length was ∙ length-map-range_with_len before 0 count in
-    fill_by_all f new count (f 0) (takes.count ∙ long)
-    (λ k lt.
-    takes.each k (f 0) (omega (arith, long)) (setting_at c k) (own_events k (network_at c k) said)
-    (ap (λ (l : List LoggedNetwork). get_or l k (f 0)) was
-    ∙ get_or-map-range_with_len before 0 count k k (f 0) lt (omega arith))
+-- after one more: each network, by its place, took what it hears of the line
+taken-map : {O : Type 0} (f g : ℕ → LoggedNetwork) (line : Line)
+    → ((place : ℕ) (m : LoggedNetwork) (old new : O)
+    → TakesIf (λ e n next _ _. Logs e n next) (event_for place (f place).network.setting.network.bssid line) (f place) m old new
+    → m ≡ g place)
+    → (count first : ℕ) (next : List LoggedNetwork) (old new : O)
+    → Takes (λ n. n.network.setting.network.bssid) (λ e n next _ _. Logs e n next) first line (map f (range_with_len first count)) next old new
+    → next ≡ map g (range_with_len first count)
+taken-map f g line each zero first next old new h = h.0
+taken-map f g line each (suc count) first [] old new h = absurd h
+taken-map f g line each (suc count) first (m ∷ ms) old new h =
+    λ k. each first m old h.0 h.1 k ∷ taken-map f g line each count (first + 1) ms h.0 new h.2 k
+
+taken-if : {O : Type 0} (place : ℕ) (s : Setting) (es : List Event) (line : Line) (m : LoggedNetwork) (old new : O)
+    → (event : Option Event) → event_for place s.network.bssid line ≡ event
+    → TakesIf (λ e n next _ _. Logs e n next) event (log_of s es) m old new
+    → m ≡ log_of s (es ++ taken_of place s.network es line)
+taken-if place s es line m old new None is h =
+    h.0 ∙ ap (log_of s) (taken-none place s.network es line is)
+taken-if place s es line m old new (Some e) is h =
+    h s es refl
+    ∙ ap (λ (added : List Event). log_of s (es ++ added)) (taken-some place s.network es line e is)
+
+pub logs-line : {O : Type 0} (c : RadioConfig) (said : List Line) (line : Line) (old new : List LoggedNetwork) (a b : O)
+    → old ≡ logs_of_lines c said
+    → Takes (λ n. n.network.setting.network.bssid) (λ e n next _ _. Logs e n next) 0 line old new a b
+    → new ≡ logs_of_lines c (said ++ line ∷ [])
+logs-line c said line old new a b was takes =
+    taken-map
+    (λ k. log_of (setting_at c k) (own_events k (network_at c k) said))
+    (λ k. log_of (setting_at c k) (own_events k (network_at c k) (said ++ line ∷ [])))
+    line
+    (λ k m x y h.
+    taken-if k (setting_at c k) (own_events k (network_at c k) said) line m x y
+    (event_for k (network_at c k).bssid line) refl h
     ∙ ap (log_of (setting_at c k)) (sym (own_events-push k (network_at c k) said line)))
+    (length c.networks) 0 new a b
+    (subst
+    (λ (ns : List LoggedNetwork).
+    Takes (λ n. n.network.setting.network.bssid) (λ e n next _ _. Logs e n next) 0 line ns new a b)
+    was
+    takes)
+
+-- every network may take a line
+pub all-may : (ns : List LoggedNetwork) → AllByRecursion (λ _. Unit {0}) ns
+all-may [] = tt
+all-may (n ∷ ns) = (tt, all-may ns)
 
 -- the report of them is that of the sections
 text_of_one : (s : Setting) (es : List Event) → log_text (log_of s es) ≡ section_text (section_of s es)

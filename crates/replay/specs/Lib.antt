@@ -5,5 +5,4 @@ pub mod Replay
 pub mod Answer
 pub mod Stream
 pub mod Checking
-pub mod FrameLog
 pub mod Log

@@ -15,11 +15,10 @@
 mod check;
 mod drained_radio;
 mod fault;
-mod frame_log;
 mod joined;
 mod line_by_line;
 mod lines;
-mod logged_network;
+mod logged_report;
 mod logs;
 mod sent;
 mod stream;

@@ -111,7 +111,7 @@ fn log_stream<R: Source>(
     requires config { fault_of config ≡ None }
     requires source { MayFail (R.failed source.old) }
     ensures { ReadsToEnd
-        (λ logs text. AreTaken config text (λ said. logs.networks.items ≡ logs_of_lines config said)) result config
+        (λ logs text. AreTaken config text (λ said. logs.access_point ≡ logs_of_lines config said)) result config
         (changed (seen (R.left source.old) (R.failed source.old) (R.reads source.old))
         (seen (R.left source.new) (R.failed source.new) (R.reads source.new))) }
 {

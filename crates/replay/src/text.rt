@@ -85,7 +85,7 @@ fn replay_text(
 fn log_text(alloc: Global, config: RadioConfig, trace: &[u8]) -> Result<Logs, TraceTextFault>
     requires { fault_of config ≡ None }
     ensures { MatchResult result
-        (λ logs. AreTaken config trace.now (λ said. logs.networks.items ≡ logs_of_lines config said))
+        (λ logs. AreTaken config trace.now (λ said. logs.access_point ≡ logs_of_lines config said))
         (λ fault. IsFaultOf (lines_of config trace.now) (read_ending fault)) }
 {
     let lines = read_trace(alloc, &config, trace)?;

@@ -15,7 +15,7 @@ loop-network-preserved g c =
     Puts-item log_text c.args.networks.now c.loop-network.network-index c.network-item.result
     c.loop-network-test.true c.network-item.is
     c.loop-network.invariant
-    c.put.ensures
+    c.put_network.ensures
 
 pub returns-clause-ends : goal.returns-clause-ends
 returns-clause-ends g c =

@@ -21,7 +21,7 @@ returns-in_err-take_whole g c =
     let p =
     err_from_is_err_and c.from_residual-in_err-take_whole.result c.from_residual-in_err-take_whole.ensures.1 in
     let started : HasReplayed c.args.config [] c.in_ok-lines.lines
-    (λ said. c.in_ok-logs.logs.networks.items ≡ logs_of_lines c.args.config said) = (
+    (λ said. c.in_ok-logs.logs.access_point ≡ logs_of_lines c.args.config said) = (
       [],
       subst (λ (r : ReaderView). HasRead c.args.config [] [] r) (sym c.in_ok-lines.ensures)
           (c.piece_by_piece.ensures.new c.args.config),
@@ -33,7 +33,7 @@ returns-in_err-take_whole g c =
 pub returns : goal.returns
 returns g c =
     let started : HasReplayed c.args.config [] c.in_ok-lines.lines
-    (λ said. c.in_ok-logs.logs.networks.items ≡ logs_of_lines c.args.config said) = (
+    (λ said. c.in_ok-logs.logs.access_point ≡ logs_of_lines c.args.config said) = (
       [],
       subst (λ (r : ReaderView). HasRead c.args.config [] [] r) (sym c.in_ok-lines.ensures)
           (c.piece_by_piece.ensures.new c.args.config),

@@ -9,8 +9,8 @@ use Rattle.live.proofs.networks.Networks.answer_line.Goals as goal
 
 pub returns-in-Ok : goal.returns-in-Ok
 returns-in-Ok g c =
-    let same : c.as_slice.result.now ≡ bssids_at c.args.self.now =
-    c.as_slice.ensures.value ∙ c.self.invariant.addresses ∙ ap bssids_at c.self.view_is in
+    let same : c.bssids.result.now ≡ bssids_at c.args.self.now =
+    c.bssids.ensures ∙ ap bssids_at c.self.view_is in
     subst
     (λ (bs : List (List ℕ)).
     AreAnswered (through Lines (watch g.W.Sink.taken g.W.Sink.failed) c.args.out.now c.answer.new.out) c.args.self.now c.answer.new.self (asked_by bs (line_in (option_map (λ octets. octets.now) c.args.line)) ∷ []))
@@ -19,8 +19,8 @@ returns-in-Ok g c =
 
 pub returns-in-Err : goal.returns-in-Err
 returns-in-Err g c =
-    let same : c.as_slice.result.now ≡ bssids_at c.args.self.now =
-    c.as_slice.ensures.value ∙ c.self.invariant.addresses ∙ ap bssids_at c.self.view_is in
+    let same : c.bssids.result.now ≡ bssids_at c.args.self.now =
+    c.bssids.ensures ∙ ap bssids_at c.self.view_is in
     subst
     (λ (bs : List (List ℕ)).
     AreAnswered (through Lines (watch g.W.Sink.taken g.W.Sink.failed) c.args.out.now c.answer_unread.new.out) c.args.self.now c.answer_unread.new.self (asked_by bs (line_in (option_map (λ octets. octets.now) c.args.line)) ∷ []))

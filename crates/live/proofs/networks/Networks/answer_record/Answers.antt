@@ -7,8 +7,8 @@ use Rattle.live.proofs.networks.Networks.answer_record.Goals as goal
 
 pub returns : goal.returns
 returns g c =
-    let same : c.as_slice.result.now ≡ bssids_at c.args.self.now =
-    c.as_slice.ensures.value ∙ c.self.invariant.addresses ∙ ap bssids_at c.self.view_is in
+    let same : c.bssids.result.now ≡ bssids_at c.args.self.now =
+    c.bssids.ensures ∙ ap bssids_at c.self.view_is in
     subst
     (λ (bs : List (List ℕ)).
     AreAnswered (through Records (watch g.W.Sink.taken g.W.Sink.failed) c.args.out.now c.answer.new.out) c.args.self.now c.answer.new.self (record_asks bs c.args.octets.now ∷ []))

@@ -6,7 +6,7 @@ use Rattle.events.specs.declared.event.Event.{Event}
 use Rattle.events.specs.declared.line.Line.{Line}
 use Rattle.replay.specs.Replay.{IsUnheardFrom, TakesAt, TakesOf, event_at}
 use Rattle.replay.proofs.LineSteps.{TakesBelow, takes-all, takes-next, takes-some}
-use Rattle.replay.proofs.LogSteps.{on_ok}
+use Rattle.replay.proofs.TakeSteps.{on_ok}
 use Rattle.replay.proofs.drained_radio.DrainedRadio.take_line.Goals as goal
 
 pub loop-place-preserved : goal.loop-place-preserved

@@ -1,4 +1,4 @@
-use Rattle.replay.proofs.LogSteps.{on_ok}
+use Rattle.replay.proofs.TakeSteps.{on_ok}
 use Rattle.replay.proofs.SectionSteps.{replay-more}
 use Rattle.replay.proofs.line_by_line.ReplayTakeLines.take_line.Goals as goal
 

@@ -1,21 +1,22 @@
-use Rattle.std.proofs.Common.{◌≡◌, List, length, drop, subst, ◌∙◌}
-use Rattle.std.proofs.lemmas.List.{take_at}
+use Rattle.std.proofs.Common.{subst}
 use Rattle.events.specs.declared.line.Line.{Line}
-use Rattle.replay.specs.Log.{LogsLine}
-use Rattle.replay.specs.declared.logged_network.LoggedNetwork.{LoggedNetwork}
-use Rattle.replay.proofs.LogSteps.{on_ok}
-use Rattle.replay.proofs.LogLines.{logs-line}
+use Rattle.access_point.specs.Log.{Logs}
+use Rattle.access_point.specs.Takes.{Takes}
+use Rattle.replay.proofs.LogLines.{all-may, logs-line}
+use Rattle.replay.proofs.TakeSteps.{on_ok}
 use Rattle.replay.proofs.logs.LogsTakeLines.take_line.Goals as goal
 
+pub take-requires-clause-may : goal.take-requires-clause-may
+take-requires-clause-may c = all-may c.args.self.now.access_point
+
 pub returns : goal.returns
-returns c config said h =
-    let old : List LoggedNetwork = c.args.self.now.networks.items in
-    let new : List LoggedNetwork = c.take_line.new.networks in
-    let long : length new ≡ c.args.self.now.networks.len = c.take_line.auto.networks ∙ c.as_mut_slice.ensures.len in
-    on_ok c.take_line.result
+returns c config said was =
+    on_ok c.take.result
     (λ takes.
-    take_at new (drop (length new) old) c.args.self.now.networks.len long
-    ∙ logs-line config said c.args.line old new h
-    (subst (λ (ns : List LoggedNetwork). LogsLine c.args.line ns new) c.as_mut_slice.ensures.value
-    (subst (λ (l : Line). LogsLine l c.as_mut_slice.result.now new) c.lend.ensures takes)))
-    c.take_line.ensures
+    logs-line config said c.args.line c.args.self.now.access_point c.take.new.self tt tt was
+    (subst
+    (λ (l : Line).
+    Takes (λ n. n.network.setting.network.bssid) (λ e n next _ _. Logs e n next) 0 l c.args.self.now.access_point c.take.new.self tt tt)
+    c.lend.ensures
+    takes))
+    c.take.ensures.taken

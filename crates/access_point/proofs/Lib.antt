@@ -1,0 +1,4 @@
+pub mod AudienceSteps
+pub mod TakeSteps
+pub mod FrameSteps
+pub mod LogSteps

@@ -1,0 +1,98 @@
+-- A network without its history takes one event after another, and its frames are kept.
+use Rattle.std.proofs.Common.{◌≡◌, ℕ, ◌<◌, ◌≤◌, Bool, cond, List, [], ◌∷◌, ◌++◌, length, Result, Ok, Err, OnOk}
+use Rattle.std.proofs.Common.{sym, ap, ◌∙◌, append-nil}
+use Rattle.std.proofs.lemmas.Bool.{lt-ltb, le-ltb}
+use Rattle.std.proofs.lemmas.List.{length_push}
+use Rattle.ap_config.specs.declared.setting.Setting.{Setting}
+use Rattle.events.specs.declared.event.Event.{Event}
+use Rattle.network.specs.Network.{Network, alone, empty_network, step}
+use Rattle.network.specs.NetworkView.{NetworkState, new_network, took_event, unsent, sent_before}
+use Rattle.access_point.specs.Log.{log_of, taken_next}
+use Rattle.access_point.specs.declared.logged_network.LoggedNetwork.{LoggedNetwork}
+
+-- a network and its frames, by what it is at a moment
+abbrev logged : Setting → ℕ → Network → LoggedNetwork
+logged s events n = record {
+  network = record { setting = s; events = events; network = unsent n };
+  air = n.air;
+  wire = n.wire;
+}
+
+pub log-none : (s : Setting) → alone s [] ≡ empty_network
+    → record { network = new_network s; air = []; wire = [] } ≡ log_of s []
+log-none s law = ap (logged s 0) (sym law)
+
+-- one that took an event, and kept what it sent for it
+abbrev pub after_event : Event → LoggedNetwork → LoggedNetwork
+after_event e n = record {
+  network = took_event e n.network;
+  air = n.air ++ (step n.network.setting n.network.network e).air;
+  wire = n.wire ++ (step n.network.setting n.network.network e).wire;
+}
+
+-- what a network alone does by one event more, and that a step looks at no frame that was sent
+pub record Laws : Type 0 where
+  pub next : (s : Setting) (es : List Event) (e : Event) → alone s (es ++ e ∷ []) ≡ step s (alone s es) e
+  pub appends :
+      (s : Setting)
+      (n : Network)
+      (e : Event)
+      (air wire : List (List ℕ))
+      → step s (sent_before air wire n) e ≡ sent_before air wire (step s n e)
+
+log-push : (laws : Laws) (s : Setting) (es : List Event) (e : Event)
+    → after_event e (log_of s es) ≡ log_of s (es ++ e ∷ [])
+log-push laws s es e =
+    let old : Network = alone s es in
+    let whole : sent_before old.air old.wire (unsent old) ≡ old =
+    ap (λ (fs : List (List ℕ)). record old { air = fs; wire = old.wire ++ [] }) (append-nil old.air)
+    ∙ ap (λ (fs : List (List ℕ)). record old { wire = fs }) (append-nil old.wire) in
+    let next : alone s (es ++ e ∷ []) ≡ sent_before old.air old.wire (step s (unsent old) e) =
+    laws.next s es e ∙ ap (λ (n : Network). step s n e) (sym whole)
+    ∙ laws.appends s (unsent old) e old.air old.wire in
+    ap (λ (k : ℕ). logged s k (sent_before old.air old.wire (step s (unsent old) e))) (sym (length_push es e))
+    ∙ ap (logged s (length (es ++ e ∷ []))) (sym next)
+
+-- where there is room for it
+log-more : (laws : Laws) (s : Setting) (es : List Event) (e : Event) (old new : LoggedNetwork) → old ≡ log_of s es
+    → length es < s.network.max_events → new ≡ after_event e old → new ≡ log_of s (es ++ taken_next s es e)
+log-more laws s es e old new was room is =
+    is ∙ ap (after_event e) was
+    ∙ log-push laws s es e
+    ∙ ap (λ (b : Bool). log_of s (es ++ cond b (e ∷ []) [])) (sym (lt-ltb (length es) s.network.max_events room))
+
+-- where there is none
+pub log-full : (s : Setting) (es : List Event) (e : Event) (old : LoggedNetwork) → old ≡ log_of s es
+    → s.network.max_events ≤ length es → old ≡ log_of s (es ++ taken_next s es e)
+log-full s es e old was full =
+    was ∙ ap (log_of s) (sym (append-nil es))
+    ∙ ap (λ (b : Bool). log_of s (es ++ cond b (e ∷ []) [])) (sym (le-ltb (length es) s.network.max_events full))
+
+-- as its calls say it
+pub log-kept : (laws : Laws) (s : Setting) (es : List Event) (e : Event) (old new : LoggedNetwork) (n : NetworkState)
+    (air wire : List (List ℕ)) → old ≡ log_of s es → length es < s.network.max_events → n ≡ took_event e old.network
+    → air ≡ (step old.network.setting old.network.network e).air
+    → wire ≡ (step old.network.setting old.network.network e).wire
+    → new ≡ record { network = n; air = old.air ++ air; wire = old.wire ++ wire }
+    → new ≡ log_of s (es ++ taken_next s es e)
+log-kept laws s es e old new n air wire was room took air_is wire_is is =
+    log-more laws s es e old new was room
+    (is
+    ∙ ap (λ (m : NetworkState). record { network = m; air = old.air ++ air; wire = old.wire ++ wire }) took
+    ∙ ap
+    (λ (fs : List (List ℕ)).
+    record { network = took_event e old.network; air = old.air ++ fs; wire = old.wire ++ wire })
+    air_is
+    ∙ ap
+    (λ (fs : List (List ℕ)).
+    record {
+      network = took_event e old.network;
+      air = old.air ++ (step old.network.setting old.network.network e).air;
+      wire = old.wire ++ fs;
+    })
+    wire_is)
+
+-- what follows of a fact that holds where a call went well
+pub on_ok : {T E P Q : Type 0} (r : Result T E) → (P → Q) → OnOk r P → OnOk r Q
+on_ok (Ok x) f p = f p
+on_ok (Err e) f p = tt

@@ -1,0 +1,4 @@
+pub mod Takes
+pub mod Audiences
+pub mod FrameLog
+pub mod Log

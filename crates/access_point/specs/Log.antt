@@ -1,0 +1,23 @@
+-- Networks that keep no history, with the frames that they sent (profile).
+use Rattle.std.specs.Prelude.{◌≡◌, nat_lt, List, [], ◌∷◌, ◌++◌, length, if◌then◌else◌}
+use Rattle.ap_config.specs.declared.setting.Setting.{Setting}
+use Rattle.events.specs.declared.event.Event.{Event}
+use Rattle.network.specs.Network.{alone}
+use Rattle.network.specs.NetworkView.{unsent}
+use Rattle.access_point.specs.declared.logged_network.LoggedNetwork.{LoggedNetwork}
+
+-- the network that took these events and no other, and its frames beside it
+abbrev pub log_of : Setting → List Event → LoggedNetwork
+log_of s es = record {
+  network = record { setting = s; events = length es; network = unsent (alone s es) };
+  air = (alone s es).air;
+  wire = (alone s es).wire;
+}
+
+-- what a network takes of an event: nothing, where its history would be full
+abbrev pub taken_next : Setting → List Event → Event → List Event
+taken_next s es e = if nat_lt (length es) s.network.max_events then e ∷ [] else []
+
+-- a network took an event, unless its history would be full, whatever it took before
+abbrev pub Logs : Event → LoggedNetwork → LoggedNetwork → Type 0
+Logs e n next = (s : Setting) (es : List Event) → n ≡ log_of s es → next ≡ log_of s (es ++ taken_next s es e)

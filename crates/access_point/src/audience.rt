@@ -1,0 +1,102 @@
+//! Which networks hear a line.
+
+ghost use Rattle.std.specs.Prelude.{◌≡◌, ◌<◌, ◌≤◌, [], false, length, slice_index_or, ℕ};
+ghost use Rattle.std.specs.Str.{bytes_eq};
+ghost use Rattle.events.specs.LentEvents.{line_of};
+ghost use Rattle.access_point.specs.Audiences.{IsAudience, is_in};
+
+use events::LentLine;
+use mac_frame::{MacAddr, addressed};
+
+/// The networks to which a line is an event, read from it once for all of them.
+#[derive(Clone, Copy, Debug)]
+pub(crate) enum Audience {
+    /// None hears it.
+    Nobody,
+    /// Each does.
+    All,
+    /// The one with this address does (IEEE Std 802.11-2016, 9.2.4.3).
+    Addressed(MacAddr),
+    /// The one at this place does.
+    At(usize),
+}
+
+impl Audience {
+    /// To which networks a line is an event.
+    #[inline(always)]
+    pub(crate) fn of(line: LentLine<'_>) -> Audience
+        ensures { IsAudience result (line_of line.entry) }
+    {
+        match line {
+            LentLine::Air(octets) => match addressed(octets) {
+                None => Audience::Nobody,
+                Some(to) if to.is_broadcast() => Audience::All,
+                Some(to) => Audience::Addressed(to),
+            },
+            LentLine::Wire { place, .. } => Audience::At(place),
+            LentLine::Tick => Audience::All,
+        }
+    }
+
+    /// Two places between which all of them stand, of networks with these addresses: the first, and that after the last.
+    #[inline(always)]
+    pub(crate) fn places(&self, bssids: &[MacAddr]) -> (usize, usize)
+        ensures order { result.0 ≤ result.1 }
+        ensures few { result.1 ≤ length bssids.now }
+        ensures before { (place : ℕ) → place < result.0
+            → is_in self.now place (slice_index_or bssids.now place []) ≡ false }
+        ensures after { (place : ℕ) → result.1 ≤ place → place < length bssids.now
+            → is_in self.now place (slice_index_or bssids.now place []) ≡ false }
+    {
+        match self {
+            Audience::Nobody => (0, 0),
+            Audience::All => (0, bssids.len()),
+            Audience::Addressed(to) => {
+                let first = first_with(*to, bssids);
+                (first, end_with(*to, bssids).max(first))
+            }
+            Audience::At(named) => {
+                let first = (*named).min(bssids.len());
+                (first, named.saturating_add(1).min(bssids.len()))
+            }
+        }
+    }
+
+    /// Whether the network with this place and this BSSID is one of them.
+    #[inline(always)]
+    pub(crate) fn has(&self, place: usize, bssid: MacAddr) -> bool
+        ensures { result ≡ is_in self.now place bssid }
+    {
+        match self {
+            Audience::Nobody => false,
+            Audience::All => true,
+            Audience::Addressed(to) => *to == bssid,
+            Audience::At(named) => *named == place,
+        }
+    }
+}
+
+/// The place of the first network that has an address, or how many there are, where none has it.
+fn first_with(to: MacAddr, bssids: &[MacAddr]) -> usize
+    ensures few { result ≤ length bssids.now }
+    ensures before { (place : ℕ) → place < result → bytes_eq to (slice_index_or bssids.now place []) ≡ false }
+{
+    let mut place = 0;
+    while place < bssids.len() && to != bssids[place] {
+        place += 1;
+    }
+    place
+}
+
+/// The place after the last network that has an address, or 0, where none has it.
+fn end_with(to: MacAddr, bssids: &[MacAddr]) -> usize
+    ensures few { result ≤ length bssids.now }
+    ensures after { (place : ℕ) → result ≤ place → place < length bssids.now
+        → bytes_eq to (slice_index_or bssids.now place []) ≡ false }
+{
+    let mut end = bssids.len();
+    while end > 0 && to != bssids[end - 1] {
+        end -= 1;
+    }
+    end
+}

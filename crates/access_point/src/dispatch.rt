@@ -1,0 +1,130 @@
+//! Each line to the networks that hear it.
+
+ghost use Rattle.std.specs.Prelude.{◌≡◌, ℕ, List, Bool, true, OnOk, OnErr, map};
+ghost use Rattle.std.specs.List.{AllByRecursion};
+ghost use Rattle.events.specs.LentEvents.{event_of, line_of};
+ghost use Rattle.events.specs.Lines.{event_for, event_of_line};
+ghost use Rattle.events.specs.declared.event.Event.{Event};
+ghost use Rattle.events.specs.declared.line.Line.{Line};
+ghost use Rattle.access_point.specs.Audiences.{IsAudience};
+ghost use Rattle.access_point.specs.Takes.{Takes, TakesIf};
+
+use crate::audience::Audience;
+use events::{LentEvent, LentLine};
+use mac_frame::{MacAddr, NoMemory};
+use network::{Network, Spare};
+
+/// What stands for a network in an access point.
+pub trait Addressed {
+    // Its address.
+    ghost bssid: { Self → List ℕ };
+
+    /// The address of the network (IEEE Std 802.11-2016, 9.2.4.3.4).
+    fn bssid(&self) -> MacAddr
+        ensures { result ≡ bssid self.now };
+}
+
+impl Addressed for Network {
+    ghost bssid = { λ n. n.setting.network.bssid };
+
+    fn bssid(&self) -> MacAddr {
+        self.setting().network.bssid
+    }
+}
+
+/// What becomes of an event at a network that hears it, and of the frames that the network sends then: they are kept
+/// with the network, or go into an output.
+pub trait Deliver<N: Addressed, O> {
+    // What holds of each network before a line.
+    ghost may_take: { N → Type 0 };
+
+    // What holds of the output before each event.
+    ghost is_ready: { O → Type 0 };
+
+    // Whether it may stop, so that no further network takes the line.
+    ghost may_stop: { Bool };
+
+    // By an event it made the second network of the first, and the second output of the first.
+    ghost delivers: { Self → Event → N → N → O → O → Type 0 };
+
+    /// Has a network take an event, whose frames may be built in spare memory. Its address stays. `NoMemory` where
+    /// memory ran out and it stops for that.
+    fn deliver(
+        &self,
+        network: &mut N,
+        event: LentEvent<'_>,
+        spare: &mut Spare,
+        out: &mut O,
+    ) -> Result<(), NoMemory>
+        requires may { may_take network.old }
+        requires ready { is_ready out.old }
+        ensures delivered { OnOk result
+            (delivers self.now (event_of event.entry) network.old network.new out.old out.new) }
+        ensures ready { OnOk result (is_ready out.new) }
+        ensures address { N.bssid network.new ≡ N.bssid network.old }
+        ensures stops { OnErr result (may_stop ≡ true) };
+}
+
+/// Has each network that hears a line take it, in order of place, of networks with these addresses, and leaves the
+/// others alone; none is looked at that stands before or after all that hear it. After `NoMemory` those behind the one
+/// at which it stopped took nothing.
+pub(crate) fn take_line<N: Addressed, O, D: Deliver<N, O>>(
+    how: &D,
+    bssids: &[MacAddr],
+    networks: &mut [N],
+    line: LentLine<'_>,
+    spare: &mut Spare,
+    out: &mut O,
+) -> Result<(), NoMemory>
+    requires addresses { bssids.now ≡ map N.bssid networks.old }
+    requires may { AllByRecursion D.may_take networks.old }
+    requires ready { D.is_ready out.old }
+    ensures taken { OnOk result (Takes N.bssid (D.delivers how.now) 0 (line_of line.entry)
+        networks.old networks.new out.old out.new) }
+    ensures addresses { map N.bssid networks.new ≡ map N.bssid networks.old }
+    ensures stops { OnErr result (D.may_stop ≡ true) }
+{
+    let audience = Audience::of(line);
+    let event = line.event();
+    let (first, end) = audience.places(bssids);
+    for place in first..end {
+        take_at(
+            how,
+            &audience,
+            place,
+            bssids[place],
+            &mut networks[place],
+            event,
+            spare,
+            out,
+        )?;
+    }
+    Ok(())
+}
+
+/// Has the network at a place take the event of a line, if it is of the line's audience.
+#[inline(always)]
+fn take_at<N: Addressed, O, D: Deliver<N, O>>(
+    how: &D,
+    audience: &Audience,
+    place: usize,
+    bssid: MacAddr,
+    network: &mut N,
+    event: LentEvent<'_>,
+    spare: &mut Spare,
+    out: &mut O,
+) -> Result<(), NoMemory>
+    requires may { D.may_take network.old }
+    requires ready { D.is_ready out.old }
+    ensures taken { OnOk result ((said : Line) → IsAudience audience.now said
+        → event_of event.entry ≡ event_of_line said
+        → TakesIf (D.delivers how.now) (event_for place bssid said) network.old network.new out.old out.new) }
+    ensures ready { OnOk result (D.is_ready out.new) }
+    ensures address { N.bssid network.new ≡ N.bssid network.old }
+    ensures stops { OnErr result (D.may_stop ≡ true) }
+{
+    if !audience.has(place, bssid) {
+        return Ok(());
+    }
+    how.deliver(network, event, spare, out)
+}

@@ -1,0 +1,113 @@
+//! A network that keeps no history, with the frames that it sent.
+
+ghost use Rattle.std.specs.Prelude.{◌≡◌, ◌++◌, List, [], true, OnOk, option_to_list};
+ghost use Rattle.ap_config.specs.declared.setting.Setting.{Setting};
+ghost use Rattle.events.specs.LentEvents.{event_of};
+ghost use Rattle.events.specs.declared.event.Event.{Event};
+ghost use Rattle.access_point.specs.Log.{Logs, log_of, taken_next};
+
+use crate::dispatch::{Addressed, Deliver};
+use crate::frame_log::FrameLog;
+use ap_config::{Setting, checked_numbers};
+use events::LentEvent;
+use mac_frame::{MacAddr, NoMemory};
+use network::{Network, NetworkRefusal, Open, Sent, Spare, one_step, reachable, steps_append};
+use std::alloc::Global;
+
+/// A network, and the frames that it sent. Of the events that it took it keeps the number alone.
+#[derive(Drop)]
+pub struct LoggedNetwork {
+    /// The network.
+    pub network: Network,
+    /// The frames that it sent on the air, the first of them first.
+    pub air: FrameLog,
+    /// The frames that it sent on the wire, the first of them first.
+    pub wire: FrameLog,
+}
+
+impl Addressed for LoggedNetwork {
+    ghost bssid = { λ n. n.network.setting.network.bssid };
+
+    fn bssid(&self) -> MacAddr {
+        self.network.setting().network.bssid
+    }
+}
+
+impl Open for LoggedNetwork {
+    ghost opened = { λ s. log_of s [] };
+
+    fn open(alloc: Global, setting: Setting) -> Result<LoggedNetwork, NoMemory> {
+        one_step();
+        Ok(LoggedNetwork {
+            network: Network::new(alloc, setting),
+            air: FrameLog::new(alloc),
+            wire: FrameLog::new(alloc),
+        })
+    }
+}
+
+impl LoggedNetwork {
+    /// Takes an event, unless it took as many as its history might have, and keeps the frames that it sends, which are
+    /// built in spare memory.
+    pub fn take(&mut self, event: LentEvent<'_>, spare: &mut Spare) -> Result<(), NoMemory>
+        ensures logs { (s : Setting) (es : List Event) → self.old ≡ log_of s es
+            → OnOk result (self.new ≡ log_of s (es ++ taken_next s es (event_of event.entry))) }
+        ensures setting { self.new.network.setting ≡ self.old.network.setting }
+    {
+        // no history is so long that the network's clock or its number of events could end
+        checked_numbers();
+        reachable();
+        one_step();
+        steps_append();
+        if self.network.events() >= u64::from(self.network.setting().network.max_events) {
+            return Ok(());
+        }
+        match self.network.take_lent_in(event, spare) {
+            Ok(sent) => self.keep(sent, spare),
+            Err(NetworkRefusal::NoMemory) => Err(NoMemory),
+            // its clock counts more beacon intervals than it may take events
+            Err(NetworkRefusal::Clock) => Ok(()),
+        }
+    }
+
+    /// Keeps the frames that it sent for an event, whose memory is spare then.
+    fn keep(&mut self, sent: Sent, spare: &mut Spare) -> Result<(), NoMemory>
+        ensures kept { OnOk result (self.new ≡ record self.old {
+          air = self.old.air ++ sent.air;
+          wire = self.old.wire ++ option_to_list sent.wire;
+        }) }
+        ensures network { self.new.network ≡ self.old.network }
+    {
+        let (first, others) = sent.air.parts();
+        self.air.push_if(first)?;
+        self.air.push_all(others)?;
+        self.wire.push_if(sent.wire.as_ref())?;
+        spare.keep(sent);
+        Ok(())
+    }
+}
+
+/// Keeps the frames of each network with it. It stops where memory ran out.
+#[derive(Clone, Copy, Debug)]
+pub struct KeepFrames;
+
+impl Deliver<LoggedNetwork, ()> for KeepFrames {
+    ghost may_take = { λ _. Unit {0} };
+
+    ghost is_ready = { λ _. Unit {0} };
+
+    ghost may_stop = { true };
+
+    ghost delivers = { λ _ e n next _ _. Logs e n next };
+
+    #[inline]
+    fn deliver(
+        &self,
+        network: &mut LoggedNetwork,
+        event: LentEvent<'_>,
+        spare: &mut Spare,
+        _out: &mut (),
+    ) -> Result<(), NoMemory> {
+        network.take(event, spare)
+    }
+}

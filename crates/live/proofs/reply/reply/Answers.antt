@@ -1,0 +1,38 @@
+use Rattle.std.proofs.Common.{ap}
+use Rattle.std.specs.Prelude.{option_to_list}
+use Rattle.events.specs.LentEvents.{event_of}
+use Rattle.live.specs.Written.{written_reply}
+use Rattle.live_answers.specs.Moments.{Sends, Refuses}
+use Rattle.live.proofs.ReplySteps.{sends-may, refuses-may}
+use Rattle.trace.proofs.BufferSteps.{Puts-same}
+use Rattle.live.proofs.reply.reply.Goals as goal
+
+pub returns-in-Ok : goal.returns-in-Ok
+returns-in-Ok g c =
+    let sent = c.in-Ok.sent in record {
+      reply = Sends sent.air (option_to_list sent.wire);
+      may =
+          sends-may c.args.network.now (event_of c.args.event) c.take_lent_in.result sent c.in-Ok.is c.in-Ok.ensures.air
+          c.in-Ok.ensures.wire c.take_lent_in.ensures.clock;
+      after = c.in-Ok.ensures.after;
+      puts =
+          Puts-same
+          (ap
+          (λ s. written_reply c.args.face c.args.number s.network.bssid (Sends sent.air (option_to_list sent.wire)))
+          c.setting.ensures.setting)
+          (c.put_sent.ensures c.args.number);
+    }
+
+pub returns-in-Err : goal.returns-in-Err
+returns-in-Err g c =
+    let why = c.in-Err.why in record {
+      reply = Refuses why;
+      may =
+          refuses-may c.args.network.now (event_of c.args.event) c.take_lent_in.result why c.in-Err.is
+          c.take_lent_in.ensures.clock;
+      after = c.in-Err.ensures.err;
+      puts =
+          Puts-same
+          (ap (λ s. written_reply c.args.face c.args.number s.network.bssid (Refuses why)) c.setting.ensures.setting)
+          c.put_refusal.ensures;
+    }

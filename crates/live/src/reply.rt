@@ -1,0 +1,91 @@
+//! What the networks reply to a line, written at once.
+
+ghost use Rattle.std.specs.Prelude.{◌<◌, ◌^◌, false};
+ghost use Rattle.std.specs.List.{AllByRecursion};
+ghost use Rattle.trace.specs.Buffers.{CanWrite};
+ghost use Rattle.events.specs.LentEvents.{event_of, line_of};
+ghost use Rattle.live.specs.Output.{HasReplied, HaveReplied, through, watch};
+
+use crate::face::Face;
+use crate::written::{put_refusal, put_sent};
+use access_point::{AccessPoint, Deliver};
+use events::{LentEvent, LentLine};
+use mac_frame::NoMemory;
+use network::{Network, Spare};
+use trace::{Buffered, Sink};
+
+/// Puts what each network replies to the line or record of a number. A network that refuses it doesn't keep the next
+/// from it.
+#[derive(Clone, Copy, Debug)]
+struct Replying {
+    face: Face,
+    number: u64,
+}
+
+impl<W: Sink> Deliver<Network, Buffered<'_, W>> for Replying {
+    ghost may_take = { λ n. n.events < 2 ^ 62 };
+
+    ghost is_ready = { λ out. CanWrite W.failed out };
+
+    ghost may_stop = { false };
+
+    ghost delivers = { λ how e n next old new.
+        HasReplied (through how.face (watch W.taken W.failed) old new) how.number e n next };
+
+    #[inline(always)]
+    fn deliver(
+        &self,
+        network: &mut Network,
+        event: LentEvent<'_>,
+        spare: &mut Spare,
+        out: &mut Buffered<'_, W>,
+    ) -> Result<(), NoMemory> {
+        reply(self.face, network, event, self.number, spare, out);
+        Ok(())
+    }
+}
+
+/// Has each network, in order of place, take the line of a number where it is an event to it, and puts its reply before
+/// the next is asked. Each took fewer than 2^62 events before.
+pub fn reply_all<W: Sink>(
+    face: Face,
+    access_point: &mut AccessPoint<Network>,
+    line: LentLine<'_>,
+    number: u64,
+    out: &mut Buffered<'_, W>,
+)
+    requires countable { AllByRecursion (λ n. n.events < 2 ^ 62) access_point.old }
+    requires can_write { CanWrite W.failed out.old }
+    ensures { HaveReplied (through face (watch W.taken W.failed) out.old out.new) number (line_of line.entry)
+        access_point.old access_point.new }
+{
+    match access_point.take(&Replying { face, number }, line, out) {
+        Ok(()) => {}
+        Err(NoMemory) => {}
+    }
+}
+
+/// Has a network take an event, where it took fewer than 2^62 before, and puts its reply: the frames that it sends, or
+/// that it refuses the line of a number.
+fn reply<W: Sink>(
+    face: Face,
+    network: &mut Network,
+    event: LentEvent<'_>,
+    number: u64,
+    spare: &mut Spare,
+    out: &mut Buffered<'_, W>,
+)
+    requires countable { network.old.events < 2 ^ 62 }
+    requires can_write { CanWrite W.failed out.old }
+    ensures { HasReplied (through face (watch W.taken W.failed) out.old out.new) number (event_of event.entry)
+        network.old network.new }
+{
+    let bssid = network.setting().network.bssid;
+    match network.take_lent_in(event, spare) {
+        Ok(sent) => {
+            put_sent(face, out, bssid, &sent);
+            spare.keep(sent);
+        }
+        Err(why) => put_refusal(face, out, why, bssid, number),
+    }
+}
