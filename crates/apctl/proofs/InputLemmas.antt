@@ -2,8 +2,8 @@
 use Rattle.std.proofs.Common.{◌≡◌, ℕ, List, [], Option, Some, None, Result, Ok, Err, IfSome, refl, ap}
 use Rattle.std.proofs.KnownBytes.{Keeps-refl}
 use Rattle.std.specs.Result.{result_map_both}
-use Rattle.trace.specs.Endings.{Ends}
-use Rattle.trace.proofs.EndingLemmas.{nothing_written}
+use Rattle.trace.specs.Endings.{Ends, ending_of}
+use Rattle.trace.specs.EndingLaws.{nothing_written}
 use Rattle.replay.specs.Answer.{answer_of, text_ending}
 use Rattle.replay.specs.Joined.{joined_parts}
 use Rattle.replay.specs.declared.fault.TextFault.{TextFault}
@@ -17,8 +17,8 @@ use Rattle.std.specs.Prelude.{codes}
 
 -- the run of two texts, with the program's faults
 as_run : (end : Result Unit TextFault) (answer : Result (List ℕ) TextFault) (old new : Option (List ℕ))
-    → Ends text_ending end answer old new
-    → Ends run_ending (result_map_both (λ u. u) of_texts end) (result_map_both (λ report. report) of_texts answer) old
+    → Ends (ending_of text_ending end) answer old new
+    → Ends (ending_of run_ending (result_map_both (λ u. u) of_texts end)) (result_map_both (λ report. report) of_texts answer) old
     new
 as_run (Ok u) (Ok text) old new h = h
 as_run (Ok u) (Err fault) old new h = absurd h
@@ -32,7 +32,7 @@ as_run (Err replay.NoMemory) (Err fault) old new h = h
 -- the text was read, and its run ended with a fault
 pub fault_ends : (e : TextFault) (input : List ℕ) (left old new : Option (List ℕ))
     → IfSome left (λ octets. input ≡ octets)
-    → Ends {A = Unit} text_ending (Err e) (answer_of (joined_parts input).0 (joined_parts input).1) old new
+    → Ends (ending_of {A = Unit} text_ending (Err e)) (answer_of (joined_parts input).0 (joined_parts input).1) old new
     → EndsInput (Err (of_texts e)) left old new
 fault_ends (replay.Config fault) input left old new read h =
     (input, read, as_run (Err (replay.Config fault)) _ old new h)
@@ -42,7 +42,7 @@ fault_ends replay.NoMemory input left old new read h = (input, read, as_run (Err
 
 -- the text was read, and its run ended well
 pub well_ends : (u : Unit {0}) (input : List ℕ) (left old new : Option (List ℕ)) → IfSome left (λ octets. input ≡ octets)
-    → Ends text_ending (Ok u) (answer_of (joined_parts input).0 (joined_parts input).1) old new
+    → Ends (ending_of text_ending (Ok u)) (answer_of (joined_parts input).0 (joined_parts input).1) old new
     → EndsInput (Ok u) left old new
 well_ends u input left old new read h = (input, read, as_run (Ok u) _ old new h)
 

@@ -5,7 +5,7 @@ use Rattle.std.specs.Result.{result_map_both}
 use Rattle.ap_config.specs.declared.config.RadioConfig.{RadioConfig}
 use Rattle.events.specs.declared.section.Section.{Section}
 use Rattle.trace.specs.ConfigurationText.{configuration_of}
-use Rattle.trace.specs.Endings.{Ends}
+use Rattle.trace.specs.Endings.{Ends, ending_of}
 use Rattle.replay.specs.Answer.{answer_of}
 use Rattle.replay.specs.Joined.{joined_parts}
 use Rattle.replay.specs.Stream.{AreSectionsOf}
@@ -20,7 +20,7 @@ joined_answer text = result_map_both (λ report. report) of_texts (answer_of (jo
 -- the run of a text that a reader gave, all that it had left where that is known, ended so
 abbrev pub EndsOn : Result Unit Fault → Option (List ℕ) → Option (List ℕ) → Option (List ℕ) → Type 0
 EndsOn end left old new =
-    (input : List ℕ) × IfSome left (λ octets. input ≡ octets) × Ends run_ending end (joined_answer input) old new
+    (input : List ℕ) × IfSome left (λ octets. input ≡ octets) × Ends (ending_of run_ending end) (joined_answer input) old new
 
 -- What a run that reads its text did, and what its output took meanwhile: where the reader failed, nothing was written;
 -- else it is the run of the text that the reader gave.

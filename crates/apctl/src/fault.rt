@@ -1,7 +1,7 @@
 //! What can go wrong, as a user meets it: one line on standard error and an exit status.
 
 ghost use Rattle.std.specs.Prelude.{◌≡◌, ◌≢◌, ◌+◌, IfOk, Ok, Err};
-ghost use Rattle.trace.specs.Endings.{Ends, failures_of};
+ghost use Rattle.trace.specs.Endings.{Ends, failures_of, ending_of};
 ghost use Rattle.trace.specs.Sinks.{MayFail, report_ending};
 ghost use Rattle.apctl.specs.Faults.{of_texts, of_play, status_of, memory_line, IsOfFile, IsOfStream, IsOfLive};
 ghost use Rattle.apctl.specs.declared.fault.Fault.TheVariants as faults;
@@ -177,7 +177,7 @@ pub fn show_fault<W: Sink>(alloc: Global, fault: &Fault, out: &mut W) -> Result<
     ensures status { IfOk result (λ status. status ≡ status_of fault.now) }
     ensures memory { fault.now ≡ faults.Memory → result ≢ Err ReportFault.NoMemory }
     ensures memory_line { fault.now ≡ faults.Memory →
-        Ends report_ending result (Ok memory_line) (W.taken out.old) (W.taken out.new) }
+        Ends (ending_of report_ending result) (Ok memory_line) (W.taken out.old) (W.taken out.new) }
     ensures failures { W.failed out.new ≡ W.failed out.old + failures_of report_ending result }
 {
     if let Fault::Memory = fault {

@@ -8,10 +8,10 @@ use Rattle.ap_config.specs.declared.config.RadioConfig.{RadioConfig}
 use Rattle.events.specs.LentEvents.{line_of}
 use Rattle.events.specs.declared.event.Event.{Event}
 use Rattle.events.specs.declared.line.Line.{Line}
-use Rattle.trace.specs.Buffers.{CanWrite, Puts}
+use Rattle.trace.specs.Buffers.{CanWrite, Puts, watch}
 use Rattle.trace.specs.declared.fault.LineFault.{LineFault}
-use Rattle.trace.specs.declared.report.buffer.Buffered.{Buffered}
-use Rattle.trace.proofs.BufferSteps.{Puts-then, Puts-nothing, Puts-same}
+use Rattle.text_io.specs.declared.buffer.Buffered.{Buffered}
+use Rattle.trace.specs.BufferLaws.{Puts-then, Puts-nothing, Puts-same}
 use Rattle.trace.specs.Texts.{ended}
 use Rattle.live_answers.specs.AnswerText.{fault_words}
 use Rattle.live_answers.specs.Asked.{Asked, HasFault, ForTables, Brings, Says}
@@ -19,7 +19,7 @@ use Rattle.live_answers.specs.Answers.{Answer, MayAnswer, after_line_from, after
 use Rattle.live_answers.specs.Dispatch.{event_at}
 use Rattle.live_answers.specs.Moments.{Moment, one_line_more, bssid_of, bssids_at, Reply, taken_if, after_if}
 use Rattle.live.specs.Networks.{IsMoment}
-use Rattle.live.specs.Output.{AreAnswered, through, watch}
+use Rattle.live.specs.Output.{AreAnswered, through}
 use Rattle.live.specs.Readings.{IsReading, IsUnread}
 use Rattle.live.specs.Written.{written_answer}
 use Rattle.live.specs.declared.reading.Reading.{Reading}
@@ -34,7 +34,7 @@ use Rattle.live.proofs.MoreWritten.{texts-join}
 pub answered-one : {W : Type 0} (taken : W → Option (List ℕ)) (failed : W → ℕ) (face : Face) (m next : Moment) (said asked : Asked)
     (answer : Answer) (old new : Buffered W) → said ≡ asked → MayAnswer m asked answer
     → next ≡ after_answer m asked answer
-    → Puts taken failed old new (written_answer face (bssids_at m) (m.lines + 1) answer)
+    → Puts (watch taken failed) old new (written_answer face (bssids_at m) (m.lines + 1) answer)
     → AreAnswered (through face (watch taken failed) old new) m next (said ∷ [])
 answered-one taken failed face m next said asked answer old new is may after puts = record {
   answers = answer ∷ [];
@@ -139,7 +139,7 @@ pub answered-reading : {W : Type 0} (taken : W → Option (List ℕ)) (failed : 
     (ns next : List NetworkState) (said asked : Asked) (answer : Answer) (old new : Buffered W)
     → number ≡ lines + 1 → said ≡ asked → MayAnswer (at lines ns) asked answer
     → at (lines + 1) next ≡ after_answer (at lines ns) asked answer
-    → Puts taken failed old new (written_answer face (map bssid_of ns) number answer)
+    → Puts (watch taken failed) old new (written_answer face (map bssid_of ns) number answer)
     → AreAnswered (through face (watch taken failed) old new) (at lines ns) (at number next) (said ∷ [])
 answered-reading taken failed face lines number ns next said asked answer old new count is may after puts =
     answered-one taken failed face (at lines ns) (at number next) said asked answer old new is may
@@ -149,7 +149,7 @@ answered-reading taken failed face lines number ns next said asked answer old ne
 pub answered-fault : {W : Type 0} (taken : W → Option (List ℕ)) (failed : W → ℕ) (face : Face) (lines number : ℕ)
     (ns : List NetworkState) (said : Asked) (fault : LineFault) (old new : Buffered W) → number ≡ lines + 1
     → (said ≡ HasFault fault) ⊎ (said ≡ Says (Err fault))
-    → Puts taken failed old new (written_answer face (map bssid_of ns) number (Faulty fault))
+    → Puts (watch taken failed) old new (written_answer face (map bssid_of ns) number (Faulty fault))
     → AreAnswered (through face (watch taken failed) old new) (at lines ns) (at number ns) (said ∷ [])
 answered-fault taken failed face lines number ns said fault old new count (inl is) puts =
     answered-reading taken failed face lines number ns ns said (HasFault fault) (Faulty fault) old new count is refl refl puts
@@ -180,7 +180,7 @@ unread-after m (Err fault) = refl
 
 pub answered-unread : {W : Type 0} (taken : W → Option (List ℕ)) (failed : W → ℕ) (lines : ℕ) (ns : List NetworkState)
     (m : Moment) (said : Asked) (old new : Buffered W) → at lines ns ≡ m → IsUnread said
-    → Puts taken failed old new (ended (fault_words (codes "memory") (lines + 1)))
+    → Puts (watch taken failed) old new (ended (fault_words (codes "memory") (lines + 1)))
     → AreAnswered (through Lines (watch taken failed) old new) m (at (lines + 1) ns) (said ∷ [])
 answered-unread taken failed lines ns m said old new view u puts =
     subst

@@ -8,10 +8,10 @@ use Rattle.std.proofs.lemmas.Bool.{ltb-true}
 use Rattle.std.proofs.lemmas.List.{map-append}
 use Rattle.std.proofs.lemmas.List.Quantifiers.{position-Some}
 use Rattle.trace.specs.Texts.{is_line_feed, LacksLineFeed}
-use Rattle.trace.specs.Buffers.{CanWrite}
-use Rattle.trace.specs.declared.report.buffer.Buffered.{Buffered}
-use Rattle.trace.proofs.TextLemmas.{prefix_lacks}
-use Rattle.live.specs.Output.{AreAnswered, through, watch}
+use Rattle.trace.specs.Buffers.{CanWrite, watch}
+use Rattle.text_io.specs.declared.buffer.Buffered.{Buffered}
+use Rattle.trace.specs.TextLaws.{prefix_lacks}
+use Rattle.live.specs.Output.{AreAnswered, through}
 use Rattle.live.specs.PartialLine.{ended_with, whole_with, IsUnended}
 use Rattle.live_answers.specs.Asked.{Asked, asked_by, asked_in, asked_by_all}
 use Rattle.live_answers.specs.Answers.{Answer, Answers}

@@ -2,7 +2,7 @@
 use Rattle.std.proofs.Common.{◌≡◌, ℕ, List, [], ◌++◌, Option, Result, refl, sym, ap, subst, ◌∙◌}
 use Rattle.std.proofs.lemmas.List.{map-append}
 use Rattle.live_answers.specs.Asked.{Asked, asked_by, asked_by_all}
-use Rattle.trace.specs.declared.sink.Failed.{Failed}
+use Rattle.text_io.specs.declared.sink.Failed.{Failed}
 use Rattle.live_answers.specs.Answers.{Answers}
 use Rattle.live.specs.LiveView.{Finishes, Takes, TakesEnd, TakesPiece, fed, running, state}
 use Rattle.live_answers.specs.Moments.{Moment}

@@ -11,4 +11,3 @@ pub mod InputSteps
 pub mod RunSteps
 pub mod RunEnds
 pub mod BeforeReads
-pub mod LiveRecordSteps

@@ -6,8 +6,8 @@ use Rattle.std.specs.List.{position}
 use Rattle.std.proofs.lemmas.Bool.{ltb-true, lt-ltb}
 use Rattle.std.proofs.lemmas.List.Elements.{All-append}
 use Rattle.trace.specs.Texts.{is_line_feed, LacksLineFeed}
-use Rattle.trace.proofs.PieceLines.{whole_lines_more, unfinished_line_more, whole_lines_none, unfinished_line_none}
-use Rattle.trace.proofs.PieceSteps.{whole_lines_first, unfinished_line_first}
+use Rattle.trace.specs.LineLaws.{whole_lines_more, unfinished_line_more, whole_lines_none, unfinished_line_none}
+use Rattle.trace.specs.LineLaws.{whole_lines_first, unfinished_line_first}
 use Rattle.live.specs.PartialLine.{ended_with, IsUnended}
 use Rattle.live_answers.specs.TextLines.{TextLine, Octets, TooLong, max_line, line_with, partial_with, partial_in, lines_in}
 use Rattle.live_answers.specs.TextLines.{with_first_too_long, unless_ended, partial_after}

@@ -2,12 +2,12 @@
 use Rattle.std.proofs.Common.{◌≡◌, ℕ, ◌+◌, ◌≤◌, List, [], ◌∷◌, ◌++◌, length, take, drop, take-append-drop, Option}
 use Rattle.std.proofs.Common.{refl, sym, ap, subst, ◌∙◌, arith, append_assoc, append-nil, length-append}
 use Rattle.std.proofs.lemmas.List.{map-append, nil_from_length}
-use Rattle.trace.specs.Buffers.{CanWrite}
-use Rattle.trace.specs.declared.report.buffer.Buffered.{Buffered}
+use Rattle.trace.specs.Buffers.{CanWrite, watch}
+use Rattle.text_io.specs.declared.buffer.Buffered.{Buffered}
 use Rattle.live_answers.specs.Asked.{Asked, asked_in}
 use Rattle.live_answers.specs.Moments.{Moment, bssids_at}
 use Rattle.live.specs.Inputs.{face_of}
-use Rattle.live.specs.Output.{AnswersPiece, AnswersRecords, AreAnswered, through, watch, reached, waiting}
+use Rattle.live.specs.Output.{AnswersPiece, AnswersRecords, AreAnswered, through, reached, waiting}
 use Rattle.live_answers.specs.Records.{IsBegun, IsRecord, all_octets, record_asks, records_ask}
 use Rattle.live_answers.specs.TextLines.{TextLine, partial_after, lines_in}
 use Rattle.live.specs.declared.partial_input.PartialInput.{PartialInput}
@@ -129,40 +129,3 @@ pub records-all : {W : Type 0} (taken : W → Option (List ℕ)) (failed : W →
     → AnswersRecords (through Records (watch taken failed) old new) (waiting m begun piece) (waiting next now [])
 records-all taken failed m next old new begun now piece rest none a =
     subst (λ (l : List ℕ). AnswersRecords (through Records (watch taken failed) old new) (waiting m begun piece) (waiting next now l)) (nil_from_length rest none) a
-
--- ---- in either face
-
-pub piece-lines : {W : Type 0} (taken : W → Option (List ℕ)) (failed : W → ℕ) (m next : Moment) (old new : Buffered W)
-    (begun begun' : PartialInput) (partial partial' : TextLine) (piece : List ℕ) → begun ≡ Line partial → begun' ≡ Line partial'
-    → partial' ≡ partial_after partial piece
-    → AreAnswered (through Lines (watch taken failed) old new) m next (asked_in m (lines_in partial piece))
-    → AnswersPiece (through (face_of begun) (watch taken failed) old new) (reached m begun) (reached next begun') piece
-piece-lines taken failed m next old new begun begun' partial partial' piece is is' after a =
-    subst (λ (b : PartialInput). AnswersPiece (through (face_of b) (watch taken failed) old new) (reached m b) (reached next begun') piece) (sym is)
-    (record {
-      said = asked_in m (lines_in partial piece);
-      is_said = (refl, is' ∙ ap (λ (p : TextLine). Line p) after);
-      answered = a;
-    })
-
-pub piece-records : {W : Type 0} (taken : W → Option (List ℕ)) (failed : W → ℕ) (m next : Moment) (old new : Buffered W)
-    (begun begun' : PartialInput) (partial partial' piece : List ℕ) → begun ≡ Record partial → begun' ≡ Record partial'
-    → AnswersRecords (through Records (watch taken failed) old new) (waiting m partial piece) (waiting next partial' [])
-    → AnswersPiece (through (face_of begun) (watch taken failed) old new) (reached m begun) (reached next begun') piece
-piece-records taken failed m next old new begun begun' partial partial' piece is is' a =
-    subst (λ (b : PartialInput). AnswersPiece (through (face_of b) (watch taken failed) old new) (reached m b) (reached next begun') piece) (sym is)
-    (record {
-      said = records_ask (bssids_at m) a.records;
-      is_said = record {
-        records = a.records;
-        rest = partial';
-        are = record {
-          all = a.all ∙ ap (λ (l : List ℕ). all_octets a.records ++ l) (append-nil partial');
-          each = a.each;
-          rest = a.is_begun;
-        };
-        ask = refl;
-        next_is = is';
-      };
-      answered = a.answered;
-    })

@@ -10,14 +10,14 @@ use Rattle.network.specs.declared.network.NetworkRefusal.{NetworkRefusal}
 use Rattle.network.specs.declared.network.NetworkRefusal.TheVariants.{NoMemory, Clock}
 use Rattle.network.specs.declared.network.Sent.{Sent}
 use Rattle.events.specs.declared.line.Line.{Line}
-use Rattle.trace.specs.Buffers.{CanWrite, Puts}
-use Rattle.trace.specs.declared.report.buffer.Buffered.{Buffered}
-use Rattle.trace.proofs.BufferSteps.{Puts-then, Puts-nothing}
+use Rattle.trace.specs.Buffers.{CanWrite, Puts, Watch}
+use Rattle.text_io.specs.declared.buffer.Buffered.{Buffered}
+use Rattle.trace.specs.BufferLaws.{Puts-then, Puts-nothing}
 use Rattle.access_point.specs.Takes.{Takes, TakesIf}
 use Rattle.live_answers.specs.Answers.{MayReplyFrom, after_line_from}
 use Rattle.live_answers.specs.Dispatch.{event_at}
 use Rattle.live_answers.specs.Moments.{Reply, Sends, Refuses, is_past_clock, sending, MayReply, MayReplyIf, taken_if, after_if, bssid_of}
-use Rattle.live.specs.Output.{HasReplied, Through, Watch, through}
+use Rattle.live.specs.Output.{HasReplied, Through, through}
 use Rattle.live.specs.Written.{written_reply_if, written_replies}
 use Rattle.live.specs.declared.face.Face.{Face}
 
@@ -73,7 +73,7 @@ record MayHaveReplied {W : Type 0} (o : Through W) (number place : ℕ) (said : 
   reply : Option Reply
   may : MayReplyIf n (event_at place n said) reply
   after : next ≡ after_if n (taken_if (event_at place n said) reply)
-  puts : Puts o.sink.taken o.sink.failed o.old o.new (written_reply_if o.face number (bssid_of n) reply)
+  puts : Puts o.sink o.old o.new (written_reply_if o.face number (bssid_of n) reply)
 
 may-have : {W : Type 0} (sink : Watch W) (face : Face) (number place : ℕ) (said : Line) (n next : NetworkState) (old new : Buffered W)
     → CanWrite sink.failed old → (event : Option Event) → event_at place n said ≡ event
@@ -83,7 +83,7 @@ may-have sink face number place said n next old new can None is h = record {
   reply = None;
   may = subst (λ (o : Option Event). MayReplyIf n o None) (sym is) refl;
   after = h.0 ∙ sym (ap (λ (o : Option Event). after_if n (taken_if o None)) is);
-  puts = subst (λ (w : Buffered _). Puts sink.taken sink.failed old w []) (sym h.1) (Puts-nothing old can);
+  puts = subst (λ (w : Buffered _). Puts sink old w []) (sym h.1) (Puts-nothing old can);
 }
 may-have sink face number place said n next old new can (Some e) is h = record {
   reply = Some h.reply;
@@ -99,7 +99,7 @@ pub record HaveRepliedFrom {W : Type 0} (o : Through W) (number place : ℕ) (sa
   pub replies : List (Option Reply)
   pub may : MayReplyFrom place ns said replies
   pub after : next ≡ after_line_from place ns said replies
-  pub puts : Puts o.sink.taken o.sink.failed o.old o.new (written_replies o.face number (map bssid_of ns) replies)
+  pub puts : Puts o.sink o.old o.new (written_replies o.face number (map bssid_of ns) replies)
 
 pub have-replied : {W : Type 0} (sink : Watch W) (face : Face) (number place : ℕ) (said : Line) (ns next : List NetworkState)
     (old new : Buffered W) → CanWrite sink.failed old
@@ -109,7 +109,7 @@ have-replied sink face number place said [] next old new can h = record {
   replies = [];
   may = refl;
   after = h.0;
-  puts = subst (λ (w : Buffered _). Puts sink.taken sink.failed old w []) (sym h.1) (Puts-nothing old can);
+  puts = subst (λ (w : Buffered _). Puts sink old w []) (sym h.1) (Puts-nothing old can);
 }
 have-replied sink face number place said (n ∷ ns) [] old new can h = absurd h
 have-replied sink face number place said (n ∷ ns) (m ∷ ms) old new can h =

@@ -5,15 +5,15 @@ use Rattle.std.specs.Io.KnownBytes.{Appends, Keeps}
 use Rattle.ap_config.specs.declared.config.ConfigFault.{ConfigFault}
 use Rattle.ap_config.specs.declared.config.RadioConfig.{RadioConfig}
 use Rattle.trace.specs.ConfigurationText.{configuration_of}
-use Rattle.trace.specs.Endings.{AppendsPrefix, Ending, Ends, IsFaultOf, Refused, WriteFailed, OutOfMemory, failures_of}
+use Rattle.trace.specs.Endings.{AppendsPrefix, Ending, Ends, IsFaultOf, Refused, WriteFailed, OutOfMemory, failures_of, ending_of}
 use Rattle.trace.specs.Faults.{read_as, read_ending, report_as}
 use Rattle.trace.specs.Sinks.{report_ending, write_ending}
-use Rattle.trace.specs.Streams.{FailsAt, Reads, SinkView, SourceView, Streams}
-use Rattle.trace.specs.declared.read_fault.ReadFault.{ReadFault}
-use Rattle.trace.specs.declared.read_fault.ReadFault.TheVariants as reads
-use Rattle.trace.specs.declared.report.ReportFault.{ReportFault}
-use Rattle.trace.specs.declared.report.ReportFault.TheVariants as reports
-use Rattle.trace.specs.declared.sink.Failed.{Failed}
+use Rattle.trace.specs.Streams.{FailsAt, Reads, SinkView, SourceView, Streams, changed}
+use Rattle.text_io.specs.declared.read_fault.ReadFault.{ReadFault}
+use Rattle.text_io.specs.declared.read_fault.ReadFault.TheVariants as reads
+use Rattle.text_io.specs.declared.report_fault.ReportFault.{ReportFault}
+use Rattle.text_io.specs.declared.report_fault.ReportFault.TheVariants as reports
+use Rattle.text_io.specs.declared.sink.Failed.{Failed}
 use Rattle.live_answers.specs.Answers.{Answer, Answers, answers_of}
 use Rattle.live_answers.specs.Asked.{Asked}
 use Rattle.live.specs.Inputs.{IsAllSaid, IsSaidIn, face_of, last_said, nothing_begun, saying}
@@ -42,7 +42,7 @@ abbrev both : SourceView → SinkView → Streams
 both source sink = record { source = source; sink = sink }
 
 none-read : (source : SourceView) (ending : Ending LiveFault)
-    → FailsAt ending max_reads 0 source.failed source.failed → Reads ending max_reads source source []
+    → FailsAt ending max_reads 0 (changed source source) → Reads ending max_reads (changed source source) []
 none-read source ending failed = record {
   taken = Consumes-nil source.left;
   made = 0;
@@ -142,7 +142,7 @@ bad e = Err e
 
 pub count-runs : (face : Face) (e : ReportFault) (c : RadioConfig) (ct : List ℕ) (source : SourceView)
     (old new : SinkView) → configuration_of ct ≡ Ok c
-    → Ends {A = Unit} report_ending (Err e) (Ok (written_count face (length c.networks))) old.taken new.taken
+    → Ends (ending_of {A = Unit} report_ending (Err e)) (Ok (written_count face (length c.networks))) old.taken new.taken
     → (bad e ≡ bad reports.NoMemory → Keeps old.taken new.taken)
     → Runs (setup face ct) (Err (report_as Write NoMemory e)) (both source old) (both source new)
 count-runs face reports.NoMemory c ct source old new is part kept = memory-runs face ct source old new (kept refl)
@@ -259,13 +259,13 @@ input-runs face (Config fault) c ct old mid new moment begun is count s = absurd
 end-in : (face : Face) (r : Result Unit Failed) (moment : Moment) (begun : PartialInput) (old new : Option (List ℕ))
     → face_of begun ≡ face → Finishes r (running moment begun old) new
     → (answers : List Answer) × (last : Moment) × Answers moment (last_said (bssids_at moment) begun) answers last
-    × Ends write_ending r (Ok (written_after face moment answers ++ written_tables face last.networks)) old new
+    × Ends (ending_of write_ending r) (Ok (written_after face moment answers ++ written_tables face last.networks)) old new
 end-in face r moment begun old new same t = (
   t.answers,
   t.last,
   t.answered,
   subst
-      (λ (f : Face). Ends write_ending r (Ok (written_after f moment t.answers ++ written_tables f t.last.networks)) old new)
+      (λ (f : Face). Ends (ending_of write_ending r) (Ok (written_after f moment t.answers ++ written_tables f t.last.networks)) old new)
       same
       t.written,
 )
@@ -374,7 +374,7 @@ pub counted : (face : Face) (count : ℕ) (c : RadioConfig) (old new : Option (L
 counted face count c old new is h = subst (λ (n : ℕ). Appends old new (written_count face n)) is h
 
 pub counted-part : (face : Face) (e : ReportFault) (count : ℕ) (c : RadioConfig) (old new : Option (List ℕ))
-    → count ≡ length c.networks → Ends {A = Unit} report_ending (Err e) (Ok (written_count face count)) old new
-    → Ends {A = Unit} report_ending (Err e) (Ok (written_count face (length c.networks))) old new
+    → count ≡ length c.networks → Ends (ending_of {A = Unit} report_ending (Err e)) (Ok (written_count face count)) old new
+    → Ends (ending_of {A = Unit} report_ending (Err e)) (Ok (written_count face (length c.networks))) old new
 counted-part face e count c old new is h =
-    subst (λ (n : ℕ). Ends {A = Unit} report_ending (Err e) (Ok (written_count face n)) old new) is h
+    subst (λ (n : ℕ). Ends (ending_of {A = Unit} report_ending (Err e)) (Ok (written_count face n)) old new) is h

@@ -6,7 +6,7 @@ use Rattle.std.proofs.KnownBytes.{Appends-nil, Appends-trans, Consumes-nil, Cons
 use Rattle.std.specs.Io.KnownBytes.{Appends, Consumes}
 use Rattle.trace.specs.Endings.{AppendsPrefix}
 use Rattle.trace.specs.Streams.{reads_after}
-use Rattle.trace.specs.declared.sink.Failed.{Failed}
+use Rattle.text_io.specs.declared.sink.Failed.{Failed}
 use Rattle.live_answers.specs.Answers.{Answer, Answers}
 use Rattle.live_answers.specs.Asked.{Asked}
 use Rattle.live.specs.Inputs.{IsSaidIn, face_of, nothing_begun, saying}

@@ -1,13 +1,9 @@
 -- Lines for people, as records.
 use Rattle.std.proofs.Common.{◌≡◌, ℕ, ◌+◌, ◌*◌, ◌<◌, ◌≤◌, List, [], ◌∷◌, ◌++◌, length, refl, sym, ap, subst, ◌∙◌, arith}
 use Rattle.std.proofs.Common.{length-append, append_assoc}
-use Rattle.std.specs.Prelude.{codes}
 use Rattle.std.proofs.lemmas.Bool.{lt-ltb, le-ltb}
 use Rattle.hex.specs.Hex.{encode_lower}
 use Rattle.hex.proofs.HexLemmas.{length-encode_with}
-use Rattle.mac_frame.specs.Address.{address_text}
-use Rattle.ap_config.specs.declared.config.NetConfig.{NetConfig}
-use Rattle.trace.specs.Report.{network_line}
 use Rattle.trace.specs.Texts.{ended}
 use Rattle.live.specs.AnswerOctets.{record_header, record_of, told}
 use Rattle.live_answers.specs.Records.{nobody}
@@ -70,9 +66,3 @@ told-line line octets count is few =
     ∙ ap (λ (k : ℕ). record_header 78 nobody k ++ text) len
     ∙ record-is 78 nobody text (subst (λ (k : ℕ). k ≤ 65535) len few)
     ∙ sym (told-is (line ++ encode_lower octets))
-
--- a network's name
-pub name-words : (config : NetConfig) (addr name : List ℕ) → addr ≡ address_text config.bssid → name ≡ config.ssid
-    → told (ended ((codes "network " ++ addr ++ codes " ssid ") ++ encode_lower name)) ≡ told (network_line config)
-unfolding network_line
-name-words config addr name a n = rw (a, n) refl

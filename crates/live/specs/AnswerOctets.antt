@@ -1,5 +1,5 @@
 -- What is answered, as records (profile).
-use Rattle.std.specs.Prelude.{ℕ, ◌/◌, ◌%◌, nat_lt, List, [], ◌∷◌, ◌++◌, length, codes, decimal, flat_map}
+use Rattle.std.specs.Prelude.{◌≡◌, refl, ℕ, ◌/◌, ◌%◌, nat_lt, List, [], ◌∷◌, ◌++◌, length, codes, decimal, flat_map}
 use Rattle.std.specs.Prelude.{if◌then◌else◌}
 use Rattle.mac_frame.specs.Address.{address_text}
 use Rattle.network.specs.Network.{table_of, counts_of}
@@ -27,6 +27,11 @@ count_record count = 79 ∷ 0 ∷ 0 ∷ 0 ∷ 0 ∷ 0 ∷ count % 256 ∷ 0 ∷ 
 unfoldable pub told : List ℕ → List ℕ
 told [] = []
 told (octet ∷ octets) = record_of 78 nobody (octet ∷ octets)
+
+-- there is no record of no line
+pub told-nothing : told [] ≡ []
+unfolding told
+told-nothing = refl
 
 -- ---- faults
 

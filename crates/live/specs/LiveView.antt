@@ -1,8 +1,8 @@
 -- What contracts see of the access point as it runs, and what its calls do.
 use Rattle.std.specs.Prelude.{◌≡◌, ℕ, List, ◌++◌, Option, Result, Ok}
-use Rattle.trace.specs.Endings.{Ends}
+use Rattle.trace.specs.Endings.{Ends, ending_of}
 use Rattle.trace.specs.Sinks.{write_ending}
-use Rattle.trace.specs.declared.sink.Failed.{Failed}
+use Rattle.text_io.specs.declared.sink.Failed.{Failed}
 use Rattle.live_answers.specs.AnswerText.{tables_text}
 use Rattle.live_answers.specs.Answers.{Answer, Answers}
 use Rattle.live_answers.specs.Asked.{Asked, asked_in}
@@ -36,7 +36,7 @@ pub record TakesPiece (result : Result Unit Failed) (piece : List ℕ) (old new 
   pub answered :
       Answers old.live.moment (asked_in old.live.moment (lines_in old.live.partial piece)) answers new.live.moment
   pub partial : new.live.partial ≡ partial_after old.live.partial piece
-  pub written : Ends write_ending result (Ok (text_after old.live.moment answers)) old.taken new.taken
+  pub written : Ends (ending_of write_ending result) (Ok (text_after old.live.moment answers)) old.taken new.taken
 
 -- It came to the end of the text: the last line is answered, if one has begun, and the sink has gained its answer and
 -- the tables of the moment after it; or, where a write failed, a prefix of them.
@@ -45,7 +45,7 @@ pub record TakesEnd (result : Result Unit Failed) (old : Fed) (taken : Option (L
   pub last : Moment
   pub answered : Answers old.live.moment (asked_in old.live.moment (last_line old.live.partial)) answers last
   pub written :
-      Ends write_ending result (Ok (text_after old.live.moment answers ++ tables_text last.networks)) old.taken taken
+      Ends (ending_of write_ending result) (Ok (text_after old.live.moment answers ++ tables_text last.networks)) old.taken taken
 
 -- ---- in either face
 
@@ -74,7 +74,7 @@ pub record Takes (result : Result Unit Failed) (piece : List ℕ) (old new : Run
   pub answers : List Answer
   pub is_said : IsSaidIn (bssids_at old.moment) old.begun piece (saying said new.begun)
   pub answered : Answers old.moment said answers new.moment
-  pub written : Ends write_ending result (Ok (written_after (face_of old.begun) old.moment answers)) old.taken new.taken
+  pub written : Ends (ending_of write_ending result) (Ok (written_after (face_of old.begun) old.moment answers)) old.taken new.taken
 
 -- It came to the end of the input: what that says is answered, and the sink has gained the answer and the tables of the
 -- moment after it; or, where a write failed, a prefix of them.
@@ -83,7 +83,7 @@ pub record Finishes (result : Result Unit Failed) (old : Running) (taken : Optio
   pub last : Moment
   pub answered : Answers old.moment (last_said (bssids_at old.moment) old.begun) answers last
   pub written :
-      Ends write_ending result
+      Ends (ending_of write_ending result)
       (Ok
       (written_after (face_of old.begun) old.moment answers ++ written_tables (face_of old.begun) last.networks))
       old.taken taken

@@ -4,9 +4,9 @@ use Rattle.std.specs.List.{AllByRecursion}
 use Rattle.network.specs.NetworkView.{NetworkState}
 use Rattle.events.specs.declared.event.Event.{Event}
 use Rattle.events.specs.declared.line.Line.{Line}
-use Rattle.trace.specs.Buffers.{Puts}
+use Rattle.trace.specs.Buffers.{Puts, Watch}
 use Rattle.trace.specs.Report.{frame_line}
-use Rattle.trace.specs.declared.report.buffer.Buffered.{Buffered}
+use Rattle.text_io.specs.declared.buffer.Buffered.{Buffered}
 use Rattle.live.specs.AnswerOctets.{record_of}
 use Rattle.live_answers.specs.AnswerText.{frame_words}
 use Rattle.live_answers.specs.Answers.{Answer, Answers, MayReplyFrom, after_line_from}
@@ -30,14 +30,6 @@ frames_octets kind bssid frames = flat_map (record_of kind bssid) frames
 
 -- ---- a call that puts what it answers
 
--- how a sink is seen: what it has taken, where that is known, and how often it failed
-pub record Watch (W : Type 0) : Type 0 where
-  pub taken : W → Option (List ℕ)
-  pub failed : W → ℕ
-
-abbrev pub watch : {W : Type 0} → (W → Option (List ℕ)) → (W → ℕ) → Watch W
-watch taken failed = record { taken = taken; failed = failed }
-
 -- the face in which a call answers, and the buffer, before it and after it, through which its answers go to a sink
 pub record Through (W : Type 0) : Type 0 where
   pub face : Face
@@ -50,7 +42,7 @@ through face sink old new = record { face = face; sink = sink; old = old; new = 
 
 -- the call puts this
 abbrev pub PutsThrough : {W : Type 0} → Through W → List ℕ → Type 0
-PutsThrough o text = Puts o.sink.taken o.sink.failed o.old o.new text
+PutsThrough o text = Puts o.sink o.old o.new text
 
 -- ---- one line or record
 

@@ -4,7 +4,7 @@ use Rattle.std.specs.Io.KnownBytes.{Appends, Consumes, IsAtEnd, Keeps}
 use Rattle.ap_config.specs.declared.config.RadioConfig.{RadioConfig}
 use Rattle.trace.specs.ConfigurationText.{configuration_of}
 use Rattle.trace.specs.Endings.{Ending, Refused, ReadFailed, WriteFailed, OutOfMemory, AppendsPrefix, ending_of}
-use Rattle.trace.specs.Streams.{Reads, SinkView, SourceView, Streams}
+use Rattle.trace.specs.Streams.{Reads, SinkView, SourceView, Streams, changed}
 use Rattle.live_answers.specs.Answers.{Answer, Answers}
 use Rattle.live_answers.specs.Asked.{Asked}
 use Rattle.live.specs.Inputs.{IsSaid, IsAllSaid, IsSaidIn, face_of, nothing_begun, saying}
@@ -90,7 +90,7 @@ pub record AnswersInput (face : Face) (result : Result Unit LiveFault) (old new 
   pub input : List ℕ
   pub said : List Asked
   pub answers : List Answer
-  pub reads : Reads (ending_of live_ending result) max_reads old.streams.source new.streams.source input
+  pub reads : Reads (ending_of live_ending result) max_reads (changed old.streams.source new.streams.source) input
   pub is_said : IsSaidIn (bssids_at old.moment) (nothing_begun face) input (saying said new.begun)
   pub answered : Answers old.moment said answers new.moment
   pub written : WrittenSoFar result (written_after face old.moment answers) old.streams new.streams
@@ -189,7 +189,7 @@ EndsLive (Err Write) texts old new = WritesPrefix texts old new
 -- a run of an access point, and what became of its input and its output
 pub record Runs (setup : Setup) (result : Result Unit LiveFault) (old new : Streams) : Type 0 where
   pub input : List ℕ
-  pub reads : Reads (ending_of live_ending result) max_reads old.source new.source input
+  pub reads : Reads (ending_of live_ending result) max_reads (changed old.source new.source) input
   pub end : EndsLive result (record { setup = setup; input = input }) old new
 
 -- in the face of lines

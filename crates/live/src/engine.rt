@@ -2,13 +2,13 @@
 
 ghost use Rattle.std.specs.Prelude.{◌≡◌, ◌<◌, ◌≤◌, ◌+◌, ◌^◌, IfOk, length};
 ghost use Rattle.ap_config.specs.Configuration.{fault_of};
-ghost use Rattle.trace.specs.Buffers.{CanWrite};
+ghost use Rattle.trace.specs.Buffers.{CanWrite, watch};
 ghost use Rattle.trace.specs.Endings.{failures_of};
 ghost use Rattle.trace.specs.Sinks.{MayFail, write_ending};
 ghost use Rattle.live.specs.Inputs.{IsUnfinished, face_of, last_said, nothing_begun};
 ghost use Rattle.live.specs.LiveView.{Finishes, Takes, running};
 ghost use Rattle.live_answers.specs.Moments.{bssids_at, first_moment};
-ghost use Rattle.live.specs.Output.{AnswersPiece, AreAnswered, through, watch, reached};
+ghost use Rattle.live.specs.Output.{AnswersPiece, AreAnswered, through, reached};
 
 use crate::face::Face;
 use crate::lines::{answer_last_line, answer_lines};

@@ -1,10 +1,10 @@
 //! Lines that come in pieces, and their answers.
 
 ghost use Rattle.std.specs.Prelude.{◌≡◌, ◌<◌, ◌≤◌, ◌+◌, ◌^◌, ◌∷◌, [], length};
-ghost use Rattle.trace.specs.Buffers.{CanWrite};
+ghost use Rattle.trace.specs.Buffers.{CanWrite, watch};
 ghost use Rattle.trace.specs.Texts.{LacksLineFeed};
 ghost use Rattle.live_answers.specs.Asked.{asked_in};
-ghost use Rattle.live.specs.Output.{AreAnswered, through, watch};
+ghost use Rattle.live.specs.Output.{AreAnswered, through};
 ghost use Rattle.live.specs.PartialLine.{IsUnended, ended_with};
 ghost use Rattle.live_answers.specs.TextLines.{Octets, partial_after, last_line, lines_in};
 ghost use Rattle.live.specs.declared.face.Face.TheVariants as faces;

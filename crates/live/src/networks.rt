@@ -3,10 +3,10 @@
 ghost use Rattle.std.specs.Prelude.{◌≡◌, ◌+◌, ◌<◌, ◌^◌, ◌∷◌, [], ℕ, None, IfOk, option_map};
 ghost use Rattle.std.specs.List.{AllByRecursion};
 ghost use Rattle.ap_config.specs.Configuration.{fault_of};
-ghost use Rattle.trace.specs.Buffers.{CanWrite, Puts};
+ghost use Rattle.trace.specs.Buffers.{CanWrite, Puts, watch};
 ghost use Rattle.live_answers.specs.Asked.{Asked, asked_in};
 ghost use Rattle.live_answers.specs.Moments.{bssids_at, first_moment};
-ghost use Rattle.live.specs.Output.{AreAnswered, through, watch};
+ghost use Rattle.live.specs.Output.{AreAnswered, through};
 ghost use Rattle.live.specs.PartialLine.{line_in};
 ghost use Rattle.live.specs.Readings.{IsReading, IsUnread};
 ghost use Rattle.live_answers.specs.Records.{IsRecord, records_ask};
@@ -118,7 +118,7 @@ impl Networks {
     /// Puts the table of each network, in order of place.
     pub fn put_tables<W: Sink>(&self, face: Face, out: &mut Buffered<'_, W>)
         requires { CanWrite W.failed out.old }
-        ensures { Puts W.taken W.failed out.old out.new (written_tables face self.now.networks) }
+        ensures { Puts (watch W.taken W.failed) out.old out.new (written_tables face self.now.networks) }
     {
         put_tables(face, out, self.access_point.networks());
     }

@@ -3,7 +3,7 @@
 ghost use Rattle.std.specs.Prelude.{◌≡◌, ◌++◌, codes, decimal, flat_map, option_to_list, option_map};
 ghost use Rattle.mac_frame.specs.Address.{address_text};
 ghost use Rattle.network.specs.Network.{table_of, counts_of};
-ghost use Rattle.trace.specs.Buffers.{CanWrite, Puts};
+ghost use Rattle.trace.specs.Buffers.{CanWrite, Puts, watch};
 ghost use Rattle.trace.specs.Report.{frame_line, station_line, counts_in};
 ghost use Rattle.trace.specs.Texts.{ended};
 ghost use Rattle.trace.specs.TraceText.{code_of};
@@ -21,7 +21,7 @@ use trace::{
 /// Puts a number in decimal digits.
 fn put_number<W: Sink>(out: &mut Buffered<'_, W>, number: u64)
     requires { CanWrite W.failed out.old }
-    ensures { Puts W.taken W.failed out.old out.new (decimal number) }
+    ensures { Puts (watch W.taken W.failed) out.old out.new (decimal number) }
 {
     let mut digits = itoa::Buffer::new();
     out.put(digits.format(number).as_bytes());
@@ -30,7 +30,7 @@ fn put_number<W: Sink>(out: &mut Buffered<'_, W>, number: u64)
 /// Puts an address: its octets as pairs of hexadecimal digits in lower case, with `:` between.
 fn put_address<W: Sink>(out: &mut Buffered<'_, W>, address: MacAddr)
     requires { CanWrite W.failed out.old }
-    ensures { Puts W.taken W.failed out.old out.new (address_text address) }
+    ensures { Puts (watch W.taken W.failed) out.old out.new (address_text address) }
 {
     out.put(&address_text(address));
 }
@@ -38,7 +38,7 @@ fn put_address<W: Sink>(out: &mut Buffered<'_, W>, address: MacAddr)
 /// Puts a frame's line: where it went, the address of its network, and its octets.
 fn put_frame<W: Sink>(out: &mut Buffered<'_, W>, word: &[u8], bssid: MacAddr, frame: &[u8])
     requires { CanWrite W.failed out.old }
-    ensures { Puts W.taken W.failed out.old out.new
+    ensures { Puts (watch W.taken W.failed) out.old out.new
         (frame_line (frame_words word.now bssid) frame.now) }
 {
     out.put(word);
@@ -52,7 +52,7 @@ fn put_frame<W: Sink>(out: &mut Buffered<'_, W>, word: &[u8], bssid: MacAddr, fr
 /// Puts the words of a fault of the line of a number.
 fn put_fault_words<W: Sink>(out: &mut Buffered<'_, W>, fault: &[u8], number: u64)
     requires { CanWrite W.failed out.old }
-    ensures { Puts W.taken W.failed out.old out.new
+    ensures { Puts (watch W.taken W.failed) out.old out.new
         (fault_words fault.now number) }
 {
     out.put(b"fault ");
@@ -64,7 +64,7 @@ fn put_fault_words<W: Sink>(out: &mut Buffered<'_, W>, fault: &[u8], number: u64
 /// Puts the line of a fault of the line of a number.
 pub fn put_line_fault<W: Sink>(out: &mut Buffered<'_, W>, fault: LineFault, number: u64)
     requires { CanWrite W.failed out.old }
-    ensures { Puts W.taken W.failed out.old out.new
+    ensures { Puts (watch W.taken W.failed) out.old out.new
         (ended (fault_words (codes "L" ++ decimal (code_of fault)) number)) }
 {
     out.put(b"fault L");
@@ -77,7 +77,7 @@ pub fn put_line_fault<W: Sink>(out: &mut Buffered<'_, W>, fault: LineFault, numb
 /// Puts that the line of a number could not be read since memory ran out.
 pub fn put_unread<W: Sink>(out: &mut Buffered<'_, W>, number: u64)
     requires { CanWrite W.failed out.old }
-    ensures { Puts W.taken W.failed out.old out.new
+    ensures { Puts (watch W.taken W.failed) out.old out.new
         (ended (fault_words (codes "memory") number)) }
 {
     put_fault_words(out, b"memory", number);
@@ -92,7 +92,7 @@ pub fn put_refusal<W: Sink>(
     number: u64,
 )
     requires { CanWrite W.failed out.old }
-    ensures { Puts W.taken W.failed out.old out.new
+    ensures { Puts (watch W.taken W.failed) out.old out.new
         (reply_text number bssid (Refuses why)) }
 {
     put_fault_words(out, refusal_word(why), number);
@@ -114,7 +114,7 @@ pub fn refusal_word(why: NetworkRefusal) -> &'static [u8]
 /// Puts the frames that a network sent: those on the air, and then the one on the wire, if there is one.
 pub fn put_sent<W: Sink>(out: &mut Buffered<'_, W>, bssid: MacAddr, sent: &Sent)
     requires { CanWrite W.failed out.old }
-    ensures { Puts W.taken W.failed out.old out.new
+    ensures { Puts (watch W.taken W.failed) out.old out.new
         (frames_text (codes "air") bssid sent.now.air
         ++ frames_text (codes "wire") bssid (option_to_list sent.now.wire)) }
 {
@@ -132,7 +132,7 @@ fn put_frame_if<W: Sink>(
     frame: Option<&Octets>,
 )
     requires { CanWrite W.failed out.old }
-    ensures { Puts W.taken W.failed out.old out.new
+    ensures { Puts (watch W.taken W.failed) out.old out.new
         (frames_text word.now bssid (option_to_list (option_map (λ octets. octets.now) frame.entry))) }
 {
     if let Some(octets) = frame {
@@ -143,7 +143,7 @@ fn put_frame_if<W: Sink>(
 /// Puts the lines of frames.
 fn put_frames<W: Sink>(out: &mut Buffered<'_, W>, word: &[u8], bssid: MacAddr, frames: &[Octets])
     requires { CanWrite W.failed out.old }
-    ensures { Puts W.taken W.failed out.old out.new
+    ensures { Puts (watch W.taken W.failed) out.old out.new
         (frames_text word.now bssid frames.now) }
 {
     for frame in frames {
@@ -154,7 +154,7 @@ fn put_frames<W: Sink>(out: &mut Buffered<'_, W>, word: &[u8], bssid: MacAddr, f
 /// Puts the table of each network, in order of place.
 pub fn put_tables<W: Sink>(out: &mut Buffered<'_, W>, networks: &[Network])
     requires { CanWrite W.failed out.old }
-    ensures { Puts W.taken W.failed out.old out.new (tables_text networks.now) }
+    ensures { Puts (watch W.taken W.failed) out.old out.new (tables_text networks.now) }
 {
     for network in networks {
         put_table(out, network);
@@ -164,7 +164,7 @@ pub fn put_tables<W: Sink>(out: &mut Buffered<'_, W>, networks: &[Network])
 /// Puts a network's table: its name, its counts, its stations, and `end`.
 fn put_table<W: Sink>(out: &mut Buffered<'_, W>, network: &Network)
     requires { CanWrite W.failed out.old }
-    ensures { Puts W.taken W.failed out.old out.new (table_text network.now) }
+    ensures { Puts (watch W.taken W.failed) out.old out.new (table_text network.now) }
 {
     put_network_line(out, &network.setting().network);
     put_counts_line(out, &totals_of(network));
@@ -188,7 +188,7 @@ pub fn totals_of(network: &Network) -> Totals
 /// Puts a line for each station of a network.
 fn put_stations<W: Sink>(out: &mut Buffered<'_, W>, network: &Network)
     requires { CanWrite W.failed out.old }
-    ensures { Puts W.taken W.failed out.old out.new
+    ensures { Puts (watch W.taken W.failed) out.old out.new
         (flat_map station_line (table_of network.now.network)) }
 {
     for place in 0..network.table_len() {

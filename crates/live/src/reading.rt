@@ -6,13 +6,12 @@ ghost use Rattle.live_answers.specs.Asked.{asked_by};
 ghost use Rattle.live.specs.PartialLine.{line_in};
 ghost use Rattle.live.specs.Readings.{IsLineReading, IsReading};
 ghost use Rattle.live_answers.specs.Records.{IsRecord, air_record, kind_asks, nobody, record_asks, wire_record};
-ghost use Rattle.trace.specs.TraceText.{place_with};
 
 use crate::record::HEADER_LEN;
 use events::{LentLine, Line};
 use mac_frame::{MacAddr, NoMemory, address_at};
 use std::alloc::Global;
-use trace::{LineFault, ReadFault, read_content, without_spaces_at_end};
+use trace::{LineFault, ReadFault, place_with, read_content, without_spaces_at_end};
 
 /// What a line says that asks for tables.
 const TABLES: &[u8] = b"I";
@@ -121,13 +120,6 @@ fn read_wire(place: Option<usize>, octets: &[u8]) -> Reading<'_>
         return Reading::Fault(LineFault::TooMany);
     }
     Reading::Record(LentLine::Wire { place, octets })
-}
-
-/// The place of the first network that has an address.
-fn place_with(address: MacAddr, bssids: &[MacAddr]) -> Option<usize>
-    ensures { result ≡ place_with address bssids.now }
-{
-    bssids.iter().position(|bssid| *bssid == address)
 }
 
 /// Whether a record says no more than its kind.

@@ -1,8 +1,8 @@
 //! Records that come in pieces, and their answers.
 
 ghost use Rattle.std.specs.Prelude.{◌≡◌, ◌<◌, ◌≤◌, ◌+◌, ◌^◌, [], length};
-ghost use Rattle.trace.specs.Buffers.{CanWrite};
-ghost use Rattle.live.specs.Output.{AnswersRecords, AreAnswered, through, watch, waiting};
+ghost use Rattle.trace.specs.Buffers.{CanWrite, watch};
+ghost use Rattle.live.specs.Output.{AnswersRecords, AreAnswered, through, waiting};
 ghost use Rattle.live_answers.specs.Records.{IsBegun, IsRecord, cut_record};
 ghost use Rattle.live.specs.declared.face.Face.TheVariants as faces;
 

@@ -2,9 +2,9 @@
 
 ghost use Rattle.std.specs.Prelude.{◌<◌, ◌^◌, false};
 ghost use Rattle.std.specs.List.{AllByRecursion};
-ghost use Rattle.trace.specs.Buffers.{CanWrite};
+ghost use Rattle.trace.specs.Buffers.{CanWrite, watch};
 ghost use Rattle.events.specs.LentEvents.{event_of, line_of};
-ghost use Rattle.live.specs.Output.{HasReplied, HaveReplied, through, watch};
+ghost use Rattle.live.specs.Output.{HasReplied, HaveReplied, through};
 
 use crate::face::Face;
 use crate::written::{put_refusal, put_sent};

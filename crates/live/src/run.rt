@@ -2,7 +2,7 @@
 
 ghost use Rattle.std.specs.Prelude.{◌≡◌, ◌<◌, ◌≤◌, ◌+◌, ◌^◌, length, take, Ok, Err, IfOk, OnErr, OnOk};
 ghost use Rattle.std.specs.Io.KnownBytes.{Consumes, IsAtEnd, Keeps};
-ghost use Rattle.trace.specs.Endings.{Ends, failures_of};
+ghost use Rattle.trace.specs.Endings.{Ends, failures_of, ending_of};
 ghost use Rattle.trace.specs.Sinks.{MayFail, failed_reads, report_ending};
 ghost use Rattle.trace.specs.Streams.{reads_after};
 ghost use Rattle.live.specs.AnswerOctets.{count_record};
@@ -110,7 +110,7 @@ fn write_open<W: Sink>(
     out: &mut W,
 ) -> Result<(), ReportFault>
     requires { MayFail (W.failed out.old) }
-    ensures ends { Ends report_ending result (Ok (written_count face count)) (W.taken out.old) (W.taken out.new) }
+    ensures ends { Ends (ending_of report_ending result) (Ok (written_count face count)) (W.taken out.old) (W.taken out.new) }
     ensures memory { result ≡ Err ReportFault.NoMemory → Keeps (W.taken out.old) (W.taken out.new) }
     ensures failures { W.failed out.new ≡ W.failed out.old + failures_of report_ending result }
 {
@@ -123,7 +123,7 @@ fn write_open<W: Sink>(
 /// Writes the record of how many networks are open.
 fn write_count_record<W: Sink>(count: usize, out: &mut W) -> Result<(), ReportFault>
     requires { MayFail (W.failed out.old) }
-    ensures ends { Ends report_ending result (Ok (count_record count)) (W.taken out.old) (W.taken out.new) }
+    ensures ends { Ends (ending_of report_ending result) (Ok (count_record count)) (W.taken out.old) (W.taken out.new) }
     ensures memory { result ≡ Err ReportFault.NoMemory → Keeps (W.taken out.old) (W.taken out.new) }
     ensures failures { W.failed out.new ≡ W.failed out.old + failures_of report_ending result }
 {

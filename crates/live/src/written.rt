@@ -1,7 +1,7 @@
 //! What goes out about a line or a record, in the face that it came in.
 
 ghost use Rattle.std.specs.Prelude.{ℕ, ◌++◌, codes, decimal, option_to_list};
-ghost use Rattle.trace.specs.Buffers.{CanWrite, Puts};
+ghost use Rattle.trace.specs.Buffers.{CanWrite, Puts, watch};
 ghost use Rattle.trace.specs.TraceText.{code_of};
 ghost use Rattle.live_answers.specs.Moments.{Refuses, Sends};
 ghost use Rattle.live.specs.Written.{written_fault, written_reply, written_tables};
@@ -15,7 +15,7 @@ use trace::{Buffered, LineFault, Sink};
 /// Puts that the line or record of a number has a fault.
 pub fn put_fault<W: Sink>(face: Face, out: &mut Buffered<'_, W>, fault: LineFault, number: u64)
     requires { CanWrite W.failed out.old }
-    ensures { Puts W.taken W.failed out.old out.new
+    ensures { Puts (watch W.taken W.failed) out.old out.new
         (written_fault face (codes "L" ++ decimal (code_of fault)) number) }
 {
     match face {
@@ -33,7 +33,7 @@ pub fn put_refusal<W: Sink>(
     number: u64,
 )
     requires { CanWrite W.failed out.old }
-    ensures { Puts W.taken W.failed out.old out.new (written_reply face number bssid (Refuses why)) }
+    ensures { Puts (watch W.taken W.failed) out.old out.new (written_reply face number bssid (Refuses why)) }
 {
     match face {
         Face::Lines => output::put_refusal(out, why, bssid, number),
@@ -44,7 +44,7 @@ pub fn put_refusal<W: Sink>(
 /// Puts the frames that a network sent: those on the air, and then the one on the wire, if there is one.
 pub fn put_sent<W: Sink>(face: Face, out: &mut Buffered<'_, W>, bssid: MacAddr, sent: &Sent)
     requires { CanWrite W.failed out.old }
-    ensures { (number : ℕ) → Puts W.taken W.failed out.old out.new
+    ensures { (number : ℕ) → Puts (watch W.taken W.failed) out.old out.new
         (written_reply face number bssid (Sends sent.now.air (option_to_list sent.now.wire))) }
 {
     match face {
@@ -56,7 +56,7 @@ pub fn put_sent<W: Sink>(face: Face, out: &mut Buffered<'_, W>, bssid: MacAddr, 
 /// Puts the table of each network, in order of place.
 pub fn put_tables<W: Sink>(face: Face, out: &mut Buffered<'_, W>, networks: &[Network])
     requires { CanWrite W.failed out.old }
-    ensures { Puts W.taken W.failed out.old out.new (written_tables face networks.now) }
+    ensures { Puts (watch W.taken W.failed) out.old out.new (written_tables face networks.now) }
 {
     match face {
         Face::Lines => output::put_tables(out, networks),

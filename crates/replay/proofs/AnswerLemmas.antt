@@ -6,17 +6,17 @@ use Rattle.ap_config.specs.declared.config.ConfigFault.{ConfigFault}
 use Rattle.events.specs.declared.section.Section.{Section}
 use Rattle.events.specs.declared.line.Line.{Line}
 use Rattle.trace.specs.ConfigurationText.{configuration_of}
-use Rattle.trace.specs.Endings.{IsFaultOf, Ends}
+use Rattle.trace.specs.Endings.{IsFaultOf, Ends, ending_of}
 use Rattle.trace.specs.Faults.{read_as, read_ending, report_as}
 use Rattle.trace.specs.Report.{report_text}
 use Rattle.trace.specs.Sinks.{report_ending}
 use Rattle.trace.specs.TraceText.{lines_of}
 use Rattle.trace.specs.declared.fault.TraceFault.{TraceFault}
-use Rattle.trace.specs.declared.read_fault.ReadFault.{ReadFault}
-use Rattle.trace.specs.declared.read_fault.ReadFault.TheVariants as reads
-use Rattle.trace.specs.declared.report.ReportFault.{ReportFault}
-use Rattle.trace.specs.declared.report.ReportFault.TheVariants as reports
-use Rattle.trace.proofs.EndingLemmas.{nothing_written, part_written, part_kept}
+use Rattle.text_io.specs.declared.read_fault.ReadFault.{ReadFault}
+use Rattle.text_io.specs.declared.read_fault.ReadFault.TheVariants as reads
+use Rattle.text_io.specs.declared.report_fault.ReportFault.{ReportFault}
+use Rattle.text_io.specs.declared.report_fault.ReportFault.TheVariants as reports
+use Rattle.trace.specs.EndingLaws.{nothing_written, part_written, part_kept}
 use Rattle.replay.specs.Answer.{answered, replayed, answer_of, text_ending}
 use Rattle.network.specs.Section.{sections_of_lines}
 use Rattle.replay.specs.Stream.{AreSectionsOf}
@@ -26,7 +26,7 @@ use Rattle.replay.specs.declared.fault.TextFault.TheVariants as texts
 -- a report that was cut short
 pub report_ends : (e : ReportFault) (text : List ℕ) (answer : Result (List ℕ) TextFault) (old new : Option (List ℕ))
     → answer ≡ Ok text
-    → Ends {A = Unit} report_ending (Err e) (Ok text) old new → Ends {A = Unit} text_ending (Err (report_as texts.Write texts.NoMemory e)) answer
+    → Ends (ending_of {A = Unit} report_ending (Err e)) (Ok text) old new → Ends (ending_of {A = Unit} text_ending (Err (report_as texts.Write texts.NoMemory e))) answer
     old new
 report_ends reports.Write text answer old new is part = part_written answer text old new is part
 report_ends reports.NoMemory text answer old new is part = part_kept answer text old new is part
@@ -36,7 +36,7 @@ report_ends reports.NoMemory text answer old new is part = part_kept answer text
 -- a fault of the configuration
 pub config_ends : (e : ReadFault ConfigFault) (ct tt : List ℕ) (old : Option (List ℕ))
     → IsFaultOf (configuration_of ct) (read_ending e)
-    → Ends {A = Unit} text_ending (Err (read_as texts.Config texts.NoMemory e)) (answer_of ct tt) old old
+    → Ends (ending_of {A = Unit} text_ending (Err (read_as texts.Config texts.NoMemory e))) (answer_of ct tt) old old
 unfolding answer_of
 config_ends (reads.At fault) ct tt old h =
     (ap (λ (r : Result RadioConfig ConfigFault). answered r tt) h, Keeps-refl old)
@@ -45,7 +45,7 @@ config_ends reads.NoMemory ct tt old h = nothing_written (answer_of ct tt) old
 -- a fault of the trace
 pub trace_ends : (e : ReadFault TraceFault) (c : RadioConfig) (ct tt : List ℕ) (old : Option (List ℕ))
     → configuration_of ct ≡ Ok c
-    → IsFaultOf (lines_of c tt) (read_ending e) → Ends {A = Unit} text_ending (Err (read_as texts.Trace texts.NoMemory e)) (answer_of ct tt) old
+    → IsFaultOf (lines_of c tt) (read_ending e) → Ends (ending_of {A = Unit} text_ending (Err (read_as texts.Trace texts.NoMemory e))) (answer_of ct tt) old
     old
 unfolding answer_of
 trace_ends (reads.At fault) c ct tt old read h =

@@ -11,7 +11,7 @@ use Rattle.trace.specs.Report.{report_text, section_text, network_line, counts_l
 use Rattle.replay.specs.Answer.{answer_of}
 use Rattle.replay.specs.declared.fault.TextFault.{TextFault}
 use Rattle.replay.specs.declared.fault.TextFault.TheVariants.{Config, Trace}
-use Rattle.trace.proofs.ConfigurationRows.{configuration_on_literals}
+use Rattle.trace.specs.OnLiterals.{configuration_on_literals}
 
 -- the sample, with this channel and this most events
 abbrev config_text : List ℕ → List ℕ → List ℕ

@@ -4,12 +4,12 @@ use Rattle.std.proofs.KnownBytes.{Keeps-refl}
 use Rattle.ap_config.specs.declared.config.RadioConfig.{RadioConfig}
 use Rattle.ap_config.specs.declared.config.ConfigFault.{ConfigFault}
 use Rattle.trace.specs.ConfigurationText.{configuration_of}
-use Rattle.trace.specs.Endings.{IsFaultOf, Ends}
+use Rattle.trace.specs.Endings.{IsFaultOf, Ends, ending_of}
 use Rattle.trace.specs.Faults.{read_as, read_ending}
 use Rattle.trace.specs.Report.{count_line}
-use Rattle.trace.specs.declared.read_fault.ReadFault.{ReadFault}
-use Rattle.trace.specs.declared.read_fault.ReadFault.TheVariants.{At, NoMemory}
-use Rattle.trace.proofs.EndingLemmas.{nothing_written}
+use Rattle.text_io.specs.declared.read_fault.ReadFault.{ReadFault}
+use Rattle.text_io.specs.declared.read_fault.ReadFault.TheVariants.{At, NoMemory}
+use Rattle.trace.specs.EndingLaws.{nothing_written}
 use Rattle.replay.specs.Answer.{text_ending}
 use Rattle.replay.specs.Checking.{checked, check_of}
 use Rattle.replay.specs.declared.fault.TextFault.TheVariants as texts
@@ -17,7 +17,7 @@ use Rattle.replay.specs.declared.fault.TextFault.TheVariants as texts
 -- a fault of the configuration
 pub fault_ends : (e : ReadFault ConfigFault) (text : List ℕ) (old : Option (List ℕ))
     → IsFaultOf (configuration_of text) (read_ending e)
-    → Ends {A = Unit} text_ending (Err (read_as texts.Config texts.NoMemory e)) (check_of text) old old
+    → Ends (ending_of {A = Unit} text_ending (Err (read_as texts.Config texts.NoMemory e))) (check_of text) old old
 unfolding check_of
 fault_ends (At fault) text old h = (ap (λ (r : Result RadioConfig ConfigFault). checked r) h, Keeps-refl old)
 fault_ends NoMemory text old h = nothing_written (check_of text) old

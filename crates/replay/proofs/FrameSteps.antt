@@ -5,9 +5,9 @@ use Rattle.std.specs.Prelude.{sum, flat_map}
 use Rattle.std.proofs.lemmas.List.{length-drop, drop_more, drop_all}
 use Rattle.std.proofs.lemmas.List.{flat_map_more}
 use Rattle.std.proofs.lemmas.List.Sums.{sum_by-drop_more}
-use Rattle.trace.specs.Buffers.{CanWrite, Puts}
-use Rattle.trace.specs.declared.report.buffer.Buffered.{Buffered}
-use Rattle.trace.proofs.BufferSteps.{Puts-nothing, Puts-then, Puts-same}
+use Rattle.trace.specs.Buffers.{CanWrite, Puts, watch}
+use Rattle.text_io.specs.declared.buffer.Buffered.{Buffered}
+use Rattle.trace.specs.BufferLaws.{Puts-nothing, Puts-then, Puts-same}
 use Rattle.access_point.specs.FrameLog.{cut_by}
 
 -- ---- frames that are put one after another
@@ -18,7 +18,7 @@ pub record PutSoFar {W : Type 0} (taken : W → Option (List ℕ)) (failed : W �
   pub done : List (List ℕ)
   pub parts : done ++ cut_by (drop place lengths) rest ≡ cut_by lengths octets
   pub whole : sum (drop place lengths) ≡ length rest
-  pub put : Puts taken failed old new (flat_map line done)
+  pub put : Puts (watch taken failed) old new (flat_map line done)
 
 module _ {W : Type 0} {taken : W → Option (List ℕ)} {failed : W → ℕ} (line : List ℕ → List ℕ) (lengths octets : List ℕ)
   where
@@ -28,7 +28,7 @@ module _ {W : Type 0} {taken : W → Option (List ℕ)} {failed : W → ℕ} (li
 
     pub put-more : (place : ℕ) (rest : List ℕ) {old mid new : Buffered W}
         → PutSoFar taken failed line lengths octets place rest old mid → place < length lengths
-        → Puts taken failed mid new (line (take (get_or lengths place 0) rest))
+        → Puts (watch taken failed) mid new (line (take (get_or lengths place 0) rest))
         → PutSoFar taken failed line lengths octets (place + 1) (drop (get_or lengths place 0) rest) old new
     put-more place rest s within put =
         let len : ℕ = get_or lengths place 0 in
@@ -47,7 +47,7 @@ module _ {W : Type 0} {taken : W → Option (List ℕ)} {failed : W → ℕ} (li
 
     pub put-all : (place : ℕ) (rest : List ℕ) {old new : Buffered W}
         → PutSoFar taken failed line lengths octets place rest old new → length lengths ≤ place
-        → Puts taken failed old new (flat_map line (cut_by lengths octets))
+        → Puts (watch taken failed) old new (flat_map line (cut_by lengths octets))
     put-all place rest s past =
         let none : cut_by (drop place lengths) rest ≡ [] =
         ap (λ (ns : List ℕ). cut_by ns rest) (drop_all place lengths past) in

@@ -8,7 +8,7 @@ use Rattle.std.specs.List.{position}
 use Rattle.trace.specs.Texts.{is_line_feed, LacksLineFeed, ended}
 use Rattle.replay.specs.Joined.{IsJoined, is_separator, joined_parts}
 use Rattle.replay.proofs.JoinedParts.{IsJoined-joined_parts}
-use Rattle.trace.proofs.TextLemmas.{around_line_feed, prefix_lacks, lacks_from_none}
+use Rattle.trace.specs.TextLaws.{around_line_feed, prefix_lacks, lacks_from_none}
 use Rattle.replay.proofs.JoinedLines.{joined_parts-separator, joined_parts-other, joined_parts-last_separator}
 use Rattle.replay.proofs.JoinedLines.{joined_parts-last_other}
 

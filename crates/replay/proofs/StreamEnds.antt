@@ -8,20 +8,20 @@ use Rattle.events.specs.declared.line.Line.{Line}
 use Rattle.events.specs.declared.section.Section.{Section}
 use Rattle.network.specs.Section.{sections_of_lines}
 use Rattle.trace.specs.ConfigurationText.{configuration_of}
-use Rattle.trace.specs.Endings.{Well, Refused, OutOfMemory, IsFaultOf, Ends, failures_of}
+use Rattle.trace.specs.Endings.{Well, Refused, OutOfMemory, IsFaultOf, Ends, failures_of, ending_of}
 use Rattle.trace.specs.Faults.{read_as, read_ending, report_as}
 use Rattle.trace.specs.Report.{report_text}
 use Rattle.trace.specs.Sinks.{report_ending}
-use Rattle.trace.specs.Streams.{SourceView, SinkView, Streams, Reads}
+use Rattle.trace.specs.Streams.{SourceChange, SourceView, SinkView, Streams, Reads, changed}
 use Rattle.trace.specs.TraceText.{lines_of}
 use Rattle.trace.specs.declared.fault.TraceFault.{TraceFault}
-use Rattle.trace.specs.declared.read_fault.ReadFault.{ReadFault}
-use Rattle.trace.specs.declared.read_fault.ReadFault.TheVariants as reads
-use Rattle.trace.specs.declared.report.ReportFault.{ReportFault}
-use Rattle.trace.specs.declared.report.ReportFault.TheVariants as reports
-use Rattle.trace.proofs.EndingLemmas.{part_written, whole_written}
+use Rattle.text_io.specs.declared.read_fault.ReadFault.{ReadFault}
+use Rattle.text_io.specs.declared.read_fault.ReadFault.TheVariants as reads
+use Rattle.text_io.specs.declared.report_fault.ReportFault.{ReportFault}
+use Rattle.text_io.specs.declared.report_fault.ReportFault.TheVariants as reports
+use Rattle.trace.specs.EndingLaws.{part_written, whole_written}
 use Rattle.replay.specs.Answer.{answer_of}
-use Rattle.replay.specs.Stream.{AreSectionsOf, AreTaken, ReadsToEnd, RunsStream, SourceChange, IsStreamFault, StopsIn, changed}
+use Rattle.replay.specs.Stream.{AreSectionsOf, AreTaken, ReadsToEnd, RunsStream, IsStreamFault, StopsIn}
 use Rattle.replay.specs.Stream.{max_reads, stream_ending}
 use Rattle.replay.specs.declared.fault.StreamFault.{StreamFault}
 use Rattle.replay.specs.declared.fault.StreamFault.TheVariants.{Config, Trace, NoMemory, Read, Write}
@@ -31,7 +31,7 @@ use Rattle.replay.proofs.StreamSteps.{counted-none}
 -- ---- the reads
 
 -- none was made, since memory ran out
-pub unread : {F : Type 0} (source : SourceView) → Reads {F = F} OutOfMemory max_reads source source []
+pub unread : {F : Type 0} (source : SourceView) → Reads {F = F} OutOfMemory max_reads (changed source source) []
 unread source = record {
   taken = Consumes-nil source.left;
   made = 0;
@@ -41,7 +41,7 @@ unread source = record {
 }
 
 -- none was made, since a fault came before
-pub unread-fault : {F : Type 0} (fault : F) (source : SourceView) → Reads (Refused fault) max_reads source source []
+pub unread-fault : {F : Type 0} (fault : F) (source : SourceView) → Reads (Refused fault) max_reads (changed source source) []
 unread-fault fault source = record {
   taken = Consumes-nil source.left;
   made = 0;
@@ -52,8 +52,8 @@ unread-fault fault source = record {
 
 -- all were made, and the trace has a fault, or memory ran out
 pub reads-then : {F : Type 0} (e : ReadFault TraceFault) (old new : SourceView) (text : List ℕ)
-    → Reads {F = F} Well max_reads old new text
-    → Reads (stream_ending (read_as Trace NoMemory e)) max_reads old new text
+    → Reads {F = F} Well max_reads (changed old new) text
+    → Reads (stream_ending (read_as Trace NoMemory e)) max_reads (changed old new) text
 reads-then (reads.At fault) old new text r =
     record { taken = r.taken; made = r.made; within = r.within; counted = r.counted; failed = r.failed }
 reads-then reads.NoMemory old new text r =
@@ -122,7 +122,7 @@ fault_runs holds Write c ct old new sink is s = absurd s.end
 pub report_runs : {A : Type 0} (items : A → List Section) (made : A) (e : ReportFault) (c : RadioConfig) (ct : List ℕ)
     (old new : Streams) → configuration_of ct ≡ Ok c
     → ReadsToEnd (λ made text. AreSectionsOf c text (items made)) (Ok made) c (changed old.source new.source)
-    → Ends {A = Unit} report_ending (Err e) (Ok (report_text (items made))) old.sink.taken new.sink.taken
+    → Ends (ending_of {A = Unit} report_ending (Err e)) (Ok (report_text (items made))) old.sink.taken new.sink.taken
     → new.sink.failed ≡ old.sink.failed + failures_of {A = Unit} report_ending (Err e)
     → RunsStream (Err (report_as Write NoMemory e)) ct old new
 report_runs items made reports.Write c ct old new is s part failures =

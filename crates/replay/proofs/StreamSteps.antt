@@ -14,7 +14,7 @@ use Rattle.trace.specs.Streams.{SourceView, reads_after}
 use Rattle.trace.specs.Texts.{is_line_feed, LacksLineFeed, ended}
 use Rattle.trace.specs.TraceText.{lines_of}
 use Rattle.trace.specs.declared.fault.TraceFault.{TraceFault}
-use Rattle.trace.proofs.TextLemmas.{around_line_feed, prefix_lacks}
+use Rattle.trace.specs.TextLaws.{around_line_feed, prefix_lacks}
 use Rattle.replay.specs.Stream.{HasReplayed, StopsIn}
 
 -- ---- the end of a trace

@@ -10,7 +10,7 @@ use Rattle.trace.specs.ConfigurationText.{configuration_of}
 use Rattle.trace.specs.Endings.{Ending, Refused, ReadFailed, WriteFailed, OutOfMemory, AppendsPrefix, ending_of}
 use Rattle.trace.specs.Endings.{failures_of}
 use Rattle.trace.specs.Pieces.{ReaderView, HasRead, whole_lines}
-use Rattle.trace.specs.Streams.{SourceView, Streams, Reads}
+use Rattle.trace.specs.Streams.{SourceChange, SourceView, Streams, Reads, changed}
 use Rattle.trace.specs.TraceText.{bssids_of, lines_from, lines_of}
 use Rattle.replay.specs.Answer.{answer_of}
 use Rattle.replay.specs.declared.fault.StreamFault.{StreamFault}
@@ -72,20 +72,12 @@ abbrev pub AreSectionsOf : RadioConfig → List ℕ → List Section → Type 0
 AreSectionsOf c text sections =
     (lines : List Line) × (lines_of c text ≡ Ok lines) × (sections ≡ sections_of_lines c lines)
 
--- a source as a call found it, and as the call left it
-pub record SourceChange : Type 0 where
-  pub old : SourceView
-  pub new : SourceView
-
-abbrev pub changed : SourceView → SourceView → SourceChange
-changed old new = record { old = old; new = new }
-
 -- A source was read to its end, and this holds of what is handed out and of all that it gave; or why reading ended
 -- before.
 pub record ReadsToEnd {A : Type 0} (holds : A → List ℕ → Type 0) (result : Result A StreamFault) (c : RadioConfig)
     (source : SourceChange) : Type 0 where
   pub text : List ℕ
-  pub reads : Reads (ending_of stream_ending result) max_reads source.old source.new text
+  pub reads : Reads (ending_of stream_ending result) max_reads source text
   pub end : MatchResult result
       (λ made. IsAtEnd source.new.left × holds made text)
       (λ fault. IsStreamFault c text fault)
@@ -120,7 +112,7 @@ StopsAtFault result config_text text = Unit {0}
 -- A run of a configuration's text and of what was read of a source ended so.
 pub record RunsStream (result : Result Unit StreamFault) (config_text : List ℕ) (old new : Streams) : Type 0 where
   pub text : List ℕ
-  pub reads : Reads (ending_of stream_ending result) max_reads old.source new.source text
+  pub reads : Reads (ending_of stream_ending result) max_reads (changed old.source new.source) text
   pub stops : StopsAtFault result config_text text
   pub end : EndsStream result (answer_of config_text text) old new
   pub failures : new.sink.failed ≡ old.sink.failed + failures_of stream_ending result

@@ -1,7 +1,7 @@
 //! What is said of a configuration alone: how many networks it has, or its first fault.
 
 ghost use Rattle.std.specs.Prelude.{◌≡◌, ◌+◌};
-ghost use Rattle.trace.specs.Endings.{Ends, failures_of};
+ghost use Rattle.trace.specs.Endings.{Ends, failures_of, ending_of};
 ghost use Rattle.trace.specs.Sinks.{MayFail};
 ghost use Rattle.replay.specs.Answer.{text_ending};
 ghost use Rattle.replay.specs.Checking.{check_of};
@@ -18,7 +18,7 @@ use trace::{Sink, read_config, write_count};
 /// `Trace` never comes.
 pub fn check_text<W: Sink>(alloc: Global, config: &[u8], out: &mut W) -> Result<(), TextFault>
     requires { MayFail (W.failed out.old) }
-    ensures ends { Ends text_ending result (check_of config.now) (W.taken out.old) (W.taken out.new) }
+    ensures ends { Ends (ending_of text_ending result) (check_of config.now) (W.taken out.old) (W.taken out.new) }
     ensures failures { W.failed out.new ≡ W.failed out.old + failures_of text_ending result }
 {
     let config = read_config(alloc, config)?;

@@ -2,7 +2,7 @@
 
 ghost use Rattle.std.specs.Prelude.{◌≡◌, flat_map};
 ghost use Rattle.network.specs.Network.{table_of, counts_of};
-ghost use Rattle.trace.specs.Buffers.{CanWrite, Puts};
+ghost use Rattle.trace.specs.Buffers.{CanWrite, Puts, watch};
 ghost use Rattle.trace.specs.Report.{station_line, counts_line, counts_in, frame_line};
 ghost use Rattle.replay.specs.Log.{log_text};
 
@@ -16,7 +16,7 @@ use trace::{
 /// Puts the section of a network: its name, its counts, its stations, its frames, and `end`.
 pub fn put_network<W: Sink>(out: &mut Buffered<'_, W>, logged: &LoggedNetwork)
     requires { CanWrite W.failed out.old }
-    ensures { Puts W.taken W.failed out.old out.new (log_text logged.now) }
+    ensures { Puts (watch W.taken W.failed) out.old out.new (log_text logged.now) }
 {
     put_network_line(out, &logged.network.setting().network);
     put_counts_line(out, &totals_of(&logged.network));
@@ -43,7 +43,7 @@ fn totals_of(network: &Network) -> Totals
 /// Puts a line for each station that a network knows.
 fn put_stations<W: Sink>(out: &mut Buffered<'_, W>, network: &Network)
     requires { CanWrite W.failed out.old }
-    ensures { Puts W.taken W.failed out.old out.new (flat_map station_line (table_of network.now.network)) }
+    ensures { Puts (watch W.taken W.failed) out.old out.new (flat_map station_line (table_of network.now.network)) }
 {
     for place in 0..network.table_len() {
         put_station_line(out, &network.row(place));
@@ -53,7 +53,7 @@ fn put_stations<W: Sink>(out: &mut Buffered<'_, W>, network: &Network)
 /// Puts a line for each frame, after a word that says where it was sent.
 fn put_frames<W: Sink>(out: &mut Buffered<'_, W>, word: &[u8], frames: &FrameLog)
     requires { CanWrite W.failed out.old }
-    ensures { Puts W.taken W.failed out.old out.new (flat_map (frame_line word.now) frames.now) }
+    ensures { Puts (watch W.taken W.failed) out.old out.new (flat_map (frame_line word.now) frames.now) }
 {
     let (lengths, octets) = frames.parts();
     let mut rest = octets;

@@ -2,7 +2,7 @@
 
 ghost use Rattle.std.specs.Prelude.{◌≡◌, ◌+◌, [], None, Ok, IfOk, flat_map};
 ghost use Rattle.ap_config.specs.Configuration.{fault_of};
-ghost use Rattle.trace.specs.Endings.{Ends, failures_of};
+ghost use Rattle.trace.specs.Endings.{Ends, failures_of, ending_of};
 ghost use Rattle.trace.specs.Sinks.{MayFail, report_ending, write_ending};
 ghost use Rattle.replay.specs.Log.{logs_of_lines, log_text};
 
@@ -50,7 +50,7 @@ impl Logs {
     /// sink has taken a prefix of the report, perhaps nothing.
     pub fn write<W: Sink>(&self, alloc: Global, out: &mut W) -> Result<(), ReportFault>
         requires { MayFail (W.failed out.old) }
-        ensures ends { Ends report_ending result (Ok (flat_map log_text self.now.access_point))
+        ensures ends { Ends (ending_of report_ending result) (Ok (flat_map log_text self.now.access_point))
             (W.taken out.old) (W.taken out.new) }
         ensures failures { W.failed out.new ≡ W.failed out.old + failures_of report_ending result }
     {
@@ -67,7 +67,7 @@ fn write_through<W: Sink>(
     out: &mut W,
 ) -> Result<(), Failed>
     requires { MayFail (W.failed out.old) }
-    ensures ends { Ends write_ending result (Ok (flat_map log_text networks.now))
+    ensures ends { Ends (ending_of write_ending result) (Ok (flat_map log_text networks.now))
         (W.taken out.old) (W.taken out.new) }
     ensures failures { W.failed out.new ≡ W.failed out.old + failures_of write_ending result }
 {

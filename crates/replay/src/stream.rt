@@ -7,11 +7,12 @@ ghost use Rattle.trace.specs.ConfigurationText.{configuration_of};
 ghost use Rattle.trace.specs.Endings.{IsFaultOf, outcome_of};
 ghost use Rattle.trace.specs.Faults.{read_ending};
 ghost use Rattle.trace.specs.Sinks.{MayFail};
+ghost use Rattle.trace.specs.Streams.{changed};
 ghost use Rattle.trace.specs.Texts.{LacksLineFeed, ended};
 ghost use Rattle.trace.specs.TraceText.{lines_of};
 ghost use Rattle.replay.specs.Log.{logs_of_lines};
 ghost use Rattle.replay.specs.Stream.{HasReplayed, AreTaken, AreSectionsOf, ReadsToEnd, RunsStream};
-ghost use Rattle.replay.specs.Stream.{changed, seen, streams};
+ghost use Rattle.replay.specs.Stream.{seen, streams};
 
 use crate::fault::StreamFault;
 use crate::line_by_line::Replay;

@@ -4,7 +4,7 @@ ghost use Rattle.std.specs.Prelude.{◌≡◌, ◌+◌, None, Ok, IfOk, MatchRes
 ghost use Rattle.ap_config.specs.Configuration.{fault_of};
 ghost use Rattle.ap_config.specs.declared.config.RadioConfig.{RadioConfig};
 ghost use Rattle.trace.specs.ConfigurationText.{configuration_of};
-ghost use Rattle.trace.specs.Endings.{Ends, IsFaultOf, failures_of};
+ghost use Rattle.trace.specs.Endings.{Ends, IsFaultOf, failures_of, ending_of};
 ghost use Rattle.trace.specs.Faults.{read_ending};
 ghost use Rattle.trace.specs.Sinks.{MayFail};
 ghost use Rattle.trace.specs.TraceText.{lines_of};
@@ -34,7 +34,7 @@ pub fn run_text<W: Sink>(
     out: &mut W,
 ) -> Result<(), TextFault>
     requires { MayFail (W.failed out.old) }
-    ensures ends { Ends text_ending result (answer_of config.now trace.now) (W.taken out.old) (W.taken out.new) }
+    ensures ends { Ends (ending_of text_ending result) (answer_of config.now trace.now) (W.taken out.old) (W.taken out.new) }
     ensures failures { W.failed out.new ≡ W.failed out.old + failures_of text_ending result }
 {
     let radio = read_config(alloc, config)?;
@@ -52,7 +52,7 @@ pub fn report_texts<W: Sink>(
     out: &mut W,
 ) -> Result<Vec<Section>, TextFault>
     requires { MayFail (W.failed out.old) }
-    ensures ends { Ends text_ending result (answer_of config.now trace.now) (W.taken out.old) (W.taken out.new) }
+    ensures ends { Ends (ending_of text_ending result) (answer_of config.now trace.now) (W.taken out.old) (W.taken out.new) }
     ensures sections { IfOk result (λ sections. (c : RadioConfig) × (configuration_of config.now ≡ Ok c)
         × AreSectionsOf c trace.now sections.items) }
     ensures failures { W.failed out.new ≡ W.failed out.old + failures_of text_ending result }

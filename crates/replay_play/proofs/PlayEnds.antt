@@ -10,16 +10,16 @@ use Rattle.ap_config.specs.declared.config.RadioConfig.{RadioConfig}
 use Rattle.ap_config.specs.declared.config.ConfigFault.{ConfigFault}
 use Rattle.events.specs.declared.line.Line.{Line}
 use Rattle.trace.specs.ConfigurationText.{configuration_of}
-use Rattle.trace.specs.Endings.{Gives, IsFaultOf, Ends}
+use Rattle.trace.specs.Endings.{Gives, IsFaultOf, Ends, ending_of}
 use Rattle.trace.specs.Faults.{read_as, read_ending, report_as}
 use Rattle.trace.specs.Report.{report_text}
 use Rattle.trace.specs.Sinks.{report_ending}
 use Rattle.trace.specs.TraceText.{lines_of}
 use Rattle.trace.specs.declared.fault.TraceFault.{TraceFault}
-use Rattle.trace.specs.declared.read_fault.ReadFault.{ReadFault}
-use Rattle.trace.specs.declared.read_fault.ReadFault.TheVariants as reads
-use Rattle.trace.specs.declared.report.ReportFault.{ReportFault}
-use Rattle.trace.specs.declared.report.ReportFault.TheVariants as reports
+use Rattle.text_io.specs.declared.read_fault.ReadFault.{ReadFault}
+use Rattle.text_io.specs.declared.read_fault.ReadFault.TheVariants as reads
+use Rattle.text_io.specs.declared.report_fault.ReportFault.{ReportFault}
+use Rattle.text_io.specs.declared.report_fault.ReportFault.TheVariants as reports
 use Rattle.events.specs.declared.air_item.AirItem.{AirItem}
 use Rattle.workers.specs.Ending.{AreSections, HaveLeft, ArePlaced}
 use Rattle.workers.specs.Names.{callers_fit}
@@ -115,7 +115,7 @@ play_fails (plays.Finish fault) c ct traces sources old able config count =
 -- the report was cut short
 pub report_plays : (e : ReportFault) (c : RadioConfig) (ct : List ℕ) (traces : List (List ℕ)) (sources : List (List Line))
     (end : Finished) (old new : Option (List ℕ)) → ArePlayable ct traces c sources → IsPlayOf c sources end
-    → Ends {A = Unit} report_ending (Err e) (Ok (report_text end.sections)) old new
+    → Ends (ending_of {A = Unit} report_ending (Err e)) (Ok (report_text end.sections)) old new
     → EndsPlay (Err (report_as Write NoMemory e)) ct traces old new
 report_plays reports.Write c ct traces sources end old new able play part = record {
   answer = Ok (report_text end.sections);

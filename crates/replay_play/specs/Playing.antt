@@ -6,12 +6,12 @@ use Rattle.std.specs.declared.vec.Vec.{Vec}
 use Rattle.ap_config.specs.declared.config.RadioConfig.{RadioConfig}
 use Rattle.events.specs.declared.line.Line.{Line}
 use Rattle.trace.specs.ConfigurationText.{configuration_of}
-use Rattle.trace.specs.Endings.{Gives, Ending, Refused, WriteFailed, OutOfMemory, Ends}
+use Rattle.trace.specs.Endings.{Gives, Ending, Refused, WriteFailed, OutOfMemory, Ends, ending_of}
 use Rattle.trace.specs.Faults.{read_as, read_ending}
 use Rattle.trace.specs.Report.{report_text}
 use Rattle.trace.specs.TraceText.{lines_of}
 use Rattle.trace.specs.declared.fault.TraceFault.{TraceFault}
-use Rattle.trace.specs.declared.read_fault.ReadFault.{ReadFault}
+use Rattle.text_io.specs.declared.read_fault.ReadFault.{ReadFault}
 use Rattle.workers.specs.Ending.{AreSections, HaveLeft, ArePlaced}
 use Rattle.workers.specs.Names.{callers_fit}
 use Rattle.workers.specs.Playing.{ArePlayed}
@@ -107,7 +107,7 @@ pub record EndsPlay (result : Result Unit PlayTextFault) (config_text : List ℕ
     (old new : Option (List ℕ)) : Type 0 where
   pub answer : Result (List ℕ) PlayTextFault
   pub allowed : MayBeAnswered config_text traces answer
-  pub taken : Ends play_ending result answer old new
+  pub taken : Ends (ending_of play_ending result) answer old new
 
 -- ---- a fault of a part, as that of the whole
 

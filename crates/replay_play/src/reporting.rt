@@ -2,8 +2,8 @@
 
 ghost use Rattle.std.specs.Prelude.{◌≡◌, ◌≤◌, ◌+◌, IfOk, Ok, length, flat_map};
 ghost use Rattle.std.specs.Thread.{IsSync};
-ghost use Rattle.trace.specs.Buffers.{CanWrite, Puts};
-ghost use Rattle.trace.specs.Endings.{Ends, failures_of};
+ghost use Rattle.trace.specs.Buffers.{CanWrite, Puts, watch};
+ghost use Rattle.trace.specs.Endings.{Ends, failures_of, ending_of};
 ghost use Rattle.trace.specs.Report.{frame_line, report_text, section_text};
 ghost use Rattle.trace.specs.Sinks.{MayFail, report_ending, write_ending};
 
@@ -35,7 +35,7 @@ pub(crate) fn write_in_threads<R: Threads + Sync, W: Sink>(
     out: &mut W,
 ) -> Result<(), ReportFault>
     requires { MayFail (W.failed out.old) }
-    ensures ends { Ends report_ending result (Ok (report_text sections.now)) (W.taken out.old) (W.taken out.new) }
+    ensures ends { Ends (ending_of report_ending result) (Ok (report_text sections.now)) (W.taken out.old) (W.taken out.new) }
     ensures failures { W.failed out.new ≡ W.failed out.old + failures_of report_ending result }
 {
     let mut piece = vec![in alloc; 0; PIECE]?;
@@ -52,7 +52,7 @@ fn write_through<R: Threads + Sync, W: Sink>(
     out: &mut W,
 ) -> Result<(), Failed>
     requires { MayFail (W.failed out.old) }
-    ensures ends { Ends write_ending result (Ok (report_text sections.now)) (W.taken out.old) (W.taken out.new) }
+    ensures ends { Ends (ending_of write_ending result) (Ok (report_text sections.now)) (W.taken out.old) (W.taken out.new) }
     ensures failures { W.failed out.new ≡ W.failed out.old + failures_of write_ending result }
 {
     let most = MOST_TEXT.saturating_mul(sections.len());
@@ -72,7 +72,7 @@ fn put_section<R: Threads + Sync, W: Sink>(
     section: &Section,
 )
     requires { CanWrite W.failed out.old }
-    ensures { Puts W.taken W.failed out.old out.new (section_text section.now) }
+    ensures { Puts (watch W.taken W.failed) out.old out.new (section_text section.now) }
 {
     put_heading(out, section);
     put_stations(out, section.table.as_slice());
@@ -91,7 +91,7 @@ fn put_parts<R: Threads + Sync, W: Sink>(
     frames: &[Octets],
 )
     requires { CanWrite W.failed out.old }
-    ensures { Puts W.taken W.failed out.old out.new (flat_map (frame_line word.now) frames.now) }
+    ensures { Puts (watch W.taken W.failed) out.old out.new (flat_map (frame_line word.now) frames.now) }
 {
     let mut rest = frames;
     while !rest.is_empty() {
@@ -132,7 +132,7 @@ fn put_quarters<R: Threads + Sync, W: Sink>(
     frames: &[Octets],
 )
     requires { CanWrite W.failed out.old }
-    ensures { Puts W.taken W.failed out.old out.new (flat_map (frame_line word.now) frames.now) }
+    ensures { Puts (watch W.taken W.failed) out.old out.new (flat_map (frame_line word.now) frames.now) }
 {
     let (front, back) = frames.split_at(frames.len() / 2);
     let (one, two) = front.split_at(front.len() / 2);
@@ -210,7 +210,7 @@ fn put_text<W: Sink>(
 )
     requires text { IfOk text (λ t. t.items ≡ flat_map (frame_line word.now) frames.now) }
     requires can_write { CanWrite W.failed out.old }
-    ensures { Puts W.taken W.failed out.old out.new (flat_map (frame_line word.now) frames.now) }
+    ensures { Puts (watch W.taken W.failed) out.old out.new (flat_map (frame_line word.now) frames.now) }
 {
     match text {
         Ok(text) => out.put(text.as_slice()),

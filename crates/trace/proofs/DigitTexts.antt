@@ -8,12 +8,12 @@ use Rattle.hex.specs.Hex.{decode_of, is_hex_digit}
 use Rattle.hex.specs.declared.error.FromHexError.{FromHexError}
 use Rattle.hex.proofs.HexLemmas.{decode_of-ok}
 use Rattle.trace.proofs.TraceSteps.{digits_of_none}
-use Rattle.trace.specs.Endings.{Gives}
-use Rattle.trace.specs.Faults.{read_ending}
+use Rattle.text_io.specs.Endings.{Gives}
+use Rattle.text_io.specs.Faults.{read_ending}
 use Rattle.trace.specs.TraceText.{is_space, digits_of, octets_of, within_limit}
 use Rattle.trace.specs.declared.fault.LineFault.{LineFault}
 use Rattle.trace.specs.declared.fault.LineFault.TheVariants.{NotHexadecimal}
-use Rattle.trace.specs.declared.read_fault.ReadFault.{ReadFault}
+use Rattle.text_io.specs.declared.read_fault.ReadFault.{ReadFault}
 
 -- a digit is no space
 no_space : (x : ℕ) → is_hex_digit x ≡ true → is_space x ≡ false

@@ -6,14 +6,14 @@ use Rattle.std.specs.Option.{option_to_list}
 use Rattle.std.specs.Str.Lines.{lines, lines_of_parts, strip_carriage_return}
 use Rattle.ap_config.specs.declared.config.RadioConfig.{RadioConfig}
 use Rattle.events.specs.declared.line.Line.{Line}
-use Rattle.trace.specs.Faults.{◌>>=◌}
-use Rattle.trace.specs.Texts.{is_line_feed, cut}
+use Rattle.text_io.specs.Faults.{◌>>=◌}
+use Rattle.text_io.specs.Texts.{is_line_feed, cut}
 use Rattle.trace.specs.TraceText.{max_lines, fault_in, bssids_of, line_of, lines_from, lines_of}
 use Rattle.trace.specs.Pieces.{ReaderView, HasRead, new_reader, reader_after, whole_lines, unfinished_line, before_line, said_last, said_after, answer_to, answer_to_all, after_answer, after_piece, past}
 use Rattle.trace.specs.declared.fault.TraceFault.{TraceFault}
 use Rattle.trace.specs.declared.fault.LineFault.TheVariants.{TooMany}
-use Rattle.trace.proofs.PieceLines.{whole_lines-append, unfinished_line-append, lines-append, cut-unfinished}
-use Rattle.trace.proofs.TraceSteps.{HasFirst, slice_split-has_first, last_part}
+use Rattle.trace.specs.LineLaws.{whole_lines-append, unfinished_line-append, lines-append, cut-unfinished}
+use Rattle.trace.specs.LineLaws.{HasFirst, slice_split-has_first, last_part}
 
 -- ---- what lines say, and then others
 

@@ -6,12 +6,12 @@ use Rattle.std.specs.Option.{option_to_list}
 use Rattle.std.specs.Str.Lines.{strip_carriage_return}
 use Rattle.ap_config.specs.declared.config.RadioConfig.{RadioConfig}
 use Rattle.events.specs.declared.line.Line.{Line}
-use Rattle.trace.specs.Faults.{◌>>=◌}
-use Rattle.trace.specs.Texts.{is_line_feed, LacksLineFeed, ended}
+use Rattle.text_io.specs.Faults.{◌>>=◌}
+use Rattle.text_io.specs.Texts.{is_line_feed, LacksLineFeed, ended}
 use Rattle.trace.specs.TraceText.{max_lines, bssids_of, line_of, lines_from, lines_of}
 use Rattle.trace.specs.Pieces.{ReaderView, new_reader, whole_lines, unfinished_line, before_line, said_in, said_after, answer_to, answer_to_end, answer_to_all, after_piece, past}
 use Rattle.trace.specs.declared.fault.TraceFault.{TraceFault}
-use Rattle.trace.proofs.PieceLines.{first_line, whole_lines_line, unfinished_line_line, whole_lines_more, unfinished_line_more, whole_lines_none, unfinished_line_none}
+use Rattle.trace.specs.LineLaws.{first_line, whole_lines_line, unfinished_line_line, whole_lines_none, unfinished_line_none}
 use Rattle.trace.proofs.PieceLaws.{all-read, limited, lines_from-append}
 
 -- nothing before a text
@@ -56,18 +56,6 @@ piece_says r text n e = ap (said_in r) (pieces r text n e)
 pub piece_past : (r : ReaderView) (text : List ℕ) (n : ℕ) → position is_line_feed text ≡ Some n
     → past r (r.unfinished ++ text) ≡ past r (r.unfinished ++ ended (take n text) ++ drop (n + 1) text)
 piece_past r text n e = ap (past r) (pieces r text n e)
-
--- the first line of a text, and those after it
-no_octet : LacksLineFeed []
-no_octet k d within = absurd (omega arith)
-
-pub whole_lines_first : (text : List ℕ) (n : ℕ) → position is_line_feed text ≡ Some n
-    → whole_lines text ≡ strip_carriage_return (take n text) ∷ whole_lines (drop (n + 1) text)
-whole_lines_first text n e = whole_lines_more [] text n no_octet e
-
-pub unfinished_line_first : (text : List ℕ) (n : ℕ) → position is_line_feed text ≡ Some n
-    → unfinished_line text ≡ unfinished_line (drop (n + 1) text)
-unfinished_line_first text n e = unfinished_line_more [] text n no_octet e
 
 -- ---- lines, one after another
 

@@ -1,11 +1,16 @@
 -- All that stands here is the profile's.
-pub mod Texts
-pub mod Faults
-pub mod Endings
-pub mod ConfigurationText
 pub mod TraceText
 pub mod Pieces
-pub mod Sinks
-pub mod Streams
-pub mod Report
-pub mod Buffers
+pub mod LineLaws
+pub use Rattle.text_io.specs.Texts
+pub use Rattle.text_io.specs.TextLaws
+pub use Rattle.text_io.specs.Faults
+pub use Rattle.text_io.specs.Endings
+pub use Rattle.text_io.specs.EndingLaws
+pub use Rattle.text_io.specs.Sinks
+pub use Rattle.text_io.specs.Streams
+pub use Rattle.text_io.specs.Buffers
+pub use Rattle.text_io.specs.BufferLaws
+pub use Rattle.config_text.specs.ConfigurationText
+pub use Rattle.config_text.specs.OnLiterals
+pub use Rattle.report.specs.Report

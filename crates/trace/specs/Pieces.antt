@@ -5,13 +5,13 @@ use Rattle.std.specs.Option.{option_to_list}
 use Rattle.std.specs.Str.Lines.{strip_carriage_return}
 use Rattle.ap_config.specs.declared.config.RadioConfig.{RadioConfig}
 use Rattle.events.specs.declared.line.Line.{Line}
-use Rattle.trace.specs.Faults.{◌>>=◌}
-use Rattle.trace.specs.Texts.{cut}
+use Rattle.text_io.specs.Faults.{◌>>=◌}
+use Rattle.text_io.specs.Texts.{cut}
 use Rattle.trace.specs.TraceText.{max_lines, fault_in, bssids_of, line_of, lines_from}
 use Rattle.trace.specs.declared.fault.TraceFault.{TraceFault}
 use Rattle.trace.specs.declared.fault.LineFault.TheVariants.{TooMany}
-use Rattle.trace.specs.declared.read_fault.ReadFault.{ReadFault}
-use Rattle.trace.specs.declared.read_fault.ReadFault.TheVariants.{At, NoMemory}
+use Rattle.text_io.specs.declared.read_fault.ReadFault.{ReadFault}
+use Rattle.text_io.specs.declared.read_fault.ReadFault.TheVariants.{At, NoMemory}
 
 -- ---- the lines of a text of which more is to come
 

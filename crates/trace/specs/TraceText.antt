@@ -12,13 +12,13 @@ use Rattle.mac_frame.specs.Address.{address_of}
 use Rattle.ap_config.specs.declared.config.RadioConfig.{RadioConfig}
 use Rattle.events.specs.declared.line.Line.{Line}
 use Rattle.events.specs.declared.line.Line.TheVariants.{Air, Wire, Tick}
-use Rattle.trace.specs.Faults.{◌>>=◌}
+use Rattle.text_io.specs.Faults.{◌>>=◌}
 use Rattle.trace.specs.declared.fault.TraceFault.{TraceFault}
 use Rattle.trace.specs.declared.fault.LineFault.{LineFault}
 use Rattle.trace.specs.declared.fault.LineFault.TheVariants.{UnknownKind, NotHexadecimal, NoAddress, UnknownNetwork}
 use Rattle.trace.specs.declared.fault.LineFault.TheVariants.{TooMany}
-use Rattle.trace.specs.declared.read_fault.ReadFault.{ReadFault}
-use Rattle.trace.specs.declared.read_fault.ReadFault.TheVariants.{At, NoMemory}
+use Rattle.text_io.specs.declared.read_fault.ReadFault.{ReadFault}
+use Rattle.text_io.specs.declared.read_fault.ReadFault.TheVariants.{At, NoMemory}
 
 -- ---- the limits
 

@@ -3,9 +3,9 @@
 ghost use Rattle.std.specs.Prelude.{◌≡◌};
 ghost use Rattle.trace.specs.TraceText.{code_of, fault_in, text_fault, hexadecimal_fault};
 
-use crate::read_fault::ReadFault;
 use hex::FromHexError;
 use std::fmt;
+use text_io::ReadFault;
 
 /// The first fault of a trace text.
 #[derive(Clone, Copy, Debug, PartialEq, Eq)]
@@ -77,13 +77,12 @@ pub fn in_text(fault: ReadFault<LineFault>, line: u32) -> TraceTextFault
     }
 }
 
-impl From<FromHexError> for ReadFault<LineFault> {
-    ghost from_gives = { λ e fault. fault ≡ hexadecimal_fault e };
-
-    fn from(e: FromHexError) -> ReadFault<LineFault> {
-        match e {
-            FromHexError::OutOfMemory => ReadFault::NoMemory,
-            _ => ReadFault::At(LineFault::NotHexadecimal),
-        }
+/// Why a line is not read whose digits are not.
+pub fn in_digits(fault: FromHexError) -> ReadFault<LineFault>
+    ensures { result ≡ hexadecimal_fault fault }
+{
+    match fault {
+        FromHexError::OutOfMemory => ReadFault::NoMemory,
+        _ => ReadFault::At(LineFault::NotHexadecimal),
     }
 }

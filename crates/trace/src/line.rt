@@ -1,8 +1,8 @@
 //! One line of a trace text.
 
 ghost use Rattle.std.specs.Prelude.{◌≡◌, ◌≢◌, false, map, Ok, Err, IfOk, IsErr, position};
-ghost use Rattle.trace.specs.Endings.{Gives};
-ghost use Rattle.trace.specs.Faults.{read_ending};
+ghost use Rattle.text_io.specs.Endings.{Gives};
+ghost use Rattle.text_io.specs.Faults.{read_ending};
 ghost use Rattle.mac_frame.specs.Address.{address_of};
 ghost use Rattle.trace.specs.TraceText.{is_skipped, is_space, first_word, without_spaces_at_end};
 ghost use Rattle.trace.specs.TraceText.{without_spaces_at_start, after_first_word, digits_of, octets_of, within_limit};
@@ -10,14 +10,13 @@ ghost use Rattle.trace.specs.TraceText.{place_with, place_named, wired_line, lin
 ghost use Rattle.trace.specs.TraceText.{has_octets, takes_memory};
 ghost use Rattle.hex.specs.Hex.{decode_of};
 
-use crate::fault::LineFault;
-use crate::read_fault::ReadFault;
-use crate::text::{place_of, without_spaces_at_end};
+use crate::fault::{LineFault, in_digits};
 use ap_config::NetConfig;
 use events::Line;
 use mac_frame::{MacAddr, NoMemory, Octets};
 use std::alloc::{AllocError, Global};
 use std::str;
+use text_io::{ReadFault, place_of};
 
 /// The most octets of a string.
 const MAX_OCTETS: usize = 4096;
@@ -120,11 +119,25 @@ fn address_of(word: &[u8]) -> Option<MacAddr>
     }
 }
 
-/// The place of the first network that has an address.
-fn place_with(address: MacAddr, bssids: &[MacAddr]) -> Option<usize>
+/// The place of the first network that has an address, of networks that have these in order of place, counted from 0;
+/// `None` where none has it.
+#[inline]
+pub fn place_with(address: MacAddr, bssids: &[MacAddr]) -> Option<usize>
     ensures { result ≡ place_with address bssids.now }
 {
     bssids.iter().position(|bssid| *bssid == address)
+}
+
+/// A line less the spaces at its end.
+#[inline]
+pub fn without_spaces_at_end(line: &[u8]) -> &[u8]
+    ensures { result.now ≡ without_spaces_at_end line.now }
+{
+    let mut end = line.len();
+    while end > 0 && line[end - 1] == b' ' {
+        end -= 1;
+    }
+    &line[..end]
 }
 
 /// A text less the spaces at its start.
@@ -217,7 +230,10 @@ fn without_spaces(alloc: Global, text: &[u8]) -> Result<Vec<u8>, AllocError>
 fn read_digits(alloc: Global, digits: &[u8]) -> Result<Octets, ReadFault<LineFault>>
     ensures { Gives (λ octets. octets) read_ending result (within_limit (decode_of digits.now)) }
 {
-    within_limit(digits::decode(alloc, digits)?)
+    match digits::decode(alloc, digits) {
+        Ok(octets) => within_limit(octets),
+        Err(fault) => Err(in_digits(fault)),
+    }
 }
 
 /// The octets of a line, if they aren't too many.

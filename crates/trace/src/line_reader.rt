@@ -5,9 +5,9 @@
 ghost use Rattle.std.specs.Prelude.{◌≡◌, ◌+◌, ◌<◌, ◌≤◌, ◌++◌, ◌∷◌, [], length, Err, IfOk, IfSome, IsTrue, OnOk, OnErr};
 ghost use Rattle.std.specs.Option.{option_to_list};
 ghost use Rattle.std.specs.Str.Lines.{strip_carriage_return};
-ghost use Rattle.trace.specs.Endings.{Gives};
-ghost use Rattle.trace.specs.Faults.{read_ending};
-ghost use Rattle.trace.specs.Texts.{LacksLineFeed, ended};
+ghost use Rattle.text_io.specs.Endings.{Gives};
+ghost use Rattle.text_io.specs.Faults.{read_ending};
+ghost use Rattle.text_io.specs.Texts.{LacksLineFeed, ended};
 ghost use Rattle.trace.specs.TraceText.{bssids_of, line_of, lines_from};
 ghost use Rattle.trace.specs.Pieces.{whole_lines, unfinished_line, new_reader, before_line, said_in, said_last};
 ghost use Rattle.trace.specs.Pieces.{answer_to, answer_to_end, after_piece, after_end, past, past_end, Leaves, keeping};
@@ -15,13 +15,12 @@ ghost use Rattle.trace.specs.Pieces.{said_after};
 
 use crate::fault::{LineFault, TraceFault, TraceTextFault, in_text};
 use crate::line::{bssids_of, read_line};
-use crate::read_fault::ReadFault;
-use crate::text::{place_of, without_carriage_return};
 use ap_config::RadioConfig;
 use events::Line;
 use mac_frame::{MacAddr, NoMemory};
 use std::alloc::{AllocFailed, Global};
 use std::marker::Model;
+use text_io::{ReadFault, place_of, without_carriage_return};
 
 /// The most lines of a text.
 const MAX_LINES: u32 = 1_000_000;
@@ -44,7 +43,7 @@ pub struct LineReader {
 
 impl Model for LineReader {
     ghost use Rattle.std.specs.Prelude.{◌<◌, ◌≤◌, length};
-    ghost use Rattle.trace.specs.Texts.{LacksLineFeed};
+    ghost use Rattle.text_io.specs.Texts.{LacksLineFeed};
     ghost use Rattle.trace.specs.TraceText.{max_lines};
     ghost use Rattle.trace.specs.Pieces.{ReaderView};
 

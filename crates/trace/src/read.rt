@@ -2,8 +2,8 @@
 //!
 //! [`read_trace`] gives the lines of a text, or its first fault with the number of its line.
 
-ghost use Rattle.trace.specs.Endings.{Gives};
-ghost use Rattle.trace.specs.Faults.{read_ending};
+ghost use Rattle.text_io.specs.Endings.{Gives};
+ghost use Rattle.text_io.specs.Faults.{read_ending};
 ghost use Rattle.trace.specs.TraceText.{lines_of};
 
 use crate::fault::TraceTextFault;

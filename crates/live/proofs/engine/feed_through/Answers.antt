@@ -3,7 +3,7 @@
 use Rattle.std.proofs.Common.{rules, ◌≡◌, ◌∙◌, ◌+◌}
 use Rattle.trace.specs.Endings.{failures_of}
 use Rattle.trace.specs.Sinks.{write_ending}
-use Rattle.trace.proofs.BufferSteps.{Puts-flushed}
+use Rattle.trace.specs.BufferLaws.{Puts-flushed}
 use Rattle.live.specs.LiveView.{Takes, running}
 use Rattle.live.proofs.engine.feed_through.Goals as goal
 

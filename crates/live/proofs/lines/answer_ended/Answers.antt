@@ -1,6 +1,7 @@
 use Rattle.std.proofs.Common.{[], ◌∷◌, ◌∙◌, ap, subst}
+use Rattle.trace.specs.Buffers.{watch}
 use Rattle.live_answers.specs.Asked.{asked_in}
-use Rattle.live.specs.Output.{AreAnswered, through, watch}
+use Rattle.live.specs.Output.{AreAnswered, through}
 use Rattle.live.specs.declared.face.Face.TheVariants.{Lines}
 use Rattle.live.specs.PartialLine.{ended_with}
 use Rattle.live_answers.specs.TextLines.{TextLine}

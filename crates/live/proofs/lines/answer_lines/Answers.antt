@@ -3,7 +3,7 @@ use Rattle.std.proofs.lemmas.List.Quantifiers.{position-Some}
 use Rattle.std.proofs.lemmas.List.{take_rest}
 use Rattle.std.specs.List.{position}
 use Rattle.trace.specs.Texts.{is_line_feed}
-use Rattle.trace.proofs.TextLemmas.{lacks_from_none}
+use Rattle.trace.specs.TextLaws.{lacks_from_none}
 use Rattle.live_answers.specs.TextLines.{TextLine}
 use Rattle.live.proofs.FeedSteps.{FeedSoFar, line-lacks, feed-none, feed-more, feed-all}
 use Rattle.live.proofs.lines.answer_lines.Goals as goal

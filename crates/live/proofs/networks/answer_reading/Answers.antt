@@ -1,5 +1,5 @@
 use Rattle.std.proofs.Common.{◌∙◌, refl, ap, subst, Some, None, Ok, List, ◌+◌}
-use Rattle.trace.proofs.BufferSteps.{Puts-nothing, Puts-same}
+use Rattle.trace.specs.BufferLaws.{Puts-nothing, Puts-same}
 use Rattle.network.specs.NetworkView.{NetworkState}
 use Rattle.live_answers.specs.Answers.{Nothing, Replies, Tables}
 use Rattle.live_answers.specs.Asked.{Brings, ForTables, Says}

@@ -1,4 +1,4 @@
-use Rattle.trace.proofs.BufferSteps.{Puts-same}
+use Rattle.trace.specs.BufferLaws.{Puts-same}
 use Rattle.live.proofs.output.put_address.Goals as goal
 
 pub returns : goal.returns

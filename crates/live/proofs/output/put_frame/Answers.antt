@@ -1,5 +1,5 @@
 use Rattle.trace.specs.Report.{frame_line}
-use Rattle.trace.proofs.BufferSteps.{Puts-then}
+use Rattle.trace.specs.BufferLaws.{Puts-then}
 use Rattle.live.proofs.output.put_frame.Goals as goal
 
 pub returns : goal.returns

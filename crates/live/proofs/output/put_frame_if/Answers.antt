@@ -3,7 +3,7 @@ use Rattle.std.specs.Prelude.{option_to_list, option_map}
 use Rattle.trace.specs.Report.{frame_line}
 use Rattle.live_answers.specs.AnswerText.{frame_words}
 use Rattle.live.specs.Output.{frames_text}
-use Rattle.trace.proofs.BufferSteps.{Puts-same}
+use Rattle.trace.specs.BufferLaws.{Puts-same}
 use Rattle.live.proofs.output.put_frame_if.Goals as goal
 
 pub returns-in-Some : goal.returns-in-Some

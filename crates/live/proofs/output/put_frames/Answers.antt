@@ -1,6 +1,6 @@
 use Rattle.std.proofs.Common.{ap}
 use Rattle.trace.specs.Report.{frame_line}
-use Rattle.trace.proofs.BufferSteps.{Puts-nothing, Puts-item, Puts-items, Puts-same}
+use Rattle.trace.specs.BufferLaws.{Puts-nothing, Puts-item, Puts-items, Puts-same}
 use Rattle.live_answers.specs.AnswerText.{frame_words}
 use Rattle.live.proofs.output.put_frames.Goals as goal
 

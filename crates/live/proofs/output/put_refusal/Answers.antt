@@ -1,6 +1,6 @@
 use Rattle.std.proofs.Common.{ℕ, List, ap}
 use Rattle.live_answers.specs.AnswerText.{fault_words}
-use Rattle.trace.proofs.BufferSteps.{Puts-then, Puts-same}
+use Rattle.trace.specs.BufferLaws.{Puts-then, Puts-same}
 use Rattle.live.proofs.output.put_refusal.Goals as goal
 
 pub returns : goal.returns

@@ -5,7 +5,7 @@ use Rattle.trace.specs.Report.{frame_line}
 use Rattle.live_answers.specs.AnswerText.{frame_words}
 use Rattle.live.specs.Output.{frames_text}
 use Rattle.live.proofs.ReplySteps.{copied}
-use Rattle.trace.proofs.BufferSteps.{Puts-then, Puts-same}
+use Rattle.trace.specs.BufferLaws.{Puts-then, Puts-same}
 use Rattle.live.proofs.output.put_sent.Goals as goal
 
 pub returns : goal.returns

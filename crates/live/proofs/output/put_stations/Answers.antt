@@ -1,7 +1,7 @@
 use Rattle.std.proofs.Common.{arith}
 use Rattle.network.specs.Network.{table_of}
 use Rattle.trace.specs.Report.{station_line}
-use Rattle.trace.proofs.BufferSteps.{Puts-nothing, Puts-found, Puts-items}
+use Rattle.trace.specs.BufferLaws.{Puts-nothing, Puts-found, Puts-items}
 use Rattle.live.proofs.output.put_stations.Goals as goal
 
 pub loop-place-init : goal.loop-place-init

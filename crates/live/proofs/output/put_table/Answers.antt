@@ -2,7 +2,7 @@ use Rattle.std.proofs.Common.{ap}
 use Rattle.events.specs.declared.section.Counts.{Counts}
 use Rattle.trace.specs.Report.{network_line, counts_line}
 use Rattle.live_answers.specs.AnswerText.{table_text}
-use Rattle.trace.proofs.BufferSteps.{Puts-then, Puts-same}
+use Rattle.trace.specs.BufferLaws.{Puts-then, Puts-same}
 use Rattle.live.proofs.output.put_table.Goals as goal
 
 pub returns : goal.returns

@@ -1,4 +1,4 @@
-use Rattle.trace.proofs.BufferSteps.{Puts-nothing, Puts-item, Puts-items}
+use Rattle.trace.specs.BufferLaws.{Puts-nothing, Puts-item, Puts-items}
 use Rattle.live_answers.specs.AnswerText.{table_text}
 use Rattle.live.proofs.output.put_tables.Goals as goal
 

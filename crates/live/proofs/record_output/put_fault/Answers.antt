@@ -1,7 +1,7 @@
 use Rattle.std.proofs.Common.{◌≡◌, ◌∙◌, ap, append_assoc}
 use Rattle.std.specs.Fmt.{decimal}
 use Rattle.live.specs.AnswerOctets.{told}
-use Rattle.trace.proofs.BufferSteps.{Puts-same}
+use Rattle.trace.specs.BufferLaws.{Puts-same}
 use Rattle.trace.specs.TraceText.{code_of}
 use Rattle.live.proofs.record_output.put_fault.Goals as goal
 

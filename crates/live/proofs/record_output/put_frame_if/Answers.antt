@@ -2,7 +2,7 @@ use Rattle.std.proofs.Common.{ap, sym, append-nil, ◌∙◌}
 use Rattle.std.specs.Prelude.{option_to_list, option_map}
 use Rattle.live.specs.AnswerOctets.{record_of}
 use Rattle.live.specs.Output.{frames_octets}
-use Rattle.trace.proofs.BufferSteps.{Puts-same}
+use Rattle.trace.specs.BufferLaws.{Puts-same}
 use Rattle.live.proofs.record_output.put_frame_if.Goals as goal
 
 pub returns-in-Some : goal.returns-in-Some

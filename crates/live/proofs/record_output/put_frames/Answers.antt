@@ -1,6 +1,6 @@
 use Rattle.std.proofs.Common.{ap}
 use Rattle.live.specs.AnswerOctets.{record_of}
-use Rattle.trace.proofs.BufferSteps.{Puts-nothing, Puts-item, Puts-items, Puts-same}
+use Rattle.trace.specs.BufferLaws.{Puts-nothing, Puts-item, Puts-items, Puts-same}
 use Rattle.live.proofs.record_output.put_frames.Goals as goal
 
 pub loop-frame-init : goal.loop-frame-init

@@ -1,4 +1,4 @@
-use Rattle.trace.proofs.BufferSteps.{Puts-then}
+use Rattle.trace.specs.BufferLaws.{Puts-then}
 use Rattle.live.proofs.record_output.put_header.Goals as goal
 
 pub returns : goal.returns

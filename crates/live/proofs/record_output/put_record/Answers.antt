@@ -1,4 +1,4 @@
-use Rattle.trace.proofs.BufferSteps.{Puts-nothing, Puts-same, Puts-then}
+use Rattle.trace.specs.BufferLaws.{Puts-nothing, Puts-same, Puts-then}
 use Rattle.live.proofs.ToldSteps.{record-over, record-is}
 use Rattle.live.proofs.record_output.put_record.Goals as goal
 

@@ -4,7 +4,7 @@ use Rattle.std.proofs.lemmas.List.Concat.{flat_map-append}
 use Rattle.live.specs.AnswerOctets.{record_of}
 use Rattle.live.specs.Output.{frames_octets}
 use Rattle.live.proofs.ReplySteps.{copied}
-use Rattle.trace.proofs.BufferSteps.{Puts-then, Puts-same}
+use Rattle.trace.specs.BufferLaws.{Puts-then, Puts-same}
 use Rattle.live.proofs.record_output.put_sent.Goals as goal
 
 pub returns : goal.returns

@@ -2,14 +2,14 @@ use Rattle.std.proofs.Common.{arith}
 use Rattle.network.specs.Network.{table_of}
 use Rattle.trace.specs.Report.{station_line}
 use Rattle.live.specs.AnswerOctets.{told}
-use Rattle.trace.proofs.BufferSteps.{Puts-nothing, Puts-found, Puts-items}
+use Rattle.trace.specs.BufferLaws.{Puts-nothing, Puts-found, Puts-items}
 use Rattle.live.proofs.record_output.put_stations.Goals as goal
 
 pub loop-place-init : goal.loop-place-init
 loop-place-init g c = Puts-nothing _ c.requires
 
 pub loop-place-preserved : goal.loop-place-preserved
-loop-place-preserved g c = Puts-found (λ row. told (station_line row)) _ _ _ c.row.ensures c.loop-place.invariant c.put_station.ensures
+loop-place-preserved g c = Puts-found (λ row. told (station_line row)) _ _ _ c.row.ensures c.loop-place.invariant c.put_station_line_in.ensures
 
 pub returns : goal.returns
 returns g c =

@@ -1,4 +1,4 @@
-use Rattle.trace.proofs.BufferSteps.{Puts-nothing, Puts-item, Puts-items}
+use Rattle.trace.specs.BufferLaws.{Puts-nothing, Puts-item, Puts-items}
 use Rattle.live.specs.AnswerOctets.{table_octets}
 use Rattle.live.proofs.record_output.put_tables.Goals as goal
 

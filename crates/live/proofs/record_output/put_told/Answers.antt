@@ -1,6 +1,6 @@
 use Rattle.std.proofs.Common.{◌≡◌, ◌≤◌, ◌<◌, ℕ, List, length, arith}
 use Rattle.std.specs.Prelude.{flat_map}
-use Rattle.trace.proofs.BufferSteps.{Puts-nothing, Puts-then, Puts-same}
+use Rattle.trace.specs.BufferLaws.{Puts-nothing, Puts-then, Puts-same}
 use Rattle.live.proofs.ToldSteps.{told-none, told-long, told-counted}
 use Rattle.live.proofs.record_output.put_told.Goals as goal
 

@@ -1,6 +1,6 @@
 use Rattle.std.proofs.Common.{ℕ, List, arith}
 use Rattle.std.specs.Prelude.{flat_map}
-use Rattle.trace.proofs.BufferSteps.{Puts-nothing, Puts-then, Puts-same}
+use Rattle.trace.specs.BufferLaws.{Puts-nothing, Puts-then, Puts-same}
 use Rattle.live.proofs.ToldSteps.{told-over, told-line}
 use Rattle.live.proofs.record_output.put_told_digits.Goals as goal
 

@@ -1,6 +1,7 @@
 use Rattle.std.proofs.Common.{◌≤◌, ◌++◌, ℕ, List, [], ◌∷◌, length, arith, sym, subst}
+use Rattle.trace.specs.Buffers.{watch}
 use Rattle.live_answers.specs.Moments.{bssids_at}
-use Rattle.live.specs.Output.{AreAnswered, through, watch}
+use Rattle.live.specs.Output.{AreAnswered, through}
 use Rattle.live_answers.specs.Records.{IsBegun, IsRecord, records_ask}
 use Rattle.live.specs.declared.face.Face.TheVariants.{Records}
 use Rattle.live_answers.proofs.RecordLaws.{begun-on}

@@ -1,6 +1,7 @@
 -- Some of the records that end in the piece are answered; what has begun then, and the rest of it, are left.
 use Rattle.std.proofs.Common.{length}
-use Rattle.live.specs.Output.{AnswersRecords, through, watch, waiting}
+use Rattle.trace.specs.Buffers.{watch}
+use Rattle.live.specs.Output.{AnswersRecords, through, waiting}
 use Rattle.live.specs.declared.face.Face.TheVariants.{Records}
 use Rattle.live.proofs.records.answer_records.Given as goal
 

@@ -4,7 +4,7 @@ use Rattle.events.specs.LentEvents.{event_of}
 use Rattle.live.specs.Written.{written_reply}
 use Rattle.live_answers.specs.Moments.{Sends, Refuses}
 use Rattle.live.proofs.ReplySteps.{sends-may, refuses-may}
-use Rattle.trace.proofs.BufferSteps.{Puts-same}
+use Rattle.trace.specs.BufferLaws.{Puts-same}
 use Rattle.live.proofs.reply.reply.Goals as goal
 
 pub returns-in-Ok : goal.returns-in-Ok

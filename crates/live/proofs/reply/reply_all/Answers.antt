@@ -1,5 +1,5 @@
 use Rattle.events.specs.LentEvents.{line_of}
-use Rattle.live.specs.Output.{watch}
+use Rattle.trace.specs.Buffers.{watch}
 use Rattle.live.proofs.ReplySteps.{have-replied}
 use Rattle.live.proofs.reply.reply_all.Goals as goal
 

@@ -1,7 +1,7 @@
 use Rattle.std.proofs.Common.{ap}
 use Rattle.std.specs.Prelude.{flat_map}
 use Rattle.trace.specs.Report.{frame_line}
-use Rattle.trace.proofs.BufferSteps.{Puts-same}
+use Rattle.trace.specs.BufferLaws.{Puts-same}
 use Rattle.replay.proofs.FrameSteps.{put-none, put-more, put-all}
 use Rattle.replay.proofs.logged_report.put_frames.Goals as goal
 

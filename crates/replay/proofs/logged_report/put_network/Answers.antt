@@ -1,7 +1,7 @@
 -- The parts are put one after the other.
 use Rattle.std.proofs.Common.{ap}
 use Rattle.trace.specs.Report.{network_line}
-use Rattle.trace.proofs.BufferSteps.{Puts-then, Puts-same}
+use Rattle.trace.specs.BufferLaws.{Puts-then, Puts-same}
 use Rattle.replay.proofs.logged_report.put_network.Goals as goal
 
 pub returns : goal.returns

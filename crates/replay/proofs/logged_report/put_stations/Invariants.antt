@@ -2,11 +2,11 @@
 use Rattle.std.proofs.Common.{take}
 use Rattle.std.specs.Prelude.{flat_map}
 use Rattle.network.specs.Network.{table_of}
-use Rattle.trace.specs.Buffers.{Puts}
+use Rattle.trace.specs.Buffers.{Puts, watch}
 use Rattle.trace.specs.Report.{station_line}
 use Rattle.replay.proofs.logged_report.put_stations.Given as goal
 
 abbrev pub invariant-loop-place : goal.invariant-loop-place
 invariant-loop-place g l =
-    Puts g.W.Sink.taken g.W.Sink.failed l.initial.out l.out
+    Puts (watch g.W.Sink.taken g.W.Sink.failed) l.initial.out l.out
     (flat_map station_line (take l.place (table_of l.network.network)))

@@ -1,10 +1,10 @@
 -- One more network is put, and in the end the piece is written. The sink after the piece is the one that was passed.
 use Rattle.std.proofs.Common.{rules, ◌≡◌, ◌∙◌, ◌+◌, Ok}
-use Rattle.trace.specs.Endings.{Ends, failures_of}
+use Rattle.trace.specs.Endings.{Ends, failures_of, ending_of}
 use Rattle.std.specs.Prelude.{flat_map}
 use Rattle.replay.specs.Log.{log_text}
 use Rattle.trace.specs.Sinks.{write_ending}
-use Rattle.trace.proofs.BufferSteps.{Puts-nothing, Puts-item, Puts-items, Puts-flushed}
+use Rattle.trace.specs.BufferLaws.{Puts-nothing, Puts-item, Puts-items, Puts-flushed}
 use Rattle.replay.proofs.logs.write_through.Goals as goal
 
 pub loop-network-init : goal.loop-network-init
@@ -24,7 +24,7 @@ returns-clause-ends g c =
     Puts-items log_text c.args.networks.now c.loop-network.network-index c.loop-network-test.false
     c.loop-network.invariant in
     let same_sink = c.flush.ensures.puts.same_sink ∙ put.same_sink ∙ w.same_sink in
-    let ends : Ends write_ending c.flush.result (Ok (flat_map log_text c.args.networks.now))
+    let ends : Ends (ending_of write_ending c.flush.result) (Ok (flat_map log_text c.args.networks.now))
     (g.W.Sink.taken c.args.out.now) (g.W.Sink.taken c.flush.new.self.sink.now) =
     (Puts-flushed c.flush.result c.args.out.now c.new-buffered.result _ c.flush.new.self _ w.sink w.fresh w.empty put
     c.flush.ensures).0 in

@@ -2,7 +2,7 @@ use Rattle.std.proofs.Common.{◌++◌}
 use Rattle.std.proofs.lemmas.Result.{err_from_is_err_and}
 use Rattle.std.specs.Option.{option_to_list}
 use Rattle.trace.specs.TraceText.{lines_of}
-use Rattle.trace.proofs.EndingLemmas.{same_fault}
+use Rattle.trace.specs.EndingLaws.{same_fault}
 use Rattle.replay.proofs.StreamSteps.{fault_at_end, said_at_end}
 use Rattle.replay.proofs.stream.end_lines.Goals as goal
 

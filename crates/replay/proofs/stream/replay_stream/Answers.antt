@@ -2,7 +2,7 @@ use Rattle.std.proofs.Common.{[], Ok, sym, subst, refl}
 use Rattle.std.specs.Option.{IsSomeAnd}
 use Rattle.std.proofs.lemmas.Result.{err_from_is_err_and}
 use Rattle.trace.specs.Pieces.{ReaderView, HasRead}
-use Rattle.trace.specs.declared.read_fault.ReadFault.TheVariants as reads
+use Rattle.text_io.specs.declared.read_fault.ReadFault.TheVariants as reads
 use Rattle.replay.specs.Replay.{HasTaken}
 use Rattle.replay.specs.Stream.{HasReplayed}
 use Rattle.replay.proofs.SectionSteps.{replay-none, replay-sections}

@@ -5,7 +5,7 @@ use Rattle.events.specs.declared.line.Line.{Line}
 use Rattle.trace.specs.Pieces.{ReaderView, HasRead}
 use Rattle.trace.specs.Texts.{ended}
 use Rattle.trace.specs.TraceText.{lines_of}
-use Rattle.trace.proofs.EndingLemmas.{same_fault}
+use Rattle.trace.specs.EndingLaws.{same_fault}
 use Rattle.replay.proofs.stream.take_line.Goals as goal
 
 pub returns-in_err-said : goal.returns-in_err-said

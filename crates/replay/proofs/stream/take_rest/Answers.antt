@@ -2,7 +2,7 @@ use Rattle.std.proofs.Common.{◌∙◌, ◌++◌, [], ap, sym, subst, append-ni
 use Rattle.std.proofs.lemmas.Result.{err_from_is_err_and}
 use Rattle.trace.specs.Pieces.{ReaderView, HasRead}
 use Rattle.trace.specs.TraceText.{lines_of}
-use Rattle.trace.proofs.EndingLemmas.{same_fault}
+use Rattle.trace.specs.EndingLaws.{same_fault}
 use Rattle.replay.proofs.stream.take_rest.Goals as goal
 
 pub returns-in_err-said : goal.returns-in_err-said

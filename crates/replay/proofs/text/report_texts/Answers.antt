@@ -1,5 +1,5 @@
 use Rattle.std.proofs.lemmas.Result.{err_from_is_err_and}
-use Rattle.trace.proofs.EndingLemmas.{whole_written}
+use Rattle.trace.specs.EndingLaws.{whole_written}
 use Rattle.replay.proofs.AnswerLemmas.{config_ends, trace_ends, answer_of-sections, report_ends}
 use Rattle.replay.proofs.text.report_texts.Goals as goal
 

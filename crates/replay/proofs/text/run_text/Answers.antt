@@ -1,7 +1,7 @@
 use Rattle.std.proofs.Common.{refl}
 use Rattle.std.proofs.lemmas.Result.{err_from_is_err_and}
 use Rattle.network.specs.Section.{sections_of_lines}
-use Rattle.trace.proofs.EndingLemmas.{whole_written}
+use Rattle.trace.specs.EndingLaws.{whole_written}
 use Rattle.replay.proofs.AnswerLemmas.{config_ends, trace_ends, answer_of-sections, report_ends}
 use Rattle.replay.proofs.LogLines.{report-logged}
 use Rattle.replay.proofs.text.run_text.Goals as goal

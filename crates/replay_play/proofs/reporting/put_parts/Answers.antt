@@ -1,7 +1,7 @@
 -- The lines of some frames more are put.
 use Rattle.std.proofs.Common.{[], ◌++◌, ◌∙◌, refl, sym, ap, append_assoc}
 use Rattle.trace.specs.Report.{frame_line}
-use Rattle.trace.proofs.BufferSteps.{Puts-nothing}
+use Rattle.trace.specs.BufferLaws.{Puts-nothing}
 use Rattle.replay_play.proofs.Parts.{Puts-parts}
 use Rattle.replay_play.proofs.reporting.put_parts.Goals as goal
 

@@ -2,7 +2,7 @@
 use Rattle.std.proofs.Common.{ap}
 use Rattle.std.specs.Prelude.{codes, flat_map}
 use Rattle.trace.specs.Report.{section_text, station_line, frame_line}
-use Rattle.trace.proofs.BufferSteps.{Puts-then, Puts-same}
+use Rattle.trace.specs.BufferLaws.{Puts-then, Puts-same}
 use Rattle.replay_play.proofs.reporting.put_section.Goals as goal
 
 pub returns : goal.returns

@@ -1,9 +1,9 @@
 -- One more section is put, and in the end the piece is written. The sink after the piece is the one that was passed.
 use Rattle.std.proofs.Common.{rules, ◌≡◌, ◌∙◌, ◌+◌, Ok}
-use Rattle.trace.specs.Endings.{Ends, failures_of}
+use Rattle.trace.specs.Endings.{Ends, failures_of, ending_of}
 use Rattle.trace.specs.Report.{report_text, section_text}
 use Rattle.trace.specs.Sinks.{write_ending}
-use Rattle.trace.proofs.BufferSteps.{Puts-nothing, Puts-item, Puts-items, Puts-flushed}
+use Rattle.trace.specs.BufferLaws.{Puts-nothing, Puts-item, Puts-items, Puts-flushed}
 use Rattle.replay_play.proofs.reporting.write_through.Goals as goal
 
 pub loop-section-init : goal.loop-section-init
@@ -23,7 +23,7 @@ returns-clause-ends g c =
     Puts-items section_text c.args.sections.now c.loop-section.section-index c.loop-section-test.false
     c.loop-section.invariant in
     let same_sink = c.flush.ensures.puts.same_sink ∙ put.same_sink ∙ w.same_sink in
-    let ends : Ends write_ending c.flush.result (Ok (report_text c.args.sections.now)) (g.W.Sink.taken c.args.out.now)
+    let ends : Ends (ending_of write_ending c.flush.result) (Ok (report_text c.args.sections.now)) (g.W.Sink.taken c.args.out.now)
     (g.W.Sink.taken c.flush.new.self.sink.now) =
     (Puts-flushed c.flush.result c.args.out.now c.new-buffered.result _ c.flush.new.self _ w.sink w.fresh w.empty put
     c.flush.ensures).0 in

@@ -3,7 +3,7 @@ use Rattle.std.proofs.lemmas.Result.{err_from_is_err_and}
 use Rattle.ap_config.specs.declared.config.RadioConfig.{RadioConfig}
 use Rattle.events.specs.declared.line.Line.{Line}
 use Rattle.trace.specs.Pieces.{ReaderView, answer_to, answer_to_end, after_piece}
-use Rattle.trace.proofs.EndingLemmas.{same_fault}
+use Rattle.text_io.specs.EndingLaws.{same_fault}
 use Rattle.trace.proofs.PieceSteps.{whole-fault, whole-end_fault, whole-said}
 use Rattle.trace.proofs.read.read_trace.Goals as goal
 

@@ -1,8 +1,9 @@
 use Rattle.std.proofs.Common.{◌≡◌, ◌∙◌, List, [], ◌∷◌, ℕ, ap, subst}
 use Rattle.std.specs.Prelude.{option_map}
+use Rattle.trace.specs.Buffers.{watch}
 use Rattle.live_answers.specs.Asked.{asked_by}
 use Rattle.live_answers.specs.Moments.{bssids_at}
-use Rattle.live.specs.Output.{AreAnswered, through, watch}
+use Rattle.live.specs.Output.{AreAnswered, through}
 use Rattle.live.specs.PartialLine.{line_in}
 use Rattle.live.specs.declared.face.Face.TheVariants.{Lines}
 use Rattle.live.proofs.networks.Networks.answer_line.Goals as goal

@@ -3,7 +3,7 @@ use Rattle.std.proofs.lemmas.Result.{err_from_is_err_and}
 use Rattle.std.specs.Option.{option_to_list}
 use Rattle.std.specs.Str.Lines.{strip_carriage_return}
 use Rattle.events.specs.declared.line.Line.{Line}
-use Rattle.trace.proofs.EndingLemmas.{same_fault}
+use Rattle.text_io.specs.EndingLaws.{same_fault}
 use Rattle.trace.proofs.PieceSteps.{lines_from-one, lines_from-fault}
 use Rattle.trace.proofs.line_reader.LineReader.read_first.Goals as goal
 

@@ -1,6 +1,6 @@
 use Rattle.std.proofs.Common.{◌∙◌, Err}
 use Rattle.std.proofs.lemmas.Result.{err_from_is_err_and}
-use Rattle.trace.proofs.EndingLemmas.{same_fault}
+use Rattle.text_io.specs.EndingLaws.{same_fault}
 use Rattle.trace.proofs.PieceSteps.{next-first_fault, next-says, more-fault, more-said, next-past}
 use Rattle.trace.proofs.line_reader.LineReader.read_lines.Goals as goal
 

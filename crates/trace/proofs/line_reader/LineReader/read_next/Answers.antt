@@ -1,7 +1,7 @@
 use Rattle.std.proofs.Common.{◌∙◌, ◌+◌, [], ap}
 use Rattle.trace.specs.Pieces.{ReaderView}
 use Rattle.std.proofs.lemmas.Result.{err_from_is_err_and}
-use Rattle.trace.proofs.EndingLemmas.{same_fault}
+use Rattle.text_io.specs.EndingLaws.{same_fault}
 use Rattle.trace.proofs.PieceSteps.{line_says, line_has_fault, line_past}
 use Rattle.trace.proofs.line_reader.LineReader.read_next.Goals as goal
 

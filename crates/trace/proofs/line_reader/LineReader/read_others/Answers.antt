@@ -5,13 +5,14 @@ use Rattle.std.specs.List.{position}
 use Rattle.std.specs.Option.{option_to_list}
 use Rattle.std.specs.Str.Lines.{strip_carriage_return}
 use Rattle.events.specs.declared.line.Line.{Line}
-use Rattle.trace.specs.Texts.{is_line_feed}
+use Rattle.text_io.specs.Texts.{is_line_feed}
 use Rattle.trace.specs.TraceText.{line_of, lines_from}
 use Rattle.trace.specs.Pieces.{said_after, whole_lines}
-use Rattle.trace.proofs.TextLemmas.{lacks_from_none}
-use Rattle.trace.proofs.PieceLines.{whole_lines_none, unfinished_line_none}
-use Rattle.trace.proofs.EndingLemmas.{same_fault}
-use Rattle.trace.proofs.PieceSteps.{whole_lines_first, unfinished_line_first, lines_from-said, lines_from-fault, said_after-assoc}
+use Rattle.text_io.specs.TextLaws.{lacks_from_none}
+use Rattle.trace.specs.LineLaws.{whole_lines_none, unfinished_line_none}
+use Rattle.text_io.specs.EndingLaws.{same_fault}
+use Rattle.trace.specs.LineLaws.{whole_lines_first, unfinished_line_first}
+use Rattle.trace.proofs.PieceSteps.{lines_from-said, lines_from-fault, said_after-assoc}
 use Rattle.trace.proofs.line_reader.LineReader.read_others.Goals as goal
 
 pub returns-in_err-read_numbered-clause-exact : goal.returns-in_err-read_numbered-clause-exact

@@ -1,7 +1,7 @@
 use Rattle.std.proofs.Common.{◌++◌, sym}
 use Rattle.std.proofs.lemmas.List.{take_rest}
-use Rattle.trace.proofs.TextLemmas.{lacks_from_none}
-use Rattle.trace.proofs.PieceLines.{first_line, lacks_both}
+use Rattle.text_io.specs.TextLaws.{lacks_from_none}
+use Rattle.trace.specs.LineLaws.{first_line, lacks_both}
 use Rattle.trace.proofs.PieceSteps.{held_says, held_past, piece_says, piece_past}
 use Rattle.trace.proofs.line_reader.LineReader.read_piece.Goals as goal
 

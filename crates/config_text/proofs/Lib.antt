@@ -1,0 +1,4 @@
+pub mod ConfigurationNetworks
+pub mod ConfigurationReading
+pub mod ConfigurationRows
+pub mod ConfigurationSound

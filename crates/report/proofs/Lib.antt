@@ -1,0 +1,2 @@
+pub mod ReportRows
+pub mod AddressDigits

@@ -1,0 +1,34 @@
+//! The report: what each network did, as text (*profile*).
+//!
+//! ```text
+//! network 02:00:00:00:00:07 ssid 63616665
+//! events 9 clock 2 unread 1 lost 0 kept 1
+//! station 02:aa:00:00:00:05 authenticated
+//! station 02:aa:00:00:00:06 associated aid 1 listen 5 doze kept 1
+//! air b000000002aa000000050200000000070200000000070000000002000000
+//! wire 02bb0000000102aa00000006080001
+//! end
+//! ```
+//!
+//! A section has these lines, each ended by LF: its network's address and name, how many events the network took
+//! with what it counted, a line for each station in the order of the table, one for each frame that it sent on the
+//! air, one for each that it sent on the wire, and `end`. Octets are pairs of hexadecimal digits in lower case,
+//! numbers are decimal.
+//!
+//! [`write_report`] promises that a sink takes exactly the report of the sections it is handed, or a prefix of it where
+//! a write failed or memory ran out. The calls that put one line each are given to the crates above, which have no
+//! [`events::Section`], or write its lines in another [`LineForm`]. What the lines tell is left to the networks, and where they go to `text_io`.
+#![tactic(auto)]
+
+mod count;
+mod form;
+mod lines;
+mod sections;
+
+pub use count::write_count;
+pub use form::{AsText, LineForm};
+pub use lines::{
+    Totals, address_text, put_counts_line, put_counts_line_in, put_end_line, put_frame_line,
+    put_network_line, put_network_line_in, put_station_line, put_station_line_in,
+};
+pub use sections::{put_frames, put_heading, put_stations, write_report};

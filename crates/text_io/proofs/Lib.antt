@@ -1,0 +1,2 @@
+pub mod OctetPlaces
+pub mod OctetDigits

@@ -1,0 +1,25 @@
+//! Octets in and out: where they come from, where they go, what fails there, and how a call on them ends (*profile*).
+//!
+//! A [`Sink`] takes octets and a [`Source`] gives them, a part at a time, and each counts its failures; [`Counted`]
+//! makes either of a writer or reader of the standard library. [`write_all`] promises that a sink took a whole text or,
+//! where a write failed, a prefix of it, and [`Buffered`] promises the same of all that is put into it.
+//!
+//! What the octets say is left to the crates above. How a call can end (well, refused by a fault, a read or a write
+//! failed, out of memory) and what its sink and its source did then is said here once for all of them.
+#![tactic(auto)]
+
+mod buffer;
+mod counted;
+mod read_fault;
+mod report_fault;
+mod sink;
+mod source;
+mod text;
+
+pub use buffer::Buffered;
+pub use counted::Counted;
+pub use read_fault::ReadFault;
+pub use report_fault::ReportFault;
+pub use sink::{Failed, Sink, write_all};
+pub use source::Source;
+pub use text::{place_of, without_carriage_return};

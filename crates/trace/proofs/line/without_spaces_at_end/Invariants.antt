@@ -1,0 +1,12 @@
+use Rattle.std.proofs.Common.{◌≡◌, ◌≤◌, ◌+◌, length, take}
+use Rattle.std.specs.List.{suffix_len}
+use Rattle.trace.specs.TraceText.{is_space}
+use Rattle.trace.proofs.line.without_spaces_at_end.Given as goal
+
+abbrev pub invariant-loop-end : goal.invariant-loop-end
+invariant-loop-end l =
+    (l.end ≤ length l.line)
+    × (l.end + suffix_len is_space l.line ≡ length l.line + suffix_len is_space (take l.end l.line))
+
+abbrev pub decreases-loop-end : goal.decreases-loop-end
+decreases-loop-end l = l.end
