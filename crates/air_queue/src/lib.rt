@@ -13,14 +13,14 @@
 //! Which frames are pushed, and when, is left to the crates above.
 #![tactic(auto)]
 
+mod ending;
 mod known;
 mod laws;
 mod pass;
 mod queue;
 mod rule;
-mod taking;
 
+pub use ending::{Left, TakeInFault};
 pub use laws::rule_is_kept;
 pub use pass::{NetPass, RadioPass};
 pub use queue::AirQueue;
-pub use taking::{Left, TakeInFault};

@@ -12,11 +12,11 @@ mod aid_pool_tests;
 #[cfg(test)]
 mod beacon_tests;
 #[cfg(test)]
-mod encapsulation_tests;
-#[cfg(test)]
 mod digits_tests;
 #[cfg(test)]
 mod elements_tests;
+#[cfg(test)]
+mod encapsulation_tests;
 #[cfg(test)]
 mod mac_frame_tests;
 #[cfg(test)]

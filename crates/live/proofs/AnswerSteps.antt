@@ -21,11 +21,11 @@ use Rattle.live_answers.specs.Moments.{Moment, one_line_more, bssid_of, bssids_a
 use Rattle.live.specs.Networks.{IsMoment}
 use Rattle.live.specs.Output.{AreAnswered, through}
 use Rattle.live.specs.Readings.{IsReading, IsUnread}
-use Rattle.live.specs.Written.{written_answer}
+use Rattle.live_output.specs.Written.{written_answer}
 use Rattle.live.specs.declared.reading.Reading.{Reading}
 use Rattle.live.specs.declared.reading.Reading.TheVariants as reading
-use Rattle.live.specs.declared.face.Face.{Face}
-use Rattle.live.specs.declared.face.Face.TheVariants.{Lines}
+use Rattle.live_output.specs.declared.face.Face.{Face}
+use Rattle.live_output.specs.declared.face.Face.TheVariants.{Lines}
 use Rattle.live_answers.proofs.MoreLines.{joins}
 use Rattle.live.proofs.MoreWritten.{texts-join}
 

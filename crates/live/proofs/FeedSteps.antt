@@ -17,7 +17,7 @@ use Rattle.live_answers.specs.Asked.{Asked, asked_by, asked_in, asked_by_all}
 use Rattle.live_answers.specs.Answers.{Answer, Answers}
 use Rattle.live_answers.specs.Moments.{Moment, bssids_at}
 use Rattle.live_answers.specs.TextLines.{TextLine, Octets, TooLong, max_line, line_with, partial_after, lines_in, last_line}
-use Rattle.live.specs.declared.face.Face.TheVariants.{Lines}
+use Rattle.live_output.specs.declared.face.Face.TheVariants.{Lines}
 use Rattle.live.proofs.AnswerSteps.{answered-none, answered-then}
 use Rattle.live.proofs.PartialSteps.{long-on, partial-over, partial-on, first-line, first-partial, no-line}
 use Rattle.live_answers.proofs.MoreLines.{lines-said, bssids-answers}

@@ -11,8 +11,8 @@ use Rattle.live_answers.specs.Records.{record_asks, records_ask, cut_record}
 use Rattle.live_answers.specs.TextLines.{ended_lines, partial_in, lines_in, last_line}
 use Rattle.live.specs.declared.partial_input.PartialInput.{PartialInput}
 use Rattle.live.specs.declared.partial_input.PartialInput.TheVariants.{Line, Record}
-use Rattle.live.specs.declared.face.Face.{Face}
-use Rattle.live.specs.declared.face.Face.TheVariants.{Lines, Records}
+use Rattle.live_output.specs.declared.face.Face.{Face}
+use Rattle.live_output.specs.declared.face.Face.TheVariants.{Lines, Records}
 use Rattle.live_answers.proofs.PieceLines.{ended-more, partial-more, all-lines}
 use Rattle.live_answers.proofs.RecordLaws.{records-more}
 

@@ -6,7 +6,6 @@ pub mod ReplySteps
 pub mod AnswerSteps
 pub mod FeedSteps
 pub mod RecordSteps
-pub mod ToldSteps
 pub mod InputSteps
 pub mod RunSteps
 pub mod RunEnds

@@ -3,8 +3,8 @@ use Rattle.std.proofs.Common.{◌≡◌, ℕ, ◌+◌, List, [], ◌∷◌, ◌+
 use Rattle.live_answers.specs.Asked.{Asked}
 use Rattle.live_answers.specs.Moments.{Moment, bssids_at}
 use Rattle.live_answers.specs.Answers.{Answer, Answers}
-use Rattle.live.specs.Written.{written_answer, written_answers, written_after}
-use Rattle.live.specs.declared.face.Face.{Face}
+use Rattle.live_output.specs.Written.{written_answer, written_answers, written_after}
+use Rattle.live_output.specs.declared.face.Face.{Face}
 use Rattle.live_answers.proofs.MoreLines.{lines-answers, bssids-answers}
 
 texts-append : (face : Face) (bssids : List (List ℕ)) (number : ℕ) (some others : List Answer)

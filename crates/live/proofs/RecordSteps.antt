@@ -12,7 +12,7 @@ use Rattle.live_answers.specs.Records.{IsBegun, IsRecord, all_octets, record_ask
 use Rattle.live_answers.specs.TextLines.{TextLine, partial_after, lines_in}
 use Rattle.live.specs.declared.partial_input.PartialInput.{PartialInput}
 use Rattle.live.specs.declared.partial_input.PartialInput.TheVariants.{Line, Record}
-use Rattle.live.specs.declared.face.Face.TheVariants.{Lines, Records}
+use Rattle.live_output.specs.declared.face.Face.TheVariants.{Lines, Records}
 use Rattle.live.proofs.AnswerSteps.{answered-none, answered-then}
 use Rattle.live_answers.proofs.MoreLines.{lines-said, bssids-answers}
 use Rattle.live_answers.proofs.RecordLaws.{each-both, octets-both}

@@ -1,7 +1,6 @@
 -- What a network replied is what it may reply.
-use Rattle.std.proofs.Common.{◌≡◌, ℕ, ◌+◌, Bool, true, false, List, [], ◌∷◌, map, Option, Some, None, Result, Ok, Err, Bor, refl, sym, ap, subst, ◌∙◌}
-use Rattle.std.specs.Prelude.{◌↔◌, ◌==◌, option_to_list, option_map, if◌then◌else◌}
-use Rattle.std.specs.Option.{option_copied}
+use Rattle.std.proofs.Common.{◌≡◌, ℕ, ◌+◌, Bool, true, false, List, [], ◌∷◌, map, Option, Some, None, Result, Ok, Err, refl, sym, ap, subst, ◌∙◌}
+use Rattle.std.specs.Prelude.{◌↔◌, ◌==◌, option_to_list, if◌then◌else◌}
 use Rattle.std.proofs.lemmas.Bool.{eqb-true}
 use Rattle.network.specs.NetworkView.{NetworkState}
 use Rattle.events.specs.declared.event.Event.{Event}
@@ -18,8 +17,8 @@ use Rattle.live_answers.specs.Answers.{MayReplyFrom, after_line_from}
 use Rattle.live_answers.specs.Dispatch.{event_at}
 use Rattle.live_answers.specs.Moments.{Reply, Sends, Refuses, is_past_clock, sending, MayReply, MayReplyIf, taken_if, after_if, bssid_of}
 use Rattle.live.specs.Output.{HasReplied, Through, through}
-use Rattle.live.specs.Written.{written_reply_if, written_replies}
-use Rattle.live.specs.declared.face.Face.{Face}
+use Rattle.live_output.specs.Written.{written_reply_if, written_replies}
+use Rattle.live_output.specs.declared.face.Face.{Face}
 
 -- a beacon interval is to begin that the clock can't count
 abbrev pub IsPast : NetworkState → Event → Type 0
@@ -54,12 +53,6 @@ refuses-may n e result NoMemory is clock =
 refuses-may n e result Clock is clock =
     sym
     (ap (λ b. if b then Refuses Clock else Sends (sending n e).air (sending n e).wire) (is-past n e (clock.0 is)))
-
--- ---- frames that are lent
-
-pub copied : {X : Type 0} (o : Option (Bor X)) → option_copied o ≡ option_map (λ x. x.now) o
-copied None = refl
-copied (Some x) = refl
 
 -- ---- one network
 

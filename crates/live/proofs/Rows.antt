@@ -19,10 +19,10 @@ use Rattle.live_answers.specs.Moments.{Moment, first_moment, Sends, Refuses, is_
 use Rattle.live_answers.specs.Asked.{HasFault, ForTables, Brings, Says, asked_by}
 use Rattle.live_answers.specs.Answers.{Answer, Faulty, Replies, Tables, Unread, MayAnswer, after_answer}
 use Rattle.live_answers.specs.AnswerText.{table_text}
-use Rattle.live.specs.AnswerOctets.{record_of, told}
+use Rattle.live_output.specs.AnswerOctets.{record_of, told}
 use Rattle.live_answers.specs.Records.{record_asks, record_len}
-use Rattle.live.specs.Written.{written_answer, written_answers, written_count, live_text}
-use Rattle.live.specs.declared.face.Face.TheVariants.{Lines, Records}
+use Rattle.live_output.specs.Written.{written_answer, written_answers, written_count, live_text}
+use Rattle.live_output.specs.declared.face.Face.TheVariants.{Lines, Records}
 
 abbrev cr : List ℕ
 cr = 13 ∷ []

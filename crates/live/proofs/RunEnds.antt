@@ -21,10 +21,10 @@ use Rattle.live.specs.LiveView.{Finishes, running}
 use Rattle.live_answers.specs.Moments.{Moment, first_moment, bssids_at}
 use Rattle.live.specs.Run.{AnswersAll, AnswersInput, Runs, StopsInPiece, StopsReading, Texts, Progress, progress, live_ending, setup}
 use Rattle.live.specs.Run.{max_reads, setup}
-use Rattle.live.specs.Written.{written_after, written_count, written_tables}
+use Rattle.live_output.specs.Written.{written_after, written_count, written_tables}
 use Rattle.live.specs.declared.partial_input.PartialInput.{PartialInput}
-use Rattle.live.specs.declared.face.Face.{Face}
-use Rattle.live.specs.declared.face.Face.TheVariants.{Lines, Records}
+use Rattle.live_output.specs.declared.face.Face.{Face}
+use Rattle.live_output.specs.declared.face.Face.TheVariants.{Lines, Records}
 use Rattle.live.specs.declared.fault.LiveFault.{LiveFault}
 use Rattle.live.specs.declared.fault.LiveFault.TheVariants.{Config, NoMemory, Read, Write}
 use Rattle.live_answers.proofs.EnoughMemory.{answers-may}

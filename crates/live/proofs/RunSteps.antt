@@ -13,9 +13,9 @@ use Rattle.live.specs.Inputs.{IsSaidIn, face_of, nothing_begun, saying}
 use Rattle.live.specs.LiveView.{Takes, running}
 use Rattle.live_answers.specs.Moments.{Moment, bssids_at}
 use Rattle.live.specs.Run.{AllAnswered, AnswersInput, Progress, max_reads}
-use Rattle.live.specs.Written.{written_after}
+use Rattle.live_output.specs.Written.{written_after}
 use Rattle.live.specs.declared.partial_input.PartialInput.{PartialInput}
-use Rattle.live.specs.declared.face.Face.{Face}
+use Rattle.live_output.specs.declared.face.Face.{Face}
 use Rattle.live.specs.declared.fault.LiveFault.TheVariants.{Write}
 use Rattle.live.proofs.InputSteps.{said-none, said-more, said-ended, said-face}
 use Rattle.live_answers.proofs.MoreLines.{bssids-answers, joins}

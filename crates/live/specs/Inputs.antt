@@ -5,8 +5,8 @@ use Rattle.live_answers.specs.Records.{AreRecords, IsBegun, records_ask, cut_rec
 use Rattle.live_answers.specs.TextLines.{TextLine, Octets, ended_lines, lines_of_text, partial_after, last_line, lines_in}
 use Rattle.live.specs.declared.partial_input.PartialInput.{PartialInput}
 use Rattle.live.specs.declared.partial_input.PartialInput.TheVariants.{Line, Record}
-use Rattle.live.specs.declared.face.Face.{Face}
-use Rattle.live.specs.declared.face.Face.TheVariants.{Lines, Records}
+use Rattle.live_output.specs.declared.face.Face.{Face}
+use Rattle.live_output.specs.declared.face.Face.TheVariants.{Lines, Records}
 
 -- ---- pieces
 

@@ -1,7 +1,5 @@
 pub mod PartialLine
 pub mod Readings
-pub mod AnswerOctets
-pub mod Written
 pub mod Output
 pub mod Networks
 pub mod Inputs

@@ -9,7 +9,7 @@ use Rattle.live_answers.specs.Asked.{Asked, asked_in}
 use Rattle.live.specs.Inputs.{IsSaidIn, face_of, last_said, saying}
 use Rattle.live_answers.specs.Moments.{Moment, bssids_at}
 use Rattle.live_answers.specs.TextLines.{TextLine, partial_after, last_line, lines_in}
-use Rattle.live.specs.Written.{text_after, written_after, written_tables}
+use Rattle.live_output.specs.Written.{text_after, written_after, written_tables}
 use Rattle.live.specs.declared.partial_input.PartialInput.{PartialInput}
 use Rattle.live.specs.declared.partial_input.PartialInput.TheVariants.{Record}
 

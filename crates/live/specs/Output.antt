@@ -1,32 +1,19 @@
 -- What is put into the output about what is said, and what becomes of the networks meanwhile.
-use Rattle.std.specs.Prelude.{◌≡◌, ℕ, ◌+◌, ◌≤◌, List, ◌++◌, Option, Some, flat_map, length, map}
+use Rattle.std.specs.Prelude.{◌≡◌, ℕ, ◌+◌, ◌≤◌, List, ◌++◌, Option, Some, length, map}
 use Rattle.std.specs.List.{AllByRecursion}
 use Rattle.network.specs.NetworkView.{NetworkState}
 use Rattle.events.specs.declared.event.Event.{Event}
 use Rattle.events.specs.declared.line.Line.{Line}
 use Rattle.trace.specs.Buffers.{Puts, Watch}
-use Rattle.trace.specs.Report.{frame_line}
 use Rattle.text_io.specs.declared.buffer.Buffered.{Buffered}
-use Rattle.live.specs.AnswerOctets.{record_of}
-use Rattle.live_answers.specs.AnswerText.{frame_words}
 use Rattle.live_answers.specs.Answers.{Answer, Answers, MayReplyFrom, after_line_from}
 use Rattle.live_answers.specs.Moments.{Moment, Reply, MayReply, taken_if, after_if, bssid_of, bssids_at}
 use Rattle.live_answers.specs.Asked.{Asked}
 use Rattle.live.specs.Inputs.{IsSaidIn, saying}
 use Rattle.live_answers.specs.Records.{IsBegun, IsRecord, all_octets, records_ask}
-use Rattle.live.specs.Written.{written_reply, written_replies, written_after}
+use Rattle.live_output.specs.Written.{written_reply, written_replies, written_after}
 use Rattle.live.specs.declared.partial_input.PartialInput.{PartialInput}
-use Rattle.live.specs.declared.face.Face.{Face}
-
--- ---- frames
-
--- a line for each frame, after a word that says where it went and the address of its network
-abbrev pub frames_text : List ℕ → List ℕ → List (List ℕ) → List ℕ
-frames_text word bssid frames = flat_map (frame_line (frame_words word bssid)) frames
-
--- a record of this kind for each frame
-abbrev pub frames_octets : ℕ → List ℕ → List (List ℕ) → List ℕ
-frames_octets kind bssid frames = flat_map (record_of kind bssid) frames
+use Rattle.live_output.specs.declared.face.Face.{Face}
 
 -- ---- a call that puts what it answers
 

@@ -9,11 +9,11 @@ use Rattle.live_answers.specs.Answers.{Answer, Answers}
 use Rattle.live_answers.specs.Asked.{Asked}
 use Rattle.live.specs.Inputs.{IsSaid, IsAllSaid, IsSaidIn, face_of, nothing_begun, saying}
 use Rattle.live_answers.specs.Moments.{Moment, first_moment, bssids_at}
-use Rattle.live.specs.Written.{written_count, written_after, written_tables}
+use Rattle.live_output.specs.Written.{written_count, written_after, written_tables}
 use Rattle.live.specs.declared.partial_input.PartialInput.{PartialInput}
 use Rattle.live.specs.declared.partial_input.PartialInput.TheVariants.{Record}
-use Rattle.live.specs.declared.face.Face.{Face}
-use Rattle.live.specs.declared.face.Face.TheVariants.{Lines, Records}
+use Rattle.live_output.specs.declared.face.Face.{Face}
+use Rattle.live_output.specs.declared.face.Face.TheVariants.{Lines, Records}
 use Rattle.live.specs.declared.fault.LiveFault.{LiveFault}
 use Rattle.live.specs.declared.fault.LiveFault.TheVariants.{Config, NoMemory, Read, Write}
 

@@ -7,8 +7,8 @@ ghost use Rattle.live_answers.specs.Asked.{Asked};
 ghost use Rattle.live_answers.specs.Moments.{Moment};
 ghost use Rattle.live.specs.BeforeReads.{FailsAtRead, HasAnswered};
 ghost use Rattle.live.specs.Run.{Setup};
-ghost use Rattle.live.specs.Written.{written_after};
-ghost use Rattle.live.specs.declared.face.Face.{Face};
+ghost use Rattle.live_output.specs.Written.{written_after};
+ghost use Rattle.live_output.specs.declared.face.Face.{Face};
 ghost use Rattle.live.specs.declared.fault.LiveFault.{LiveFault};
 
 /// The answers to more that is said begin with the answers to the first of it, so that what holds of all answers holds

@@ -21,23 +21,19 @@
 #![tactic(auto)]
 
 mod engine;
-mod face;
 mod fault;
 mod laws;
 mod lines;
 mod live_lines;
 mod live_records;
 mod networks;
-mod output;
 mod partial;
 mod partial_input;
 mod reading;
 mod record;
-mod record_output;
 mod records;
 mod reply;
 mod run;
-mod written;
 
 pub use fault::LiveFault;
 pub use laws::{answers_come_before_reads, more_lines};

@@ -7,7 +7,7 @@ ghost use Rattle.live_answers.specs.Asked.{asked_in};
 ghost use Rattle.live.specs.Output.{AreAnswered, through};
 ghost use Rattle.live.specs.PartialLine.{IsUnended, ended_with};
 ghost use Rattle.live_answers.specs.TextLines.{Octets, partial_after, last_line, lines_in};
-ghost use Rattle.live.specs.declared.face.Face.TheVariants as faces;
+ghost use Rattle.live_output.specs.declared.face.Face.TheVariants as faces;
 
 use crate::networks::Networks;
 use crate::partial::{PartialLine, ended_line};

@@ -9,8 +9,8 @@ ghost use Rattle.live_answers.specs.Moments.{first_moment};
 ghost use Rattle.live_answers.specs.TextLines.{Octets};
 
 use crate::engine::Engine;
-use crate::face::Face;
 use ap_config::RadioConfig;
+use live_output::Face;
 use mac_frame::NoMemory;
 use std::alloc::Global;
 use std::marker::Model;

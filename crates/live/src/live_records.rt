@@ -8,8 +8,8 @@ ghost use Rattle.live.specs.LiveView.{Finishes, Takes, records_running};
 ghost use Rattle.live_answers.specs.Moments.{first_moment};
 
 use crate::engine::Engine;
-use crate::face::Face;
 use ap_config::RadioConfig;
+use live_output::Face;
 use mac_frame::NoMemory;
 use std::alloc::Global;
 use std::marker::Model;

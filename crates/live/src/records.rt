@@ -4,12 +4,12 @@ ghost use Rattle.std.specs.Prelude.{◌≡◌, ◌<◌, ◌≤◌, ◌+◌, ◌^
 ghost use Rattle.trace.specs.Buffers.{CanWrite, watch};
 ghost use Rattle.live.specs.Output.{AnswersRecords, AreAnswered, through, waiting};
 ghost use Rattle.live_answers.specs.Records.{IsBegun, IsRecord, cut_record};
-ghost use Rattle.live.specs.declared.face.Face.TheVariants as faces;
+ghost use Rattle.live_output.specs.declared.face.Face.TheVariants as faces;
 
-use crate::face::Face;
 use crate::networks::Networks;
 use crate::reading::Reading;
 use crate::record::{PartialRecord, first_record};
+use live_output::Face;
 use trace::{Buffered, LineFault, Sink};
 
 /// Answers the records that end in a piece.

@@ -6,10 +6,9 @@ ghost use Rattle.trace.specs.Buffers.{CanWrite, watch};
 ghost use Rattle.events.specs.LentEvents.{event_of, line_of};
 ghost use Rattle.live.specs.Output.{HasReplied, HaveReplied, through};
 
-use crate::face::Face;
-use crate::written::{put_refusal, put_sent};
 use access_point::{AccessPoint, Deliver};
 use events::{LentEvent, LentLine};
+use live_output::{Face, put_refusal, put_sent};
 use mac_frame::NoMemory;
 use network::{Network, Spare};
 use trace::{Buffered, Sink};

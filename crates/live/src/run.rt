@@ -5,14 +5,14 @@ ghost use Rattle.std.specs.Io.KnownBytes.{Consumes, IsAtEnd, Keeps};
 ghost use Rattle.trace.specs.Endings.{Ends, failures_of, ending_of};
 ghost use Rattle.trace.specs.Sinks.{MayFail, failed_reads, report_ending};
 ghost use Rattle.trace.specs.Streams.{reads_after};
-ghost use Rattle.live.specs.AnswerOctets.{count_record};
+ghost use Rattle.live_output.specs.AnswerOctets.{count_record};
 ghost use Rattle.live.specs.Inputs.{face_of, nothing_begun};
 ghost use Rattle.live.specs.Run.{AllAnswered, AnswersInput, Runs, RunsLive, RunsOctets, live_ending, progress, seen, setup, streams};
-ghost use Rattle.live.specs.Written.{written_count};
+ghost use Rattle.live_output.specs.Written.{written_count};
 
 use crate::engine::Engine;
-use crate::face::Face;
 use crate::fault::LiveFault;
+use live_output::Face;
 use std::alloc::Global;
 use std::marker::Brand;
 use trace::{Failed, ReportFault, Sink, Source, read_config, write_all, write_count};

@@ -10,19 +10,19 @@
 //! allocation changes nothing, and that what is offered again is taken.
 #![tactic(auto)]
 
-mod access_point;
 mod answered;
 mod answered_records;
 mod asked;
+mod callers;
 mod lines;
 mod one_network;
 mod outcome;
 mod texts;
 
-use access_point::give_lines;
 use answered::answer_lines;
 use answered_records::answer_records;
 use asked::{Asked, asked_of};
+use callers::give_lines;
 use lines::feed_pieces;
 use one_network::take_each;
 use outcome::{Flaw, ROOM};

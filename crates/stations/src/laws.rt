@@ -2,9 +2,9 @@
 
 ghost use Rattle.stations.specs.Changes.{OthersStay, ModesAlone, IdentifiersDiffer, StaySound, LengthsAfter};
 
-use crate::table::StationState;
 use address_map::addresses_stay_apart;
 use aid_pool::least_is_free;
+use station_state::StationState;
 
 /// Where the state of one station is set, where it is forgotten or its mode is set, every other keeps its state
 /// (IEEE Std 802.11-2016, 11.3.1).

@@ -16,7 +16,7 @@ use Rattle.workers.specs.Answers.{line_at, entry_made, entry_by, entries_by, lin
 use Rattle.workers.specs.Giving.{heard_at}
 use Rattle.workers.specs.Playing.{is_from, Answers, events_at}
 use Rattle.workers.specs.declared.answers.Answer.{Answer}
-use Rattle.workers.specs.declared.answers.Heard.{Heard}
+use Rattle.workers.specs.declared.answers.NumberedEvent.{NumberedEvent}
 use Rattle.workers.specs.declared.answers.Made.{Made}
 use Rattle.workers.specs.declared.answers.Made.TheVariants.{Took, Full}
 use Rattle.workers.specs.declared.answers.Span.{Span}
@@ -56,7 +56,7 @@ heard-more config lines place a n m k more at =
     ap (λ (i : ℕ). flat_map (heard_by config lines place) (range_with_len a i)) more
     ∙ ap (flat_map (heard_by config lines place)) (range-more a n ∙ ap (λ (x : ℕ). range_with_len a n ++ x ∷ []) at)
     ∙ flat_map-append (heard_by config lines place) (range_with_len a n) (k ∷ [])
-    ∙ ap (λ (hs : List Heard). flat_map (heard_by config lines place) (range_with_len a n) ++ hs) (append-nil (heard_by config lines place k))
+    ∙ ap (λ (hs : List NumberedEvent). flat_map (heard_by config lines place) (range_with_len a n) ++ hs) (append-nil (heard_by config lines place k))
 
 map-at : (ns : List NetConfig) (place : ℕ) (x : List ℕ) (n : NetConfig) → place < length ns → get_or (map (λ n. n.bssid) ns) place x ≡ (get_or ns place n).bssid
 map-at [] place x n within = absurd (omega (arith, within))
@@ -71,8 +71,8 @@ bssid-there config bssids place bss all within at =
 pub heard-if : (config : RadioConfig) (lines : List Line) (place n : ℕ) (bss : List ℕ) (line : Line) → place < length config.networks → bss ≡ (network_at config place).bssid → line ≡ line_at lines n → (o : Option Event) → event_for place bss line ≡ o → map (λ e. record { line = n; event = e }) (option_to_list o) ≡ heard_by config lines place n
 heard-if config lines place n bss line within is same o hears =
     sym
-    (ap (λ (l : Line). map (λ (e : Event). let h : Heard = record { line = n; event = e } in h) (heard_at config l place)) (sym same)
-    ∙ ap (map (λ (e : Event). let h : Heard = record { line = n; event = e } in h)) (heard-there config line place bss within is o hears))
+    (ap (λ (l : Line). map (λ (e : Event). let h : NumberedEvent = record { line = n; event = e } in h) (heard_at config l place)) (sym same)
+    ∙ ap (map (λ (e : Event). let h : NumberedEvent = record { line = n; event = e } in h)) (heard-there config line place bss within is o hears))
 
 -- the lines of a span follow those before it
 take-more-lines : (lines : List Line) (a n : ℕ) → a + n ≤ length lines → take (a + n) lines ≡ take a lines ++ map (line_at lines) (range_with_len a n)
@@ -102,7 +102,7 @@ answers-event e taken place (Took number) same = same
 answers-event e taken place Full same = tt
 
 -- of one line
-zip-line : (lines : List Line) (place n : ℕ) (es events : List Event) (rest : List Heard) (added : List Answer) → (es ≡ []) ⊎ (es ≡ event_of_line (line_at lines n) ∷ []) → ((more : List Answer) → AllZip (IsAnswerTo place) rest more → AllZip Answers events (entries_by lines more)) → AllZip (IsAnswerTo place) (map (λ e. record { line = n; event = e }) es ++ rest) added → AllZip Answers (es ++ events) (entries_by lines added)
+zip-line : (lines : List Line) (place n : ℕ) (es events : List Event) (rest : List NumberedEvent) (added : List Answer) → (es ≡ []) ⊎ (es ≡ event_of_line (line_at lines n) ∷ []) → ((more : List Answer) → AllZip (IsAnswerTo place) rest more → AllZip Answers events (entries_by lines more)) → AllZip (IsAnswerTo place) (map (λ e. record { line = n; event = e }) es ++ rest) added → AllZip Answers (es ++ events) (entries_by lines added)
 zip-line lines place n [] events rest added one later zip = later added zip
 zip-line lines place n (e ∷ es) events rest added (inl none) later zip = absurd (cc)
 zip-line lines place n (e ∷ es) events rest [] (inr some) later zip = absurd zip
@@ -129,7 +129,7 @@ one-elsewhere : (e : Event) (p named : ℕ) (made : Made) → named ≢ p → fi
 one-elsewhere e p named (Took number) ne = rw (ne_eqb named p ne) refl
 one-elsewhere e p named Full ne = rw (ne_eqb named p ne) refl
 
-all-here : (lines : List Line) (place : ℕ) (heard : List Heard) (added : List Answer) → AllZip (IsAnswerTo place) heard added → filter (is_from place) (entries_by lines added) ≡ entries_by lines added
+all-here : (lines : List Line) (place : ℕ) (heard : List NumberedEvent) (added : List Answer) → AllZip (IsAnswerTo place) heard added → filter (is_from place) (entries_by lines added) ≡ entries_by lines added
 all-here lines place [] [] zip = refl
 all-here lines place [] (a ∷ added) zip = absurd zip
 all-here lines place (h ∷ heard) [] zip = absurd zip
@@ -137,7 +137,7 @@ all-here lines place (h ∷ heard) (a ∷ added) zip =
     filter-append (is_from place) (entry_by lines a ∷ []) (entries_by lines added)
     ∙ (λ k. one-here (event_of_line (line_at lines a.line)) place a.place a.made zip.0.1 k ++ all-here lines place heard added zip.1 k)
 
-none-elsewhere : (lines : List Line) (place other : ℕ) (heard : List Heard) (added : List Answer) → place ≢ other → AllZip (IsAnswerTo place) heard added → filter (is_from other) (entries_by lines added) ≡ []
+none-elsewhere : (lines : List Line) (place other : ℕ) (heard : List NumberedEvent) (added : List Answer) → place ≢ other → AllZip (IsAnswerTo place) heard added → filter (is_from other) (entries_by lines added) ≡ []
 none-elsewhere lines place other [] [] ne zip = refl
 none-elsewhere lines place other [] (a ∷ added) ne zip = absurd zip
 none-elsewhere lines place other (h ∷ heard) [] ne zip = absurd zip
@@ -163,7 +163,7 @@ adds-at config lines s place old new h = record {
 }
 
 -- one that hears nothing
-pub hears-nothing : (place : ℕ) (heard : List Heard) (answers : List Answer) → length heard ≡ 0 → AddsAnswers place heard answers answers
+pub hears-nothing : (place : ℕ) (heard : List NumberedEvent) (answers : List Answer) → length heard ≡ 0 → AddsAnswers place heard answers answers
 hears-nothing place [] answers none = record { added = []; after = sym (append-nil answers); each = tt }
 hears-nothing place (h ∷ heard) answers none = absurd (omega (arith, none))
 

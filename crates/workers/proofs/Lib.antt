@@ -9,6 +9,6 @@ pub mod Attributing
 pub mod Fullness
 pub mod Answering
 pub mod HeardLines
-pub mod Taking
+pub mod EventsTaken
 pub mod Drains
 pub mod Moving

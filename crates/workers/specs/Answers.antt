@@ -13,7 +13,7 @@ use Rattle.workers.specs.Giving.{heard_at}
 use Rattle.workers.specs.Playing.{is_from, events_at, Answers, AreAnswers}
 use Rattle.workers.specs.declared.answers.Answer.{Answer}
 use Rattle.workers.specs.declared.answers.Answered.{Answered}
-use Rattle.workers.specs.declared.answers.Heard.{Heard}
+use Rattle.workers.specs.declared.answers.NumberedEvent.{NumberedEvent}
 use Rattle.workers.specs.declared.answers.Made.{Made}
 use Rattle.workers.specs.declared.answers.Made.TheVariants.{Took, Full}
 use Rattle.workers.specs.declared.answers.Span.{Span}
@@ -51,10 +51,10 @@ abbrev pub lines_in : List Line → Span → List Line
 lines_in lines s = map (line_at lines) (numbers_in s)
 
 -- what the network at a place hears of the line with this number, and of the lines of a span
-abbrev pub heard_by : RadioConfig → List Line → ℕ → ℕ → List Heard
+abbrev pub heard_by : RadioConfig → List Line → ℕ → ℕ → List NumberedEvent
 heard_by config lines place n = map (λ e. record { line = n; event = e }) (heard_at config (line_at lines n) place)
 
-abbrev pub heard_in : RadioConfig → List Line → Span → ℕ → List Heard
+abbrev pub heard_in : RadioConfig → List Line → Span → ℕ → List NumberedEvent
 heard_in config lines s place = flat_map (heard_by config lines place) (numbers_in s)
 
 -- ---- what a network makes of what it hears
@@ -64,22 +64,22 @@ abbrev pub made_of : ℕ → ℕ → Made
 made_of limit taken = if nat_lt taken limit then Took taken else Full
 
 -- of events, one after the other
-abbrev pub answers_to : ℕ → ℕ → ℕ → List Heard → List Answer
+abbrev pub answers_to : ℕ → ℕ → ℕ → List NumberedEvent → List Answer
 answers_to limit place taken [] = []
 answers_to limit place taken (h ∷ hs) =
     record { line = h.line; place = place; made = made_of limit taken } ∷ answers_to limit place (taken + 1) hs
 
 -- It took the first of them, up to its limit, after those before; the answers stand after those before.
-pub record TakesEach (place : ℕ) (heard : List Heard) (old new : BssView) (before after : List Answer) : Type 0 where
+pub record TakesEach (place : ℕ) (heard : List NumberedEvent) (old new : BssView) (before after : List Answer) : Type 0 where
   pub history : new.history ≡ take old.setting.network.max_events (old.history ++ map (λ h. h.event) heard)
   pub answers : after ≡ before ++ answers_to old.setting.network.max_events place (length old.history) heard
 
 -- an answer of the network at a place to what it heard
-abbrev pub IsAnswerTo : ℕ → Heard → Answer → Type 0
+abbrev pub IsAnswerTo : ℕ → NumberedEvent → Answer → Type 0
 IsAnswerTo place h a = (a.line ≡ h.line) × (a.place ≡ place)
 
 -- those to all that it heard, in order, after the old answers
-pub record AddsAnswers (place : ℕ) (heard : List Heard) (old new : List Answer) : Type 0 where
+pub record AddsAnswers (place : ℕ) (heard : List NumberedEvent) (old new : List Answer) : Type 0 where
   pub added : List Answer
   pub after : new ≡ old ++ added
   pub each : AllZip (IsAnswerTo place) heard added

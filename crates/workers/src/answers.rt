@@ -58,7 +58,7 @@ impl Span {
 
 /// What a network hears of a line of a source.
 #[derive(Debug, Drop)]
-pub(crate) struct Heard {
+pub(crate) struct NumberedEvent {
     /// The line's number in its source, from 0.
     pub(crate) line: usize,
     /// The event that it is to the network.

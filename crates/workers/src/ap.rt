@@ -14,7 +14,7 @@ ghost use Rattle.workers.specs.Copies.{copies_at, AreCopies, HaveNetworks, AreOf
 ghost use Rattle.workers.specs.Giving.{AreHeard, AddsEntries, entry_of};
 ghost use Rattle.workers.specs.Seats.{IsNetworkOf};
 
-use crate::answers::{Answer, Heard};
+use crate::answers::{Answer, NumberedEvent};
 use crate::caller::{Caller, Entry};
 use crate::copies::Copies;
 use crate::name::ApName;
@@ -225,7 +225,7 @@ impl<N: ApName> Ap<N> {
         &self,
         rt: &R,
         place: usize,
-        heard: Vec<Heard>,
+        heard: Vec<NumberedEvent>,
         answers: &mut Vec<Answer>,
     ) -> Result<Handing, NoMemory>
         requires place { place < length N.config.networks }

@@ -4,7 +4,7 @@
 ghost use Rattle.std.specs.Prelude.{◌≡◌, ◌+◌, ◌<◌, ◌≤◌, IfOk, OnOk, length, option_to_list};
 ghost use Rattle.workers.specs.Answers.{AddsHeard, AddsLines, heard_by, heard_in};
 
-use crate::answers::{Answer, Heard, Span};
+use crate::answers::{Answer, NumberedEvent, Span};
 use crate::ap::Ap;
 use crate::name::ApName;
 use crate::outlet::Relief;
@@ -82,7 +82,12 @@ impl<N: ApName> Ap<N> {
     }
 
     /// What the network at a place hears of the lines of a span.
-    fn heard(&self, lines: &[Line], span: Span, place: usize) -> Result<Vec<Heard>, NoMemory>
+    fn heard(
+        &self,
+        lines: &[Line],
+        span: Span,
+        place: usize,
+    ) -> Result<Vec<NumberedEvent>, NoMemory>
         requires span { (span.first ≤ span.end) × (span.end ≤ length lines.now) }
         requires place { place < length N.config.networks }
         ensures { IfOk result (λ heard. heard.items ≡ heard_in N.config lines.now span place) }
@@ -102,7 +107,7 @@ impl<N: ApName> Ap<N> {
         lines: &[Line],
         line: usize,
         place: usize,
-    ) -> Result<Option<Heard>, NoMemory>
+    ) -> Result<Option<NumberedEvent>, NoMemory>
         requires line { line < length lines.now }
         requires place { place < length N.config.networks }
         ensures { IfOk result (λ heard. option_to_list heard ≡ heard_by N.config lines.now place line) }
@@ -110,7 +115,7 @@ impl<N: ApName> Ap<N> {
         match lines[line].lend().event_for(place, self.bssids[place]) {
             Some(event) => {
                 let event = event.copy(self.alloc)?;
-                Ok(Some(Heard { line, event }))
+                Ok(Some(NumberedEvent { line, event }))
             }
             None => Ok(None),
         }

@@ -8,7 +8,7 @@ ghost use Rattle.network.specs.BssView.{BssView};
 ghost use Rattle.workers.specs.Answers.{TakesEach, made_of};
 ghost use Rattle.workers.specs.Seats.{IsSeated, IsNetworkOf, AnswersEvent, HandsFrame};
 
-use crate::answers::{Answer, Heard, Made};
+use crate::answers::{Answer, Made, NumberedEvent};
 use crate::name::ApName;
 use crate::outcome::Outcome;
 use air_queue::{AirQueue, NetPass};
@@ -118,7 +118,7 @@ impl<N: ApName> Seat<N> {
     pub(crate) fn take_each(
         &mut self,
         place: usize,
-        heard: Vec<Heard>,
+        heard: Vec<NumberedEvent>,
         answers: &mut Vec<Answer>,
     ) -> Result<(), NoMemory>
         requires room { vec_len answers.old + vec_len heard ≤ vec_capacity answers.old }
@@ -126,7 +126,7 @@ impl<N: ApName> Seat<N> {
             answers.old.items answers.new.items) }
     {
         let _ = &self.bss;
-        for Heard { line, event } in heard {
+        for NumberedEvent { line, event } in heard {
             let made = self.make(event)?;
             answers.push_reserved(Answer { line, place, made });
         }

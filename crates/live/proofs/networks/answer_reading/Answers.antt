@@ -7,7 +7,7 @@ use Rattle.live_answers.specs.Answers.{MayReplyFrom, after_line_from}
 use Rattle.events.specs.LentEvents.{line_of}
 use Rattle.events.specs.declared.line.Line.{Line}
 use Rattle.live.specs.Readings.{IsReading}
-use Rattle.live.specs.Written.{written_tables}
+use Rattle.live_output.specs.Written.{written_tables}
 use Rattle.live.specs.declared.reading.Reading.{Reading}
 use Rattle.live.proofs.AnswerSteps.{at, answered-reading, answered-fault}
 use Rattle.live.proofs.networks.answer_reading.Goals as goal

@@ -1,7 +1,7 @@
 use Rattle.std.proofs.Common.{ap}
 use Rattle.std.specs.Prelude.{option_to_list}
 use Rattle.events.specs.LentEvents.{event_of}
-use Rattle.live.specs.Written.{written_reply}
+use Rattle.live_output.specs.Written.{written_reply}
 use Rattle.live_answers.specs.Moments.{Sends, Refuses}
 use Rattle.live.proofs.ReplySteps.{sends-may, refuses-may}
 use Rattle.trace.specs.BufferLaws.{Puts-same}

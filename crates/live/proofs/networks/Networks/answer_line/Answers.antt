@@ -5,7 +5,7 @@ use Rattle.live_answers.specs.Asked.{asked_by}
 use Rattle.live_answers.specs.Moments.{bssids_at}
 use Rattle.live.specs.Output.{AreAnswered, through}
 use Rattle.live.specs.PartialLine.{line_in}
-use Rattle.live.specs.declared.face.Face.TheVariants.{Lines}
+use Rattle.live_output.specs.declared.face.Face.TheVariants.{Lines}
 use Rattle.live.proofs.networks.Networks.answer_line.Goals as goal
 
 pub returns-in-Ok : goal.returns-in-Ok

@@ -1,4 +1,4 @@
-use Rattle.workers.proofs.Taking.{takes-adds}
+use Rattle.workers.proofs.EventsTaken.{takes-adds}
 use Rattle.workers.proofs.ap.Ap.take_each.Goals as goal
 
 pub returns : goal.returns

@@ -1,5 +1,5 @@
 use Rattle.std.proofs.Common.{◌≤◌, length, subst}
-use Rattle.workers.proofs.Taking.{took-made, took-history}
+use Rattle.workers.proofs.EventsTaken.{took-made, took-history}
 use Rattle.workers.proofs.seat.Seat.make.Goals as goal
 
 pub returns-in-Took-clause-made : goal.returns-in-Took-clause-made

@@ -3,8 +3,8 @@ use Rattle.std.proofs.lemmas.List.{append-nil, take_all}
 use Rattle.std.specs.Vec.Iter.{into_iter_items}
 use Rattle.events.specs.declared.event.Event.{Event}
 use Rattle.workers.specs.Answers.{answers_to}
-use Rattle.workers.specs.declared.answers.Heard.{Heard}
-use Rattle.workers.proofs.Taking.{history-more, answered-more, no-heard}
+use Rattle.workers.specs.declared.answers.NumberedEvent.{NumberedEvent}
+use Rattle.workers.proofs.EventsTaken.{history-more, answered-more, no-heard}
 use Rattle.workers.proofs.seat.Seat.take_each.Goals as goal
 
 pub loop-line-init : goal.loop-line-init
@@ -28,8 +28,8 @@ loop-line-preserved g c =
     let limit : ℕ = c.args.self.now.network.setting.network.max_events in
     let old : List Event = c.args.self.now.network.history in
     let now : List Event = c.loop-line.self.network.history in
-    let before : List Heard = i.0 in
-    let h : Heard = c.in-Some.field-0 in
+    let before : List NumberedEvent = i.0 in
+    let h : NumberedEvent = c.in-Some.field-0 in
     let same : c.loop-line.self.network.setting.network.max_events ≡ limit = ap (λ s. s.network.max_events) i.2 in
     let taken : c.make.new.self.network.history ≡ take limit (now ++ h.event ∷ []) = subst (λ (n : ℕ). c.make.new.self.network.history ≡ take n (now ++ h.event ∷ [])) same c.in_ok-made.ensures.history in
     let room = i.5 in
@@ -37,7 +37,7 @@ loop-line-preserved g c =
     let len = c.push_reserved.ensures.len in
     let capacity = c.push_reserved.ensures.capacity in (
       before ++ h ∷ [],
-      append_assoc before (h ∷ []) (into_iter_items c.next.new.self) ∙ ap (λ (hs : List Heard). before ++ hs) (sym c.in-Some.ensures.steps.0) ∙ i.1,
+      append_assoc before (h ∷ []) (into_iter_items c.next.new.self) ∙ ap (λ (hs : List NumberedEvent). before ++ hs) (sym c.in-Some.ensures.steps.0) ∙ i.1,
       c.make.ensures.setting ∙ i.2,
       history-more limit old before h now c.make.new.self.network.history i.3 taken,
       answered-more limit c.loop-line.self.network.setting.network.max_events c.args.place old now before h c.in_ok-made.made c.args.answers.now.items c.loop-line.answers.items c.push_reserved.new.self.items same i.3 c.in_ok-made.ensures.made i.4 c.push_reserved.ensures.items,
@@ -49,11 +49,11 @@ returns g c =
     let i = c.loop-line.invariant in
     let limit : ℕ = c.args.self.now.network.setting.network.max_events in
     let old : List Event = c.args.self.now.network.history in
-    let before : List Heard = i.0 in
-    let left : List Heard = into_iter_items c.loop-line.line-iterator in
+    let before : List NumberedEvent = i.0 in
+    let left : List NumberedEvent = into_iter_items c.loop-line.line-iterator in
     let ended : left ≡ [] = no-heard left (omega (arith, c.loop-line.line-iterator.rest.ok, c.in-None.ensures.steps.0)) in
-    let whole : before ≡ c.args.heard.items = sym (append-nil before) ∙ ap (λ (hs : List Heard). before ++ hs) (sym ended) ∙ i.1 in
+    let whole : before ≡ c.args.heard.items = sym (append-nil before) ∙ ap (λ (hs : List NumberedEvent). before ++ hs) (sym ended) ∙ i.1 in
     record {
-      history = subst (λ (hs : List Heard). c.loop-line.self.network.history ≡ take limit (old ++ map (λ h. h.event) hs)) whole i.3;
-      answers = subst (λ (hs : List Heard). c.loop-line.answers.items ≡ c.args.answers.now.items ++ answers_to limit c.args.place (length old) hs) whole i.4;
+      history = subst (λ (hs : List NumberedEvent). c.loop-line.self.network.history ≡ take limit (old ++ map (λ h. h.event) hs)) whole i.3;
+      answers = subst (λ (hs : List NumberedEvent). c.loop-line.answers.items ≡ c.args.answers.now.items ++ answers_to limit c.args.place (length old) hs) whole i.4;
     }

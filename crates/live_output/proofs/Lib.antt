@@ -1,0 +1,2 @@
+pub mod LentFrames
+pub mod NoticeSteps

@@ -1,0 +1,18 @@
+use Rattle.trace.specs.BufferLaws.{Puts-nothing, Puts-item, Puts-items}
+use Rattle.live_output.specs.AnswerOctets.{table_octets}
+use Rattle.live_output.proofs.record_output.put_tables.Goals as goal
+
+pub loop-network-init : goal.loop-network-init
+loop-network-init g c = Puts-nothing _ c.requires
+
+pub loop-network-preserved : goal.loop-network-preserved
+loop-network-preserved g c =
+    Puts-item table_octets c.args.networks.now c.loop-network.network-index c.network-item.result
+    c.loop-network-test.true c.network-item.is
+    c.loop-network.invariant
+    c.put_table.ensures
+
+pub returns : goal.returns
+returns g c =
+    Puts-items table_octets c.args.networks.now c.loop-network.network-index c.loop-network-test.false
+    c.loop-network.invariant

@@ -1,0 +1,3 @@
+pub mod AnswerOctets
+pub mod Frames
+pub mod Written
