@@ -77,6 +77,7 @@ impl Audience {
 }
 
 /// The place of the first network that has an address, or how many there are, where none has it.
+#[inline]
 fn first_with(to: MacAddr, bssids: &[MacAddr]) -> usize
     ensures few { result ≤ length bssids.now }
     ensures before { (place : ℕ) → place < result → bytes_eq to (slice_index_or bssids.now place []) ≡ false }
@@ -89,6 +90,7 @@ fn first_with(to: MacAddr, bssids: &[MacAddr]) -> usize
 }
 
 /// The place after the last network that has an address, or 0, where none has it.
+#[inline]
 fn end_with(to: MacAddr, bssids: &[MacAddr]) -> usize
     ensures few { result ≤ length bssids.now }
     ensures after { (place : ℕ) → result ≤ place → place < length bssids.now
