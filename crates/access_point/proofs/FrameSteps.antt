@@ -3,17 +3,11 @@ use Rattle.std.proofs.Common.{◌≡◌, ℕ, ◌+◌, ◌≤◌, List, [], ◌�
 use Rattle.std.proofs.Common.{sym, ap, ◌∙◌, arith}
 use Rattle.std.specs.Prelude.{sum}
 use Rattle.std.proofs.Math.Seq.{take-length}
-use Rattle.std.proofs.lemmas.List.{take-append-le, drop-append-le, length-drop, length-append}
-use Rattle.std.proofs.lemmas.List.Sums.{sum_by-cons, sum_by-append}
+use Rattle.std.proofs.lemmas.List.{take-append-le, drop-append-le, length-drop}
+use Rattle.std.proofs.lemmas.List.Sums.{sum_by-cons}
 use Rattle.access_point.specs.FrameLog.{cut_by}
 
 -- ---- one frame more
-
--- the lengths are still those of all octets
-pub sum-push : (lengths octets frame : List ℕ) → sum lengths ≡ length octets
-    → sum (lengths ++ length frame ∷ []) ≡ length (octets ++ frame)
-sum-push lengths octets frame whole =
-    omega (arith, sum_by-append (λ (n : ℕ). n) lengths (length frame ∷ []), length-append octets frame, whole)
 
 pub cut-push : (lengths octets frame : List ℕ) → sum lengths ≡ length octets
     → cut_by (lengths ++ length frame ∷ []) (octets ++ frame) ≡ cut_by lengths octets ++ frame ∷ []

@@ -1,11 +1,11 @@
 -- A network without its history takes one event after another, and its frames are kept.
 use Rattle.std.proofs.Common.{◌≡◌, ℕ, ◌<◌, ◌≤◌, Bool, cond, List, [], ◌∷◌, ◌++◌, length, Result, Ok, Err, OnOk}
 use Rattle.std.proofs.Common.{sym, ap, ◌∙◌, append-nil}
-use Rattle.std.proofs.lemmas.Bool.{lt-ltb, le-ltb}
+use Rattle.std.proofs.lemmas.Bool.{lt-ltb}
 use Rattle.std.proofs.lemmas.List.{length_push}
 use Rattle.ap_config.specs.declared.setting.Setting.{Setting}
 use Rattle.events.specs.declared.event.Event.{Event}
-use Rattle.network.specs.Network.{Network, alone, empty_network, step}
+use Rattle.network.specs.Network.{Network, alone, step}
 use Rattle.network.specs.NetworkView.{NetworkState, new_network, took_event, unsent, sent_before}
 use Rattle.access_point.specs.Log.{log_of, taken_next}
 use Rattle.access_point.specs.declared.logged_network.LoggedNetwork.{LoggedNetwork}
@@ -17,10 +17,6 @@ logged s events n = record {
   air = n.air;
   wire = n.wire;
 }
-
-pub log-none : (s : Setting) → alone s [] ≡ empty_network
-    → record { network = new_network s; air = []; wire = [] } ≡ log_of s []
-log-none s law = ap (logged s 0) (sym law)
 
 -- one that took an event, and kept what it sent for it
 abbrev pub after_event : Event → LoggedNetwork → LoggedNetwork
@@ -60,13 +56,6 @@ log-more laws s es e old new was room is =
     is ∙ ap (after_event e) was
     ∙ log-push laws s es e
     ∙ ap (λ (b : Bool). log_of s (es ++ cond b (e ∷ []) [])) (sym (lt-ltb (length es) s.network.max_events room))
-
--- where there is none
-pub log-full : (s : Setting) (es : List Event) (e : Event) (old : LoggedNetwork) → old ≡ log_of s es
-    → s.network.max_events ≤ length es → old ≡ log_of s (es ++ taken_next s es e)
-log-full s es e old was full =
-    was ∙ ap (log_of s) (sym (append-nil es))
-    ∙ ap (λ (b : Bool). log_of s (es ++ cond b (e ∷ []) [])) (sym (le-ltb (length es) s.network.max_events full))
 
 -- as its calls say it
 pub log-kept : (laws : Laws) (s : Setting) (es : List Event) (e : Event) (old new : LoggedNetwork) (n : NetworkState)

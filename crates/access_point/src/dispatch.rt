@@ -2,17 +2,18 @@
 
 ghost use Rattle.std.specs.Prelude.{◌≡◌, ℕ, List, Bool, true, OnOk, OnErr, map};
 ghost use Rattle.std.specs.List.{AllByRecursion};
-ghost use Rattle.events.specs.LentEvents.{event_of, line_of};
+ghost use Rattle.events.specs.LentEvents.{line_of};
 ghost use Rattle.events.specs.Lines.{event_for, event_of_line};
 ghost use Rattle.events.specs.declared.event.Event.{Event};
 ghost use Rattle.events.specs.declared.line.Line.{Line};
+ghost use Rattle.network.specs.ReadEvents.{event_read};
 ghost use Rattle.access_point.specs.Audiences.{IsAudience};
 ghost use Rattle.access_point.specs.Takes.{Takes, TakesIf};
 
 use crate::audience::Audience;
-use events::{LentEvent, LentLine};
+use events::LentLine;
 use mac_frame::{MacAddr, NoMemory};
-use network::{Network, Spare};
+use network::{Network, ReadEvent, Spare};
 
 /// What stands for a network in an access point.
 pub trait Addressed {
@@ -52,21 +53,22 @@ pub trait Deliver<N: Addressed, O> {
     fn deliver(
         &self,
         network: &mut N,
-        event: LentEvent<'_>,
+        event: &ReadEvent<'_>,
         spare: &mut Spare,
         out: &mut O,
     ) -> Result<(), NoMemory>
         requires may { may_take network.old }
         requires ready { is_ready out.old }
         ensures delivered { OnOk result
-            (delivers self.now (event_of event.entry) network.old network.new out.old out.new) }
+            (delivers self.now (event_read event.now) network.old network.new out.old out.new) }
         ensures ready { OnOk result (is_ready out.new) }
         ensures address { N.bssid network.new ≡ N.bssid network.old }
         ensures stops { OnErr result (may_stop ≡ true) };
 }
 
 /// Has each network that hears a line take it, in order of place, of networks with these addresses, and leaves the
-/// others alone; none is looked at that stands before or after all that hear it. After `NoMemory` those behind the one
+/// others alone; none is looked at that stands before or after all that hear it. What of it is the same for each of them
+/// is read once. After `NoMemory` those behind the one
 /// at which it stopped took nothing.
 pub(crate) fn take_line<N: Addressed, O, D: Deliver<N, O>>(
     how: &D,
@@ -85,7 +87,8 @@ pub(crate) fn take_line<N: Addressed, O, D: Deliver<N, O>>(
     ensures stops { OnErr result (D.may_stop ≡ true) }
 {
     let audience = Audience::of(line);
-    let event = line.event();
+    let lent = line.event();
+    let event = ReadEvent::for_all(lent);
     let (first, end) = audience.places(bssids);
     for place in first..end {
         take_at(
@@ -94,7 +97,7 @@ pub(crate) fn take_line<N: Addressed, O, D: Deliver<N, O>>(
             place,
             bssids[place],
             &mut networks[place],
-            event,
+            &event,
             spare,
             out,
         )?;
@@ -110,14 +113,14 @@ fn take_at<N: Addressed, O, D: Deliver<N, O>>(
     place: usize,
     bssid: MacAddr,
     network: &mut N,
-    event: LentEvent<'_>,
+    event: &ReadEvent<'_>,
     spare: &mut Spare,
     out: &mut O,
 ) -> Result<(), NoMemory>
     requires may { D.may_take network.old }
     requires ready { D.is_ready out.old }
     ensures taken { OnOk result ((said : Line) → IsAudience audience.now said
-        → event_of event.entry ≡ event_of_line said
+        → event_read event.now ≡ event_of_line said
         → TakesIf (D.delivers how.now) (event_for place bssid said) network.old network.new out.old out.new) }
     ensures ready { OnOk result (D.is_ready out.new) }
     ensures address { N.bssid network.new ≡ N.bssid network.old }

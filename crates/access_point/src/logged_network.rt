@@ -2,16 +2,17 @@
 
 ghost use Rattle.std.specs.Prelude.{◌≡◌, ◌++◌, List, [], true, OnOk, option_to_list};
 ghost use Rattle.ap_config.specs.declared.setting.Setting.{Setting};
-ghost use Rattle.events.specs.LentEvents.{event_of};
 ghost use Rattle.events.specs.declared.event.Event.{Event};
+ghost use Rattle.network.specs.ReadEvents.{event_read};
 ghost use Rattle.access_point.specs.Log.{Logs, log_of, taken_next};
 
 use crate::dispatch::{Addressed, Deliver};
 use crate::frame_log::FrameLog;
 use ap_config::{Setting, checked_numbers};
-use events::LentEvent;
 use mac_frame::{MacAddr, NoMemory};
-use network::{Network, NetworkRefusal, Open, Sent, Spare, one_step, reachable, steps_append};
+use network::{
+    Network, NetworkRefusal, Open, ReadEvent, Sent, Spare, one_step, reachable, steps_append,
+};
 use std::alloc::Global;
 
 /// A network, and the frames that it sent. Of the events that it took it keeps the number alone.
@@ -49,9 +50,9 @@ impl Open for LoggedNetwork {
 impl LoggedNetwork {
     /// Takes an event, unless it took as many as its history might have, and keeps the frames that it sends, which are
     /// built in spare memory.
-    pub fn take(&mut self, event: LentEvent<'_>, spare: &mut Spare) -> Result<(), NoMemory>
+    pub fn take(&mut self, event: &ReadEvent<'_>, spare: &mut Spare) -> Result<(), NoMemory>
         ensures logs { (s : Setting) (es : List Event) → self.old ≡ log_of s es
-            → OnOk result (self.new ≡ log_of s (es ++ taken_next s es (event_of event.entry))) }
+            → OnOk result (self.new ≡ log_of s (es ++ taken_next s es (event_read event.now))) }
         ensures setting { self.new.network.setting ≡ self.old.network.setting }
     {
         // no history is so long that the network's clock or its number of events could end
@@ -62,7 +63,7 @@ impl LoggedNetwork {
         if self.network.events() >= u64::from(self.network.setting().network.max_events) {
             return Ok(());
         }
-        match self.network.take_lent_in(event, spare) {
+        match self.network.take_read_in(event, spare) {
             Ok(sent) => self.keep(sent, spare),
             Err(NetworkRefusal::NoMemory) => Err(NoMemory),
             // its clock counts more beacon intervals than it may take events
@@ -104,7 +105,7 @@ impl Deliver<LoggedNetwork, ()> for KeepFrames {
     fn deliver(
         &self,
         network: &mut LoggedNetwork,
-        event: LentEvent<'_>,
+        event: &ReadEvent<'_>,
         spare: &mut Spare,
         _out: &mut (),
     ) -> Result<(), NoMemory> {

@@ -3,14 +3,15 @@
 ghost use Rattle.std.specs.Prelude.{◌<◌, ◌^◌, false};
 ghost use Rattle.std.specs.List.{AllByRecursion};
 ghost use Rattle.trace.specs.Buffers.{CanWrite, watch};
-ghost use Rattle.events.specs.LentEvents.{event_of, line_of};
+ghost use Rattle.events.specs.LentEvents.{line_of};
+ghost use Rattle.network.specs.ReadEvents.{event_read};
 ghost use Rattle.live.specs.Output.{HasReplied, HaveReplied, through};
 
 use access_point::{AccessPoint, Deliver};
-use events::{LentEvent, LentLine};
+use events::LentLine;
 use live_output::{Face, put_refusal, put_sent};
 use mac_frame::NoMemory;
-use network::{Network, Spare};
+use network::{Network, ReadEvent, Spare};
 use trace::{Buffered, Sink};
 
 /// Puts what each network replies to the line or record of a number. A network that refuses it doesn't keep the next
@@ -35,7 +36,7 @@ impl<W: Sink> Deliver<Network, Buffered<'_, W>> for Replying {
     fn deliver(
         &self,
         network: &mut Network,
-        event: LentEvent<'_>,
+        event: &ReadEvent<'_>,
         spare: &mut Spare,
         out: &mut Buffered<'_, W>,
     ) -> Result<(), NoMemory> {
@@ -69,18 +70,18 @@ pub fn reply_all<W: Sink>(
 fn reply<W: Sink>(
     face: Face,
     network: &mut Network,
-    event: LentEvent<'_>,
+    event: &ReadEvent<'_>,
     number: u64,
     spare: &mut Spare,
     out: &mut Buffered<'_, W>,
 )
     requires countable { network.old.events < 2 ^ 62 }
     requires can_write { CanWrite W.failed out.old }
-    ensures { HasReplied (through face (watch W.taken W.failed) out.old out.new) number (event_of event.entry)
+    ensures { HasReplied (through face (watch W.taken W.failed) out.old out.new) number (event_read event.now)
         network.old network.new }
 {
     let bssid = network.setting().network.bssid;
-    match network.take_lent_in(event, spare) {
+    match network.take_read_in(event, spare) {
         Ok(sent) => {
             put_sent(face, out, bssid, &sent);
             spare.keep(sent);

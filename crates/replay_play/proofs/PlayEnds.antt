@@ -78,12 +78,6 @@ config_plays (reads.At fault) ct traces old h =
 config_plays reads.NoMemory ct traces old h =
     record { answer = Err NoMemory; allowed = tt; taken = Keeps-refl old }
 
--- too many traces, or none
-pub count_plays : (c : RadioConfig) (ct : List ℕ) (traces : List (List ℕ)) (old : Option (List ℕ))
-    → configuration_of ct ≡ Ok c → callers_fit (length traces) ≡ false → EndsPlay (Err Sources) ct traces old old
-count_plays c ct traces old read many =
-    record { answer = Err Sources; allowed = ((c, read), many); taken = (refl, Keeps-refl old) }
-
 -- a fault of a trace
 pub traces_play : (e : PlayTextFault) (c : RadioConfig) (ct : List ℕ) (traces : List (List ℕ)) (old : Option (List ℕ))
     → configuration_of ct ≡ Ok c → callers_fit (length traces) ≡ true → IsTracesFault c traces e

@@ -1,6 +1,6 @@
 use Rattle.std.proofs.Common.{◌<◌, length, ap, arith}
 use Rattle.std.specs.Prelude.{option_to_list}
-use Rattle.events.specs.LentEvents.{event_of}
+use Rattle.network.specs.ReadEvents.{event_read}
 use Rattle.ap_config.specs.declared.setting.Setting.{Setting}
 use Rattle.access_point.specs.declared.logged_network.LoggedNetwork.{LoggedNetwork}
 use Rattle.access_point.proofs.LogSteps.{log-kept, on_ok}
@@ -20,6 +20,6 @@ returns-in-Ok-clause-logs c s es h =
       ap (λ (n : LoggedNetwork). n.network.events) h,
     ) in
     on_ok c.keep.result
-    (log-kept (record { next = c.one_step.ensures.next; appends = c.steps_append.ensures }) s es (event_of c.args.event) c.args.self.now c.keep.new.self c.take_lent_in.new.self sent.air (option_to_list sent.wire)
+    (log-kept (record { next = c.one_step.ensures.next; appends = c.steps_append.ensures }) s es (event_read c.args.event.now) c.args.self.now c.keep.new.self c.take_read_in.new.self sent.air (option_to_list sent.wire)
     h room c.in-Ok.ensures.after c.in-Ok.ensures.air c.in-Ok.ensures.wire)
     c.keep.ensures.kept
