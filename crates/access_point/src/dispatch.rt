@@ -2,7 +2,7 @@
 
 ghost use Rattle.std.specs.Prelude.{◌≡◌, ℕ, List, Bool, true, OnOk, OnErr, map};
 ghost use Rattle.std.specs.List.{AllByRecursion};
-ghost use Rattle.events.specs.LentEvents.{line_of};
+ghost use Rattle.events.specs.LentEvents.{event_of, line_of};
 ghost use Rattle.events.specs.Lines.{event_for, event_of_line};
 ghost use Rattle.events.specs.declared.event.Event.{Event};
 ghost use Rattle.events.specs.declared.line.Line.{Line};
@@ -11,7 +11,8 @@ ghost use Rattle.access_point.specs.Audiences.{IsAudience};
 ghost use Rattle.access_point.specs.Takes.{Takes, TakesIf};
 
 use crate::audience::Audience;
-use events::LentLine;
+use association::ReceivedFrame;
+use events::{LentEvent, LentLine};
 use mac_frame::{MacAddr, NoMemory};
 use network::{Network, ReadEvent, Spare};
 
@@ -88,7 +89,7 @@ pub(crate) fn take_line<N: Addressed, O, D: Deliver<N, O>>(
 {
     let audience = Audience::of(line);
     let lent = line.event();
-    let event = ReadEvent::for_all(lent);
+    let event = read_for(&audience, lent);
     let (first, end) = audience.places(bssids);
     for place in first..end {
         take_at(
@@ -103,6 +104,19 @@ pub(crate) fn take_line<N: Addressed, O, D: Deliver<N, O>>(
         )?;
     }
     Ok(())
+}
+
+/// An event for the networks that hear it: what is the same for each is read once, where more than one may hear it.
+#[inline(always)]
+fn read_for<'a>(audience: &Audience, event: LentEvent<'a>) -> ReadEvent<'a>
+    ensures { event_read result ≡ event_of event.entry }
+{
+    match (audience, event) {
+        (Audience::Addressed(_), LentEvent::Air(octets)) => {
+            ReadEvent::Air(ReceivedFrame::for_one(octets))
+        }
+        (_, event) => ReadEvent::for_all(event),
+    }
 }
 
 /// Has the network at a place take the event of a line, if it is of the line's audience.

@@ -67,7 +67,7 @@ loop-place-preserved g c =
           (λ (x : List ℕ × g.row.N.Denot).
           TakesIf (g.D.Deliver.delivers c.args.how.now) (event_for place x.0 (line_of c.args.line)) x.1 c.take_at.new.network c.loop-place.out c.take_at.new.out)
           (λ k. (read k, sym c.index-networks-place.is k))
-          (c.in_ok-take_at.ensures.taken (line_of c.args.line) c.of-audience.ensures (c.for_all-event.ensures ∙ c.event-lent.ensures)));
+          (c.in_ok-take_at.ensures.taken (line_of c.args.line) c.of-audience.ensures (c.read_for-event.ensures ∙ c.event-lent.ensures)));
       ready = c.in_ok-take_at.ensures.ready;
       addresses =
           addresses-kept g.N.Addressed.bssid c.loop-place.networks place n c.take_at.new.network c.index-networks-place.is
