@@ -41,12 +41,20 @@ class Browser:
             self.ask(f"{domain}.enable")
 
     def close(self):
-        """Ends it."""
+        """Ends it. Its helpers may write into its folder for a moment longer."""
         self.process.terminate()
         self.process.wait()
         os.close(self.writing)
         os.close(self.reading)
-        self.folder.cleanup()
+        until = time.monotonic() + SECONDS
+        while True:
+            try:
+                self.folder.cleanup()
+                return
+            except OSError:
+                if time.monotonic() > until:
+                    raise
+                time.sleep(0.05)
 
     def ask(self, method, **words):
         """Asks it for something, and waits for its answer."""
