@@ -15,7 +15,7 @@ use Rattle.powersave.specs.Keep.{Entry, is_for, is_same, units_for, without_firs
 use Rattle.powersave.specs.declared.unit.Oldest.{Oldest}
 use Rattle.powersave.specs.declared.unit.Whom.{Whom}
 use Rattle.powersave.specs.declared.unit.Whom.TheVariants.{One, Group}
-use Rattle.roster.specs.AgingClocks.{IsClockOf, HasClock, HaveClocks, IsEntered, IsNoted, IsListed, StayAt, is_due, due_with, due_at}
+use Rattle.roster.specs.AgingClocks.{IsClockOf, HasClock, HaveClocks, IsEntered, IsNoted, IsListed, StayAt, listing, is_due, due_with, due_at}
 use Rattle.roster.specs.declared.aging_clocks.AgingClock.{AgingClock}
 use Rattle.roster.specs.Roster.{AreWaitedFor, AreAmong, is_number, renumbered}
 use Rattle.stations.specs.Changes.{OthersStay, ModesAlone, IdentifiersDiffer}
@@ -198,7 +198,7 @@ noted differ most t es numbers clocks new aids addr at n sound is told bit step 
             (ap (λ (x : AgingClock). x.addr) is_c ∙ own.0, omega (arith, le, le_old, ap (λ (x : AgingClock). x.at) is_c), omega (arith, own.2, ap (λ (x : AgingClock). x.listen) is_c))
 
 pub entered : IdentifiersDiffer → (most : ℕ) (t : Table) (es : List Entry) (numbers : Numbers) (clocks new : List AgingClock) (old_aids aids : List ℕ) (addr : List ℕ) (at n : ℕ) (c : AgingClock) → AreSound most t → aid_of addr t ≡ Some n → AreWaitedFor numbers t es → bits.contains numbers n ≡ false
-    → IsClockOf t addr at c → IsEntered n c clocks old_aids new aids → HaveClocks clocks old_aids t es → HaveClocks new aids t es × HasClock new aids t (One addr) at
+    → IsClockOf t addr at c → IsEntered n c (listing clocks old_aids) (listing new aids) → HaveClocks clocks old_aids t es → HaveClocks new aids t es × HasClock new aids t (One addr) at
 entered differ most t es numbers clocks new old_aids aids addr at n c sound is told no_bit own step h =
     subst (λ (cs : List AgingClock). HaveClocks cs aids t es × HasClock cs aids t (One addr) at) (sym step.1) (
       each-two es (λ e bit had. has-set t clocks old_aids aids e.0 e.1.at n c step.0 step.3 (λ a whom aid old was was_own. absurd (both_ways (bits.contains numbers n) no_bit (bit a n whom aid))) had) (bits-set differ t es numbers sound.aids told) h,
@@ -286,7 +286,7 @@ listing-begins last t os clocks aids es told once came = record {
     some (Some at) k h = h
 
 pub listing-goes-on : (most : ℕ) (t : Table) (one : Oldest) (rest : List Oldest) (clocks new : List AgingClock) (old_aids aids : List ℕ) (es : List Entry) → AreSound most t → AreListing t (one ∷ rest) clocks old_aids es
-    → IsListed t one clocks old_aids new aids → AreListing t rest new aids es
+    → IsListed t one (listing clocks old_aids) (listing new aids) → AreListing t rest new aids es
 listing-goes-on most t one rest clocks new old_aids aids es sound h step = record {
   told = each es (λ e told. later e (is_same one.whom e.0) refl told) h.told;
   listed = each-two es (λ e told listed none. now e (is_same one.whom e.0) refl none told listed) h.told h.listed;
@@ -321,11 +321,11 @@ has-more t clocks new aids stay (One addr) at h = by (aid_of addr t) h
     by None had = had
     by (Some n) had = (had.0, there n (slice_get clocks n) refl had.1)
 
-pub listed-more : (t : Table) (one : Oldest) (clocks more new : List AgingClock) (old_aids aids : List ℕ) → StayAt clocks more → IsListed t one more old_aids new aids → IsListed t one clocks old_aids new aids
+pub listed-more : (t : Table) (one : Oldest) (clocks more new : List AgingClock) (old_aids aids : List ℕ) → StayAt clocks more → IsListed t one (listing more old_aids) (listing new aids) → IsListed t one (listing clocks old_aids) (listing new aids)
 listed-more t one clocks more new old_aids aids stay step = λ most sound. ((λ whom at other had. (step most sound).0 whom at other (has-more t clocks more old_aids stay whom at had)), (step most sound).1)
 
 pub station-listed : IdentifiersDiffer → (t : Table) (one : Oldest) (clocks new : List AgingClock) (old_aids aids : List ℕ) (addr : List ℕ) (n listen place : ℕ) (doze : Bool) → one.whom ≡ One addr → state_of addr t ≡ Some (Associated n listen doze)
-    → IsEntered n (record { addr = addr; place = place; at = one.at; listen = listen }) clocks old_aids new aids → IsListed t one clocks old_aids new aids
+    → IsEntered n (record { addr = addr; place = place; at = one.at; listen = listen }) (listing clocks old_aids) (listing new aids) → IsListed t one (listing clocks old_aids) (listing new aids)
 station-listed differ t one clocks new old_aids aids addr n listen place doze is state step = λ most sound. (
   λ whom at other had. subst (λ (cs : List AgingClock). HasClock cs aids t whom at) (sym step.1)
       (has-set t clocks old_aids aids whom at n c step.0 step.3 (λ a whom_is aid old was own. absurd (apart most sound whom a other whom_is aid)) had),

@@ -30,12 +30,19 @@ HaveClocks clocks aids table entries = AllByRecursion (λ entry. HasClock clocks
 
 -- ---- how it changes
 
+-- the clocks, one for each identifier, and the identifiers that are listed
+pub record Listing : Type 0 where
+  pub clocks : List AgingClock
+  pub aids : List ℕ
+
+abbrev pub listing : List AgingClock → (aids : List ℕ) → Listing
+listing clocks aids = record { clocks = clocks; aids = aids }
+
 -- the clock of a listed identifier is set, which may be listed for it; the others stay
-abbrev pub IsEntered : (aid : ℕ) → AgingClock → (old : List AgingClock) → (old_aids : List ℕ)
-    → (new : List AgingClock) → (new_aids : List ℕ) → Type 0
-IsEntered aid c old old_aids new new_aids =
-    (aid < length old) × (new ≡ set old aid c) × (is_among new_aids aid ≡ true)
-    × ((n : ℕ) → is_among old_aids n ≡ true → is_among new_aids n ≡ true)
+abbrev pub IsEntered : (aid : ℕ) → AgingClock → (old new : Listing) → Type 0
+IsEntered aid c old new =
+    (aid < length old.clocks) × (new.clocks ≡ set old.clocks aid c) × (is_among new.aids aid ≡ true)
+    × ((n : ℕ) → is_among old.aids n ≡ true → is_among new.aids n ≡ true)
 
 -- the clock of an identifier is no later than this one; the others stay, and so does the station
 abbrev pub IsNoted : (aid at : ℕ) → (old new : List AgingClock) → Type 0
@@ -47,11 +54,11 @@ abbrev pub StayAt : (old new : List AgingClock) → Type 0
 StayAt old new = (n : ℕ) (c : AgingClock) → slice_get old n ≡ Some c → slice_get new n ≡ Some c
 
 -- One that is told as the first for whom units are kept has its clock, and the others keep theirs.
-abbrev pub IsListed : Table → Oldest → (old : List AgingClock) → (old_aids : List ℕ)
-    → (new : List AgingClock) → (new_aids : List ℕ) → Type 0
-IsListed table one old old_aids new new_aids = (most : ℕ) → AreSound most table
-    → ((whom : Whom) (at : ℕ) → is_same one.whom whom ≡ false → HasClock old old_aids table whom at
-    → HasClock new new_aids table whom at) × ((at : ℕ) → one.at ≤ at → HasClock new new_aids table one.whom at)
+abbrev pub IsListed : Table → Oldest → (old new : Listing) → Type 0
+IsListed table one old new = (most : ℕ) → AreSound most table
+    → ((whom : Whom) (at : ℕ) → is_same one.whom whom ≡ false → HasClock old.clocks old.aids table whom at
+    → HasClock new.clocks new.aids table whom at)
+    × ((at : ℕ) → one.at ≤ at → HasClock new.clocks new.aids table one.whom at)
 
 -- ---- which may be too old
 

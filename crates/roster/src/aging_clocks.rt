@@ -11,7 +11,7 @@ ghost use Rattle.aid_pool.specs.LeastFree.{is_among};
 ghost use Rattle.powersave.specs.Keep.{Entry, units_for, first_clock, AreOldest, AreToldOnce};
 ghost use Rattle.powersave.specs.declared.unit.Whom.TheVariants.{One};
 ghost use Rattle.tim.specs.Tim.{IsAid, is_shown};
-ghost use Rattle.roster.specs.AgingClocks.{HasClock, HaveClocks, IsEntered, IsNoted, IsListed, StayAt, is_due, due_at};
+ghost use Rattle.roster.specs.AgingClocks.{HasClock, HaveClocks, IsEntered, IsNoted, IsListed, StayAt, listing, is_due, due_at};
 ghost use Rattle.roster.specs.Keeping.{aid_for};
 ghost use Rattle.roster.specs.Roster.{AreWaitedFor};
 ghost use Rattle.stations.specs.Sound.{AreSound};
@@ -129,8 +129,9 @@ impl AgingClocks {
     /// Gives one its clock, and answers whether it has one now.
     fn list_one(&mut self, stations: &Stations, one: &Oldest) -> bool
         ensures complete { self.new.complete ≡ self.old.complete }
-        ensures listed { IsTrue result → IsListed stations.now.table one.now self.old.clocks.items self.old.aids.items
-            self.new.clocks.items self.new.aids.items }
+        ensures listed { IsTrue result → IsListed stations.now.table one.now
+            (listing self.old.clocks.items self.old.aids.items)
+            (listing self.new.clocks.items self.new.aids.items) }
     {
         // no other station has the identifier
         identifiers_differ();
@@ -177,7 +178,8 @@ impl AgingClocks {
         ensures complete { self.new.complete ≡ self.old.complete }
         ensures entered { IsTrue result → (place : ℕ) × IsEntered aid
             (record { addr = addr; place = place; at = at; listen = listen })
-            self.old.clocks.items self.old.aids.items self.new.clocks.items self.new.aids.items }
+            (listing self.old.clocks.items self.old.aids.items)
+            (listing self.new.clocks.items self.new.aids.items) }
     {
         let index = usize::from(aid);
         if index >= self.clocks.len() {
