@@ -1,12 +1,16 @@
 -- Items of one network among items.
-use Rattle.std.proofs.Common.{◌≡◌, ℕ, ◌+◌, ◌<◌, List, [], ◌∷◌, ◌++◌, refl, ap, ◌∙◌, arith}
+use Rattle.std.proofs.Common.{◌≡◌, ℕ, ◌+◌, ◌<◌, List, [], ◌∷◌, ◌++◌, filter, map, refl, ap, ◌∙◌, arith}
 use Rattle.std.specs.Prelude.{All}
 use Rattle.std.proofs.lemmas.Bool.{eq-eqb, ne_eqb}
-use Rattle.std.proofs.lemmas.List.{append-nil}
-use Rattle.std.proofs.lemmas.List.Elements.{All-head, All-tail, All-weaker}
+use Rattle.std.proofs.lemmas.List.{append-nil, map-append}
+use Rattle.std.proofs.lemmas.List.Elements.{All-head, All-tail, All-weaker, filter-append}
 use Rattle.events.specs.Items.{items_of}
 use Rattle.events.specs.declared.air_item.AirItem.{AirItem}
-use Rattle.events.proofs.Items.{items_of-append}
+
+items_of-append : (place : ℕ) (xs ys : List AirItem) → items_of place (xs ++ ys) ≡ items_of place xs ++ items_of place ys
+items_of-append place xs ys =
+    ap (map (λ (item : AirItem). item.octets)) (filter-append _ xs ys)
+    ∙ map-append (λ (item : AirItem). item.octets) (filter _ xs) (filter _ ys)
 
 -- one item more of the network, and of another
 pub items_of-here : (place : ℕ) (items : List AirItem) (item : AirItem) → item.place ≡ place → items_of place (items ++ item ∷ []) ≡ items_of place items ++ item.octets ∷ []
