@@ -1,9 +1,10 @@
 //! Configurations (*profile*).
 
-ghost use Rattle.std.specs.Prelude.{◌≡◌};
+ghost use Rattle.std.specs.Prelude.{◌≡◌, IfOk, map};
 ghost use Rattle.ap_config.specs.Configuration.{of_radio, of_network};
 
-use mac_frame::{List, MacAddr, Octets};
+use mac_frame::{List, MacAddr, NoMemory, Octets};
+use std::alloc::Global;
 use std::fmt;
 
 /// What one network is configured to be.
@@ -44,6 +45,22 @@ pub struct RadioConfig {
     pub queue: u16,
     /// The networks, 1 to [`crate::MAX_NETWORKS`]. A network's place in this list is its name.
     pub networks: List<NetConfig>,
+}
+
+impl RadioConfig {
+    /// The address of each network, in order of place (IEEE Std 802.11-2016, 9.2.4.3.4). `NoMemory` where memory ran
+    /// out.
+    pub fn bssids(&self, alloc: Global) -> Result<Vec<MacAddr>, NoMemory>
+        ensures { IfOk result (λ bssids. bssids.items ≡ map (λ n. n.bssid) self.now.networks) }
+    {
+        Ok(
+            self.networks
+                .as_slice()
+                .iter()
+                .map(|network| network.bssid)
+                .collect(alloc)?,
+        )
+    }
 }
 
 /// The first fault of a configuration (*profile*).

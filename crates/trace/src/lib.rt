@@ -18,15 +18,16 @@ mod read;
 pub use config_text::{ConfigTextFault, read_config};
 pub use fault::{LineFault, TraceFault, TraceTextFault};
 pub use laws::{cut_anywhere, piece_by_piece};
-pub use line::{bssids_of, place_with, read_content, read_line, without_spaces_at_end};
+pub use line::{place_with, read_content, read_line, without_spaces_at_end};
 pub use line_reader::LineReader;
 pub use read::read_trace;
 pub use report::{
-    AsText, LineForm, Totals, address_text, put_counts_line, put_counts_line_in, put_end_line,
-    put_frame_line, put_frames, put_heading, put_network_line, put_network_line_in,
-    put_station_line, put_station_line_in, put_stations, write_count, write_report,
+    AsText, LineForm, Reported, Totals, address_text, put_counts_line, put_counts_line_in,
+    put_end_line, put_end_line_in, put_frame_line, put_frames, put_heading_in, put_network_line,
+    put_network_line_in, put_section_in, put_station_line, put_station_line_in, write_count,
+    write_report,
 };
 pub use text_io::{
-    Buffered, Counted, Failed, ReadFault, ReportFault, Sink, Source, place_of,
-    without_carriage_return, write_all,
+    Buffered, Counted, Failed, PutItem, ReadFault, ReportFault, Sink, Source, place_of,
+    without_carriage_return, write_all, write_each,
 };

@@ -1,6 +1,6 @@
 //! One line of a trace text.
 
-ghost use Rattle.std.specs.Prelude.{◌≡◌, ◌≢◌, false, map, Ok, Err, IfOk, IsErr, position};
+ghost use Rattle.std.specs.Prelude.{◌≡◌, ◌≢◌, false, Ok, Err, IfOk, IsErr, position};
 ghost use Rattle.text_io.specs.Endings.{Gives};
 ghost use Rattle.text_io.specs.Faults.{read_ending};
 ghost use Rattle.mac_frame.specs.Address.{address_of};
@@ -11,9 +11,8 @@ ghost use Rattle.trace.specs.TraceText.{has_octets, takes_memory};
 ghost use Rattle.hex.specs.Hex.{decode_of};
 
 use crate::fault::{LineFault, in_digits};
-use ap_config::NetConfig;
 use events::Line;
-use mac_frame::{MacAddr, NoMemory, Octets};
+use mac_frame::{MacAddr, Octets};
 use std::alloc::{AllocError, Global};
 use std::str;
 use text_io::{ReadFault, place_of};
@@ -23,13 +22,6 @@ const MAX_OCTETS: usize = 4096;
 
 /// How many characters of a text are its start, in which a space is looked for first.
 const START: usize = 64;
-
-/// The address of each network, in order of place. `NoMemory` where memory ran out.
-pub fn bssids_of(alloc: Global, networks: &[NetConfig]) -> Result<Vec<MacAddr>, NoMemory>
-    ensures { IfOk result (λ bssids. bssids.items ≡ map (λ n. n.bssid) networks.now) }
-{
-    Ok(networks.iter().map(|network| network.bssid).collect(alloc)?)
-}
 
 /// What a line says to the networks that have these addresses, in order of place: nothing where it is skipped. It is
 /// taken without its LF, and without a CR directly before that.

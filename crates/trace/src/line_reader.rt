@@ -14,7 +14,7 @@ ghost use Rattle.trace.specs.Pieces.{answer_to, answer_to_end, after_piece, afte
 ghost use Rattle.trace.specs.Pieces.{said_after};
 
 use crate::fault::{LineFault, TraceFault, TraceTextFault, in_text};
-use crate::line::{bssids_of, read_line};
+use crate::line::read_line;
 use ap_config::RadioConfig;
 use events::Line;
 use mac_frame::{MacAddr, NoMemory};
@@ -69,7 +69,7 @@ impl LineReader {
     {
         Ok(LineReader {
             alloc,
-            bssids: bssids_of(alloc, config.networks.as_slice())?,
+            bssids: config.bssids(alloc)?,
             ended_lines: 0,
             unfinished: Vec::new(alloc),
             fault: None,
