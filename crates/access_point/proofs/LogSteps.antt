@@ -1,12 +1,12 @@
 -- A network without its history takes one event after another, and its frames are kept.
-use Rattle.std.proofs.Common.{◌≡◌, ℕ, ◌<◌, ◌≤◌, Bool, cond, List, [], ◌∷◌, ◌++◌, length, Result, Ok, Err, OnOk}
+use Rattle.std.proofs.Common.{◌≡◌, ℕ, ◌<◌, Bool, cond, List, [], ◌∷◌, ◌++◌, length, Result, Ok, Err, OnOk}
 use Rattle.std.proofs.Common.{sym, ap, ◌∙◌, append-nil}
 use Rattle.std.proofs.lemmas.Bool.{lt-ltb}
 use Rattle.std.proofs.lemmas.List.{length_push}
 use Rattle.ap_config.specs.declared.setting.Setting.{Setting}
 use Rattle.events.specs.declared.event.Event.{Event}
 use Rattle.network.specs.Network.{Network, alone, step}
-use Rattle.network.specs.NetworkView.{NetworkState, new_network, took_event, unsent, sent_before}
+use Rattle.network.specs.NetworkView.{NetworkState, took_event, unsent, sent_before}
 use Rattle.access_point.specs.Log.{log_of, taken_next}
 use Rattle.access_point.specs.declared.logged_network.LoggedNetwork.{LoggedNetwork}
 

@@ -6,19 +6,20 @@ use Rattle.std.proofs.Math.Seq.{get_or-append_seam, set-append_seam}
 use Rattle.events.specs.Lines.{event_for}
 use Rattle.events.specs.declared.event.Event.{Event}
 use Rattle.events.specs.declared.line.Line.{Line}
-use Rattle.access_point.specs.Takes.{Takes, TakesIf}
+use Rattle.access_point.specs.Takes.{Change, Takes, TakesIf, change, dispatch}
 
-module _ {N O : Type 0} (bssid : N → List ℕ) (delivers : Event → N → N → O → O → Type 0) (line : Line) where
+module _ {N O : Type 0} (bssid : N → List ℕ) (delivers : Event → Change N → Change O → Type 0) (line : Line) where
   -- ---- one network more
 
   takes-more : (place next : ℕ) (ns ms : List N) (n m : N) (old mid new : O) → next ≡ place + length ns
-      → Takes bssid delivers place line ns ms old mid → TakesIf delivers (event_for next (bssid n) line) n m mid new
-      → Takes bssid delivers place line (ns ++ n ∷ []) (ms ++ m ∷ []) old new
+      → Takes (dispatch bssid delivers line place) ns ms (change old mid)
+      → TakesIf delivers (event_for next (bssid n) line) (change n m) (change mid new)
+      → Takes (dispatch bssid delivers line place) (ns ++ n ∷ []) (ms ++ m ∷ []) (change old new)
   takes-more place next [] [] n m old mid new is h k =
       let here : next ≡ place = omega arith in (
         new,
-        subst (λ (p : ℕ). TakesIf delivers (event_for p (bssid n) line) n m old new) here
-            (subst (λ (o : O). TakesIf delivers (event_for next (bssid n) line) n m o new) h.1 k),
+        subst (λ (p : ℕ). TakesIf delivers (event_for p (bssid n) line) (change n m) (change old new)) here
+            (subst (λ (o : O). TakesIf delivers (event_for next (bssid n) line) (change n m) (change o new)) h.1 k),
         (refl, refl),
       )
   takes-more place next [] (x ∷ ms) n m old mid new is h k = absurd (let none : x ∷ ms ≡ [] = h.0 in cc)
@@ -27,7 +28,7 @@ module _ {N O : Type 0} (bssid : N → List ℕ) (delivers : Event → N → N �
       let there : next ≡ place + 1 + length ns = omega arith in
       (h.0, h.1, takes-more (place + 1) next ns ms n m h.0 mid new there h.2 k)
 
-  length-takes : (place : ℕ) (ns ms : List N) (old new : O) → Takes bssid delivers place line ns ms old new
+  length-takes : (place : ℕ) (ns ms : List N) (old new : O) → Takes (dispatch bssid delivers line place) ns ms (change old new)
       → length ms ≡ length ns
   length-takes place [] ms old new h = ap length h.0
   length-takes place (n ∷ ns) [] old new h = absurd h
@@ -38,7 +39,7 @@ module _ {N O : Type 0} (bssid : N → List ℕ) (delivers : Event → N → N �
   -- those before the place took it, and the others are as they were
   pub record TakesSoFar (place : ℕ) (ns now : List N) (old new : O) : Type 0 where
     pub done : List N
-    pub takes : Takes bssid delivers 0 line (take place ns) done old new
+    pub takes : Takes (dispatch bssid delivers line 0) (take place ns) done (change old new)
     pub rest : now ≡ done ++ drop place ns
     pub within : place ≤ length ns
 
@@ -61,12 +62,12 @@ module _ {N O : Type 0} (bssid : N → List ℕ) (delivers : Event → N → N �
   takes-none ns o = record { done = []; takes = (refl, refl); rest = refl; within = omega arith }
 
   pub takes-next : (place : ℕ) (ns now : List N) (old mid new : O) (n m : N) → TakesSoFar place ns now old mid
-      → place < length ns → n ≡ get_or now place n → TakesIf delivers (event_for place (bssid n) line) n m mid new
+      → place < length ns → n ≡ get_or now place n → TakesIf delivers (event_for place (bssid n) line) (change n m) (change mid new)
       → TakesSoFar (place + 1) ns (set now place m) old new
   takes-next place ns now old mid new n m s within there h = record {
     done = s.done ++ m ∷ [];
     takes =
-        subst (λ (ms : List N). Takes bssid delivers 0 line ms (s.done ++ m ∷ []) old new) (sym upto)
+        subst (λ (ms : List N). Takes (dispatch bssid delivers line 0) ms (s.done ++ m ∷ []) (change old new)) (sym upto)
         (takes-more 0 place (take place ns) s.done n m old mid new count s.takes h);
     rest =
         ap (λ (ms : List N). set ms place m)
@@ -90,13 +91,13 @@ module _ {N O : Type 0} (bssid : N → List ℕ) (delivers : Event → N → N �
       upto = take_more ns place n within ∙ ap (λ (x : N). take place ns ++ x ∷ []) (sym here)
 
   pub takes-all : (place : ℕ) (ns now : List N) (old new : O) → TakesSoFar place ns now old new → length ns ≤ place
-      → Takes bssid delivers 0 line ns now old new
+      → Takes (dispatch bssid delivers line 0) ns now (change old new)
   takes-all place ns now old new s all =
       let whole : take place ns ≡ ns = take_all place ns all in
       let same : now ≡ s.done =
       s.rest ∙ ap (λ (ms : List N). s.done ++ ms) (drop_all place ns all) ∙ append-nil s.done in
-      subst (λ (ms : List N). Takes bssid delivers 0 line ns ms old new) (sym same)
-      (subst (λ (ms : List N). Takes bssid delivers 0 line ms s.done old new) whole s.takes)
+      subst (λ (ms : List N). Takes (dispatch bssid delivers line 0) ns ms (change old new)) (sym same)
+      (subst (λ (ms : List N). Takes (dispatch bssid delivers line 0) ms s.done (change old new)) whole s.takes)
 
   -- ---- networks that don't hear it
 
@@ -108,7 +109,7 @@ module _ {N O : Type 0} (bssid : N → List ℕ) (delivers : Event → N → N �
       let same : set now place n ≡ now = ap (set now place) there ∙ set-get_or now place n in
       subst (λ (ms : List N). TakesSoFar (place + 1) ns ms old mid) same
       (takes-next place ns now old mid mid n n s within there
-      (subst (λ (e : Option Event). TakesIf delivers e n n mid mid) (sym none) (refl, refl)))
+      (subst (λ (e : Option Event). TakesIf delivers e (change n n) (change mid mid)) (sym none) (refl, refl)))
 
   -- so many more of them are
   pub takes-skip : (place : ℕ) (ns now : List N) (old mid : O) (k : ℕ) → TakesSoFar place ns now old mid

@@ -10,7 +10,7 @@ use mac_frame::{MacAddr, addressed};
 
 /// The networks to which a line is an event, read from it once for all of them.
 #[derive(Clone, Copy, Debug)]
-pub(crate) enum Audience {
+pub enum Audience {
     /// None hears it.
     Nobody,
     /// Each does.
@@ -22,9 +22,9 @@ pub(crate) enum Audience {
 }
 
 impl Audience {
-    /// To which networks a line is an event.
+    /// To which networks a line is an event: to those to which [`LentLine::event_for`] gives one. It takes no memory.
     #[inline(always)]
-    pub(crate) fn of(line: LentLine<'_>) -> Audience
+    pub fn of(line: LentLine<'_>) -> Audience
         ensures { IsAudience result (line_of line.entry) }
     {
         match line {
@@ -64,7 +64,7 @@ impl Audience {
 
     /// Whether the network with this place and this BSSID is one of them.
     #[inline(always)]
-    pub(crate) fn has(&self, place: usize, bssid: MacAddr) -> bool
+    pub fn has(&self, place: usize, bssid: MacAddr) -> bool
         ensures { result ≡ is_in self.now place bssid }
     {
         match self {

@@ -8,7 +8,7 @@ ghost use Rattle.events.specs.declared.event.Event.{Event};
 ghost use Rattle.events.specs.declared.line.Line.{Line};
 ghost use Rattle.network.specs.ReadEvents.{event_read};
 ghost use Rattle.access_point.specs.Audiences.{IsAudience};
-ghost use Rattle.access_point.specs.Takes.{Takes, TakesIf};
+ghost use Rattle.access_point.specs.Takes.{Change, Takes, TakesIf, change, dispatch};
 
 use crate::audience::Audience;
 use association::ReceivedFrame;
@@ -46,8 +46,8 @@ pub trait Deliver<N: Addressed, O> {
     // Whether it may stop, so that no further network takes the line.
     ghost may_stop: { Bool };
 
-    // By an event it made the second network of the first, and the second output of the first.
-    ghost delivers: { Self → Event → N → N → O → O → Type 0 };
+    // What an event made of a network, and of the output.
+    ghost delivers: { Self → Event → Change N → Change O → Type 0 };
 
     /// Has a network take an event, whose frames may be built in spare memory. Its address stays. `NoMemory` where
     /// memory ran out and it stops for that.
@@ -61,7 +61,7 @@ pub trait Deliver<N: Addressed, O> {
         requires may { may_take network.old }
         requires ready { is_ready out.old }
         ensures delivered { OnOk result
-            (delivers self.now (event_read event.now) network.old network.new out.old out.new) }
+            (delivers self.now (event_read event.now) (change network.old network.new) (change out.old out.new)) }
         ensures ready { OnOk result (is_ready out.new) }
         ensures address { N.bssid network.new ≡ N.bssid network.old }
         ensures stops { OnErr result (may_stop ≡ true) };
@@ -82,8 +82,8 @@ pub(crate) fn take_line<N: Addressed, O, D: Deliver<N, O>>(
     requires addresses { bssids.now ≡ map N.bssid networks.old }
     requires may { AllByRecursion D.may_take networks.old }
     requires ready { D.is_ready out.old }
-    ensures taken { OnOk result (Takes N.bssid (D.delivers how.now) 0 (line_of line.entry)
-        networks.old networks.new out.old out.new) }
+    ensures taken { OnOk result (Takes (dispatch N.bssid (D.delivers how.now) (line_of line.entry) 0)
+        networks.old networks.new (change out.old out.new)) }
     ensures addresses { map N.bssid networks.new ≡ map N.bssid networks.old }
     ensures stops { OnErr result (D.may_stop ≡ true) }
 {
@@ -135,7 +135,8 @@ fn take_at<N: Addressed, O, D: Deliver<N, O>>(
     requires ready { D.is_ready out.old }
     ensures taken { OnOk result ((said : Line) → IsAudience audience.now said
         → event_read event.now ≡ event_of_line said
-        → TakesIf (D.delivers how.now) (event_for place bssid said) network.old network.new out.old out.new) }
+        → TakesIf (D.delivers how.now) (event_for place bssid said)
+        (change network.old network.new) (change out.old out.new)) }
     ensures ready { OnOk result (D.is_ready out.new) }
     ensures address { N.bssid network.new ≡ N.bssid network.old }
     ensures stops { OnErr result (D.may_stop ≡ true) }

@@ -7,6 +7,8 @@
 //! the line is as it was ([`events::LentLine::event_for`] says who hears), and that each of the others did as `Deliver`
 //! says, one after the other, whatever the rest of them are.
 //!
+//! An [`Audience`] is to whom a line is an event, for who gives lines to networks in another way.
+//!
 //! What is done with the frames is left to the crates above, and so are histories, a radio and threads.
 #![tactic(auto)]
 
@@ -16,6 +18,7 @@ mod frame_log;
 mod logged_network;
 mod networks;
 
+pub use audience::Audience;
 pub use dispatch::{Addressed, Deliver};
 pub use frame_log::FrameLog;
 pub use logged_network::{KeepFrames, LoggedNetwork};

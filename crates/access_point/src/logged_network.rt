@@ -99,7 +99,7 @@ impl Deliver<LoggedNetwork, ()> for KeepFrames {
 
     ghost may_stop = { true };
 
-    ghost delivers = { λ _ e n next _ _. Logs e n next };
+    ghost delivers = { λ _ e n _. Logs e n.old n.new };
 
     #[inline]
     fn deliver(

@@ -5,7 +5,7 @@ ghost use Rattle.std.specs.List.{AllByRecursion};
 ghost use Rattle.ap_config.specs.Configuration.{fault_of};
 ghost use Rattle.ap_config.specs.Places.{setting_in};
 ghost use Rattle.events.specs.LentEvents.{line_of};
-ghost use Rattle.access_point.specs.Takes.{Takes};
+ghost use Rattle.access_point.specs.Takes.{Takes, change, dispatch};
 
 use crate::dispatch::{Addressed, Deliver, take_line};
 use ap_config::{RadioConfig, checked_networks};
@@ -87,8 +87,8 @@ impl<N: Addressed> AccessPoint<N> {
     ) -> Result<(), NoMemory>
         requires may { AllByRecursion D.may_take self.old }
         requires ready { D.is_ready out.old }
-        ensures taken { OnOk result (Takes N.bssid (D.delivers how.now) 0 (line_of line.entry)
-            self.old self.new out.old out.new) }
+        ensures taken { OnOk result (Takes (dispatch N.bssid (D.delivers how.now) (line_of line.entry) 0)
+            self.old self.new (change out.old out.new)) }
         ensures stops { OnErr result (D.may_stop ≡ true) }
     {
         take_line(

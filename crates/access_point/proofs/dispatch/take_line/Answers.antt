@@ -5,7 +5,7 @@ use Rattle.events.specs.LentEvents.{line_of}
 use Rattle.events.specs.Lines.{event_for, event_of_line}
 use Rattle.events.specs.declared.line.Line.{Line}
 use Rattle.access_point.specs.Audiences.{IsAudience, is_in}
-use Rattle.access_point.specs.Takes.{TakesIf}
+use Rattle.access_point.specs.Takes.{TakesIf, change}
 use Rattle.access_point.specs.declared.audience.Audience.{Audience}
 use Rattle.access_point.proofs.TakeSteps.{TakesSoFar, addresses-kept, as-before, takes-all, takes-next, takes-none, takes-skip}
 use Rattle.access_point.proofs.dispatch.take_line.Goals as goal
@@ -65,7 +65,7 @@ loop-place-preserved g c =
           c.index-networks-place.is
           (subst
           (λ (x : List ℕ × g.row.N.Denot).
-          TakesIf (g.D.Deliver.delivers c.args.how.now) (event_for place x.0 (line_of c.args.line)) x.1 c.take_at.new.network c.loop-place.out c.take_at.new.out)
+          TakesIf (g.D.Deliver.delivers c.args.how.now) (event_for place x.0 (line_of c.args.line)) (change x.1 c.take_at.new.network) (change c.loop-place.out c.take_at.new.out))
           (λ k. (read k, sym c.index-networks-place.is k))
           (c.in_ok-take_at.ensures.taken (line_of c.args.line) c.of-audience.ensures (c.read_for-event.ensures ∙ c.event-lent.ensures)));
       ready = c.in_ok-take_at.ensures.ready;
