@@ -2,7 +2,8 @@
 //!
 //! A [`Sink`] takes octets and a [`Source`] gives them, a part at a time, and each counts its failures; [`Counted`]
 //! makes either of a writer or reader of the standard library. [`write_all`] promises that a sink took a whole text or,
-//! where a write failed, a prefix of it, and [`Buffered`] promises the same of all that is put into it.
+//! where a write failed, a prefix of it, [`Buffered`] promises the same of all that is put into it, and [`write_each`] of
+//! items that are put into one, one after another.
 //!
 //! What the octets say is left to the crates above. How a call can end (well, refused by a fault, a read or a write
 //! failed, out of memory) and what its sink and its source did then is said here once for all of them.
@@ -10,6 +11,7 @@
 
 mod buffer;
 mod counted;
+mod each;
 mod read_fault;
 mod report_fault;
 mod sink;
@@ -18,6 +20,7 @@ mod text;
 
 pub use buffer::Buffered;
 pub use counted::Counted;
+pub use each::{PutItem, write_each};
 pub use read_fault::ReadFault;
 pub use report_fault::ReportFault;
 pub use sink::{Failed, Sink, write_all};
