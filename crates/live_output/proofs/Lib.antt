@@ -1,2 +1,3 @@
 pub mod LentFrames
 pub mod NoticeSteps
+pub mod TableTexts

@@ -2,10 +2,9 @@
 use Rattle.std.specs.Prelude.{◌≡◌, refl, ℕ, ◌/◌, ◌%◌, nat_lt, List, [], ◌∷◌, ◌++◌, length, codes, decimal, flat_map}
 use Rattle.std.specs.Prelude.{if◌then◌else◌}
 use Rattle.mac_frame.specs.Address.{address_text}
-use Rattle.network.specs.Network.{table_of, counts_of}
 use Rattle.network.specs.NetworkView.{NetworkState}
-use Rattle.trace.specs.Report.{network_line, counts_line, station_line}
 use Rattle.trace.specs.Texts.{ended}
+use Rattle.log_report.specs.Log.{table_in}
 use Rattle.live_answers.specs.AnswerText.{refusal_word}
 use Rattle.live_answers.specs.Moments.{Reply, Sends, Refuses}
 use Rattle.live_answers.specs.Records.{nobody}
@@ -50,11 +49,9 @@ reply_octets number bssid (Refuses why) =
 -- ---- tables
 
 -- each line that the report has of a network, but for its frames
-unfoldable pub table_octets : NetworkState → List ℕ
-table_octets n =
-    told (network_line n.setting.network) ++ told (counts_line n.events (counts_of n.events n.network))
-    ++ flat_map (λ row. told (station_line row)) (table_of n.network)
-    ++ told (ended (codes "end"))
+abbrev pub table_octets : NetworkState → List ℕ
+table_octets n = table_in told n
 
+-- these records of each network, in order of place
 abbrev pub tables_octets : List NetworkState → List ℕ
 tables_octets networks = flat_map table_octets networks

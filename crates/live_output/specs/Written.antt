@@ -70,6 +70,7 @@ written_after face m answers = written_answers face (bssids_at m) (m.lines + 1) 
 
 -- ---- in the face of lines
 
+-- the text of the answers after a moment
 abbrev pub text_after : Moment → List Answer → List ℕ
 text_after m answers = written_after Lines m answers
 
@@ -79,5 +80,6 @@ live_text m lines = text_after m (answers_of m (asked_in m lines))
 
 -- ---- in the face of records
 
+-- the octets of the answers after a moment
 abbrev pub octets_after : Moment → List Answer → List ℕ
 octets_after m answers = written_after Records m answers

@@ -10,6 +10,7 @@
 mod face;
 mod output;
 mod record_output;
+mod tables;
 mod written;
 
 pub use face::Face;

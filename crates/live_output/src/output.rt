@@ -1,22 +1,18 @@
 //! What goes out: the lines that answer a line, each put after what came before it, and dropped where the sink failed.
 
-ghost use Rattle.std.specs.Prelude.{◌≡◌, ◌++◌, codes, decimal, flat_map, option_to_list, option_map};
+ghost use Rattle.std.specs.Prelude.{◌≡◌, ◌++◌, codes, decimal, option_to_list, option_map};
 ghost use Rattle.mac_frame.specs.Address.{address_text};
-ghost use Rattle.network.specs.Network.{table_of, counts_of};
 ghost use Rattle.trace.specs.Buffers.{CanWrite, Puts, watch};
-ghost use Rattle.trace.specs.Report.{frame_line, station_line, counts_in};
+ghost use Rattle.trace.specs.Report.{frame_line};
 ghost use Rattle.trace.specs.Texts.{ended};
 ghost use Rattle.trace.specs.TraceText.{code_of};
-ghost use Rattle.live_answers.specs.AnswerText.{fault_words, frame_words, refusal_word, reply_text, table_text, tables_text};
+ghost use Rattle.live_answers.specs.AnswerText.{fault_words, frame_words, refusal_word, reply_text};
 ghost use Rattle.live_answers.specs.Moments.{Refuses};
 ghost use Rattle.live_output.specs.Frames.{frames_text};
 
 use mac_frame::{MacAddr, Octets};
-use network::{Network, NetworkRefusal, Sent};
-use trace::{
-    Buffered, LineFault, Sink, Totals, address_text, put_counts_line, put_end_line,
-    put_network_line, put_station_line,
-};
+use network::{NetworkRefusal, Sent};
+use trace::{Buffered, LineFault, Sink, address_text};
 
 /// Puts a number in decimal digits.
 fn put_number<W: Sink>(out: &mut Buffered<'_, W>, number: u64)
@@ -148,50 +144,5 @@ fn put_frames<W: Sink>(out: &mut Buffered<'_, W>, word: &[u8], bssid: MacAddr, f
 {
     for frame in frames {
         put_frame(out, word, bssid, frame.as_slice());
-    }
-}
-
-/// Puts the table of each network, in order of place.
-pub fn put_tables<W: Sink>(out: &mut Buffered<'_, W>, networks: &[Network])
-    requires { CanWrite W.failed out.old }
-    ensures { Puts (watch W.taken W.failed) out.old out.new (tables_text networks.now) }
-{
-    for network in networks {
-        put_table(out, network);
-    }
-}
-
-/// Puts a network's table: its name, its counts, its stations, and `end`.
-fn put_table<W: Sink>(out: &mut Buffered<'_, W>, network: &Network)
-    requires { CanWrite W.failed out.old }
-    ensures { Puts (watch W.taken W.failed) out.old out.new (table_text network.now) }
-{
-    put_network_line(out, &network.setting().network);
-    put_counts_line(out, &totals_of(network));
-    put_stations(out, network);
-    put_end_line(out);
-}
-
-/// The counts of a network, after the events that it took.
-pub fn totals_of(network: &Network) -> Totals
-    ensures { counts_in result ≡ counts_of network.now.events network.now.network }
-{
-    Totals {
-        events: network.events(),
-        clock: u64::from(network.clock()),
-        unread: network.unread(),
-        lost: network.lost(),
-        kept: u64::from(network.kept_len()),
-    }
-}
-
-/// Puts a line for each station of a network.
-fn put_stations<W: Sink>(out: &mut Buffered<'_, W>, network: &Network)
-    requires { CanWrite W.failed out.old }
-    ensures { Puts (watch W.taken W.failed) out.old out.new
-        (flat_map station_line (table_of network.now.network)) }
-{
-    for place in 0..network.table_len() {
-        put_station_line(out, &network.row(place));
     }
 }

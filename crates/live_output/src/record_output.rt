@@ -2,23 +2,18 @@
 
 ghost use Rattle.std.specs.Prelude.{◌≡◌, ◌≤◌, ◌*◌, ◌++◌, ◌^◌, ◌-◌, codes, decimal, flat_map, length, min, option_to_list, option_map};
 ghost use Rattle.hex.specs.Hex.{encode_lower};
-ghost use Rattle.network.specs.Network.{table_of};
 ghost use Rattle.trace.specs.Buffers.{CanWrite, Puts, watch};
-ghost use Rattle.trace.specs.Report.{station_line};
 ghost use Rattle.trace.specs.Texts.{ended};
 ghost use Rattle.trace.specs.TraceText.{code_of};
-ghost use Rattle.live_output.specs.AnswerOctets.{record_header, record_of, told, record_fault, reply_octets, table_octets};
-ghost use Rattle.live_output.specs.AnswerOctets.{tables_octets, told-nothing};
+ghost use Rattle.live_output.specs.AnswerOctets.{record_header, record_of, told, record_fault, reply_octets};
+ghost use Rattle.live_output.specs.AnswerOctets.{told-nothing};
 ghost use Rattle.live_answers.specs.Moments.{Refuses};
 ghost use Rattle.live_output.specs.Frames.{frames_octets};
 
-use crate::output::{refusal_word, totals_of};
+use crate::output::refusal_word;
 use mac_frame::{MacAddr, Octets};
-use network::{Network, NetworkRefusal, Sent};
-use trace::{
-    Buffered, LineFault, LineForm, Sink, address_text, put_counts_line_in, put_network_line_in,
-    put_station_line_in,
-};
+use network::{NetworkRefusal, Sent};
+use trace::{Buffered, LineFault, LineForm, Sink, address_text};
 
 /// A frame that is sent on the air.
 const AIR: u8 = b'A';
@@ -105,7 +100,7 @@ fn put_notice_digits<W: Sink>(out: &mut Buffered<'_, W>, parts: &[&[u8]], octets
 }
 
 /// A line of a table as a line for people.
-struct AsRecords;
+pub struct AsRecords;
 
 impl LineForm for AsRecords {
     ghost written = { told };
@@ -197,37 +192,5 @@ fn put_frames<W: Sink>(out: &mut Buffered<'_, W>, kind: u8, bssid: &[u8], frames
 {
     for frame in frames {
         put_record(out, kind, bssid, frame.as_slice());
-    }
-}
-
-/// Puts the lines of each network's table, in order of place.
-pub fn put_tables<W: Sink>(out: &mut Buffered<'_, W>, networks: &[Network])
-    requires { CanWrite W.failed out.old }
-    ensures { Puts (watch W.taken W.failed) out.old out.new (tables_octets networks.now) }
-{
-    for network in networks {
-        put_table(out, network);
-    }
-}
-
-/// Puts the lines of a network's table: its name, its counts, its stations, and `end`.
-fn put_table<W: Sink>(out: &mut Buffered<'_, W>, network: &Network)
-    requires { CanWrite W.failed out.old }
-    ensures { Puts (watch W.taken W.failed) out.old out.new (table_octets network.now) }
-{
-    put_network_line_in::<AsRecords, W>(out, &network.setting().network);
-    put_counts_line_in::<AsRecords, W>(out, &totals_of(network));
-    put_stations(out, network);
-    put_notice(out, &[b"end\n"]);
-}
-
-/// Puts a line for each station of a network.
-fn put_stations<W: Sink>(out: &mut Buffered<'_, W>, network: &Network)
-    requires { CanWrite W.failed out.old }
-    ensures { Puts (watch W.taken W.failed) out.old out.new
-        (flat_map (λ row. told (station_line row)) (table_of network.now.network)) }
-{
-    for place in 0..network.table_len() {
-        put_station_line_in::<AsRecords, W>(out, &network.row(place));
     }
 }

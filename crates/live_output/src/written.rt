@@ -7,10 +7,12 @@ ghost use Rattle.live_answers.specs.Moments.{Refuses, Sends};
 ghost use Rattle.live_output.specs.Written.{written_fault, written_reply, written_tables};
 
 use crate::face::Face;
+use crate::record_output::AsRecords;
+use crate::tables::put_tables_in;
 use crate::{output, record_output};
 use mac_frame::MacAddr;
 use network::{Network, NetworkRefusal, Sent};
-use trace::{Buffered, LineFault, Sink};
+use trace::{AsText, Buffered, LineFault, Sink};
 
 /// Puts that the line or record of a number has a fault.
 pub fn put_fault<W: Sink>(face: Face, out: &mut Buffered<'_, W>, fault: LineFault, number: u64)
@@ -59,7 +61,7 @@ pub fn put_tables<W: Sink>(face: Face, out: &mut Buffered<'_, W>, networks: &[Ne
     ensures { Puts (watch W.taken W.failed) out.old out.new (written_tables face networks.now) }
 {
     match face {
-        Face::Lines => output::put_tables(out, networks),
-        Face::Records => record_output::put_tables(out, networks),
+        Face::Lines => put_tables_in::<AsText, W>(out, networks),
+        Face::Records => put_tables_in::<AsRecords, W>(out, networks),
     }
 }

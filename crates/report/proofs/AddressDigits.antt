@@ -4,7 +4,7 @@ use Rattle.std.proofs.Common.{below_none, below_more}
 use Rattle.std.specs.Fmt.{digit_glyph}
 use Rattle.hex.specs.Hex.{encode_lower, encode_with, lower_digits}
 use Rattle.mac_frame.specs.Address.{IsAddress, address_text}
-use Rattle.mac_frame.proofs.Cells.{is_its_cells}
+use Rattle.std.proofs.lemmas.List.FromFn.{fill_by_all}
 
 -- a digit is the table's
 abbrev IsDigit : ℕ → Type 0
@@ -52,7 +52,7 @@ six_parted a b c d e f ha hb hc hd he hf = cc
 pub address_parted : (address : List ℕ) → IsAddress address → parted (encode_lower address) ≡ address_text address
 address_parted s w =
     let at = slice_index s in
-    let cells = is_its_cells s 6 w.six in
+    let cells = fill_by_all at s 6 0 w.six (λ k _. refl) in
     let digits = λ (k : ℕ). has_digits (at k) (w.octets k) in
     let six = six_parted (at 0) (at 1) (at 2) (at 3) (at 4) (at 5)
     (digits 0) (digits 1) (digits 2) (digits 3) (digits 4) (digits 5) in

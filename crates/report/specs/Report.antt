@@ -79,14 +79,50 @@ station_line row = standing_line row.standing row
 unfoldable pub frame_line : List ℕ → List ℕ → List ℕ
 frame_line word frame = ended (word ++ encode_lower frame)
 
--- what a network did: its stations, then the frames that it sent on the air, then those on the wire
+-- ---- a network
+
+-- what is told of a network
+pub record Told : Type 0 where
+  pub config : NetConfig
+  pub events : ℕ
+  pub counts : Counts
+  pub table : List StationRow
+  pub air : List (List ℕ)
+  pub wire : List (List ℕ)
+
+-- before its frames: its name, its counts and its stations, each line written in a form
+abbrev pub heading_in : (List ℕ → List ℕ) → Told → List ℕ
+heading_in form told =
+    form (network_line told.config) ++ form (counts_line told.events told.counts)
+    ++ flat_map (λ row. form (station_line row)) told.table
+
+-- what it did: its heading, then the frames that it sent on the air, then those on the wire
+abbrev pub section_in : (List ℕ → List ℕ) → Told → List ℕ
+section_in form told =
+    heading_in form told ++ flat_map (frame_line (codes "air ")) told.air
+    ++ flat_map (frame_line (codes "wire ")) told.wire
+    ++ form (ended (codes "end"))
+
+-- each line as it stands
+abbrev pub as_text : List ℕ → List ℕ
+as_text line = line
+
+-- ---- sections
+
+-- what is told of the network of a section, whose history says how many events it took
+abbrev pub told_of : Section → Told
+told_of section = record {
+  config = section.config;
+  events = length section.events;
+  counts = section.counts;
+  table = section.table;
+  air = section.air;
+  wire = section.wire;
+}
+
+-- a section as text
 unfoldable pub section_text : Section → List ℕ
-section_text section =
-    network_line section.config ++ counts_line (length section.events) section.counts
-    ++ flat_map station_line section.table
-    ++ flat_map (frame_line (codes "air ")) section.air
-    ++ flat_map (frame_line (codes "wire ")) section.wire
-    ++ ended (codes "end")
+section_text section = section_in as_text (told_of section)
 
 -- the sections, one after the other
 abbrev pub report_text : List Section → List ℕ

@@ -16,19 +16,22 @@
 //! numbers are decimal.
 //!
 //! [`write_report`] promises that a sink takes exactly the report of the sections it is handed, or a prefix of it where
-//! a write failed or memory ran out. The calls that put one line each are given to the crates above, which have no
-//! [`events::Section`], or write its lines in another [`LineForm`]. What the lines tell is left to the networks, and where they go to `text_io`.
+//! a write failed or memory ran out. How a section is put together is said once, by [`put_section_in`]: for whatever is
+//! [`Reported`], a section or a network that the crates above keep, and in whichever [`LineForm`] its lines go out. What
+//! the lines tell is left to the networks, and where they go to `text_io`.
 #![tactic(auto)]
 
 mod count;
 mod form;
 mod lines;
+mod reported;
 mod sections;
 
 pub use count::write_count;
 pub use form::{AsText, LineForm};
 pub use lines::{
-    Totals, address_text, put_counts_line, put_counts_line_in, put_end_line, put_frame_line,
-    put_network_line, put_network_line_in, put_station_line, put_station_line_in,
+    Totals, address_text, put_counts_line, put_counts_line_in, put_end_line, put_end_line_in,
+    put_frame_line, put_network_line, put_network_line_in, put_station_line, put_station_line_in,
 };
-pub use sections::{put_frames, put_heading, put_stations, write_report};
+pub use reported::{Reported, put_frames, put_heading_in, put_section_in};
+pub use sections::write_report;

@@ -170,13 +170,22 @@ pub fn put_frame_line<W: Sink>(out: &mut Buffered<'_, W>, word: &[u8], frame: &[
     out.put(b"\n");
 }
 
-/// Puts the line that ends a section.
+/// Puts the line that ends a section, as text.
 #[inline]
 pub fn put_end_line<W: Sink>(out: &mut Buffered<'_, W>)
     requires { CanWrite W.failed out.old }
     ensures { Puts (watch W.taken W.failed) out.old out.new (ended (codes "end")) }
 {
-    out.put(b"end\n");
+    put_end_line_in::<AsText, W>(out);
+}
+
+/// Puts the line that ends a section in a form.
+#[inline]
+pub fn put_end_line_in<F: LineForm, W: Sink>(out: &mut Buffered<'_, W>)
+    requires { CanWrite W.failed out.old }
+    ensures { Puts (watch W.taken W.failed) out.old out.new (F.written (ended (codes "end"))) }
+{
+    F::put_line(out, &[b"end\n"]);
 }
 
 /// The text of an address: its octets as pairs of hexadecimal digits in lower case, with `:` between.
