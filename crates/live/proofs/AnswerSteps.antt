@@ -17,6 +17,7 @@ use Rattle.live_answers.specs.AnswerText.{fault_words}
 use Rattle.live_answers.specs.Asked.{Asked, HasFault, ForTables, Brings, Says}
 use Rattle.live_answers.specs.Answers.{Answer, MayAnswer, after_line_from, after_answer, Answers, Faulty, Replies, Unread}
 use Rattle.live_answers.specs.Dispatch.{event_at}
+use Rattle.live_answers.specs.MoreAnswers.{MoreAnswers}
 use Rattle.live_answers.specs.Moments.{Moment, one_line_more, bssid_of, bssids_at, Reply, taken_if, after_if}
 use Rattle.live.specs.Networks.{IsMoment}
 use Rattle.live.specs.Output.{AreAnswered, through}
@@ -26,7 +27,6 @@ use Rattle.live.specs.declared.reading.Reading.{Reading}
 use Rattle.live.specs.declared.reading.Reading.TheVariants as reading
 use Rattle.live_output.specs.declared.face.Face.{Face}
 use Rattle.live_output.specs.declared.face.Face.TheVariants.{Lines}
-use Rattle.live_answers.proofs.MoreLines.{joins}
 use Rattle.live.proofs.MoreWritten.{texts-join}
 
 -- ---- one after the other
@@ -52,14 +52,14 @@ pub answered-none : {W : Type 0} (taken : W → Option (List ℕ)) (failed : W �
     → CanWrite failed w → AreAnswered (through face (watch taken failed) w w) m m []
 answered-none taken failed face m w can = record { answers = []; answered = refl; puts = Puts-nothing w can }
 
-pub answered-then : {W : Type 0} (taken : W → Option (List ℕ)) (failed : W → ℕ) (face : Face) (m between next : Moment)
+pub answered-then : MoreAnswers → {W : Type 0} (taken : W → Option (List ℕ)) (failed : W → ℕ) (face : Face) (m between next : Moment)
     (said more : List Asked) (old mid new : Buffered W)
     → AreAnswered (through face (watch taken failed) old mid) m between said → AreAnswered (through face (watch taken failed) mid new) between next more
     → AreAnswered (through face (watch taken failed) old new) m next (said ++ more)
-answered-then taken failed face m between next said more old mid new a b = record {
+answered-then laws taken failed face m between next said more old mid new a b = record {
   answers = a.answers ++ b.answers;
   answered =
-      joins m said more (a.answers ++ b.answers) next
+      laws.join m said more (a.answers ++ b.answers) next
       (record {
         some = a.answers;
         others = b.answers;
@@ -68,7 +68,7 @@ answered-then taken failed face m between next said more old mid new a b = recor
         first = a.answered;
         later = b.answered;
       });
-  puts = Puts-same (sym (texts-join face m between said a.answers b.answers a.answered)) (Puts-then a.puts b.puts);
+  puts = Puts-same (sym (texts-join laws face m between said a.answers b.answers a.answered)) (Puts-then a.puts b.puts);
 }
 
 -- ---- what holds between two lines

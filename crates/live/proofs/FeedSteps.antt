@@ -1,10 +1,10 @@
 -- Lines that end in a piece, one after the other.
 use Rattle.std.proofs.Common.{◌≡◌, ℕ, ◌+◌, ◌-◌, ◌<◌, ◌≤◌, Bool, true, false, List, [], ◌∷◌, ◌++◌, Option, Some}
-use Rattle.std.proofs.Common.{refl, sym, ap, subst, ◌∙◌, arith, append-nil, append_assoc, take, drop, length, length-append, length-drop}
-use Rattle.std.specs.Prelude.{nat_lt}
+use Rattle.std.proofs.Common.{refl, sym, ap, subst, ◌∙◌, arith, append-nil, append_assoc, take, drop, length, length-append, length-drop, length-take}
+use Rattle.std.specs.Prelude.{nat_lt, ◌==◌, slice_index, if◌then◌else◌}
 use Rattle.std.specs.List.{position}
 use Rattle.std.specs.Str.Lines.{strip_carriage_return}
-use Rattle.std.proofs.lemmas.Bool.{ltb-true}
+use Rattle.std.proofs.lemmas.Bool.{ltb-true, lt-ltb}
 use Rattle.std.proofs.lemmas.List.{map-append}
 use Rattle.std.proofs.lemmas.List.Quantifiers.{position-Some}
 use Rattle.trace.specs.Texts.{is_line_feed, LacksLineFeed}
@@ -16,14 +16,25 @@ use Rattle.live.specs.PartialLine.{ended_with, whole_with, IsUnended}
 use Rattle.live_answers.specs.Asked.{Asked, asked_by, asked_in, asked_by_all}
 use Rattle.live_answers.specs.Answers.{Answer, Answers}
 use Rattle.live_answers.specs.Moments.{Moment, bssids_at}
+use Rattle.live_answers.specs.MoreAnswers.{MoreAnswers}
 use Rattle.live_answers.specs.TextLines.{TextLine, Octets, TooLong, max_line, line_with, partial_after, lines_in, last_line}
 use Rattle.live_output.specs.declared.face.Face.TheVariants.{Lines}
 use Rattle.live.proofs.AnswerSteps.{answered-none, answered-then}
 use Rattle.live.proofs.PartialSteps.{long-on, partial-over, partial-on, first-line, first-partial, no-line}
-use Rattle.live_answers.proofs.MoreLines.{lines-said, bssids-answers}
-use Rattle.live_answers.proofs.PieceLines.{over, stripped}
 
 -- ---- octets that end a line
+
+-- one CR less is one octet less
+stripped : (line : List ℕ) → length line ≤ length (strip_carriage_return line) + 1
+stripped line = by (slice_index line (length line - 1) == 13)
+  where
+    by : (b : Bool) → length line ≤ length (if b then take (length line - 1) line else line) + 1
+    by true = omega (arith, length-take (length line - 1) line)
+    by false = omega arith
+
+-- a line that is too long
+over : (line : List ℕ) → max_line < length line → line_with line ≡ TooLong
+over line more = rw (lt-ltb max_line (length line) more) refl
 
 -- as if all of them had come before it ended
 pub ended-after : (partial : TextLine) (end : List ℕ) → IsUnended partial → LacksLineFeed end
@@ -38,7 +49,7 @@ ended-after (Octets octets) end lacks none = by (nat_lt (max_line + 1) (length o
         let long : max_line < length (strip_carriage_return (octets ++ end)) =
         omega (arith, stripped (octets ++ end), length-append octets end) in
         ap (λ (b : TextLine). ended_with b []) (partial-over octets end lacks none many)
-        ∙ sym (over max_line (strip_carriage_return (octets ++ end)) long)
+        ∙ sym (over (strip_carriage_return (octets ++ end)) long)
     by false is =
         let few : length octets + length end ≤ max_line + 1 = grind arith in
         ap (λ (b : TextLine). ended_with b []) (partial-on octets end lacks none few)
@@ -51,7 +62,7 @@ line-lacks piece n is = prefix_lacks piece n (position-Some is_line_feed piece n
 
 -- ---- the lines so far
 
--- Of the lines that end in a piece some are answered, and the others end in its rest, before which this has begun.
+-- Of the lines that end in a piece some are answered, and the others end in its rest, which this partial line begins.
 pub record FeedSoFar {W : Type 0} (taken : W → Option (List ℕ)) (failed : W → ℕ) (m now : Moment) (old new : Buffered W)
     (partial partial' : TextLine) (piece rest : List ℕ) : Type 0 where
   pub lines : List TextLine
@@ -71,20 +82,20 @@ feed-none taken failed m w partial piece can = record {
 }
 
 -- lines say the same at a later moment
-pub asked-later : (m now : Moment) (said : List Asked) (answers : List Answer) (lines : List TextLine)
+pub asked-later : MoreAnswers → (m now : Moment) (said : List Asked) (answers : List Answer) (lines : List TextLine)
     → Answers m said answers now → asked_in now lines ≡ asked_in m lines
-asked-later m now said answers lines h =
-    ap (λ (bs : List (List ℕ)). asked_by_all bs lines) (bssids-answers m said answers now h)
+asked-later laws m now said answers lines h =
+    ap (λ (bs : List (List ℕ)). asked_by_all bs lines) (laws.bssids m said answers now h)
 
 -- one line more
-pub feed-more : {W : Type 0} (taken : W → Option (List ℕ)) (failed : W → ℕ) (m now next : Moment) (old mid new : Buffered W)
+pub feed-more : MoreAnswers → {W : Type 0} (taken : W → Option (List ℕ)) (failed : W → ℕ) (m now next : Moment) (old mid new : Buffered W)
     (partial partial' line : TextLine) (piece rest : List ℕ) (n : ℕ)
     → FeedSoFar taken failed m now old mid partial partial' piece rest → IsUnended partial'
     → position is_line_feed rest ≡ Some n → line ≡ ended_with partial' (take n rest)
     → AreAnswered (through Lines (watch taken failed) mid new) now next (asked_in now (line ∷ []))
     → FeedSoFar taken failed m next old new partial (Octets []) piece (drop (n + 1) rest)
-feed-more taken failed m now next old mid new partial partial' line piece rest n s lacks is same a =
-    let count : next.lines ≡ now.lines + 1 = lines-said now (asked_in now (line ∷ [])) a.answers next a.answered in
+feed-more laws taken failed m now next old mid new partial partial' line piece rest n s lacks is same a =
+    let count : next.lines ≡ now.lines + 1 = laws.lines now (asked_in now (line ∷ [])) a.answers next a.answered in
     let within : n < length rest = (position-Some is_line_feed rest n 0 is).0 in
     let few : now.lines + length rest ≤ m.lines + length piece = s.few in
     let long : length (drop (n + 1) rest) ≡ length rest - (n + 1) = length-drop (n + 1) rest in
@@ -93,9 +104,9 @@ feed-more taken failed m now next old mid new partial partial' line piece rest n
       answered =
           subst (λ (said : List Asked). AreAnswered (through Lines (watch taken failed) old new) m next said)
           (sym (map-append (asked_by (bssids_at m)) s.lines (line ∷ [])))
-          (answered-then taken failed Lines m now next (asked_in m s.lines) (asked_in m (line ∷ [])) old mid new s.answered
+          (answered-then laws taken failed Lines m now next (asked_in m s.lines) (asked_in m (line ∷ [])) old mid new s.answered
           (subst (λ (said : List Asked). AreAnswered (through Lines (watch taken failed) mid new) now next said)
-          (asked-later m now (asked_in m s.lines) s.answered.answers (line ∷ []) s.answered.answered) a));
+          (asked-later laws m now (asked_in m s.lines) s.answered.answers (line ∷ []) s.answered.answered) a));
       all =
           s.all
           ∙ ap (λ (ls : List TextLine). s.lines ++ ls) (first-line partial' rest n lacks is)

@@ -1,4 +1,5 @@
 pub mod MoreWritten
+pub mod Pieces
 pub mod Rows
 pub mod PartialSteps
 pub mod UnreadLines

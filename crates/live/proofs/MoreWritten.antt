@@ -3,9 +3,9 @@ use Rattle.std.proofs.Common.{◌≡◌, ℕ, ◌+◌, List, [], ◌∷◌, ◌+
 use Rattle.live_answers.specs.Asked.{Asked}
 use Rattle.live_answers.specs.Moments.{Moment, bssids_at}
 use Rattle.live_answers.specs.Answers.{Answer, Answers}
+use Rattle.live_answers.specs.MoreAnswers.{MoreAnswers}
 use Rattle.live_output.specs.Written.{written_answer, written_answers, written_after}
 use Rattle.live_output.specs.declared.face.Face.{Face}
-use Rattle.live_answers.proofs.MoreLines.{lines-answers, bssids-answers}
 
 texts-append : (face : Face) (bssids : List (List ℕ)) (number : ℕ) (some others : List Answer)
     → written_answers face bssids number (some ++ others)
@@ -21,16 +21,16 @@ texts-append face bssids number (answer ∷ some) others =
     (append_assoc (written_answer face bssids number answer) (written_answers face bssids (number + 1) some)
     (written_answers face bssids (number + length (answer ∷ some)) others))
 
-pub texts-join : (face : Face) (m between : Moment) (said : List Asked) (some others : List Answer)
+pub texts-join : MoreAnswers → (face : Face) (m between : Moment) (said : List Asked) (some others : List Answer)
     → Answers m said some between
     → written_after face m (some ++ others) ≡ written_after face m some ++ written_after face between others
-texts-join face m between said some others h =
+texts-join laws face m between said some others h =
     let count : m.lines + 1 + length some ≡ between.lines + 1 =
-    omega (arith, lines-answers m said some between h) in
+    omega (arith, laws.lines m said some between h, laws.each m said some between h) in
     texts-append face (bssids_at m) (m.lines + 1) some others
     ∙ ap
     (λ n. written_after face m some ++ written_answers face (bssids_at m) n others)
     count
     ∙ ap
     (λ (bs : List (List ℕ)). written_after face m some ++ written_answers face bs (between.lines + 1) others)
-    (sym (bssids-answers m said some between h))
+    (sym (laws.bssids m said some between h))

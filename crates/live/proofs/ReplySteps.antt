@@ -12,7 +12,7 @@ use Rattle.events.specs.declared.line.Line.{Line}
 use Rattle.trace.specs.Buffers.{CanWrite, Puts, Watch}
 use Rattle.text_io.specs.declared.buffer.Buffered.{Buffered}
 use Rattle.trace.specs.BufferLaws.{Puts-then, Puts-nothing}
-use Rattle.access_point.specs.Takes.{Takes, TakesIf}
+use Rattle.access_point.specs.Takes.{Takes, TakesIf, change, dispatch}
 use Rattle.live_answers.specs.Answers.{MayReplyFrom, after_line_from}
 use Rattle.live_answers.specs.Dispatch.{event_at}
 use Rattle.live_answers.specs.Moments.{Reply, Sends, Refuses, is_past_clock, sending, MayReply, MayReplyIf, taken_if, after_if, bssid_of}
@@ -70,7 +70,7 @@ record MayHaveReplied {W : Type 0} (o : Through W) (number place : ℕ) (said : 
 
 may-have : {W : Type 0} (sink : Watch W) (face : Face) (number place : ℕ) (said : Line) (n next : NetworkState) (old new : Buffered W)
     → CanWrite sink.failed old → (event : Option Event) → event_at place n said ≡ event
-    → TakesIf (λ e n next old new. HasReplied (through face sink old new) number e n next) event n next old new
+    → TakesIf (λ e c out. HasReplied (through face sink out.old out.new) number e c) event (change n next) (change old new)
     → MayHaveReplied (through face sink old new) number place said n next
 may-have sink face number place said n next old new can None is h = record {
   reply = None;
@@ -96,7 +96,8 @@ pub record HaveRepliedFrom {W : Type 0} (o : Through W) (number place : ℕ) (sa
 
 pub have-replied : {W : Type 0} (sink : Watch W) (face : Face) (number place : ℕ) (said : Line) (ns next : List NetworkState)
     (old new : Buffered W) → CanWrite sink.failed old
-    → Takes bssid_of (λ e n next old new. HasReplied (through face sink old new) number e n next) place said ns next old new
+    → Takes (dispatch bssid_of (λ e c out. HasReplied (through face sink out.old out.new) number e c) said place) ns next
+    (change old new)
     → HaveRepliedFrom (through face sink old new) number place said ns next
 have-replied sink face number place said [] next old new can h = record {
   replies = [];

@@ -62,8 +62,8 @@ a_long_line_goes_on = refl
 pub a_long_line_without_lf_counts : last_line TooLong ≡ TooLong ∷ []
 a_long_line_without_lf_counts = refl
 
-pub nothing_has_begun : last_line (partial_in (codes "T" ++ lf)) ≡ []
-nothing_has_begun = refl
+pub a_text_that_ends_with_lf_has_no_last_line : last_line (partial_in (codes "T" ++ lf)) ≡ []
+a_text_that_ends_with_lf_has_no_last_line = refl
 
 -- spaces count, whatever the line is
 pub the_longest_line : line_with (35 ∷ replicate 65535 32) ≡ Octets (35 ∷ replicate 65535 32)

@@ -16,9 +16,10 @@ use Rattle.text_io.specs.declared.report_fault.ReportFault.TheVariants as report
 use Rattle.text_io.specs.declared.sink.Failed.{Failed}
 use Rattle.live_answers.specs.Answers.{Answer, Answers, answers_of}
 use Rattle.live_answers.specs.Asked.{Asked}
-use Rattle.live.specs.Inputs.{IsAllSaid, IsSaidIn, face_of, last_said, nothing_begun, saying}
+use Rattle.live.specs.Inputs.{IsAllSaid, IsSaidIn, face_of, last_said, empty_partial, saying}
 use Rattle.live.specs.LiveView.{Finishes, running}
 use Rattle.live_answers.specs.Moments.{Moment, first_moment, bssids_at}
+use Rattle.live_answers.specs.MoreAnswers.{MoreAnswers}
 use Rattle.live.specs.Run.{AnswersAll, AnswersInput, Runs, StopsInPiece, StopsReading, Texts, Progress, progress, live_ending, setup}
 use Rattle.live.specs.Run.{max_reads, setup}
 use Rattle.live_output.specs.Written.{written_after, written_count, written_tables}
@@ -27,11 +28,18 @@ use Rattle.live_output.specs.declared.face.Face.{Face}
 use Rattle.live_output.specs.declared.face.Face.TheVariants.{Lines, Records}
 use Rattle.live.specs.declared.fault.LiveFault.{LiveFault}
 use Rattle.live.specs.declared.fault.LiveFault.TheVariants.{Config, NoMemory, Read, Write}
-use Rattle.live_answers.proofs.EnoughMemory.{answers-may}
 use Rattle.live.proofs.InputSteps.{said-none, said-all, said-ended, said-face}
-use Rattle.live_answers.proofs.MoreLines.{bssids-answers, joins}
 use Rattle.live.proofs.MoreWritten.{texts-join}
+use Rattle.live.proofs.Pieces.{LastLine}
 use Rattle.live.proofs.RunSteps.{counted-none, prefix-after, prefix-longer}
+
+-- ---- what the lower laws say
+
+-- how answers go on, the last line of a text, and that there are answers to whatever is said
+pub record EndLaws : Type 0 where
+  pub more : MoreAnswers
+  pub last : LastLine
+  pub some : (m : Moment) (said : List Asked) → (next : Moment) × Answers m said (answers_of m said) next
 
 -- ---- before the first read
 
@@ -73,7 +81,7 @@ config-runs face reads.NoMemory ct source sink h = memory-runs face ct source si
 
 -- before anything is said
 abbrev pub first : Face → RadioConfig → Streams → Progress
-first face c streams = progress (first_moment c) (nothing_begun face) streams
+first face c streams = progress (first_moment c) (empty_partial face) streams
 
 -- what is to be written, where these are the answers
 abbrev pub whole : Face → RadioConfig → List Answer → Moment → List ℕ
@@ -95,17 +103,17 @@ said-whole face c ct input said answers last is all answered = record {
 }
 
 -- what was said as far as it had ended, and then what the end says
-all-answered : (face : Face) (c : RadioConfig) (ct input : List ℕ) (between last : Moment) (begun : PartialInput)
+all-answered : EndLaws → (face : Face) (c : RadioConfig) (ct input : List ℕ) (between last : Moment) (partial : PartialInput)
     (said : List Asked) (some more : List Answer) → configuration_of ct ≡ Ok c
-    → IsSaidIn (bssids_at (first_moment c)) (nothing_begun face) input (saying said begun)
-    → Answers (first_moment c) said some between → Answers between (last_said (bssids_at between) begun) more last
+    → IsSaidIn (bssids_at (first_moment c)) (empty_partial face) input (saying said partial)
+    → Answers (first_moment c) said some between → Answers between (last_said (bssids_at between) partial) more last
     → AnswersAll (texts face ct input) (whole face c (some ++ more) last)
-all-answered face c ct input between last begun said some more is are first later =
+all-answered laws face c ct input between last partial said some more is are first later =
     let m : Moment = first_moment c in
-    let end : List Asked = last_said (bssids_at m) begun in
+    let end : List Asked = last_said (bssids_at m) partial in
     said-whole face c ct input (said ++ end) (some ++ more) last is
-    (said-all face (bssids_at m) input said begun are)
-    (joins m said end (some ++ more) last
+    (said-all laws.last face (bssids_at m) input said partial are)
+    (laws.more.join m said end (some ++ more) last
     (record {
       some = some;
       others = more;
@@ -113,24 +121,24 @@ all-answered face c ct input between last begun said some more is are first late
       all = refl;
       first = first;
       later =
-          subst (λ (bs : List (List ℕ)). Answers between (last_said bs begun) more last)
-          (bssids-answers m said some between first)
+          subst (λ (bs : List (List ℕ)). Answers between (last_said bs partial) more last)
+          (laws.more.bssids m said some between first)
           later;
     }))
 
 -- it begins with what was to be written of what had ended
-whole-is : (face : Face) (c : RadioConfig) (between last : Moment) (said : List Asked) (some more : List Answer)
+whole-is : MoreAnswers → (face : Face) (c : RadioConfig) (between last : Moment) (said : List Asked) (some more : List Answer)
     → Answers (first_moment c) said some between
     → (written_count face (length c.networks) ++ written_after face (first_moment c) some)
     ++ (written_after face between more ++ written_tables face last.networks)
     ≡ whole face c (some ++ more) last
-whole-is face c between last said some more h =
+whole-is laws face c between last said some more h =
     let count : List ℕ = written_count face (length c.networks) in
     let one : List ℕ = written_after face (first_moment c) some in
     let two : List ℕ = written_after face between more in
     let tables : List ℕ = written_tables face last.networks in
     let joined : written_after face (first_moment c) (some ++ more) ≡ one ++ two =
-    texts-join face (first_moment c) between said some more h in
+    texts-join laws face (first_moment c) between said some more h in
     sym (append_assoc (count ++ one) two tables)
     ∙ ap (λ (t : List ℕ). t ++ tables) (append_assoc count one two)
     ∙ ap (λ (t : List ℕ). count ++ t ++ tables) (sym joined)
@@ -140,16 +148,16 @@ whole-is face c between last said some more h =
 abbrev bad : {E : Type 0} → E → Result Unit E
 bad e = Err e
 
-pub count-runs : (face : Face) (e : ReportFault) (c : RadioConfig) (ct : List ℕ) (source : SourceView)
+pub count-runs : EndLaws → (face : Face) (e : ReportFault) (c : RadioConfig) (ct : List ℕ) (source : SourceView)
     (old new : SinkView) → configuration_of ct ≡ Ok c
     → Ends (ending_of {A = Unit} report_ending (Err e)) (Ok (written_count face (length c.networks))) old.taken new.taken
     → (bad e ≡ bad reports.NoMemory → Keeps old.taken new.taken)
     → Runs (setup face ct) (Err (report_as Write NoMemory e)) (both source old) (both source new)
-count-runs face reports.NoMemory c ct source old new is part kept = memory-runs face ct source old new (kept refl)
-count-runs face reports.Write c ct source old new is part kept =
+count-runs laws face reports.NoMemory c ct source old new is part kept = memory-runs face ct source old new (kept refl)
+count-runs laws face reports.Write c ct source old new is part kept =
     let m : Moment = first_moment c in
-    let end : List Asked = last_said (bssids_at m) (nothing_begun face) in
-    let some = answers-may m end in
+    let end : List Asked = last_said (bssids_at m) (empty_partial face) in
+    let some = laws.some m end in
     let answers : List Answer = answers_of m end in
     record {
       input = [];
@@ -157,7 +165,7 @@ count-runs face reports.Write c ct source old new is part kept =
       end = record {
         written = whole face c answers some.0;
         all = said-whole face c ct [] end answers some.0 is
-            (said-all face (bssids_at m) [] [] (nothing_begun face) (said-none face (bssids_at m))) some.1;
+            (said-all laws.last face (bssids_at m) [] [] (empty_partial face) (said-none face (bssids_at m))) some.1;
         grown =
             prefix-longer (written_count face (length c.networks) ++ written_after face m answers)
             (written_tables face some.0.networks)
@@ -204,12 +212,12 @@ stops-reading face c ct input old mid new is count s =
 
 -- ---- reading ended before the source did, or a write failed
 
-pub input-runs : (face : Face) (e : LiveFault) (c : RadioConfig) (ct : List ℕ) (old : SinkView) (mid new : Streams)
-    (moment : Moment) (begun : PartialInput) → configuration_of ct ≡ Ok c
+pub input-runs : EndLaws → (face : Face) (e : LiveFault) (c : RadioConfig) (ct : List ℕ) (old : SinkView) (mid new : Streams)
+    (moment : Moment) (partial : PartialInput) → configuration_of ct ≡ Ok c
     → Appends old.taken mid.sink.taken (written_count face (length c.networks))
-    → AnswersInput face (Err e) (first face c mid) (progress moment begun new)
+    → AnswersInput face (Err e) (first face c mid) (progress moment partial new)
     → Runs (setup face ct) (Err e) (both mid.source old) new
-input-runs face Read c ct old mid new moment begun is count s = record {
+input-runs laws face Read c ct old mid new moment partial is count s = record {
   input = s.input;
   reads = s.reads;
   end = record {
@@ -220,7 +228,7 @@ input-runs face Read c ct old mid new moment begun is count s = record {
       answers = s.answers;
       last = moment;
       read = is;
-      is_said = said-ended face (bssids_at (first_moment c)) s.input s.said begun s.is_said;
+      is_said = said-ended face (bssids_at (first_moment c)) s.input s.said partial s.is_said;
       answered = s.answered;
       written_is = refl;
     };
@@ -229,9 +237,9 @@ input-runs face Read c ct old mid new moment begun is count s = record {
         (written_after face (first_moment c) s.answers) count s.written;
   };
 }
-input-runs face Write c ct old mid new moment begun is count s =
-    let end : List Asked = last_said (bssids_at moment) begun in
-    let rest = answers-may moment end in
+input-runs laws face Write c ct old mid new moment partial is count s =
+    let end : List Asked = last_said (bssids_at moment) partial in
+    let rest = laws.some moment end in
     let more : List Answer = answers_of moment end in
     record {
       input = s.input;
@@ -239,28 +247,28 @@ input-runs face Write c ct old mid new moment begun is count s =
       end = record {
         written = whole face c (s.answers ++ more) rest.0;
         all =
-            all-answered face c ct s.input moment rest.0 begun s.said s.answers more is s.is_said s.answered rest.1;
+            all-answered laws face c ct s.input moment rest.0 partial s.said s.answers more is s.is_said s.answered rest.1;
         grown =
             subst (AppendsPrefix old.taken new.sink.taken)
-            (whole-is face c moment rest.0 s.said s.answers more s.answered)
+            (whole-is laws.more face c moment rest.0 s.said s.answers more s.answered)
             (prefix-longer (written_count face (length c.networks) ++ written_after face (first_moment c) s.answers)
             (written_after face moment more ++ written_tables face rest.0.networks)
             (prefix-after (written_count face (length c.networks)) (written_after face (first_moment c) s.answers) count
             s.written));
-        stops = inr (stops-reading face c ct s.input old mid (progress moment begun new) is count (s.stops refl));
+        stops = inr (stops-reading face c ct s.input old mid (progress moment partial new) is count (s.stops refl));
       };
     }
-input-runs face NoMemory c ct old mid new moment begun is count s = absurd s.written
-input-runs face (Config fault) c ct old mid new moment begun is count s = absurd s.written
+input-runs laws face NoMemory c ct old mid new moment partial is count s = absurd s.written
+input-runs laws face (Config fault) c ct old mid new moment partial is count s = absurd s.written
 
 -- ---- the source came to its end
 
--- the end is written in the face of what has begun
-end-in : (face : Face) (r : Result Unit Failed) (moment : Moment) (begun : PartialInput) (old new : Option (List ℕ))
-    → face_of begun ≡ face → Finishes r (running moment begun old) new
-    → (answers : List Answer) × (last : Moment) × Answers moment (last_said (bssids_at moment) begun) answers last
+-- the end is written in the face of the partial line or record
+end-in : (face : Face) (r : Result Unit Failed) (moment : Moment) (partial : PartialInput) (old new : Option (List ℕ))
+    → face_of partial ≡ face → Finishes r (running moment partial old) new
+    → (answers : List Answer) × (last : Moment) × Answers moment (last_said (bssids_at moment) partial) answers last
     × Ends (ending_of write_ending r) (Ok (written_after face moment answers ++ written_tables face last.networks)) old new
-end-in face r moment begun old new same t = (
+end-in face r moment partial old new same t = (
   t.answers,
   t.last,
   t.answered,
@@ -270,15 +278,15 @@ end-in face r moment begun old new same t = (
       t.written,
 )
 
-pub end-runs : (face : Face) (e : Failed) (u : Unit {0}) (c : RadioConfig) (ct : List ℕ) (old : SinkView)
-    (mid read : Streams) (new : SinkView) (moment : Moment) (begun : PartialInput) → configuration_of ct ≡ Ok c
+pub end-runs : EndLaws → (face : Face) (e : Failed) (u : Unit {0}) (c : RadioConfig) (ct : List ℕ) (old : SinkView)
+    (mid read : Streams) (new : SinkView) (moment : Moment) (partial : PartialInput) → configuration_of ct ≡ Ok c
     → Appends old.taken mid.sink.taken (written_count face (length c.networks))
-    → AnswersInput face (Ok u) (first face c mid) (progress moment begun read)
-    → Finishes (Err e) (running moment begun read.sink.taken) new.taken
+    → AnswersInput face (Ok u) (first face c mid) (progress moment partial read)
+    → Finishes (Err e) (running moment partial read.sink.taken) new.taken
     → Runs (setup face ct) (Err Write) (both mid.source old) (both read.source new)
-end-runs face e u c ct old mid read new moment begun is count s finished =
-    let same : face_of begun ≡ face = said-face face (bssids_at (first_moment c)) s.input s.said begun s.is_said in
-    let t = end-in face (Err e) moment begun read.sink.taken new.taken same finished in
+end-runs laws face e u c ct old mid read new moment partial is count s finished =
+    let same : face_of partial ≡ face = said-face face (bssids_at (first_moment c)) s.input s.said partial s.is_said in
+    let t = end-in face (Err e) moment partial read.sink.taken new.taken same finished in
     let part : AppendsPrefix read.sink.taken new.taken (written_after face moment t.0 ++ written_tables face t.1.networks) =
     t.3 in
     record {
@@ -292,10 +300,10 @@ end-runs face e u c ct old mid read new moment begun is count s finished =
       };
       end = record {
         written = whole face c (s.answers ++ t.0) t.1;
-        all = all-answered face c ct s.input moment t.1 begun s.said s.answers t.0 is s.is_said s.answered t.2;
+        all = all-answered laws face c ct s.input moment t.1 partial s.said s.answers t.0 is s.is_said s.answered t.2;
         grown =
             subst (AppendsPrefix old.taken new.taken)
-            (whole-is face c moment t.1 s.said s.answers t.0 s.answered)
+            (whole-is laws.more face c moment t.1 s.said s.answers t.0 s.answered)
             (prefix-after (written_count face (length c.networks) ++ written_after face (first_moment c) s.answers)
             (written_after face moment t.0 ++ written_tables face t.1.networks)
             (Appends-trans old.taken mid.sink.taken read.sink.taken (written_count face (length c.networks))
@@ -303,7 +311,7 @@ end-runs face e u c ct old mid read new moment begun is count s finished =
             part);
         stops =
             inr
-            (stops-reading face c ct s.input old mid (progress moment begun (both read.source new)) is count
+            (stops-reading face c ct s.input old mid (progress moment partial (both read.source new)) is count
             (record {
               before = s.input;
               piece = [];
@@ -312,7 +320,7 @@ end-runs face e u c ct old mid read new moment begun is count s finished =
               said = s.said;
               answers = s.answers;
               between = moment;
-              is_said = said-ended face (bssids_at (first_moment c)) s.input s.said begun s.is_said;
+              is_said = said-ended face (bssids_at (first_moment c)) s.input s.said partial s.is_said;
               answered = s.answered;
               rest = part.written;
               written =
@@ -322,25 +330,25 @@ end-runs face e u c ct old mid read new moment begun is count s finished =
       };
     }
 
-pub whole-runs : (face : Face) (u v w : Unit {0}) (c : RadioConfig) (ct : List ℕ) (old : SinkView)
-    (mid read : Streams) (new : SinkView) (moment : Moment) (begun : PartialInput) → configuration_of ct ≡ Ok c
+pub whole-runs : EndLaws → (face : Face) (u v w : Unit {0}) (c : RadioConfig) (ct : List ℕ) (old : SinkView)
+    (mid read : Streams) (new : SinkView) (moment : Moment) (partial : PartialInput) → configuration_of ct ≡ Ok c
     → Appends old.taken mid.sink.taken (written_count face (length c.networks))
-    → AnswersInput face (Ok u) (first face c mid) (progress moment begun read)
-    → Finishes (Ok v) (running moment begun read.sink.taken) new.taken
+    → AnswersInput face (Ok u) (first face c mid) (progress moment partial read)
+    → Finishes (Ok v) (running moment partial read.sink.taken) new.taken
     → Runs (setup face ct) (Ok w) (both mid.source old) (both read.source new)
-whole-runs face u v w c ct old mid read new moment begun is count s finished =
-    let same : face_of begun ≡ face = said-face face (bssids_at (first_moment c)) s.input s.said begun s.is_said in
-    let t = end-in face (Ok v) moment begun read.sink.taken new.taken same finished in
+whole-runs laws face u v w c ct old mid read new moment partial is count s finished =
+    let same : face_of partial ≡ face = said-face face (bssids_at (first_moment c)) s.input s.said partial s.is_said in
+    let t = end-in face (Ok v) moment partial read.sink.taken new.taken same finished in
     record {
       input = s.input;
       reads = s.reads;
       end = record {
         written = whole face c (s.answers ++ t.0) t.1;
-        all = all-answered face c ct s.input moment t.1 begun s.said s.answers t.0 is s.is_said s.answered t.2;
+        all = all-answered laws face c ct s.input moment t.1 partial s.said s.answers t.0 is s.is_said s.answered t.2;
         at_end = s.written.0;
         grown =
             subst (Appends old.taken new.taken)
-            (whole-is face c moment t.1 s.said s.answers t.0 s.answered)
+            (whole-is laws.more face c moment t.1 s.said s.answers t.0 s.answered)
             (Appends-trans old.taken read.sink.taken new.taken
             (written_count face (length c.networks) ++ written_after face (first_moment c) s.answers)
             (written_after face moment t.0 ++ written_tables face t.1.networks)
@@ -352,22 +360,22 @@ whole-runs face u v w c ct old mid read new moment begun is count s finished =
 
 -- ---- as the call has it
 
-face-same : (face : Face) → face_of (nothing_begun face) ≡ face
+face-same : (face : Face) → face_of (empty_partial face) ≡ face
 face-same Lines = refl
 face-same Records = refl
 
-pub from-first : (face : Face) (r : Result Unit LiveFault) (c : RadioConfig) (moment : Moment) (begun : PartialInput)
-    (mid : Streams) (end : Progress) → moment ≡ first_moment c → begun ≡ nothing_begun face
-    → AnswersInput (face_of begun) r (progress moment begun mid) end → AnswersInput face r (first face c mid) end
-from-first face r c moment begun mid end at is s =
+pub from-first : (face : Face) (r : Result Unit LiveFault) (c : RadioConfig) (moment : Moment) (partial : PartialInput)
+    (mid : Streams) (end : Progress) → moment ≡ first_moment c → partial ≡ empty_partial face
+    → AnswersInput (face_of partial) r (progress moment partial mid) end → AnswersInput face r (first face c mid) end
+from-first face r c moment partial mid end at is s =
     subst (λ (f : Face). AnswersInput f r (first face c mid) end) (face-same face)
     (subst (λ (b : PartialInput). AnswersInput (face_of b) r (progress (first_moment c) b mid) end) is
-    (subst (λ (m : Moment). AnswersInput (face_of begun) r (progress m begun mid) end) at s))
+    (subst (λ (m : Moment). AnswersInput (face_of partial) r (progress m partial mid) end) at s))
 
 -- it begins with nothing
-pub begins-so : (face : Face) (begun : PartialInput) → begun ≡ nothing_begun face → begun ≡ nothing_begun (face_of begun)
-begins-so face begun is =
-    is ∙ ap nothing_begun (sym (face-same face)) ∙ ap (λ (b : PartialInput). nothing_begun (face_of b)) (sym is)
+pub begins-so : (face : Face) (partial : PartialInput) → partial ≡ empty_partial face → partial ≡ empty_partial (face_of partial)
+begins-so face partial is =
+    is ∙ ap empty_partial (sym (face-same face)) ∙ ap (λ (b : PartialInput). empty_partial (face_of b)) (sym is)
 
 pub counted : (face : Face) (count : ℕ) (c : RadioConfig) (old new : Option (List ℕ)) → count ≡ length c.networks
     → Appends old new (written_count face count) → Appends old new (written_count face (length c.networks))

@@ -9,17 +9,18 @@ use Rattle.trace.specs.Streams.{reads_after}
 use Rattle.text_io.specs.declared.sink.Failed.{Failed}
 use Rattle.live_answers.specs.Answers.{Answer, Answers}
 use Rattle.live_answers.specs.Asked.{Asked}
-use Rattle.live.specs.Inputs.{IsSaidIn, face_of, nothing_begun, saying}
+use Rattle.live.specs.Inputs.{IsSaidIn, face_of, empty_partial, saying}
 use Rattle.live.specs.LiveView.{Takes, running}
 use Rattle.live_answers.specs.Moments.{Moment, bssids_at}
+use Rattle.live_answers.specs.MoreAnswers.{MoreAnswers}
 use Rattle.live.specs.Run.{AllAnswered, AnswersInput, Progress, max_reads}
 use Rattle.live_output.specs.Written.{written_after}
 use Rattle.live.specs.declared.partial_input.PartialInput.{PartialInput}
 use Rattle.live_output.specs.declared.face.Face.{Face}
 use Rattle.live.specs.declared.fault.LiveFault.TheVariants.{Write}
 use Rattle.live.proofs.InputSteps.{said-none, said-more, said-ended, said-face}
-use Rattle.live_answers.proofs.MoreLines.{bssids-answers, joins}
 use Rattle.live.proofs.MoreWritten.{texts-join}
+use Rattle.live.proofs.Pieces.{InPieces}
 
 -- ---- a prefix
 
@@ -68,21 +69,21 @@ pub record InputSoFar (face : Face) (count : ℕ) (old new : Progress) : Type 0 
   pub answers : List Answer
   pub took : Consumes old.streams.source.left new.streams.source.left input
   pub counted : new.streams.source.reads ≡ reads_after old.streams.source.reads count
-  pub is_said : IsSaidIn (bssids_at old.moment) (nothing_begun face) input (saying said new.begun)
+  pub is_said : IsSaidIn (bssids_at old.moment) (empty_partial face) input (saying said new.partial)
   pub answered : Answers old.moment said answers new.moment
   pub written : Appends old.streams.sink.taken new.streams.sink.taken (written_after face old.moment answers)
   pub lines : new.moment.lines ≤ 4096 * count
 
-pub input-none : (face : Face) (old : Progress) → old.begun ≡ nothing_begun face → old.moment.lines ≡ 0
+pub input-none : (face : Face) (old : Progress) → old.partial ≡ empty_partial face → old.moment.lines ≡ 0
     → InputSoFar face 0 old old
-input-none face old begun first = record {
+input-none face old partial first = record {
   input = [];
   said = [];
   answers = [];
   took = Consumes-nil old.streams.source.left;
   counted = counted-none old.streams.source.reads;
   is_said =
-      subst (λ (b : PartialInput). IsSaidIn (bssids_at old.moment) (nothing_begun face) [] (saying [] b)) (sym begun)
+      subst (λ (b : PartialInput). IsSaidIn (bssids_at old.moment) (empty_partial face) [] (saying [] b)) (sym partial)
       (said-none face (bssids_at old.moment));
   answered = refl;
   written = Appends-nil old.streams.sink.taken;
@@ -90,7 +91,7 @@ input-none face old begun first = record {
 }
 
 -- the answers to all that ended are written
-pub answered-so-far : (count : ℕ) (first old now : Progress) → first ≡ old → InputSoFar (face_of old.begun) count old now
+pub answered-so-far : (count : ℕ) (first old now : Progress) → first ≡ old → InputSoFar (face_of old.partial) count old now
     → AllAnswered first now.streams.source.left now.streams.sink.taken
 answered-so-far count first old now is s =
     subst (λ (p : Progress). AllAnswered p now.streams.source.left now.streams.sink.taken) (sym is)
@@ -100,36 +101,36 @@ answered-so-far count first old now is s =
       answers = s.answers;
       moment = now.moment;
       took = s.took;
-      is_said = said-ended (face_of old.begun) (bssids_at old.moment) s.input s.said now.begun s.is_said;
+      is_said = said-ended (face_of old.partial) (bssids_at old.moment) s.input s.said now.partial s.is_said;
       answered = s.answered;
       written = s.written;
     })
 
 -- what is said in a piece more
-piece-more : (m between next : Moment) (said more : List Asked) (some others : List Answer) → Answers m said some between
+piece-more : MoreAnswers → (m between next : Moment) (said more : List Asked) (some others : List Answer) → Answers m said some between
     → Answers between more others next → Answers m (said ++ more) (some ++ others) next
-piece-more m between next said more some others first later =
-    joins m said more (some ++ others) next
+piece-more laws m between next said more some others first later =
+    laws.join m said more (some ++ others) next
     (record { some = some; others = others; between = between; all = refl; first = first; later = later })
 
 -- it is said to the same networks
-piece-said : (face : Face) (m between : Moment) (input piece : List ℕ) (said more : List Asked) (some : List Answer)
-    (mid next : PartialInput) → Answers m said some between → IsSaidIn (bssids_at m) (nothing_begun face) input (saying said mid)
+piece-said : MoreAnswers → InPieces → (face : Face) (m between : Moment) (input piece : List ℕ) (said more : List Asked) (some : List Answer)
+    (mid next : PartialInput) → Answers m said some between → IsSaidIn (bssids_at m) (empty_partial face) input (saying said mid)
     → IsSaidIn (bssids_at between) mid piece (saying more next)
-    → IsSaidIn (bssids_at m) (nothing_begun face) (input ++ piece) (saying (said ++ more) next)
-piece-said face m between input piece said more some mid next h is k =
-    said-more face (bssids_at m) input piece said more mid next is
-    (subst (λ (bs : List (List ℕ)). IsSaidIn bs mid piece (saying more next)) (bssids-answers m said some between h) k)
+    → IsSaidIn (bssids_at m) (empty_partial face) (input ++ piece) (saying (said ++ more) next)
+piece-said laws pieces face m between input piece said more some mid next h is k =
+    said-more pieces face (bssids_at m) input piece said more mid next is
+    (subst (λ (bs : List (List ℕ)). IsSaidIn bs mid piece (saying more next)) (laws.bssids m said some between h) k)
 
-pub input-more : (face : Face) (count : ℕ) (old mid new : Progress) (piece : List ℕ) (u : Unit {0})
+pub input-more : MoreAnswers → InPieces → (face : Face) (count : ℕ) (old mid new : Progress) (piece : List ℕ) (u : Unit {0})
     → InputSoFar face count old mid → Consumes mid.streams.source.left new.streams.source.left piece
     → new.streams.source.reads ≡ reads_after mid.streams.source.reads 1 → length piece ≤ 4096
-    → Takes (Ok u) piece (running mid.moment mid.begun mid.streams.sink.taken)
-    (running new.moment new.begun new.streams.sink.taken)
+    → Takes (Ok u) piece (running mid.moment mid.partial mid.streams.sink.taken)
+    (running new.moment new.partial new.streams.sink.taken)
     → new.moment.lines ≤ mid.moment.lines + length piece → InputSoFar face (count + 1) old new
-input-more face count old mid new piece u s took one few t lines =
-    let same : face_of mid.begun ≡ face =
-    said-face face (bssids_at old.moment) s.input s.said mid.begun s.is_said in
+input-more laws pieces face count old mid new piece u s took one few t lines =
+    let same : face_of mid.partial ≡ face =
+    said-face face (bssids_at old.moment) s.input s.said mid.partial s.is_said in
     let grown : Appends mid.streams.sink.taken new.streams.sink.taken (written_after face mid.moment t.answers) =
     subst (λ (f : Face). Appends mid.streams.sink.taken new.streams.sink.taken (written_after f mid.moment t.answers)) same
     t.written in
@@ -142,29 +143,29 @@ input-more face count old mid new piece u s took one few t lines =
       counted =
           counted-more old.streams.source.reads mid.streams.source.reads new.streams.source.reads count s.counted one;
       is_said =
-          piece-said face old.moment mid.moment s.input piece s.said t.said s.answers mid.begun new.begun s.answered s.is_said
+          piece-said laws pieces face old.moment mid.moment s.input piece s.said t.said s.answers mid.partial new.partial s.answered s.is_said
           t.is_said;
-      answered = piece-more old.moment mid.moment new.moment s.said t.said s.answers t.answers s.answered t.answered;
+      answered = piece-more laws old.moment mid.moment new.moment s.said t.said s.answers t.answers s.answered t.answered;
       written =
           subst (Appends old.streams.sink.taken new.streams.sink.taken)
-          (sym (texts-join face old.moment mid.moment s.said s.answers t.answers s.answered))
+          (sym (texts-join laws face old.moment mid.moment s.said s.answers t.answers s.answered))
           (Appends-trans old.streams.sink.taken mid.streams.sink.taken new.streams.sink.taken
           (written_after face old.moment s.answers) (written_after face mid.moment t.answers) s.written grown);
       lines = omega (arith, s.lines, lines, few);
     }
 
 -- a write failed on the way
-pub input-cut : (face : Face) (count : ℕ) (old mid new : Progress) (piece : List ℕ) (e : Failed)
+pub input-cut : MoreAnswers → InPieces → (face : Face) (count : ℕ) (old mid new : Progress) (piece : List ℕ) (e : Failed)
     → InputSoFar face count old mid → count + 1 ≤ max_reads
     → Consumes mid.streams.source.left new.streams.source.left piece
     → new.streams.source.reads ≡ reads_after mid.streams.source.reads 1
     → new.streams.source.failed ≡ old.streams.source.failed → length piece ≤ 4096
-    → Takes (Err e) piece (running mid.moment mid.begun mid.streams.sink.taken)
-    (running new.moment new.begun new.streams.sink.taken)
+    → Takes (Err e) piece (running mid.moment mid.partial mid.streams.sink.taken)
+    (running new.moment new.partial new.streams.sink.taken)
     → AnswersInput face (Err Write) old new
-input-cut face count old mid new piece e s within took one same short t =
-    let known : face_of mid.begun ≡ face =
-    said-face face (bssids_at old.moment) s.input s.said mid.begun s.is_said in
+input-cut laws pieces face count old mid new piece e s within took one same short t =
+    let known : face_of mid.partial ≡ face =
+    said-face face (bssids_at old.moment) s.input s.said mid.partial s.is_said in
     let part : AppendsPrefix mid.streams.sink.taken new.streams.sink.taken (written_after face mid.moment t.answers) =
     subst
     (λ (f : Face). AppendsPrefix mid.streams.sink.taken new.streams.sink.taken (written_after f mid.moment t.answers)) known
@@ -183,12 +184,12 @@ input-cut face count old mid new piece e s within took one same short t =
         failed = same;
       };
       is_said =
-          piece-said face old.moment mid.moment s.input piece s.said t.said s.answers mid.begun new.begun s.answered s.is_said
+          piece-said laws pieces face old.moment mid.moment s.input piece s.said t.said s.answers mid.partial new.partial s.answered s.is_said
           t.is_said;
-      answered = piece-more old.moment mid.moment new.moment s.said t.said s.answers t.answers s.answered t.answered;
+      answered = piece-more laws old.moment mid.moment new.moment s.said t.said s.answers t.answers s.answered t.answered;
       written =
           subst (AppendsPrefix old.streams.sink.taken new.streams.sink.taken)
-          (sym (texts-join face old.moment mid.moment s.said s.answers t.answers s.answered))
+          (sym (texts-join laws face old.moment mid.moment s.said s.answers t.answers s.answered))
           (prefix-after (written_after face old.moment s.answers) (written_after face mid.moment t.answers) s.written part);
       stops = λ _. record {
         before = s.input;
@@ -198,7 +199,7 @@ input-cut face count old mid new piece e s within took one same short t =
         said = s.said;
         answers = s.answers;
         between = mid.moment;
-        is_said = said-ended face (bssids_at old.moment) s.input s.said mid.begun s.is_said;
+        is_said = said-ended face (bssids_at old.moment) s.input s.said mid.partial s.is_said;
         answered = s.answered;
         rest = part.written;
         written =

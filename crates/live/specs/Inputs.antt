@@ -1,7 +1,7 @@
--- What comes in, in either face, cut anywhere: what is said in it, and what has begun of the next line or record.
+-- What comes in, in either face, cut anywhere: what is said in it, and the partial line or record at its end.
 use Rattle.std.specs.Prelude.{◌≡◌, ℕ, List, [], ◌++◌}
 use Rattle.live_answers.specs.Asked.{Asked, asked_by_all}
-use Rattle.live_answers.specs.Records.{AreRecords, IsBegun, records_ask, cut_record}
+use Rattle.live_answers.specs.Records.{AreRecords, IsPartialRecord, records_ask, cut_record}
 use Rattle.live_answers.specs.TextLines.{TextLine, Octets, ended_lines, lines_of_text, partial_after, last_line, lines_in}
 use Rattle.live.specs.declared.partial_input.PartialInput.{PartialInput}
 use Rattle.live.specs.declared.partial_input.PartialInput.TheVariants.{Line, Record}
@@ -10,71 +10,74 @@ use Rattle.live_output.specs.declared.face.Face.TheVariants.{Lines, Records}
 
 -- ---- pieces
 
-abbrev pub nothing_begun : Face → PartialInput
-nothing_begun Lines = Line (Octets [])
-nothing_begun Records = Record []
+-- before anything came, a line or a record without an octet
+abbrev pub empty_partial : Face → PartialInput
+empty_partial Lines = Line (Octets [])
+empty_partial Records = Record []
 
+-- the face in which it comes
 abbrev pub face_of : PartialInput → Face
 face_of (Line partial) = Lines
-face_of (Record begun) = Records
+face_of (Record partial) = Records
 
--- what has begun of a line, where one has
-abbrev pub line_begun : PartialInput → TextLine
-line_begun (Line partial) = partial
-line_begun (Record begun) = Octets begun
+-- the partial line, where lines come in; the octets of a partial record are as a line's
+abbrev pub partial_line : PartialInput → TextLine
+partial_line (Line partial) = partial
+partial_line (Record partial) = Octets partial
 
--- what has begun of a record, where one has
-abbrev pub record_begun : PartialInput → List ℕ
-record_begun (Line partial) = []
-record_begun (Record begun) = begun
+-- the octets of the partial record, where records come in
+abbrev pub partial_record : PartialInput → List ℕ
+partial_record (Line partial) = []
+partial_record (Record partial) = partial
 
--- nothing but less than a whole record has begun
-pub record IsPartOfRecord (begun : PartialInput) : Type 0 where
-  pub is : begun ≡ Record (record_begun begun)
-  pub is_begun : IsBegun (record_begun begun)
+-- it is a record, less than a whole one
+pub record IsPartOfRecord (partial : PartialInput) : Type 0 where
+  pub is : partial ≡ Record (partial_record partial)
+  pub is_partial : IsPartialRecord (partial_record partial)
 
--- less than a whole record has begun
+-- where it is a record, it is less than a whole one
 abbrev pub IsUnfinished : PartialInput → Type 0
 IsUnfinished (Line partial) = Unit {0}
-IsUnfinished (Record begun) = IsBegun begun
+IsUnfinished (Record partial) = IsPartialRecord partial
 
--- what is said in a piece, and what has begun after it
+-- what is said in a piece, and the partial line or record after it
 pub record Saying : Type 0 where
   pub said : List Asked
   pub next : PartialInput
 
+-- this is said, and this follows it
 abbrev pub saying : List Asked → PartialInput → Saying
 saying said next = record { said = said; next = next }
 
--- what had begun and a piece are records that say this
-pub record AreRecordsIn (bssids : List (List ℕ)) (begun piece : List ℕ) (s : Saying) : Type 0 where
+-- a partial record and a piece are records that say this
+pub record AreRecordsIn (bssids : List (List ℕ)) (partial piece : List ℕ) (s : Saying) : Type 0 where
   pub records : List (List ℕ)
   pub rest : List ℕ
-  pub are : AreRecords (begun ++ piece) records rest
+  pub are : AreRecords (partial ++ piece) records rest
   pub ask : s.said ≡ records_ask bssids records
   pub next_is : s.next ≡ Record rest
 
--- what is said to networks with these addresses in a piece, after what had begun
+-- what is said to networks with these addresses by a partial line or record and a piece
 abbrev pub IsSaidIn : List (List ℕ) → PartialInput → List ℕ → Saying → Type 0
 IsSaidIn bssids (Line partial) piece s =
     (s.said ≡ asked_by_all bssids (lines_in partial piece)) × (s.next ≡ Line (partial_after partial piece))
-IsSaidIn bssids (Record begun) piece s = AreRecordsIn bssids begun piece s
+IsSaidIn bssids (Record partial) piece s = AreRecordsIn bssids partial piece s
 
--- what is said by the end of the input, after what had begun
+-- what the end of the input says, by the partial line or record before it
 abbrev pub last_said : List (List ℕ) → PartialInput → List Asked
 last_said bssids (Line partial) = asked_by_all bssids (last_line partial)
-last_said bssids (Record begun) = cut_record begun
+last_said bssids (Record partial) = cut_record partial
 
 -- ---- the whole input
 
--- these octets are records that ask this, and then what has begun of one
+-- these octets are records that ask this, and then a partial one
 pub record AreRecordsOf (bssids : List (List ℕ)) (octets : List ℕ) (said : List Asked) : Type 0 where
   pub records : List (List ℕ)
   pub rest : List ℕ
   pub are : AreRecords octets records rest
   pub ask : said ≡ records_ask bssids records
 
--- or that ask this with what the end of the input says of it
+-- these octets are records that ask this with what the end of the input says of a partial one
 pub record AreAllRecordsOf (bssids : List (List ℕ)) (octets : List ℕ) (said : List Asked) : Type 0 where
   pub records : List (List ℕ)
   pub rest : List ℕ

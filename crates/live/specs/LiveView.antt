@@ -13,11 +13,12 @@ use Rattle.live_output.specs.Written.{text_after, written_after, written_tables}
 use Rattle.live.specs.declared.partial_input.PartialInput.{PartialInput}
 use Rattle.live.specs.declared.partial_input.PartialInput.TheVariants.{Record}
 
--- the moment after the lines that have ended, and what has begun of the next line
+-- the moment after the lines that have ended, and the partial line after them
 pub record LiveState : Type 0 where
   pub moment : Moment
   pub partial : TextLine
 
+-- at this moment, with this partial line
 abbrev pub state : Moment → TextLine → LiveState
 state moment partial = record { moment = moment; partial = partial }
 
@@ -26,6 +27,7 @@ pub record Fed : Type 0 where
   pub live : LiveState
   pub taken : Option (List ℕ)
 
+-- in this state, where the sink has taken so much
 abbrev pub fed : LiveState → Option (List ℕ) → Fed
 fed live taken = record { live = live; taken = taken }
 
@@ -38,7 +40,7 @@ pub record TakesPiece (result : Result Unit Failed) (piece : List ℕ) (old new 
   pub partial : new.live.partial ≡ partial_after old.live.partial piece
   pub written : Ends (ending_of write_ending result) (Ok (text_after old.live.moment answers)) old.taken new.taken
 
--- It came to the end of the text: the last line is answered, if one has begun, and the sink has gained its answer and
+-- It came to the end of the text: a partial line is answered, and the sink has gained its answer and
 -- the tables of the moment after it; or, where a write failed, a prefix of them.
 pub record TakesEnd (result : Result Unit Failed) (old : Fed) (taken : Option (List ℕ)) : Type 0 where
   pub answers : List Answer
@@ -49,41 +51,42 @@ pub record TakesEnd (result : Result Unit Failed) (old : Fed) (taken : Option (L
 
 -- ---- in either face
 
--- the moment after what has ended, what has begun of the next, and what its sink has taken, where that is known
+-- the moment after what has ended, the partial line or record after it, and what its sink has taken, where that is known
 pub record Running : Type 0 where
   pub moment : Moment
-  pub begun : PartialInput
+  pub partial : PartialInput
   pub taken : Option (List ℕ)
 
+-- at this moment, with this partial line or record, where the sink has taken so much
 abbrev pub running : Moment → PartialInput → Option (List ℕ) → Running
-running moment begun taken = record { moment = moment; begun = begun; taken = taken }
+running moment partial taken = record { moment = moment; partial = partial; taken = taken }
 
--- the moment after the records that have ended, and what has begun of the next
+-- the moment after the records that have ended, and the partial record after them
 pub record RecordsState : Type 0 where
   pub moment : Moment
-  pub begun : List ℕ
+  pub partial : List ℕ
 
 -- it, in the face of records, and what its sink has taken
 abbrev pub records_running : RecordsState → Option (List ℕ) → Running
-records_running live taken = running live.moment (Record live.begun) taken
+records_running live taken = running live.moment (Record live.partial) taken
 
 -- It took a piece: what is said in it is answered, and the sink has gained the answers; or, where a write failed, a
 -- prefix of them.
 pub record Takes (result : Result Unit Failed) (piece : List ℕ) (old new : Running) : Type 0 where
   pub said : List Asked
   pub answers : List Answer
-  pub is_said : IsSaidIn (bssids_at old.moment) old.begun piece (saying said new.begun)
+  pub is_said : IsSaidIn (bssids_at old.moment) old.partial piece (saying said new.partial)
   pub answered : Answers old.moment said answers new.moment
-  pub written : Ends (ending_of write_ending result) (Ok (written_after (face_of old.begun) old.moment answers)) old.taken new.taken
+  pub written : Ends (ending_of write_ending result) (Ok (written_after (face_of old.partial) old.moment answers)) old.taken new.taken
 
 -- It came to the end of the input: what that says is answered, and the sink has gained the answer and the tables of the
 -- moment after it; or, where a write failed, a prefix of them.
 pub record Finishes (result : Result Unit Failed) (old : Running) (taken : Option (List ℕ)) : Type 0 where
   pub answers : List Answer
   pub last : Moment
-  pub answered : Answers old.moment (last_said (bssids_at old.moment) old.begun) answers last
+  pub answered : Answers old.moment (last_said (bssids_at old.moment) old.partial) answers last
   pub written :
       Ends (ending_of write_ending result)
       (Ok
-      (written_after (face_of old.begun) old.moment answers ++ written_tables (face_of old.begun) last.networks))
+      (written_after (face_of old.partial) old.moment answers ++ written_tables (face_of old.partial) last.networks))
       old.taken taken

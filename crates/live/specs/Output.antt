@@ -6,11 +6,12 @@ use Rattle.events.specs.declared.event.Event.{Event}
 use Rattle.events.specs.declared.line.Line.{Line}
 use Rattle.trace.specs.Buffers.{Puts, Watch}
 use Rattle.text_io.specs.declared.buffer.Buffered.{Buffered}
+use Rattle.access_point.specs.Takes.{Change}
 use Rattle.live_answers.specs.Answers.{Answer, Answers, MayReplyFrom, after_line_from}
 use Rattle.live_answers.specs.Moments.{Moment, Reply, MayReply, taken_if, after_if, bssid_of, bssids_at}
 use Rattle.live_answers.specs.Asked.{Asked}
 use Rattle.live.specs.Inputs.{IsSaidIn, saying}
-use Rattle.live_answers.specs.Records.{IsBegun, IsRecord, all_octets, records_ask}
+use Rattle.live_answers.specs.Records.{IsPartialRecord, IsRecord, all_octets, records_ask}
 use Rattle.live_output.specs.Written.{written_reply, written_replies, written_after}
 use Rattle.live.specs.declared.partial_input.PartialInput.{PartialInput}
 use Rattle.live_output.specs.declared.face.Face.{Face}
@@ -24,6 +25,7 @@ pub record Through (W : Type 0) : Type 0 where
   pub old : Buffered W
   pub new : Buffered W
 
+-- in this face, through a buffer that was the first and is the second
 abbrev pub through : {W : Type 0} → Face → Watch W → Buffered W → Buffered W → Through W
 through face sink old new = record { face = face; sink = sink; old = old; new = new }
 
@@ -34,18 +36,18 @@ PutsThrough o text = Puts o.sink o.old o.new text
 -- ---- one line or record
 
 -- A network took the event of the line or record of a number or refused it, and its reply was put.
-pub record HasReplied {W : Type 0} (o : Through W) (number : ℕ) (e : Event) (n next : NetworkState) : Type 0 where
+pub record HasReplied {W : Type 0} (o : Through W) (number : ℕ) (e : Event) (network : Change NetworkState) : Type 0 where
   pub reply : Reply
-  pub may : MayReply n e reply
-  pub after : next ≡ after_if n (taken_if (Some e) (Some reply))
-  pub puts : PutsThrough o (written_reply o.face number (bssid_of n) reply)
+  pub may : MayReply network.old e reply
+  pub after : network.new ≡ after_if network.old (taken_if (Some e) (Some reply))
+  pub puts : PutsThrough o (written_reply o.face number (bssid_of network.old) reply)
 
 -- Each network to which it is an event did so, and the replies were put in order of place.
-pub record HaveReplied {W : Type 0} (o : Through W) (number : ℕ) (said : Line) (ns next : List NetworkState) : Type 0 where
+pub record HaveReplied {W : Type 0} (o : Through W) (number : ℕ) (said : Line) (networks : Change (List NetworkState)) : Type 0 where
   pub replies : List (Option Reply)
-  pub may : MayReplyFrom 0 ns said replies
-  pub after : next ≡ after_line_from 0 ns said replies
-  pub puts : PutsThrough o (written_replies o.face number (map bssid_of ns) replies)
+  pub may : MayReplyFrom 0 networks.old said replies
+  pub after : networks.new ≡ after_line_from 0 networks.old said replies
+  pub puts : PutsThrough o (written_replies o.face number (map bssid_of networks.old) replies)
 
 -- ---- all that is said
 
@@ -55,34 +57,36 @@ pub record AreAnswered {W : Type 0} (o : Through W) (m next : Moment) (said : Li
   pub answered : Answers m said answers next
   pub puts : PutsThrough o (written_after o.face m answers)
 
--- the moment after what has ended, and what has begun of the next line or record
+-- the moment after what has ended, and the partial line or record after it
 pub record Reached : Type 0 where
   pub moment : Moment
-  pub begun : PartialInput
+  pub partial : PartialInput
 
+-- at this moment, with this partial line or record
 abbrev pub reached : Moment → PartialInput → Reached
-reached moment begun = record { moment = moment; begun = begun }
+reached moment partial = record { moment = moment; partial = partial }
 
--- What is said in a piece was answered, after what had begun.
+-- What is said by a partial line or record and a piece was answered.
 pub record AnswersPiece {W : Type 0} (o : Through W) (old new : Reached) (piece : List ℕ) : Type 0 where
   pub said : List Asked
-  pub is_said : IsSaidIn (bssids_at old.moment) old.begun piece (saying said new.begun)
+  pub is_said : IsSaidIn (bssids_at old.moment) old.partial piece (saying said new.partial)
   pub answered : AreAnswered o old.moment new.moment said
 
--- the moment after the records that have ended, what has begun of the next, and the rest of a piece
+-- the moment after the records that have ended, the partial record after them, and the rest of a piece
 pub record Waiting : Type 0 where
   pub moment : Moment
-  pub begun : List ℕ
+  pub partial : List ℕ
   pub rest : List ℕ
 
+-- at this moment, with this partial record, where so much of a piece is left
 abbrev pub waiting : Moment → List ℕ → List ℕ → Waiting
-waiting moment begun rest = record { moment = moment; begun = begun; rest = rest }
+waiting moment partial rest = record { moment = moment; partial = partial; rest = rest }
 
--- What had begun of a record and the rest of a piece were answered as far as they are records, and the others are left.
+-- A partial record and the rest of a piece were answered as far as they are records, and the others are left.
 pub record AnswersRecords {W : Type 0} (o : Through W) (old new : Waiting) : Type 0 where
   pub records : List (List ℕ)
   pub each : AllByRecursion IsRecord records
-  pub all : old.begun ++ old.rest ≡ all_octets records ++ (new.begun ++ new.rest)
-  pub is_begun : IsBegun new.begun
+  pub all : old.partial ++ old.rest ≡ all_octets records ++ (new.partial ++ new.rest)
+  pub is_partial : IsPartialRecord new.partial
   pub answered : AreAnswered o old.moment new.moment (records_ask (bssids_at old.moment) records)
   pub few : new.moment.lines + length new.rest ≤ old.moment.lines + length old.rest

@@ -1,4 +1,4 @@
--- A line that has begun, and the octets that end it.
+-- A partial line, and the octets that end it.
 use Rattle.std.specs.Prelude.{ℕ, List, ◌++◌, Option, Some, None}
 use Rattle.std.specs.Str.Lines.{strip_carriage_return}
 use Rattle.trace.specs.Texts.{LacksLineFeed}

@@ -7,7 +7,7 @@ use Rattle.trace.specs.Endings.{Ending, Refused, ReadFailed, WriteFailed, OutOfM
 use Rattle.trace.specs.Streams.{Reads, SinkView, SourceView, Streams, changed}
 use Rattle.live_answers.specs.Answers.{Answer, Answers}
 use Rattle.live_answers.specs.Asked.{Asked}
-use Rattle.live.specs.Inputs.{IsSaid, IsAllSaid, IsSaidIn, face_of, nothing_begun, saying}
+use Rattle.live.specs.Inputs.{IsSaid, IsAllSaid, IsSaidIn, face_of, empty_partial, saying}
 use Rattle.live_answers.specs.Moments.{Moment, first_moment, bssids_at}
 use Rattle.live_output.specs.Written.{written_count, written_after, written_tables}
 use Rattle.live.specs.declared.partial_input.PartialInput.{PartialInput}
@@ -49,11 +49,12 @@ WrittenSoFar (Err NoMemory) answered old new = ⊥
 -- the access point, its input and its output
 pub record Progress : Type 0 where
   pub moment : Moment
-  pub begun : PartialInput
+  pub partial : PartialInput
   pub streams : Streams
 
+-- at this moment, with this partial line or record, where the streams stand so
 abbrev pub progress : Moment → PartialInput → Streams → Progress
-progress moment begun streams = record { moment = moment; begun = begun; streams = streams }
+progress moment partial streams = record { moment = moment; partial = partial; streams = streams }
 
 -- The sink has taken, since then, the answers to all that ended in what was read of the source.
 pub record AllAnswered (first : Progress) (left taken : Option (List ℕ)) : Type 0 where
@@ -62,9 +63,9 @@ pub record AllAnswered (first : Progress) (left taken : Option (List ℕ)) : Typ
   pub answers : List Answer
   pub moment : Moment
   pub took : Consumes first.streams.source.left left read
-  pub is_said : IsSaid (face_of first.begun) (bssids_at first.moment) read said
+  pub is_said : IsSaid (face_of first.partial) (bssids_at first.moment) read said
   pub answered : Answers first.moment said answers moment
-  pub written : Appends first.streams.sink.taken taken (written_after (face_of first.begun) first.moment answers)
+  pub written : Appends first.streams.sink.taken taken (written_after (face_of first.partial) first.moment answers)
 
 -- an access point of no networks, whose input and output aren't known
 abbrev pub unknown : Progress
@@ -91,7 +92,7 @@ pub record AnswersInput (face : Face) (result : Result Unit LiveFault) (old new 
   pub said : List Asked
   pub answers : List Answer
   pub reads : Reads (ending_of live_ending result) max_reads (changed old.streams.source new.streams.source) input
-  pub is_said : IsSaidIn (bssids_at old.moment) (nothing_begun face) input (saying said new.begun)
+  pub is_said : IsSaidIn (bssids_at old.moment) (empty_partial face) input (saying said new.partial)
   pub answered : Answers old.moment said answers new.moment
   pub written : WrittenSoFar result (written_after face old.moment answers) old.streams new.streams
   pub stops : result ≡ Err Write → StopsInPiece face input old new
@@ -103,6 +104,7 @@ pub record Setup : Type 0 where
   pub face : Face
   pub config : List ℕ
 
+-- in this face, of this text
 abbrev pub setup : Face → List ℕ → Setup
 setup face config = record { face = face; config = config }
 

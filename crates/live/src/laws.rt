@@ -1,15 +1,16 @@
 //! What follows from the definitions, for whoever stands on them.
 
 ghost use Rattle.std.specs.Prelude.{◌≡◌, ◌++◌, List, Result};
-ghost use Rattle.trace.specs.Streams.{Streams};
 ghost use Rattle.live_answers.specs.Answers.{Answer, Answers, Begins, in_two};
 ghost use Rattle.live_answers.specs.Asked.{Asked};
 ghost use Rattle.live_answers.specs.Moments.{Moment};
-ghost use Rattle.live.specs.BeforeReads.{FailsAtRead, HasAnswered};
+ghost use Rattle.live.specs.BeforeReads.{FailsAtRead, HasAnswered, RunStreams};
 ghost use Rattle.live.specs.Run.{Setup};
 ghost use Rattle.live_output.specs.Written.{written_after};
 ghost use Rattle.live_output.specs.declared.face.Face.{Face};
 ghost use Rattle.live.specs.declared.fault.LiveFault.{LiveFault};
+
+use live_answers::answers_to_more;
 
 /// The answers to more that is said begin with the answers to the first of it, so that what holds of all answers holds
 /// after each line and each record; and so does what is written of them, in either face.
@@ -21,7 +22,9 @@ pub fn more_lines()
     ensures written { (face : Face) (m between : Moment) (said : List Asked) (some others : List Answer)
         → Answers m said some between
         → written_after face m (some ++ others) ≡ written_after face m some ++ written_after face between others }
-{}
+{
+    answers_to_more();
+}
 
 /// Whatever runs an access point by the clauses of [`live`](crate::live) or [`live_octets`](crate::live_octets) holds no
 /// answer back: when it asks the source for more, the sink has taken the number of networks and the answers to all that
@@ -31,6 +34,6 @@ pub fn more_lines()
 /// that ended is answered and no write failed; so had an answer not been there, it could neither be left out nor be
 /// written, and no result would be left.
 pub fn answers_come_before_reads()
-    ensures { (setup : Setup) (result : Result Unit LiveFault) (old asked new : Streams)
-        → FailsAtRead setup result old asked new → HasAnswered setup old asked }
+    ensures { (setup : Setup) (result : Result Unit LiveFault) (run : RunStreams)
+        → FailsAtRead setup result run → HasAnswered setup run.old run.asked }
 {}

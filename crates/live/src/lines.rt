@@ -11,6 +11,7 @@ ghost use Rattle.live_output.specs.declared.face.Face.TheVariants as faces;
 
 use crate::networks::Networks;
 use crate::partial::{PartialLine, ended_line};
+use live_answers::answers_to_more;
 use trace::{Buffered, Sink, place_of};
 
 /// Answers the lines that end in a piece.
@@ -27,6 +28,7 @@ pub fn answer_lines<W: Sink>(
     ensures partial { partial.new ≡ partial_after partial.old piece.now }
     ensures lines { networks.new.lines ≤ networks.old.lines + length piece.now }
 {
+    answers_to_more();
     let mut rest = piece;
     while let Some(end) = place_of(b'\n', rest) {
         answer_ended(networks, partial, &rest[..end], out);
@@ -59,7 +61,7 @@ fn answer_ended<W: Sink>(
     partial.begin();
 }
 
-/// Answers the last line, if one has begun.
+/// Answers a partial line as the last one, unless it is empty.
 pub fn answer_last_line<W: Sink>(
     networks: &mut Networks,
     partial: &PartialLine,

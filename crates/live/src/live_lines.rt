@@ -19,7 +19,7 @@ use trace::{Failed, Sink};
 /// The access point as it runs: lines come in pieces, which may be cut anywhere, and each is answered by the call that
 /// it ends in. No history is kept.
 ///
-/// Contracts see the moment after the lines that have ended, and what has begun of the next.
+/// Contracts see the moment after the lines that have ended, and the partial line after them.
 #[derive(Drop)]
 pub struct Live {
     engine: Engine,
@@ -27,15 +27,15 @@ pub struct Live {
 
 impl Model for Live {
     ghost use Rattle.std.specs.Prelude.{◌≡◌};
-    ghost use Rattle.live.specs.Inputs.{line_begun};
+    ghost use Rattle.live.specs.Inputs.{partial_line};
     ghost use Rattle.live.specs.LiveView.{LiveState};
     ghost use Rattle.live.specs.declared.partial_input.PartialInput.TheVariants.{Line};
 
     ghost Value = { LiveState };
 
-    ghost view = { λ l. record { moment = l.engine.networks; partial = line_begun l.engine.begun } };
+    ghost view = { λ l. record { moment = l.engine.networks; partial = partial_line l.engine.partial } };
 
-    ghost invariant = { λ l. l.engine.begun ≡ Line (line_begun l.engine.begun) };
+    ghost invariant = { λ l. l.engine.partial ≡ Line (partial_line l.engine.partial) };
 }
 
 impl Live {
@@ -73,8 +73,8 @@ impl Live {
         self.engine.feed(piece, out)
     }
 
-    /// Ends the text, where fewer than 2^62 lines ended: has the sink take the answer to the line that has begun, if
-    /// one has, of which no CR is dropped, and the table of each network in order of place. `Failed` comes exactly
+    /// Ends the text, where fewer than 2^62 lines ended: has the sink take the answer to a partial line, of
+    /// which no CR is dropped, and the table of each network in order of place. `Failed` comes exactly
     /// where a write of the sink failed, which has then taken a prefix of them.
     pub fn end<W: Sink>(self, out: &mut W) -> Result<(), Failed>
         requires countable { self.moment.lines < 2 ^ 62 }

@@ -18,21 +18,21 @@ use trace::{Failed, Sink};
 /// The access point as it runs: records come in pieces, which may be cut anywhere, and each is answered, in records, by
 /// the call that it ends in. No history is kept.
 ///
-/// Contracts see the moment after the records that have ended, and what has begun of the next.
+/// Contracts see the moment after the records that have ended, and the partial record after them.
 #[derive(Drop)]
 pub struct LiveRecords {
     engine: Engine,
 }
 
 impl Model for LiveRecords {
-    ghost use Rattle.live.specs.Inputs.{IsPartOfRecord, record_begun};
+    ghost use Rattle.live.specs.Inputs.{IsPartOfRecord, partial_record};
     ghost use Rattle.live.specs.LiveView.{RecordsState};
 
     ghost Value = { RecordsState };
 
-    ghost view = { λ l. record { moment = l.engine.networks; begun = record_begun l.engine.begun } };
+    ghost view = { λ l. record { moment = l.engine.networks; partial = partial_record l.engine.partial } };
 
-    ghost invariant = { λ l. IsPartOfRecord l.engine.begun };
+    ghost invariant = { λ l. IsPartOfRecord l.engine.partial };
 }
 
 impl LiveRecords {
@@ -40,7 +40,7 @@ impl LiveRecords {
     /// and answers wait in. `NoMemory` where memory ran out.
     pub fn new(alloc: Global, config: RadioConfig) -> Result<LiveRecords, NoMemory>
         requires { fault_of config ≡ None }
-        ensures { IfOk result (λ live. live ≡ record { moment = first_moment config; begun = [] }) }
+        ensures { IfOk result (λ live. live ≡ record { moment = first_moment config; partial = [] }) }
     {
         Ok(LiveRecords {
             engine: Engine::new(alloc, Face::Records, config)?,
@@ -70,9 +70,9 @@ impl LiveRecords {
         self.engine.feed(piece, out)
     }
 
-    /// Ends the octets, where fewer than 2^62 records ended: has the sink take the fault of a record that is cut, if
-    /// one has begun, of which nothing is taken, and the lines of each network's table in order of place. `Failed`
-    /// comes exactly where a write of the sink failed, which has then taken a prefix of them.
+    /// Ends the octets, where fewer than 2^62 records ended: has the sink take the fault of a partial record, of
+    /// which nothing is taken, and the lines of each network's table in order of place. `Failed` comes exactly where a
+    /// write of the sink failed, which has then taken a prefix of them.
     pub fn end<W: Sink>(self, out: &mut W) -> Result<(), Failed>
         requires countable { self.moment.lines < 2 ^ 62 }
         requires few { MayFail (W.failed out.old) }

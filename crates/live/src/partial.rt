@@ -1,4 +1,4 @@
-//! A line that has begun, of which more is to come.
+//! A partial line, of which more is to come.
 
 ghost use Rattle.std.specs.Prelude.{◌≡◌, ◌↔◌, [], IfOk, IsTrue, option_map};
 ghost use Rattle.trace.specs.Texts.{LacksLineFeed};
@@ -13,8 +13,8 @@ use trace::without_carriage_return;
 /// The most octets of a line, without the LF that ends it and one CR before that.
 const MAX_LINE: usize = 65_536;
 
-/// The most octets that are kept of a line that has begun: as many, and a CR that may be dropped.
-const MAX_BEGUN: usize = 65_537;
+/// The most octets that are kept of a partial line: as many, and a CR that may be dropped.
+const MAX_PARTIAL: usize = 65_537;
 
 /// What came of a line that has not ended, in memory that was taken when it was made. Contracts see its octets, or that
 /// they are too many.
@@ -43,7 +43,7 @@ impl PartialLine {
         ensures { IfOk result (λ partial. partial ≡ Octets []) }
     {
         Ok(PartialLine {
-            octets: Vec::with_capacity(alloc, MAX_BEGUN)?,
+            octets: Vec::with_capacity(alloc, MAX_PARTIAL)?,
             too_long: false,
         })
     }
@@ -57,7 +57,7 @@ impl PartialLine {
         if self.too_long {
             return;
         }
-        if octets.len() > MAX_BEGUN - self.octets.len() {
+        if octets.len() > MAX_PARTIAL - self.octets.len() {
             self.octets.clear();
             self.too_long = true;
             return;

@@ -1,7 +1,7 @@
-//! What has begun of what comes in.
+//! The partial line or record at the end of what came in.
 
 ghost use Rattle.std.specs.Prelude.{◌≡◌, IfOk};
-ghost use Rattle.live.specs.Inputs.{nothing_begun};
+ghost use Rattle.live.specs.Inputs.{empty_partial};
 
 use crate::partial::PartialLine;
 use crate::record::PartialRecord;
@@ -9,7 +9,7 @@ use live_output::Face;
 use mac_frame::NoMemory;
 use std::alloc::Global;
 
-/// What has begun of the next line or record, and so in which face the access point runs.
+/// The partial line or record at the end of what came in, and so in which face the access point runs.
 #[derive(Drop)]
 pub enum PartialInput {
     /// Of a line.
@@ -19,9 +19,9 @@ pub enum PartialInput {
 }
 
 impl PartialInput {
-    /// Nothing has begun. `NoMemory` where memory ran out.
+    /// An empty partial line or record. `NoMemory` where memory ran out.
     pub fn new(alloc: Global, face: Face) -> Result<PartialInput, NoMemory>
-        ensures { IfOk result (λ begun. begun ≡ nothing_begun face) }
+        ensures { IfOk result (λ partial. partial ≡ empty_partial face) }
     {
         match face {
             Face::Lines => Ok(PartialInput::Line(PartialLine::new(alloc)?)),

@@ -1,7 +1,7 @@
 //! Records: where one ends, and what came of one that is not whole.
 
 ghost use Rattle.std.specs.Prelude.{◌≡◌, ◌↔◌, ◌+◌, ◌≤◌, ◌++◌, [], length, None, IfOk, IfSome, IsTrue};
-ghost use Rattle.live_answers.specs.Records.{IsBegun, IsRecord, lacking, record_len};
+ghost use Rattle.live_answers.specs.Records.{IsPartialRecord, IsRecord, lacking, record_len};
 
 use mac_frame::NoMemory;
 use std::alloc::Global;
@@ -30,7 +30,7 @@ fn record_len(octets: &[u8]) -> Option<usize>
 pub fn first_record(octets: &[u8]) -> Option<(&[u8], &[u8])>
     ensures whole { IfSome result (λ r. IsRecord r.0.now × (octets.now ≡ r.0.now ++ r.1.now)) }
     ensures some { IfSome result (λ r. 9 ≤ length r.0.now) }
-    ensures none { (result ≡ None) ↔ IsBegun octets.now }
+    ensures none { (result ≡ None) ↔ IsPartialRecord octets.now }
 {
     let len = record_len(octets)?;
     if octets.len() < len {
@@ -81,7 +81,7 @@ impl PartialRecord {
 
     /// How many octets it lacks, as far as that is known: those that say it, or the rest.
     pub fn lacking(&self) -> usize
-        requires { IsBegun self.now }
+        requires { IsPartialRecord self.now }
         ensures value { result ≡ lacking self.now }
         ensures some { 1 ≤ result }
         ensures most { length self.now + result ≤ 65544 }

@@ -3,12 +3,13 @@
 ghost use Rattle.std.specs.Prelude.{◌≡◌, ◌<◌, ◌≤◌, ◌+◌, ◌^◌, [], length};
 ghost use Rattle.trace.specs.Buffers.{CanWrite, watch};
 ghost use Rattle.live.specs.Output.{AnswersRecords, AreAnswered, through, waiting};
-ghost use Rattle.live_answers.specs.Records.{IsBegun, IsRecord, cut_record};
+ghost use Rattle.live_answers.specs.Records.{IsPartialRecord, IsRecord, cut_record};
 ghost use Rattle.live_output.specs.declared.face.Face.TheVariants as faces;
 
 use crate::networks::Networks;
 use crate::reading::Reading;
 use crate::record::{PartialRecord, first_record};
+use live_answers::{answers_to_more, records_come_in_pieces};
 use live_output::Face;
 use trace::{Buffered, LineFault, Sink};
 
@@ -19,12 +20,13 @@ pub fn answer_records<W: Sink>(
     piece: &[u8],
     out: &mut Buffered<'_, W>,
 )
-    requires begun { IsBegun partial.old }
+    requires partial { IsPartialRecord partial.old }
     requires countable { networks.old.lines + length piece.now < 2 ^ 62 }
     requires can_write { CanWrite W.failed out.old }
     ensures answers { AnswersRecords (through faces.Records (watch W.taken W.failed) out.old out.new)
         (waiting networks.old partial.old piece.now) (waiting networks.new partial.new []) }
 {
+    answers_to_more();
     let mut rest = piece;
     while !rest.is_empty() {
         rest = answer_next(networks, partial, rest, out);
@@ -32,8 +34,8 @@ pub fn answer_records<W: Sink>(
 }
 
 /// Answers the record at the front of a piece, without a copy, where nothing came of it before and all of it is there;
-/// else takes of the piece what the record lacks that has begun, and answers it where it is whole then. It gives what
-/// follows in the piece.
+/// else takes of the piece what the partial record lacks, and answers it where it is whole then. It gives what follows
+/// in the piece.
 fn answer_next<'a, W: Sink>(
     networks: &mut Networks,
     partial: &mut PartialRecord,
@@ -41,13 +43,15 @@ fn answer_next<'a, W: Sink>(
     out: &mut Buffered<'_, W>,
 ) -> &'a [u8]
     requires some { 0 < length piece.now }
-    requires begun { IsBegun partial.old }
+    requires partial { IsPartialRecord partial.old }
     requires countable { networks.old.lines < 2 ^ 62 }
     requires can_write { CanWrite W.failed out.old }
     ensures answers { AnswersRecords (through faces.Records (watch W.taken W.failed) out.old out.new)
         (waiting networks.old partial.old piece.now) (waiting networks.new partial.new result.now) }
     ensures shorter { length result.now < length piece.now }
 {
+    answers_to_more();
+    records_come_in_pieces();
     if partial.is_empty() {
         if let Some((octets, rest)) = first_record(piece) {
             networks.answer_record(octets, out);
@@ -63,7 +67,7 @@ fn answer_next<'a, W: Sink>(
     rest
 }
 
-/// Answers that the last record is cut, if one has begun.
+/// Answers that the last record is cut, unless it is empty.
 pub fn answer_cut_record<W: Sink>(
     networks: &mut Networks,
     partial: &PartialRecord,

@@ -5,6 +5,7 @@ ghost use Rattle.std.specs.List.{AllByRecursion};
 ghost use Rattle.trace.specs.Buffers.{CanWrite, watch};
 ghost use Rattle.events.specs.LentEvents.{line_of};
 ghost use Rattle.network.specs.ReadEvents.{event_read};
+ghost use Rattle.access_point.specs.Takes.{change};
 ghost use Rattle.live.specs.Output.{HasReplied, HaveReplied, through};
 
 use access_point::{AccessPoint, Deliver};
@@ -29,8 +30,8 @@ impl<W: Sink> Deliver<Network, Buffered<'_, W>> for Replying {
 
     ghost may_stop = { false };
 
-    ghost delivers = { λ how e n next old new.
-        HasReplied (through how.face (watch W.taken W.failed) old new) how.number e n next };
+    ghost delivers = { λ how e n out.
+        HasReplied (through how.face (watch W.taken W.failed) out.old out.new) how.number e n };
 
     #[inline(always)]
     fn deliver(
@@ -57,7 +58,7 @@ pub fn reply_all<W: Sink>(
     requires countable { AllByRecursion (λ n. n.events < 2 ^ 62) access_point.old }
     requires can_write { CanWrite W.failed out.old }
     ensures { HaveReplied (through face (watch W.taken W.failed) out.old out.new) number (line_of line.entry)
-        access_point.old access_point.new }
+        (change access_point.old access_point.new) }
 {
     match access_point.take(&Replying { face, number }, line, out) {
         Ok(()) => {}
@@ -78,7 +79,7 @@ fn reply<W: Sink>(
     requires countable { network.old.events < 2 ^ 62 }
     requires can_write { CanWrite W.failed out.old }
     ensures { HasReplied (through face (watch W.taken W.failed) out.old out.new) number (event_read event.now)
-        network.old network.new }
+        (change network.old network.new) }
 {
     let bssid = network.setting().network.bssid;
     match network.take_read_in(event, spare) {

@@ -6,12 +6,13 @@ ghost use Rattle.trace.specs.Endings.{Ends, failures_of, ending_of};
 ghost use Rattle.trace.specs.Sinks.{MayFail, failed_reads, report_ending};
 ghost use Rattle.trace.specs.Streams.{reads_after};
 ghost use Rattle.live_output.specs.AnswerOctets.{count_record};
-ghost use Rattle.live.specs.Inputs.{face_of, nothing_begun};
+ghost use Rattle.live.specs.Inputs.{empty_partial, face_of};
 ghost use Rattle.live.specs.Run.{AllAnswered, AnswersInput, Runs, RunsLive, RunsOctets, live_ending, progress, seen, setup, streams};
 ghost use Rattle.live_output.specs.Written.{written_count};
 
 use crate::engine::Engine;
 use crate::fault::LiveFault;
+use live_answers::{answers_to_more, enough_memory, lines_come_in_pieces, records_come_in_pieces};
 use live_output::Face;
 use std::alloc::Global;
 use std::marker::Brand;
@@ -93,6 +94,9 @@ fn run<R: Source, W: Sink>(
         (W.taken out.new) (W.failed out.new)) }
     ensures failures { W.failed out.new ≡ W.failed out.old + failures_of live_ending result }
 {
+    answers_to_more();
+    lines_come_in_pieces();
+    enough_memory();
     let config = read_config(alloc, config)?;
     let count = config.networks.as_slice().len();
     let mut engine = Engine::new(alloc, face, config)?;
@@ -171,23 +175,26 @@ fn answer_input<B: Beginning, R: Source, W: Sink>(
     input: &mut R,
     out: &mut W,
 ) -> Result<(), LiveFault>
-    requires beginning { B.first ≡ progress engine.old.networks engine.old.begun
+    requires beginning { B.first ≡ progress engine.old.networks engine.old.partial
         (streams (seen (R.left input.old) (R.failed input.old) (R.reads input.old))
         (W.taken out.old) (W.failed out.old)) }
-    requires begun { engine.old.begun ≡ nothing_begun (face_of engine.old.begun) }
+    requires empty { engine.old.partial ≡ empty_partial (face_of engine.old.partial) }
     requires first { engine.old.networks.lines ≡ 0 }
     requires input { MayFail (R.failed input.old) }
     requires out { MayFail (W.failed out.old) }
-    ensures answers { AnswersInput (face_of engine.old.begun) result
-        (progress engine.old.networks engine.old.begun
+    ensures answers { AnswersInput (face_of engine.old.partial) result
+        (progress engine.old.networks engine.old.partial
         (streams (seen (R.left input.old) (R.failed input.old) (R.reads input.old))
         (W.taken out.old) (W.failed out.old)))
-        (progress engine.new.networks engine.new.begun
+        (progress engine.new.networks engine.new.partial
         (streams (seen (R.left input.new) (R.failed input.new) (R.reads input.new))
         (W.taken out.new) (W.failed out.new))) }
     ensures failures { W.failed out.new ≡ W.failed out.old + failures_of live_ending result }
     ensures countable { OnOk result (engine.new.networks.lines < 2 ^ 62) }
 {
+    answers_to_more();
+    lines_come_in_pieces();
+    records_come_in_pieces();
     let mut piece = [0; PIECE_LEN];
     for _ in 0..MAX_READS {
         let Ok(count) = read_more::<B, R, W>(input, out, &mut piece) else {

@@ -52,7 +52,7 @@ lines-answer m (Brings line) (Replies rs) = refl
 lines-answer m (Says (Ok (Some line))) (Replies rs) = refl
 lines-answer m asked answer = refl
 
-pub lines-answers : (m : Moment) (said : List Asked) (answers : List Answer) (next : Moment)
+lines-answers : (m : Moment) (said : List Asked) (answers : List Answer) (next : Moment)
     → Answers m said answers next → next.lines ≡ m.lines + length answers
 lines-answers m [] [] next h = let same : next.lines ≡ m.lines = ap (λ (o : Moment). o.lines) h in omega arith
 lines-answers m [] (answer ∷ answers) next h = absurd h
@@ -64,7 +64,7 @@ lines-answers m (asked ∷ said) (answer ∷ answers) next h =
     omega (arith, on, one)
 
 -- as many answers as there is said
-length-answers : (m : Moment) (said : List Asked) (answers : List Answer) (next : Moment)
+pub length-answers : (m : Moment) (said : List Asked) (answers : List Answer) (next : Moment)
     → Answers m said answers next → length answers ≡ length said
 length-answers m [] [] next h = refl
 length-answers m [] (answer ∷ answers) next h = absurd h

@@ -29,7 +29,7 @@ stripped line = by (slice_index line (length line - 1) == 13)
     by true = omega (arith, length-take (length line - 1) line)
     by false = omega arith
 
--- ---- what has begun of a line has no LF
+-- ---- a partial line has no LF
 
 apart : {x : List ℕ} {xs : List (List ℕ)} → [] ≡ x ∷ xs → ⊥
 apart e = cc

@@ -6,7 +6,7 @@ use Rattle.std.specs.List.{AllByRecursion}
 use Rattle.std.proofs.lemmas.Bool.{ltb-true, ltb-false, le-ltb}
 use Rattle.std.proofs.lemmas.List.{append_cancel_left, get_or_append_left}
 use Rattle.std.proofs.lemmas.List.Concat.{flat_map-append}
-use Rattle.live_answers.specs.Records.{record_len, IsRecord, IsBegun, lacking, all_octets, AreRecords}
+use Rattle.live_answers.specs.Records.{record_len, IsRecord, IsPartialRecord, lacking, all_octets, AreRecords}
 
 -- ---- how long a record is
 
@@ -27,17 +27,17 @@ len-known xs n is = by (nat_lt (length xs) 9) refl
     by true short = absurd (let none : record_len xs ≡ None = rw short refl in cc)
     by false long = ltb-false (length xs) 9 long
 
-pub len-more : (xs ys : List ℕ) (n : ℕ) → record_len xs ≡ Some n → record_len (xs ++ ys) ≡ Some n
+len-more : (xs ys : List ℕ) (n : ℕ) → record_len xs ≡ Some n → record_len (xs ++ ys) ≡ Some n
 len-more xs ys n is = len-on xs ys (len-known xs n is) ∙ is
 
 -- ---- one list
 
--- no record stands at the front of what has begun of one
-none-begun : (begun r x : List ℕ) → IsBegun begun → IsRecord r → begun ≡ r ++ x → ⊥
-none-begun begun r x p h e =
-    let is : record_len begun ≡ Some (length r) = ap record_len e ∙ len-more r x (length r) h in
-    let less : length begun < length r = subst (λ (o : Option ℕ). IfSome o (λ len. length begun < len)) is p in
-    let more : length begun ≡ length r + length x = ap length e ∙ length-append r x in
+-- no record stands at the front of a partial one
+none-whole : (partial r x : List ℕ) → IsPartialRecord partial → IsRecord r → partial ≡ r ++ x → ⊥
+none-whole partial r x p h e =
+    let is : record_len partial ≡ Some (length r) = ap record_len e ∙ len-more r x (length r) h in
+    let less : length partial < length r = subst (λ (o : Option ℕ). IfSome o (λ len. length partial < len)) is p in
+    let more : length partial ≡ length r + length x = ap length e ∙ length-append r x in
     omega (arith, less, more)
 
 one-record : (r x s y : List ℕ) → IsRecord r → IsRecord s → r ++ x ≡ s ++ y → (r ≡ s) × (x ≡ y)
@@ -49,40 +49,40 @@ one-record r x s y h k e =
     sym (take_at r x (length r) refl) ∙ ap (take (length r)) e ∙ take_at s y (length r) (sym same) in
     (front, append_cancel_left s x y (ap (λ (l : List ℕ). l ++ x) (sym front) ∙ e))
 
-only-by : (rs ss : List (List ℕ)) (b d : List ℕ) → AllByRecursion IsRecord rs → AllByRecursion IsRecord ss → IsBegun b
-    → IsBegun d → all_octets rs ++ b ≡ all_octets ss ++ d → (rs ≡ ss) × (b ≡ d)
+only-by : (rs ss : List (List ℕ)) (b d : List ℕ) → AllByRecursion IsRecord rs → AllByRecursion IsRecord ss → IsPartialRecord b
+    → IsPartialRecord d → all_octets rs ++ b ≡ all_octets ss ++ d → (rs ≡ ss) × (b ≡ d)
 only-by [] [] b d h k p q e = (refl, e)
 only-by [] (s ∷ ss) b d h k p q e =
-    absurd (none-begun b s (all_octets ss ++ d) p k.0 (e ∙ append_assoc s (all_octets ss) d))
+    absurd (none-whole b s (all_octets ss ++ d) p k.0 (e ∙ append_assoc s (all_octets ss) d))
 only-by (r ∷ rs) [] b d h k p q e =
-    absurd (none-begun d r (all_octets rs ++ b) q h.0 (sym e ∙ append_assoc r (all_octets rs) b))
+    absurd (none-whole d r (all_octets rs ++ b) q h.0 (sym e ∙ append_assoc r (all_octets rs) b))
 only-by (r ∷ rs) (s ∷ ss) b d h k p q e =
     let one = one-record r (all_octets rs ++ b) s (all_octets ss ++ d) h.0 k.0
     (sym (append_assoc r (all_octets rs) b) ∙ e ∙ append_assoc s (all_octets ss) d) in
     let on = only-by rs ss b d h.1 k.1 p q one.1 in
     (ap (λ (x : List ℕ). x ∷ rs) one.0 ∙ ap (λ (xs : List (List ℕ)). s ∷ xs) on.0, on.1)
 
-pub records-one : (octets : List ℕ) (records others : List (List ℕ)) (begun rest : List ℕ)
-    → AreRecords octets records begun → AreRecords octets others rest → (records ≡ others) × (begun ≡ rest)
-records-one octets records others begun rest h k =
-    only-by records others begun rest h.each k.each h.rest k.rest (sym h.all ∙ k.all)
+pub records-one : (octets : List ℕ) (records others : List (List ℕ)) (partial rest : List ℕ)
+    → AreRecords octets records partial → AreRecords octets others rest → (records ≡ others) × (partial ≡ rest)
+records-one octets records others partial rest h k =
+    only-by records others partial rest h.each k.each h.rest k.rest (sym h.all ∙ k.all)
 
 -- ---- more octets
 
-pub each-both : (rs ss : List (List ℕ)) → AllByRecursion IsRecord rs → AllByRecursion IsRecord ss
+each-both : (rs ss : List (List ℕ)) → AllByRecursion IsRecord rs → AllByRecursion IsRecord ss
     → AllByRecursion IsRecord (rs ++ ss)
 each-both [] ss h k = k
 each-both (r ∷ rs) ss h k = (h.0, each-both rs ss h.1 k)
 
-pub octets-both : (rs ss : List (List ℕ)) → all_octets (rs ++ ss) ≡ all_octets rs ++ all_octets ss
+octets-both : (rs ss : List (List ℕ)) → all_octets (rs ++ ss) ≡ all_octets rs ++ all_octets ss
 octets-both rs ss = flat_map-append (λ octets. octets) rs ss
 
-pub records-more : (octets piece : List ℕ) (records more : List (List ℕ)) (begun rest : List ℕ)
-    → AreRecords octets records begun → AreRecords (begun ++ piece) more rest
+pub records-more : (octets piece : List ℕ) (records more : List (List ℕ)) (partial rest : List ℕ)
+    → AreRecords octets records partial → AreRecords (partial ++ piece) more rest
     → AreRecords (octets ++ piece) (records ++ more) rest
-records-more octets piece records more begun rest h k = record {
+records-more octets piece records more partial rest h k = record {
   all =
-      ap (λ (l : List ℕ). l ++ piece) h.all ∙ append_assoc (all_octets records) begun piece
+      ap (λ (l : List ℕ). l ++ piece) h.all ∙ append_assoc (all_octets records) partial piece
       ∙ ap (λ (l : List ℕ). all_octets records ++ l) k.all
       ∙ sym (append_assoc (all_octets records) (all_octets more) rest)
       ∙ ap (λ (l : List ℕ). l ++ rest) (sym (octets-both records more));
@@ -90,9 +90,9 @@ records-more octets piece records more begun rest h k = record {
   rest = k.rest;
 }
 
--- ---- what has begun of a record, and no more than it lacks
+-- ---- a partial record, and no more than it lacks
 
-from-len : (xs : List ℕ) (n : ℕ) → record_len xs ≡ Some n → length xs ≤ n → (IsRecord xs → ⊥) → IsBegun xs
+from-len : (xs : List ℕ) (n : ℕ) → record_len xs ≡ Some n → length xs ≤ n → (IsRecord xs → ⊥) → IsPartialRecord xs
 from-len xs n is le not =
     subst (λ (o : Option ℕ). IfSome o (λ len. length xs < len)) (sym is) (by (nat_lt (length xs) n) refl)
   where
@@ -103,26 +103,26 @@ from-len xs n is le not =
         let same : n ≡ length xs = omega (arith, ge, le) in
         absurd (not (is ∙ ap (λ (k : ℕ). Some k) same))
 
-short-on : (xs : List ℕ) → length xs ≤ 9 → (IsRecord xs → ⊥) → IsBegun xs
+short-on : (xs : List ℕ) → length xs ≤ 9 → (IsRecord xs → ⊥) → IsPartialRecord xs
 short-on xs le not = by (nat_lt (length xs) 9) refl
   where
-    by : (b : Bool) → nat_lt (length xs) 9 ≡ b → IsBegun xs
+    by : (b : Bool) → nat_lt (length xs) 9 ≡ b → IsPartialRecord xs
     by true short = rw short tt
     by false long =
         from-len xs (9 + (slice_index xs 7 + 256 * slice_index xs 8)) (rw long refl) (omega (arith, le)) not
 
-pub begun-on : (begun more : List ℕ) → IsBegun begun → length more ≤ lacking begun → (IsRecord (begun ++ more) → ⊥)
-    → IsBegun (begun ++ more)
-begun-on begun more p few not = by (nat_lt (length begun) 9) refl
+pub partial-grown : (partial more : List ℕ) → IsPartialRecord partial → length more ≤ lacking partial → (IsRecord (partial ++ more) → ⊥)
+    → IsPartialRecord (partial ++ more)
+partial-grown partial more p few not = by (nat_lt (length partial) 9) refl
   where
-    by : (b : Bool) → nat_lt (length begun) 9 ≡ b → IsBegun (begun ++ more)
+    by : (b : Bool) → nat_lt (length partial) 9 ≡ b → IsPartialRecord (partial ++ more)
     by true short =
-        let lt : length begun < 9 = ltb-true (length begun) 9 short in
-        let most : length more ≤ 9 - length begun = rw short at few in
-        short-on (begun ++ more) (omega (arith, lt, most, length-append begun more)) not
+        let lt : length partial < 9 = ltb-true (length partial) 9 short in
+        let most : length more ≤ 9 - length partial = rw short at few in
+        short-on (partial ++ more) (omega (arith, lt, most, length-append partial more)) not
     by false long =
-        let n : ℕ = 9 + (slice_index begun 7 + 256 * slice_index begun 8) in
-        let is : record_len begun ≡ Some n = rw long refl in
-        let lt : length begun < n = rw long at p in
-        let most : length more ≤ n - length begun = rw long at few in
-        from-len (begun ++ more) n (len-more begun more n is) (omega (arith, lt, most, length-append begun more)) not
+        let n : ℕ = 9 + (slice_index partial 7 + 256 * slice_index partial 8) in
+        let is : record_len partial ≡ Some n = rw long refl in
+        let lt : length partial < n = rw long at p in
+        let most : length more ≤ n - length partial = rw long at few in
+        from-len (partial ++ more) n (len-more partial more n is) (omega (arith, lt, most, length-append partial more)) not

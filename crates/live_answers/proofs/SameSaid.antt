@@ -1,19 +1,19 @@
 -- What is said as a record and as a line is the same, and so are the answers.
 use Rattle.std.proofs.Common.{◌≡◌, ℕ, ◌+◌, ◌-◌, ◌*◌, ◌/◌, ◌%◌, ◌<◌, ◌≤◌, Bool, true, false, zero, suc, List, [], ◌∷◌, ◌++◌, length, map, take, drop, get_or, Option, Some, None, Result, Ok, Err, refl, sym, ap, subst, ◌∙◌, arith, add-one, append_assoc, append-nil, length-append, take_at}
 use Rattle.std.specs.Prelude.{nat_lt, slice_index, if◌then◌else◌}
-use Rattle.std.specs.List.{All, AllByRecursion, position_or_len, suffix_len, slice_split}
+use Rattle.std.specs.List.{All, AllByRecursion, position_or_len, range_with_len, suffix_len, slice_split}
 use Rattle.std.specs.Option.{ok_or}
 use Rattle.std.specs.Fmt.{digit_glyph}
 use Rattle.std.specs.Str.Lines.{lines, lines_of_parts, strip_carriage_return}
 use Rattle.std.proofs.lemmas.Bool.{ne_eqb, le-ltb}
 use Rattle.std.proofs.lemmas.Bool.Decides.{nat_tests}
 use Rattle.std.proofs.lemmas.List.{take_all, get_or-append_right}
+use Rattle.std.proofs.lemmas.List.FromFn.{fill_by_all}
 use Rattle.std.proofs.lemmas.List.Splits.{slice_split_at, length-slice_split}
 use Rattle.std.proofs.lemmas.List.Sums.{suffix_len_is}
 use Rattle.hex.specs.Hex.{IsBytes, encode_lower, encode_with, decode_of, lower_digits, hex_digit_value}
 use Rattle.hex.proofs.HexLemmas.{IsDigits-lower_digits, decode_of-encode_lower, length-encode_with}
 use Rattle.mac_frame.specs.Address.{IsAddress, address_text, address_of}
-use Rattle.mac_frame.proofs.Cells.{is_its_cells}
 use Rattle.events.specs.declared.line.Line.{Line}
 use Rattle.events.specs.declared.line.Line.TheVariants.{Air, Wire}
 use Rattle.trace.specs.Faults.{◌>>=◌}
@@ -108,10 +108,14 @@ six-above a b c d e f =
       ),
     )
 
+-- the octets of an address, one by one
+in_six : (address : List ℕ) → length address ≡ 6 → address ≡ map (slice_index address) (range_with_len 0 6)
+in_six address six = fill_by_all (slice_index address) address 6 0 six (λ k _. refl)
+
 address-above : (address : List ℕ) → IsAddress address → AllAbove 32 (address_text address)
 address-above address w =
     let at = slice_index address in
-    subst (λ (a : List ℕ). AllAbove 32 (address_text a)) (sym (is_its_cells address 6 w.six))
+    subst (λ (a : List ℕ). AllAbove 32 (address_text a)) (sym (in_six address w.six))
     (six-above (at 0) (at 1) (at 2) (at 3) (at 4) (at 5))
 
 digits-kept : (text : List ℕ) → AllAbove 32 text → digits_of text ≡ text
@@ -240,7 +244,7 @@ six-record kind a b c d e f octets =
 address-record : (kind : ℕ) (address octets : List ℕ) → IsAddress address → IsRecord (record_with kind address octets)
 address-record kind address octets w =
     let at = slice_index address in
-    subst (λ (a : List ℕ). IsRecord (record_with kind a octets)) (sym (is_its_cells address 6 w.six))
+    subst (λ (a : List ℕ). IsRecord (record_with kind a octets)) (sym (in_six address w.six))
     (six-record kind (at 0) (at 1) (at 2) (at 3) (at 4) (at 5) octets)
 
 record-is : (input : Input) → IsInput input → IsRecord (record_for input)
@@ -274,13 +278,13 @@ wire-asks bssids address octets w =
     let at = slice_index address in
     subst
     (λ (a : List ℕ). record_asks bssids (record_with 87 a octets) ≡ wire_record (place_with a bssids) octets)
-    (sym (is_its_cells address 6 w.six))
+    (sym (in_six address w.six))
     (six-asks bssids (at 0) (at 1) (at 2) (at 3) (at 4) (at 5) octets)
 
 address-some : (address : List ℕ) → IsAddress address → 0 < length (address_text address)
 address-some address w =
     let at = slice_index address in
-    subst (λ (a : List ℕ). 0 < length (address_text a)) (sym (is_its_cells address 6 w.six)) (omega arith)
+    subst (λ (a : List ℕ). 0 < length (address_text a)) (sym (in_six address w.six)) (omega arith)
 
 abbrev pub ComesBack : Type 0
 ComesBack = (address : List ℕ) → IsAddress address → address_of (address_text address) ≡ Some address
@@ -364,7 +368,7 @@ then-short (c ∷ word) = omega arith
 address-short : (address : List ℕ) → IsAddress address → length (address_text address) ≡ 17
 address-short address w =
     let at = slice_index address in
-    subst (λ (a : List ℕ). length (address_text a) ≡ 17) (sym (is_its_cells address 6 w.six)) refl
+    subst (λ (a : List ℕ). length (address_text a) ≡ 17) (sym (in_six address w.six)) refl
 
 line-is : (input : Input) → IsInput input → IsLine (line_for input)
 line-is (Heard octets) h =

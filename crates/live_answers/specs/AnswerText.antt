@@ -15,6 +15,7 @@ use Rattle.live_answers.specs.Moments.{Reply, Sends, Refuses}
 abbrev pub fault_words : List ℕ → ℕ → List ℕ
 fault_words fault number = codes "fault " ++ fault ++ codes " line " ++ decimal number
 
+-- why a network refuses an event, in one word
 abbrev pub refusal_word : NetworkRefusal → List ℕ
 refusal_word NoMemory = codes "memory"
 refusal_word Clock = codes "clock"
@@ -42,5 +43,6 @@ table_text n =
     ++ flat_map station_line (table_of n.network)
     ++ ended (codes "end")
 
+-- what it says of each network, in order of place
 abbrev pub tables_text : List NetworkState → List ℕ
 tables_text networks = flat_map table_text networks

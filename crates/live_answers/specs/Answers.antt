@@ -26,6 +26,7 @@ pub data Answer : Type 0 where
 
 -- ---- the networks from a place on
 
+-- the reply of each to the event that a line is to it, where memory suffices
 abbrev pub replies_from : ℕ → List NetworkState → Line → List (Option Reply)
 replies_from place [] line = []
 replies_from place (n ∷ ns) line = reply_if n (event_at place n line) ∷ replies_from (place + 1) ns line
@@ -37,6 +38,7 @@ MayReplyFrom place (n ∷ ns) line [] = ⊥
 MayReplyFrom place (n ∷ ns) line (reply ∷ replies) =
     MayReplyIf n (event_at place n line) reply × MayReplyFrom (place + 1) ns line replies
 
+-- each network after the event that it took, and the others as they were
 abbrev pub after_line_from : ℕ → List NetworkState → Line → List (Option Reply) → List NetworkState
 after_line_from place (n ∷ ns) line (reply ∷ replies) =
     after_if n (taken_if (event_at place n line) reply) ∷ after_line_from (place + 1) ns line replies
@@ -95,6 +97,7 @@ answers_of m (asked ∷ said) =
 
 -- ---- memory that suffices
 
+-- a reply that does not refuse for memory
 abbrev pub HasMemory : Reply → Type 0
 HasMemory (Sends air wire) = Unit {0}
 HasMemory (Refuses NoMemory) = ⊥
@@ -108,6 +111,7 @@ IsUnrefused (Tables networks) = Unit {0}
 IsUnrefused (Faulty fault) = Unit {0}
 IsUnrefused Unread = ⊥
 
+-- nothing was refused for memory in any of them
 abbrev pub AreUnrefused : List Answer → Type 0
 AreUnrefused answers = AllByRecursion IsUnrefused answers
 
@@ -118,6 +122,7 @@ pub record InTwo : Type 0 where
   pub said : List Asked
   pub more : List Asked
 
+-- this first, and then that
 abbrev pub in_two : List Asked → List Asked → InTwo
 in_two said more = record { said = said; more = more }
 

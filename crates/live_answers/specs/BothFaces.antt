@@ -30,6 +30,7 @@ abbrev pub then_word : List ℕ → List ℕ
 then_word [] = []
 then_word (character ∷ characters) = 32 ∷ character ∷ characters
 
+-- the line that says it
 abbrev pub line_for : Input → List ℕ
 line_for (Heard octets) = codes "A" ++ then_word (encode_lower octets)
 line_for (Wired address octets) = codes "W " ++ address_text address ++ then_word (encode_lower octets)
@@ -42,9 +43,11 @@ text_for inputs = flat_map (λ input. ended (line_for input)) inputs
 
 -- ---- as a record
 
+-- a record of this kind, with this BSSID and these octets
 abbrev pub record_with : ℕ → (bssid octets : List ℕ) → List ℕ
 record_with kind bssid octets = kind ∷ bssid ++ length octets % 256 ∷ length octets / 256 ∷ octets
 
+-- the record that says it
 abbrev pub record_for : Input → List ℕ
 record_for (Heard octets) = record_with 65 nobody octets
 record_for (Wired address octets) = record_with 87 address octets

@@ -3,6 +3,7 @@ pub mod Moments
 pub mod Dispatch
 pub mod Asked
 pub mod Answers
+pub mod MoreAnswers
 pub mod Records
 pub mod AnswerText
 pub mod Own

@@ -24,6 +24,7 @@ first_moment c = record { lines = 0; networks = map (λ n. new_network (setting_
 abbrev pub one_line_more : Moment → Moment
 one_line_more m = record m { lines = m.lines + 1 }
 
+-- the address of a network (IEEE 802.11-2016, 9.2.4.3.4)
 abbrev pub bssid_of : NetworkState → List ℕ
 bssid_of n = n.setting.network.bssid
 
@@ -66,6 +67,7 @@ MayReply n e (Sends air wire) = Sends air wire ≡ reply_of n e
 abbrev pub reply_if : NetworkState → Option Event → Option Reply
 reply_if n event = option_map (reply_of n) event
 
+-- None to no event, and to an event one that it may reply
 abbrev pub MayReplyIf : NetworkState → Option Event → Option Reply → Type 0
 MayReplyIf n None reply = reply ≡ None
 MayReplyIf n (Some e) reply = IsSomeAnd reply (λ r. MayReply n e r)

@@ -44,18 +44,21 @@ events_at c place said answers = events_taken place (network_at c place).bssid s
 
 -- ---- its frames
 
+-- the frames on the air in a reply
 abbrev pub air_in : Option Reply → List (List ℕ)
 air_in (Some (Sends air wire)) = air
 air_in reply = []
 
+-- the frames on the wire in a reply
 abbrev pub wire_in : Option Reply → List (List ℕ)
 wire_in (Some (Sends air wire)) = wire
 wire_in reply = []
 
--- the frames that it sent on the air, and those on the wire
+-- the frames that it sent on the air
 abbrev pub air_at : ℕ → List Answer → List (List ℕ)
 air_at place answers = flat_map (λ answer. air_in (reply_in place answer)) answers
 
+-- the frames that it sent on the wire
 abbrev pub wire_at : ℕ → List Answer → List (List ℕ)
 wire_at place answers = flat_map (λ answer. wire_in (reply_in place answer)) answers
 
@@ -71,6 +74,7 @@ pub record Course : Type 0 where
   pub said : List Asked
   pub answers : List Answer
 
+-- this was said to the networks of a configuration, and this was answered
 abbrev pub course : RadioConfig → List Asked → List Answer → Course
 course config said answers = record { config = config; said = said; answers = answers }
 

@@ -18,18 +18,20 @@ abbrev pub record_len : List ℕ → Option ℕ
 record_len octets =
     if nat_lt (length octets) 9 then None else Some (9 + (slice_index octets 7 + 256 * slice_index octets 8))
 
+-- exactly as many octets as a record has that begins so
 abbrev pub IsRecord : List ℕ → Type 0
 IsRecord octets = record_len octets ≡ Some (length octets)
 
--- less than a record: more is to come
-abbrev pub IsBegun : List ℕ → Type 0
-IsBegun octets = IfSome (record_len octets) (λ len. length octets < len)
+-- less than a whole record: more is to come
+abbrev pub IsPartialRecord : List ℕ → Type 0
+IsPartialRecord octets = IfSome (record_len octets) (λ len. length octets < len)
 
--- how many octets it lacks, as far as that is known
+-- how many octets it lacks: of the nine that say its length, or of that length, where it is known
 abbrev pub lacking_of : List ℕ → Option ℕ → ℕ
 lacking_of octets None = 9 - length octets
 lacking_of octets (Some len) = len - length octets
 
+-- how many octets a partial record lacks, as far as its octets tell
 abbrev pub lacking : List ℕ → ℕ
 lacking octets = lacking_of octets (record_len octets)
 
@@ -37,11 +39,11 @@ lacking octets = lacking_of octets (record_len octets)
 abbrev pub all_octets : List (List ℕ) → List ℕ
 all_octets records = flat_map (λ octets. octets) records
 
--- these octets are these records, and then what has begun of one
-pub record AreRecords (octets : List ℕ) (records : List (List ℕ)) (begun : List ℕ) : Type 0 where
-  pub all : octets ≡ all_octets records ++ begun
+-- these octets are these records, and then a partial one
+pub record AreRecords (octets : List ℕ) (records : List (List ℕ)) (partial : List ℕ) : Type 0 where
+  pub all : octets ≡ all_octets records ++ partial
   pub each : AllByRecursion IsRecord records
-  pub rest : IsBegun begun
+  pub rest : IsPartialRecord partial
 
 -- ---- what a record says
 
@@ -76,6 +78,7 @@ kind_asks bssids kind bssid octets =
     else if kind == 73 then bare_record bssid octets ForTables
     else HasFault UnknownKind
 
+-- what a record says to networks with these addresses
 abbrev pub record_asks : List (List ℕ) → List ℕ → Asked
 record_asks bssids octets = kind_asks bssids (slice_index octets 0) (take 6 (drop 1 octets)) (drop 9 octets)
 
@@ -83,7 +86,7 @@ record_asks bssids octets = kind_asks bssids (slice_index octets 0) (take 6 (dro
 abbrev pub records_ask : List (List ℕ) → List (List ℕ) → List Asked
 records_ask bssids records = map (record_asks bssids) records
 
--- what the end of the input says where this has begun: a record that is cut has the fault of digits that make no octets
+-- what the end of the input says after a partial record: one that is cut has the fault of digits that make no octets
 abbrev pub cut_record : List ℕ → List Asked
 cut_record [] = []
 cut_record (octet ∷ octets) = HasFault NotHexadecimal ∷ []

@@ -16,6 +16,7 @@ pub data TextLine : Type 0 where
 abbrev pub at_most : ℕ → List ℕ → TextLine
 at_most most octets = if nat_lt most (length octets) then TooLong else Octets octets
 
+-- a line of these octets
 abbrev pub line_with : List ℕ → TextLine
 line_with octets = at_most max_line octets
 
@@ -29,10 +30,11 @@ lines_of_text text = map line_with (lines text)
 abbrev pub ended_lines : List ℕ → List TextLine
 ended_lines text = map line_with (whole_lines text)
 
--- What has begun of a line, of which one CR may still be dropped.
+-- A partial line of these octets, of which one CR may still be dropped.
 abbrev pub partial_with : List ℕ → TextLine
 partial_with octets = at_most (max_line + 1) octets
 
+-- the partial line after the last LF of a text
 abbrev pub partial_in : List ℕ → TextLine
 partial_in text = partial_with (unfinished_line text)
 
@@ -41,7 +43,7 @@ abbrev pub with_first_too_long : List TextLine → List TextLine
 with_first_too_long [] = []
 with_first_too_long (line ∷ more) = TooLong ∷ more
 
--- the lines that end in a piece, the first of which has begun so
+-- the lines that end in a piece, the first of which begins with a partial line
 abbrev pub lines_in : TextLine → List ℕ → List TextLine
 lines_in (Octets octets) piece = ended_lines (octets ++ piece)
 lines_in TooLong piece = with_first_too_long (ended_lines piece)
@@ -51,12 +53,12 @@ abbrev pub unless_ended : List TextLine → TextLine → TextLine
 unless_ended [] next = TooLong
 unless_ended (line ∷ more) next = next
 
--- what has begun of a line after a piece
+-- the partial line after a piece
 abbrev pub partial_after : TextLine → List ℕ → TextLine
 partial_after (Octets octets) piece = partial_in (octets ++ piece)
 partial_after TooLong piece = unless_ended (ended_lines piece) (partial_in piece)
 
--- the last line, if one has begun
+-- the last line: a partial one, unless it is empty
 abbrev pub last_line : TextLine → List TextLine
 last_line (Octets []) = []
 last_line (Octets (octet ∷ octets)) = line_with (octet ∷ octets) ∷ []

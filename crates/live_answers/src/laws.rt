@@ -1,6 +1,6 @@
 //! What follows from the definitions, for whoever stands on them.
 
-ghost use Rattle.std.specs.Prelude.{◌≡◌, ◌<◌, ◌++◌, List, [], ℕ, length, codes, map, flat_map, Some, slice_get};
+ghost use Rattle.std.specs.Prelude.{◌≡◌, ◌<◌, ◌≤◌, ◌++◌, List, [], ℕ, length, codes, map, flat_map, Some, slice_get};
 ghost use Rattle.std.specs.List.{AllByRecursion};
 ghost use Rattle.network.specs.Section.{sections_of_lines};
 ghost use Rattle.network.specs.Network.{alone, table_of, counts_of};
@@ -21,13 +21,22 @@ ghost use Rattle.live_answers.specs.Own.{IsAlone, AreAlike, AreLines, IsLikeTrac
 ghost use Rattle.live_answers.specs.Own.{alone_after, course};
 ghost use Rattle.live_answers.specs.TextLines.{lines_of_text, ended_lines, partial_in, lines_in, partial_after};
 ghost use Rattle.live_answers.specs.TextLines.{last_line, Octets};
-ghost use Rattle.live_answers.specs.Records.{AreRecords, records_ask};
+ghost use Rattle.live_answers.specs.MoreAnswers.{MoreAnswers};
+ghost use Rattle.live_answers.specs.Records.{AreRecords, IsPartialRecord, IsRecord, lacking, records_ask};
 
 use ap_config::{checked_networks, checked_numbers};
 use mac_frame::address_comes_back;
 use network::{one_step, reachable, steps_append};
 
+/// The answers to what is said and then to more are those to the first, and then, from the moment that these lead to,
+/// those to the rest. Whatever is said has one answer and counts as one line, and no network gets another address.
+#[inline(always)]
+pub fn answers_to_more()
+    ensures { MoreAnswers }
+{}
+
 /// However a text is cut, the lines that end in its pieces, and the last line, are those of the whole text.
+#[inline(always)]
 pub fn lines_come_in_pieces()
     ensures ended { (text piece : List ℕ)
         → ended_lines (text ++ piece) ≡ ended_lines text ++ lines_in (partial_in text) piece }
@@ -35,14 +44,17 @@ pub fn lines_come_in_pieces()
     ensures last { (text : List ℕ) → lines_of_text text ≡ ended_lines text ++ last_line (partial_in text) }
 {}
 
-/// Octets are at most one list of records and what has begun of one; and however they are cut, the records that end in
-/// the pieces are those of the whole.
+/// Octets are at most one list of records and a partial one; and however they are cut, the records that end in the
+/// pieces are those of the whole. A partial record stays one with no more octets than it lacks, unless it is whole then.
+#[inline(always)]
 pub fn records_come_in_pieces()
-    ensures one { (octets : List ℕ) (records others : List (List ℕ)) (begun rest : List ℕ)
-        → AreRecords octets records begun → AreRecords octets others rest → (records ≡ others) × (begun ≡ rest) }
-    ensures pieces { (octets piece : List ℕ) (records more : List (List ℕ)) (begun rest : List ℕ)
-        → AreRecords octets records begun → AreRecords (begun ++ piece) more rest
+    ensures one { (octets : List ℕ) (records others : List (List ℕ)) (partial rest : List ℕ)
+        → AreRecords octets records partial → AreRecords octets others rest → (records ≡ others) × (partial ≡ rest) }
+    ensures pieces { (octets piece : List ℕ) (records more : List (List ℕ)) (partial rest : List ℕ)
+        → AreRecords octets records partial → AreRecords (partial ++ piece) more rest
         → AreRecords (octets ++ piece) (records ++ more) rest }
+    ensures partial { (partial more : List ℕ) → IsPartialRecord partial → length more ≤ lacking partial
+        → (IsRecord (partial ++ more) → ⊥) → IsPartialRecord (partial ++ more) }
 {}
 
 /// No network reaches another, whatever is said, however it comes: what is answered of one, one answer after the other,
@@ -74,6 +86,7 @@ pub fn two_inputs()
 
 /// Where nothing is refused for memory, the answers are the ones of `answers_of`; these may be given to whatever is
 /// said, and nothing is refused in them.
+#[inline(always)]
 pub fn enough_memory()
     ensures only { (m : Moment) (said : List Asked) (answers : List Answer) (next : Moment)
         → Answers m said answers next → AreUnrefused answers → answers ≡ answers_of m said }

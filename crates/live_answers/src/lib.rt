@@ -7,10 +7,10 @@
 //! The crate promises of these definitions, whatever is said and however it came, that no network reaches another
 //! ([`isolation`]), so that two inputs that give a network the same events give it the same frames and table
 //! ([`two_inputs`]); that a text has the same lines and octets the same records however they are cut
-//! ([`lines_come_in_pieces`], [`records_come_in_pieces`]); that the answers are the ones of `answers_of` where memory
-//! suffices ([`enough_memory`]); that a trace is then answered as its report tells it, as far as a history would reach
-//! ([`as_replayed`]); and that lines and the records that say the same have the same answers ([`either_face`]), which
-//! are defined in `BothFaces`.
+//! ([`lines_come_in_pieces`], [`records_come_in_pieces`]); that the answers to more go on from those to less
+//! ([`answers_to_more`]); that they are the ones of `answers_of` where memory suffices ([`enough_memory`]); that a trace is
+//! then answered as its report tells it, as far as a history would reach ([`as_replayed`]); and that lines and the
+//! records that say the same have the same answers ([`either_face`]), which are defined in `BothFaces`.
 //!
 //! It has no code that runs: the crate `live` answers.
 #![tactic(auto)]
@@ -18,6 +18,6 @@
 mod laws;
 
 pub use laws::{
-    as_replayed, either_face, enough_memory, isolation, lines_come_in_pieces,
+    answers_to_more, as_replayed, either_face, enough_memory, isolation, lines_come_in_pieces,
     records_come_in_pieces, two_inputs,
 };

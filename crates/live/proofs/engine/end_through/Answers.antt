@@ -24,7 +24,7 @@ returns-clause-finishes g c =
     w.fresh w.empty all
     c.flush.ensures in
     let finishes : Finishes c.flush.result
-    (running c.args.networks.now c.args.begun.now (g.W.Sink.taken c.args.out.now))
+    (running c.args.networks.now c.args.partial.now (g.W.Sink.taken c.args.out.now))
     (g.W.Sink.taken c.flush.new.self.sink.now) =
     record { answers = a.answers; last = c.answer_last.new.networks; answered = a.answered; written = ends.0 } in
     search rules

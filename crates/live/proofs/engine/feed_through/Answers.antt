@@ -18,8 +18,8 @@ returns-clause-takes g c =
     a.answered.puts
     c.flush.ensures in
     let takes : Takes c.flush.result c.args.piece.now
-    (running c.args.networks.now c.args.begun.now (g.W.Sink.taken c.args.out.now))
-    (running c.answer_piece.new.networks c.answer_piece.new.begun (g.W.Sink.taken c.flush.new.self.sink.now)) =
+    (running c.args.networks.now c.args.partial.now (g.W.Sink.taken c.args.out.now))
+    (running c.answer_piece.new.networks c.answer_piece.new.partial (g.W.Sink.taken c.flush.new.self.sink.now)) =
     record {
       said = a.said;
       answers = a.answered.answers;

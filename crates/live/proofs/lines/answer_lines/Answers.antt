@@ -25,7 +25,7 @@ loop-end-preserved g c =
     c.answer_ended.new.out
     c.args.partial.now b c.args.piece.now (drop (c.in-Some.end + 1) rest))
     (sym c.answer_ended.ensures.partial)
-    (feed-more _ _ c.args.networks.now c.loop-end.networks c.answer_ended.new.networks _ _ _ c.args.partial.now c.loop-end.partial _
+    (feed-more c.answers_to_more.ensures _ _ c.args.networks.now c.loop-end.networks c.answer_ended.new.networks _ _ _ c.args.partial.now c.loop-end.partial _
     c.args.piece.now rest c.in-Some.end c.loop-end.invariant c.answer_ended.ensures.unended found refl
     c.answer_ended.ensures.answered))
 

@@ -2,16 +2,15 @@ use Rattle.std.proofs.Common.{◌≤◌, ◌++◌, ℕ, List, [], ◌∷◌, len
 use Rattle.trace.specs.Buffers.{watch}
 use Rattle.live_answers.specs.Moments.{bssids_at}
 use Rattle.live.specs.Output.{AreAnswered, through}
-use Rattle.live_answers.specs.Records.{IsBegun, IsRecord, records_ask}
+use Rattle.live_answers.specs.Records.{IsPartialRecord, IsRecord, records_ask}
 use Rattle.live_output.specs.declared.face.Face.TheVariants.{Records}
-use Rattle.live_answers.proofs.RecordLaws.{begun-on}
 use Rattle.live.proofs.RecordSteps.{parts-are, records-front, records-added, records-whole}
 use Rattle.live.proofs.records.answer_next.Goals as goal
 
 pub returns-in-Some-clause-answers : goal.returns-in-Some-clause-answers
 returns-in-Some-clause-answers g c =
-    records-front _ _ c.args.networks.now _ _ _ c.args.partial.now c.args.piece.now c.in-Some.octets.now c.in-Some.rest.now
-    (c.is_empty.ensures.0 c.if-is_empty.true) c.requires.begun c.in-Some.ensures.whole.0 c.in-Some.ensures.some
+    records-front c.answers_to_more.ensures _ _ c.args.networks.now _ _ _ c.args.partial.now c.args.piece.now c.in-Some.octets.now c.in-Some.rest.now
+    (c.is_empty.ensures.0 c.if-is_empty.true) c.requires.partial c.in-Some.ensures.whole.0 c.in-Some.ensures.some
     c.in-Some.ensures.whole.1
     c.answer_record.ensures
 
@@ -21,7 +20,7 @@ returns-then-is_whole-clause-answers g c =
     let front = parts-are _ c.args.piece.now more c.split_at.result.1.now c.split_at.ensures.front c.split_at.ensures.back in
     let some : 1 ≤ length more =
     omega (arith, c.split_at.ensures.front_len, c.min.ensures, c.lacking.ensures.some, c.requires.some) in
-    records-whole _ _ c.args.networks.now _ _ _ c.args.partial.now more c.add.new.self c.begin.new.self c.args.piece.now
+    records-whole c.answers_to_more.ensures _ _ c.args.networks.now _ _ _ c.args.partial.now more c.add.new.self c.begin.new.self c.args.piece.now
     c.split_at.result.1.now c.add.ensures c.begin.ensures front some (c.is_whole.ensures.0 c.if-is_whole.true)
     (subst
     (λ (r : List ℕ).
@@ -39,6 +38,6 @@ returns-else-is_whole-clause-answers g c =
     let yes = c.is_whole.ensures.1 (subst IsRecord (sym c.add.ensures) e) in cc (yes, c.if-is_whole.false) in
     records-added _ _ c.args.networks.now _ c.args.partial.now more c.add.new.self c.args.piece.now c.split_at.result.1.now
     c.requires.can_write c.add.ensures front
-    (subst IsBegun (sym c.add.ensures)
-    (begun-on c.args.partial.now more c.requires.begun
+    (subst IsPartialRecord (sym c.add.ensures)
+    (c.records_come_in_pieces.ensures.partial c.args.partial.now more c.requires.partial
     (subst (λ (k : ℕ). length more ≤ k) c.lacking.ensures.value few) not))

@@ -1,4 +1,4 @@
--- Some of the records that end in the piece are answered; what has begun then, and the rest of it, are left.
+-- Some of the records that end in the piece are answered; the partial record then, and the rest of it, are left.
 use Rattle.std.proofs.Common.{length}
 use Rattle.trace.specs.Buffers.{watch}
 use Rattle.live.specs.Output.{AnswersRecords, through, waiting}

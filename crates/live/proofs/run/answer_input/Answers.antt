@@ -11,7 +11,7 @@ use Rattle.live.proofs.run.answer_input.Goals as goal
 
 pub loop-init : goal.loop-init
 loop-init g c = record {
-  so_far = input-none (face_of c.args.engine.now.begun) _ c.requires.begun c.requires.first;
+  so_far = input-none (face_of c.args.engine.now.partial) _ c.requires.empty c.requires.first;
   none_failed = refl;
   all_written = refl;
 }
@@ -23,7 +23,7 @@ feed-requires-clause-countable g c =
 
 pub feed-requires-clause-unfinished : goal.feed-requires-clause-unfinished
 feed-requires-clause-unfinished g c =
-    let s = c.loop.invariant.so_far in said-unfinished (face_of c.args.engine.now.begun) _ s.input s.said _ s.is_said
+    let s = c.loop.invariant.so_far in said-unfinished (face_of c.args.engine.now.partial) _ s.input s.said _ s.is_said
 
 pub read_more-requires-clause-answered : goal.read_more-requires-clause-answered
 read_more-requires-clause-answered g c =
@@ -36,7 +36,9 @@ loop-preserved g c =
     let few : length piece ≤ 4096 = omega (arith, long, c.in-Ok.ensures.prefix.0) in
     record {
       so_far =
-          input-more (face_of c.args.engine.now.begun) c.loop.counter _ _ _ piece _ c.loop.invariant.so_far c.in-Ok.ensures.prefix.1
+          input-more c.answers_to_more.ensures
+          (record { ended = c.lines_come_in_pieces.ensures.ended; partial = c.lines_come_in_pieces.ensures.partial; records = c.records_come_in_pieces.ensures.pieces })
+          (face_of c.args.engine.now.partial) c.loop.counter _ _ _ piece _ c.loop.invariant.so_far c.in-Ok.ensures.prefix.1
           c.in-Ok.ensures.reads few
           c.in_ok-feed.ensures.takes
           c.in_ok-feed.ensures.lines;
@@ -111,7 +113,9 @@ returns-in_err-feed-clause-answers g c =
     let few : length piece ≤ 4096 = omega (arith, long, c.in-Ok.ensures.prefix.0) in
     let within : c.loop.counter + 1 ≤ 70368744177664 = omega (arith, c.loop-test.true) in
     rw (p.1, p.2)
-    (input-cut (face_of c.args.engine.now.begun) c.loop.counter _ _ _ piece _ s within c.in-Ok.ensures.prefix.1 c.in-Ok.ensures.reads same few
+    (input-cut c.answers_to_more.ensures
+    (record { ended = c.lines_come_in_pieces.ensures.ended; partial = c.lines_come_in_pieces.ensures.partial; records = c.records_come_in_pieces.ensures.pieces })
+    (face_of c.args.engine.now.partial) c.loop.counter _ _ _ piece _ s within c.in-Ok.ensures.prefix.1 c.in-Ok.ensures.reads same few
     c.in_err-feed.ensures.takes)
 
 pub returns-clause-answers : goal.returns-clause-answers

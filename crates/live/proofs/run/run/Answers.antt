@@ -22,7 +22,9 @@ returns-in_err-write_open-clause-ends g c =
     err_from_is_err_and c.from_residual-in_err-write_open.result c.from_residual-in_err-write_open.ensures.1 in
     let config = c.in_ok-config.config in
     rw (p.1, p.2)
-    (count-runs c.args.face c.in_err-write_open.field-0.0 config c.args.config.now _ _ _ c.in_ok-config.ensures.exact
+    (count-runs
+    (record { more = c.answers_to_more.ensures; last = c.lines_come_in_pieces.ensures.last; some = c.enough_memory.ensures.some })
+    c.args.face c.in_err-write_open.field-0.0 config c.args.config.now _ _ _ c.in_ok-config.ensures.exact
     (counted-part c.args.face _ _ config _ _ (ap length c.as_slice-count.ensures) c.in_err-write_open.ensures.ends)
     c.in_err-write_open.ensures.memory)
 
@@ -38,11 +40,13 @@ returns-in_err-answer_input-clause-ends g c =
     err_from_is_err_and c.from_residual-in_err-answer_input.result c.from_residual-in_err-answer_input.ensures.1 in
     let config = c.in_ok-config.config in
     rw (p.1, p.2)
-    (input-runs c.args.face c.in_err-answer_input.field-0.0 config c.args.config.now _ _ _ c.answer_input.new.engine.networks c.answer_input.new.engine.begun
+    (input-runs
+    (record { more = c.answers_to_more.ensures; last = c.lines_come_in_pieces.ensures.last; some = c.enough_memory.ensures.some })
+    c.args.face c.in_err-answer_input.field-0.0 config c.args.config.now _ _ _ c.answer_input.new.engine.networks c.answer_input.new.engine.partial
     c.in_ok-config.ensures.exact
     (counted c.args.face _ config _ _ (ap length c.as_slice-count.ensures) c.in_ok-write_open.ensures.ends)
-    (from-first c.args.face _ config c.in_ok-engine.engine.networks c.in_ok-engine.engine.begun _ _ c.in_ok-engine.ensures.moment
-    c.in_ok-engine.ensures.begun
+    (from-first c.args.face _ config c.in_ok-engine.engine.networks c.in_ok-engine.engine.partial _ _ c.in_ok-engine.ensures.moment
+    c.in_ok-engine.ensures.partial
     c.in_err-answer_input.ensures.answers))
 
 pub returns-in_err-end-clause-ends : goal.returns-in_err-end-clause-ends
@@ -50,25 +54,29 @@ returns-in_err-end-clause-ends g c =
     let p = err_from_is_err_and c.from_residual-in_err-end.result c.from_residual-in_err-end.ensures.1 in
     let config = c.in_ok-config.config in
     rw (p.1, p.2)
-    (end-runs c.args.face _ _ config c.args.config.now _ _ _ _ c.answer_input.new.engine.networks c.answer_input.new.engine.begun c.in_ok-config.ensures.exact
+    (end-runs
+    (record { more = c.answers_to_more.ensures; last = c.lines_come_in_pieces.ensures.last; some = c.enough_memory.ensures.some })
+    c.args.face _ _ config c.args.config.now _ _ _ _ c.answer_input.new.engine.networks c.answer_input.new.engine.partial c.in_ok-config.ensures.exact
     (counted c.args.face _ config _ _ (ap length c.as_slice-count.ensures) c.in_ok-write_open.ensures.ends)
-    (from-first c.args.face _ config c.in_ok-engine.engine.networks c.in_ok-engine.engine.begun _ _ c.in_ok-engine.ensures.moment
-    c.in_ok-engine.ensures.begun
+    (from-first c.args.face _ config c.in_ok-engine.engine.networks c.in_ok-engine.engine.partial _ _ c.in_ok-engine.ensures.moment
+    c.in_ok-engine.ensures.partial
     c.in_ok-answer_input.ensures.answers)
     c.in_err-end.ensures.finishes)
 
 pub returns-clause-ends : goal.returns-clause-ends
 returns-clause-ends g c =
     let config = c.in_ok-config.config in
-    whole-runs c.args.face _ _ _ config c.args.config.now _ _ _ _ c.answer_input.new.engine.networks c.answer_input.new.engine.begun c.in_ok-config.ensures.exact
+    whole-runs
+    (record { more = c.answers_to_more.ensures; last = c.lines_come_in_pieces.ensures.last; some = c.enough_memory.ensures.some })
+    c.args.face _ _ _ config c.args.config.now _ _ _ _ c.answer_input.new.engine.networks c.answer_input.new.engine.partial c.in_ok-config.ensures.exact
     (counted c.args.face _ config _ _ (ap length c.as_slice-count.ensures) c.in_ok-write_open.ensures.ends)
-    (from-first c.args.face _ config c.in_ok-engine.engine.networks c.in_ok-engine.engine.begun _ _ c.in_ok-engine.ensures.moment
-    c.in_ok-engine.ensures.begun
+    (from-first c.args.face _ config c.in_ok-engine.engine.networks c.in_ok-engine.engine.partial _ _ c.in_ok-engine.ensures.moment
+    c.in_ok-engine.ensures.partial
     c.in_ok-answer_input.ensures.answers)
     c.in_ok-end.ensures.finishes
 
 pub end-requires-clause-countable : goal.end-requires-clause-countable
 end-requires-clause-countable g c = c.in_ok-answer_input.ensures.countable
 
-pub answer_input-requires-clause-begun : goal.answer_input-requires-clause-begun
-answer_input-requires-clause-begun g c = begins-so c.args.face _ c.in_ok-engine.ensures.begun
+pub answer_input-requires-clause-empty : goal.answer_input-requires-clause-empty
+answer_input-requires-clause-empty g c = begins-so c.args.face _ c.in_ok-engine.ensures.partial

@@ -5,7 +5,7 @@ use Rattle.live.proofs.run.run.Given as goal
 abbrev pub ghosts-answer_input : goal.ghosts-answer_input
 ghosts-answer_input g a = record {
   first =
-      progress a.engine.now.networks a.engine.now.begun
+      progress a.engine.now.networks a.engine.now.partial
       (streams (seen (g.R.Source.left a.input.now) (g.R.Source.failed a.input.now) (g.R.Source.reads a.input.now))
       (g.W.Sink.taken a.out.now)
       (g.W.Sink.failed a.out.now));
