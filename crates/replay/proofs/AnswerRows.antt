@@ -2,11 +2,16 @@
 use Rattle.std.proofs.Common.{◌≡◌, ℕ, codes, List, [], ◌∷◌, ◌++◌, Result, Ok, Err, refl, ap}
 use Rattle.std.specs.Fmt.{digits}
 use Rattle.hex.specs.Hex.{encode_with}
-use Rattle.network.specs.Network.{alone}
-use Rattle.events.specs.declared.section.Section.{Section}
-use Rattle.network.proofs.NetworkRows.{the_section_of_one_probe, the_section_of_a_short_history}
-use Rattle.network.proofs.NetworkRows.{the_section_of_a_probe_for_another}
+use Rattle.beacon.specs.ProbeResponse.{timestamp, fixed_fields, network_elements}
+use Rattle.elements.specs.Elements.{elements_of, elements_within}
 use Rattle.ap_config.specs.Configuration.{of_radio}
+use Rattle.ap_config.specs.Samples.{setting}
+use Rattle.events.specs.declared.event.Event.TheVariants.{Air}
+use Rattle.events.specs.declared.section.Section.{Section}
+use Rattle.network.specs.Network.{alone}
+use Rattle.network.specs.Samples.{network_of_one_event, probe, probe_for_another}
+use Rattle.network.specs.Samples.{section_of_a_probe_for_another, section_of_a_short_history, section_of_one_probe}
+use Rattle.network.specs.Section.{section_of}
 use Rattle.trace.specs.Report.{report_text, section_text, network_line, counts_line, frame_line}
 use Rattle.replay.specs.Answer.{answer_of}
 use Rattle.replay.specs.declared.fault.TextFault.{TextFault}
@@ -33,6 +38,20 @@ report_of_one_answer =
     codes
     "network 02:00:00:00:00:01 ssid 6c6162\nevents 1 clock 0 unread 0 lost 0 kept 0\nair 5000000002aa00000001020000000001020000000001000000000000000000006400010000036c6162010482840b16030106\nend\n"
 
+-- ---- the sections
+
+of_one_probe : section_of setting (Air probe ∷ []) ≡ section_of_one_probe
+unfolding alone timestamp fixed_fields network_elements elements_of elements_within
+of_one_probe = refl
+
+of_a_probe_for_another : section_of setting (Air probe_for_another ∷ []) ≡ section_of_a_probe_for_another
+unfolding alone elements_of elements_within
+of_a_probe_for_another = refl
+
+of_a_short_history : section_of (record setting { network = network_of_one_event }) (Air probe ∷ []) ≡ section_of_a_short_history
+unfolding alone timestamp fixed_fields network_elements elements_of elements_within
+of_a_short_history = refl
+
 -- the answer of one section
 abbrev reported : Section → Result (List ℕ) TextFault
 reported s = Ok (report_text (s ∷ []))
@@ -41,13 +60,13 @@ reported s = Ok (report_text (s ∷ []))
 
 one_probe_is_answered : answer_of sample probe_line ≡ Ok report_of_one_answer
 unfolding answer_of configuration_on_literals section_text network_line counts_line frame_line digits encode_with
-one_probe_is_answered = ap (λ (s : Section). reported s) the_section_of_one_probe
+one_probe_is_answered = ap (λ (s : Section). reported s) of_one_probe
 
 probe_for_another_name_is_not :
     answer_of sample (codes "A 40000000 ffffffffffff 02aa00000001 ffffffffffff 0000 00056f74686572 010402040b16\n")
     ≡ Ok (codes "network 02:00:00:00:00:01 ssid 6c6162\nevents 1 clock 0 unread 0 lost 0 kept 0\nend\n")
 unfolding answer_of configuration_on_literals section_text network_line counts_line frame_line digits encode_with
-probe_for_another_name_is_not = ap (λ (s : Section). reported s) the_section_of_a_probe_for_another
+probe_for_another_name_is_not = ap (λ (s : Section). reported s) of_a_probe_for_another
 
 empty_trace_has_two_lines_and_end : answer_of sample []
     ≡ Ok (codes "network 02:00:00:00:00:01 ssid 6c6162\nevents 0 clock 0 unread 0 lost 0 kept 0\nend\n")
@@ -57,7 +76,7 @@ empty_trace_has_two_lines_and_end = refl
 full_history_takes_no_second_probe : answer_of (config_text (codes "6") (codes "1")) (probe_line ++ probe_line) ≡ Ok
     report_of_one_answer
 unfolding answer_of configuration_on_literals section_text network_line counts_line frame_line digits encode_with
-full_history_takes_no_second_probe = ap (λ (s : Section). reported s) the_section_of_a_short_history
+full_history_takes_no_second_probe = ap (λ (s : Section). reported s) of_a_short_history
 
 fault_of_the_trace_is_answered : answer_of sample (probe_line ++ codes "A 4") ≡ Err
     (Trace (record { code = 2; line = 2 }))

@@ -6,6 +6,7 @@ use Rattle.std.proofs.lemmas.List.{set-set, set-get_or, length-set, get_or-set_s
 use Rattle.bss_core.specs.RadioView.{NetworkView, RadioView, unused, view_at}
 use Rattle.replay.specs.Frames.{FrameLists, sent_at}
 use Rattle.replay.specs.Replay.{SendsOne, with_waiting}
+use Rattle.replay.specs.declared.drained_radio.DrainedRadio.{DrainedRadio}
 
 -- a place where a frame waits is one of the radio's
 pub place_there : (r : RadioView) (place : ℕ) (frame : List ℕ) (rest : List (List ℕ))
@@ -46,32 +47,34 @@ with_waiting-same r place =
 -- ---- one more frame left
 
 -- of the frames at a place some left, and these wait still
-pub record Drains (place : ℕ) (old : RadioView) (old_sent : FrameLists) (new : RadioView) (new_sent : FrameLists) : Type
-    0 where
-  pub radio : new ≡ with_waiting old place (view_at new place).waiting
-  pub sent : new_sent ≡ set old_sent place (sent_at new_sent place)
-  pub moved : sent_at new_sent place ++ (view_at new place).waiting ≡ sent_at old_sent place
-      ++ (view_at old place).waiting
+pub record Drains (place : ℕ) (old new : DrainedRadio) : Type 0 where
+  pub radio : new.radio ≡ with_waiting old.radio place (view_at new.radio place).waiting
+  pub sent : new.sent ≡ set old.sent place (sent_at new.sent place)
+  pub moved : sent_at new.sent place ++ (view_at new.radio place).waiting ≡ sent_at old.sent place
+      ++ (view_at old.radio place).waiting
 
-pub drains-one : (place : ℕ) (r0 : RadioView) (l0 : FrameLists) (r : RadioView) (l : FrameLists) (r' : RadioView)
-    (l' : FrameLists)
-    → place < length l0 → Drains place r0 l0 r l → SendsOne place r l r' l' → Drains place r0 l0 r' l'
-drains-one place r0 l0 r l r' l' within d one =
+pub drains-one : (place : ℕ) (first old new : DrainedRadio) → place < length first.sent → Drains place first old
+    → SendsOne place old new → Drains place first new
+drains-one place first old new within d one =
+    let r0 : RadioView = first.radio in
+    let l0 : FrameLists = first.sent in
+    let r : RadioView = old.radio in
+    let l : FrameLists = old.sent in
     let w : List (List ℕ) = (view_at r place).waiting in
     let there : place < length r.networks = place_there r place one.frame one.rest one.waiting in
     let as_before : length r.networks ≡ length r0.networks =
     ap (λ (v : RadioView). length v.networks) d.radio ∙ length-set r0.networks place _ in
     let there0 : place < length r0.networks = omega arith in
-    let radio : r' ≡ with_waiting r0 place one.rest =
+    let radio : new.radio ≡ with_waiting r0 place one.rest =
     one.radio ∙ ap (λ (v : RadioView). with_waiting v place one.rest) d.radio
     ∙ with_waiting-twice r0 place w one.rest there0 in
-    let waits : (view_at r' place).waiting ≡ one.rest =
+    let waits : (view_at new.radio place).waiting ≡ one.rest =
     ap (λ (v : RadioView). (view_at v place).waiting) radio
     ∙ ap (λ (n : NetworkView). n.waiting) (view_at-with_waiting r0 place one.rest there0) in
     let more : List (List ℕ) = sent_at l place ++ one.frame ∷ [] in
-    let sent : l' ≡ set l0 place more =
+    let sent : new.sent ≡ set l0 place more =
     one.sent ∙ ap (λ (x : FrameLists). set x place more) d.sent ∙ set-set l0 place (sent_at l place) more in
-    let at : sent_at l' place ≡ more =
+    let at : sent_at new.sent place ≡ more =
     ap (λ (x : FrameLists). sent_at x place) sent ∙ get_or-set_same l0 place more [] within in
     record {
       radio = radio ∙ ap (λ (frames : List (List ℕ)). with_waiting r0 place frames) (sym waits);
@@ -82,13 +85,14 @@ drains-one place r0 l0 r l r' l' within d one =
     }
 
 -- one frame less waits
-pub one_less : (place : ℕ) (r : RadioView) (l : FrameLists) (r' : RadioView) (l' : FrameLists)
-    → SendsOne place r l r' l' → length (view_at r' place).waiting < length (view_at r place).waiting
-one_less place r l r' l' one =
+pub one_less : (place : ℕ) (old new : DrainedRadio) → SendsOne place old new
+    → length (view_at new.radio place).waiting < length (view_at old.radio place).waiting
+one_less place old new one =
+    let r : RadioView = old.radio in
     let there : place < length r.networks = place_there r place one.frame one.rest one.waiting in
-    let waits : (view_at r' place).waiting ≡ one.rest =
+    let waits : (view_at new.radio place).waiting ≡ one.rest =
     ap (λ (v : RadioView). (view_at v place).waiting) one.radio
     ∙ ap (λ (n : NetworkView). n.waiting) (view_at-with_waiting r place one.rest there) in
     let before : length (view_at r place).waiting ≡ length (one.frame ∷ one.rest) = ap length one.waiting in
-    let after : length (view_at r' place).waiting ≡ length one.rest = ap length waits in
+    let after : length (view_at new.radio place).waiting ≡ length one.rest = ap length waits in
     omega arith

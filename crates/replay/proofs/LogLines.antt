@@ -4,7 +4,6 @@ use Rattle.std.proofs.Common.{Option, Some, None, refl, sym, ap, ◌∙◌}
 use Rattle.std.specs.Prelude.{flat_map}
 use Rattle.std.specs.List.{AllByRecursion, range_with_len}
 use Rattle.std.proofs.lemmas.List.{get_or-map, length-map}
-use Rattle.std.proofs.lemmas.List.Folds.{flat_map-map}
 use Rattle.std.proofs.lemmas.List.FromFn.{fill_by_all}
 use Rattle.ap_config.specs.Places.{network_at, no_network, setting_at, setting_in}
 use Rattle.ap_config.specs.declared.config.NetConfig.{NetConfig}
@@ -13,11 +12,11 @@ use Rattle.ap_config.specs.declared.setting.Setting.{Setting}
 use Rattle.events.specs.Lines.{event_for, own_events, taken_of}
 use Rattle.events.specs.declared.event.Event.{Event}
 use Rattle.events.specs.declared.line.Line.{Line}
-use Rattle.network.specs.Section.{section_of, sections_of_lines}
-use Rattle.trace.specs.Report.{report_text, section_text}
+use Rattle.network.specs.Section.{sections_of, sections_of_lines}
+use Rattle.trace.specs.Report.{report_text}
 use Rattle.access_point.specs.Log.{Logs, log_of}
-use Rattle.access_point.specs.Takes.{Takes, TakesIf}
-use Rattle.replay.specs.Log.{logs_of_lines, log_text}
+use Rattle.access_point.specs.Takes.{Takes, TakesIf, change, dispatch}
+use Rattle.log_report.specs.Log.{logs_of, logs_of_lines, log_text}
 use Rattle.access_point.specs.declared.logged_network.LoggedNetwork.{LoggedNetwork}
 use Rattle.replay.proofs.LineSteps.{taken-none, taken-some}
 use Rattle.replay.proofs.ReplayLemmas.{own_events-none, own_events-push}
@@ -39,10 +38,12 @@ logs-fresh c logs fresh =
 -- after one more: each network, by its place, took what it hears of the line
 taken-map : {O : Type 0} (f g : ℕ → LoggedNetwork) (line : Line)
     → ((place : ℕ) (m : LoggedNetwork) (old new : O)
-    → TakesIf (λ e n next _ _. Logs e n next) (event_for place (f place).network.setting.network.bssid line) (f place) m old new
+    → TakesIf (λ e n _. Logs e n.old n.new) (event_for place (f place).network.setting.network.bssid line) (change (f place) m)
+    (change old new)
     → m ≡ g place)
     → (count first : ℕ) (next : List LoggedNetwork) (old new : O)
-    → Takes (λ n. n.network.setting.network.bssid) (λ e n next _ _. Logs e n next) first line (map f (range_with_len first count)) next old new
+    → Takes (dispatch (λ n. n.network.setting.network.bssid) (λ e n _. Logs e n.old n.new) line first)
+    (map f (range_with_len first count)) next (change old new)
     → next ≡ map g (range_with_len first count)
 taken-map f g line each zero first next old new h = h.0
 taken-map f g line each (suc count) first [] old new h = absurd h
@@ -51,7 +52,7 @@ taken-map f g line each (suc count) first (m ∷ ms) old new h =
 
 taken-if : {O : Type 0} (place : ℕ) (s : Setting) (es : List Event) (line : Line) (m : LoggedNetwork) (old new : O)
     → (event : Option Event) → event_for place s.network.bssid line ≡ event
-    → TakesIf (λ e n next _ _. Logs e n next) event (log_of s es) m old new
+    → TakesIf (λ e n _. Logs e n.old n.new) event (change (log_of s es) m) (change old new)
     → m ≡ log_of s (es ++ taken_of place s.network es line)
 taken-if place s es line m old new None is h =
     h.0 ∙ ap (log_of s) (taken-none place s.network es line is)
@@ -61,7 +62,7 @@ taken-if place s es line m old new (Some e) is h =
 
 pub logs-line : {O : Type 0} (c : RadioConfig) (said : List Line) (line : Line) (old new : List LoggedNetwork) (a b : O)
     → old ≡ logs_of_lines c said
-    → Takes (λ n. n.network.setting.network.bssid) (λ e n next _ _. Logs e n next) 0 line old new a b
+    → Takes (dispatch (λ n. n.network.setting.network.bssid) (λ e n _. Logs e n.old n.new) line 0) old new (change a b)
     → new ≡ logs_of_lines c (said ++ line ∷ [])
 logs-line c said line old new a b was takes =
     taken-map
@@ -75,7 +76,7 @@ logs-line c said line old new a b was takes =
     (length c.networks) 0 new a b
     (subst
     (λ (ns : List LoggedNetwork).
-    Takes (λ n. n.network.setting.network.bssid) (λ e n next _ _. Logs e n next) 0 line ns new a b)
+    Takes (dispatch (λ n. n.network.setting.network.bssid) (λ e n _. Logs e n.old n.new) line 0) ns new (change a b))
     was
     takes)
 
@@ -84,24 +85,10 @@ pub all-may : (ns : List LoggedNetwork) → AllByRecursion (λ _. Unit {0}) ns
 all-may [] = tt
 all-may (n ∷ ns) = (tt, all-may ns)
 
--- the report of them is that of the sections
-text_of_one : (s : Setting) (es : List Event) → log_text (log_of s es) ≡ section_text (section_of s es)
-unfolding section_text
-text_of_one s es = refl
-
-flat-same : (f g : ℕ → List ℕ) (ks : List ℕ) → ((k : ℕ) → f k ≡ g k) → flat_map f ks ≡ flat_map g ks
-flat-same f g [] same = refl
-flat-same f g (k ∷ ks) same =
-    ap (λ (t : List ℕ). t ++ flat_map f ks) (same k) ∙ ap (λ (t : List ℕ). g k ++ t) (flat-same f g ks same)
-
+-- the report of them is that of the sections, since it is where each is alone with events
 pub report-logged : (c : RadioConfig) (said : List Line) (logs : List LoggedNetwork) → logs ≡ logs_of_lines c said
+    → ((d : RadioConfig) (events_at : ℕ → List Event)
+    → flat_map log_text (logs_of d events_at) ≡ report_text (sections_of d events_at))
     → flat_map log_text logs ≡ report_text (sections_of_lines c said)
-report-logged c said logs are =
-    let s : ℕ → Setting = setting_at c in
-    let es : ℕ → List Event = λ k. own_events k (network_at c k) said in
-    let places : List ℕ = range_with_len 0 (length c.networks) in
-    ap (flat_map log_text) are
-    ∙ flat_map-map log_text (λ k. log_of (s k) (es k)) places
-    ∙ flat-same (λ k. log_text (log_of (s k) (es k))) (λ k. section_text (section_of (s k) (es k))) places
-    (λ k. text_of_one (s k) (es k))
-    ∙ sym (flat_map-map section_text (λ k. section_of (s k) (es k)) places)
+report-logged c said logs are law =
+    ap (flat_map log_text) are ∙ law c (λ k. own_events k (network_at c k) said)

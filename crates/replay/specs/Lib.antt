@@ -5,4 +5,3 @@ pub mod Replay
 pub mod Answer
 pub mod Stream
 pub mod Checking
-pub mod Log

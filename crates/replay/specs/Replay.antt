@@ -12,6 +12,7 @@ use Rattle.events.specs.declared.section.Section.{Section}
 use Rattle.events.specs.declared.line.Line.{Line}
 use Rattle.events.specs.Lines.{event_for, own_events, taken_of}
 use Rattle.replay.specs.Frames.{FrameLists, sent_at, sends_more}
+use Rattle.replay.specs.declared.drained_radio.DrainedRadio.{DrainedRadio}
 
 -- ---- a radio between two lines
 
@@ -26,23 +27,21 @@ abbrev pub emptied : ℕ → RadioView → RadioView
 emptied place r = with_waiting r place []
 
 -- the first frame that waits at a place left
-pub record SendsOne (place : ℕ) (old : RadioView) (old_sent : FrameLists) (new : RadioView) (new_sent : FrameLists) :
-    Type 0 where
+pub record SendsOne (place : ℕ) (old new : DrainedRadio) : Type 0 where
   pub frame : List ℕ
   pub rest : List (List ℕ)
-  pub waiting : (view_at old place).waiting ≡ frame ∷ rest
-  pub radio : new ≡ with_waiting old place rest
-  pub sent : new_sent ≡ sends_more old_sent place (frame ∷ [])
+  pub waiting : (view_at old.radio place).waiting ≡ frame ∷ rest
+  pub radio : new.radio ≡ with_waiting old.radio place rest
+  pub sent : new.sent ≡ sends_more old.sent place (frame ∷ [])
 
 -- none waits there, and nothing changed
-pub record SendsNone (place : ℕ) (old : RadioView) (old_sent : FrameLists) (new : RadioView) (new_sent : FrameLists) :
-    Type 0 where
-  pub waiting : (view_at old place).waiting ≡ []
-  pub radio : new ≡ old
-  pub sent : new_sent ≡ old_sent
+pub record SendsNone (place : ℕ) (old new : DrainedRadio) : Type 0 where
+  pub waiting : (view_at old.radio place).waiting ≡ []
+  pub radio : new.radio ≡ old.radio
+  pub sent : new.sent ≡ old.sent
 
 -- the first frame that waits at a place left, if there was one
-abbrev pub SendsFirst : Bool → ℕ → RadioView → FrameLists → RadioView → FrameLists → Type 0
+abbrev pub SendsFirst : Bool → ℕ → DrainedRadio → DrainedRadio → Type 0
 SendsFirst true = SendsOne
 SendsFirst false = SendsNone
 

@@ -9,7 +9,7 @@ ghost use Rattle.replay.specs.Frames.{sends_more};
 ghost use Rattle.replay.specs.Replay.{IsDrained, TakesAt, TakesOf, TakesLine, sections_at, event_at, IsUnheardFrom};
 ghost use Rattle.replay.specs.Replay.{SendsFirst, emptied};
 
-use crate::sent::SentFrames;
+use crate::sent_frames::SentFrames;
 use ap_config::RadioConfig;
 use bss_core::Radio;
 use events::{Event, Handed, LentEvent, LentLine, Line, Section};
@@ -129,8 +129,7 @@ impl DrainedRadio {
         requires there { place < length self.old.radio.config.networks }
         requires whole { length self.old.sent ≡ length self.old.radio.config.networks }
         requires queue { self.old.radio.queue ≡ [] }
-        ensures { IfOk result (λ sent.
-            SendsFirst sent place self.old.radio self.old.sent self.new.radio self.new.sent) }
+        ensures { IfOk result (λ sent. SendsFirst sent place self.old self.new) }
     {
         if self.radio.hand(place) != Handed::Moved {
             return Ok(false);

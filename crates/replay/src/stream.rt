@@ -10,16 +10,17 @@ ghost use Rattle.trace.specs.Sinks.{MayFail};
 ghost use Rattle.trace.specs.Streams.{changed};
 ghost use Rattle.trace.specs.Texts.{LacksLineFeed, ended};
 ghost use Rattle.trace.specs.TraceText.{lines_of};
-ghost use Rattle.replay.specs.Log.{logs_of_lines};
+ghost use Rattle.log_report.specs.Log.{logs_of_lines};
 ghost use Rattle.replay.specs.Stream.{HasReplayed, AreTaken, AreSectionsOf, ReadsToEnd, RunsStream};
 ghost use Rattle.replay.specs.Stream.{seen, streams};
 
 use crate::fault::StreamFault;
-use crate::line_by_line::Replay;
-use crate::lines::{TakeLines, take_all, take_last};
-use crate::logs::Logs;
+use crate::logged_networks::LoggedNetworks;
+use crate::radio_replay::Replay;
+use crate::take_lines::{TakeLines, take_all, take_last};
 use ap_config::RadioConfig;
 use events::Section;
+use log_report::as_sections;
 use std::alloc::Global;
 use trace::{
     LineReader, Sink, Source, TraceTextFault, piece_by_piece, place_of, read_config, write_report,
@@ -53,6 +54,7 @@ pub fn run_stream<R: Source, W: Sink>(
         (streams (seen (R.left source.new) (R.failed source.new) (R.reads source.new)) (W.taken out.new)
         (W.failed out.new)) }
 {
+    as_sections();
     let radio = read_config(alloc, config)?;
     let logs = log_stream(alloc, radio, source)?;
     logs.write(alloc, out)?;
@@ -108,7 +110,7 @@ fn log_stream<R: Source>(
     alloc: Global,
     config: RadioConfig,
     source: &mut R,
-) -> Result<Logs, StreamFault>
+) -> Result<LoggedNetworks, StreamFault>
     requires config { fault_of config ≡ None }
     requires source { MayFail (R.failed source.old) }
     ensures { ReadsToEnd
@@ -118,7 +120,7 @@ fn log_stream<R: Source>(
 {
     piece_by_piece();
     let lines = LineReader::new(alloc, &config)?;
-    let mut logs = Logs::new(alloc, config)?;
+    let mut logs = LoggedNetworks::new(alloc, config)?;
     take_whole(lines, &mut logs, source)?;
     Ok(logs)
 }

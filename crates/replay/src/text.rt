@@ -9,15 +9,16 @@ ghost use Rattle.trace.specs.Faults.{read_ending};
 ghost use Rattle.trace.specs.Sinks.{MayFail};
 ghost use Rattle.trace.specs.TraceText.{lines_of};
 ghost use Rattle.replay.specs.Answer.{answer_of, text_ending};
-ghost use Rattle.replay.specs.Log.{logs_of_lines};
+ghost use Rattle.log_report.specs.Log.{logs_of_lines};
 ghost use Rattle.replay.specs.Stream.{AreSectionsOf, AreTaken};
 
 use crate::fault::TextFault;
-use crate::line_by_line::Replay;
-use crate::lines::take_all;
-use crate::logs::Logs;
+use crate::logged_networks::LoggedNetworks;
+use crate::radio_replay::Replay;
+use crate::take_lines::take_all;
 use ap_config::RadioConfig;
 use events::Section;
+use log_report::as_sections;
 use std::alloc::Global;
 use trace::{Sink, TraceTextFault, read_config, read_trace, write_report};
 
@@ -37,6 +38,7 @@ pub fn run_text<W: Sink>(
     ensures ends { Ends (ending_of text_ending result) (answer_of config.now trace.now) (W.taken out.old) (W.taken out.new) }
     ensures failures { W.failed out.new ≡ W.failed out.old + failures_of text_ending result }
 {
+    as_sections();
     let radio = read_config(alloc, config)?;
     let logs = log_text(alloc, radio, trace)?;
     logs.write(alloc, out)?;
@@ -82,14 +84,18 @@ fn replay_text(
 
 /// The networks without their histories, which took what they hear of the lines of a trace. All lines are read before
 /// any network takes one, so that a trace with a fault is refused before anything is done about it.
-fn log_text(alloc: Global, config: RadioConfig, trace: &[u8]) -> Result<Logs, TraceTextFault>
+fn log_text(
+    alloc: Global,
+    config: RadioConfig,
+    trace: &[u8],
+) -> Result<LoggedNetworks, TraceTextFault>
     requires { fault_of config ≡ None }
     ensures { MatchResult result
         (λ logs. AreTaken config trace.now (λ said. logs.access_point ≡ logs_of_lines config said))
         (λ fault. IsFaultOf (lines_of config trace.now) (read_ending fault)) }
 {
     let lines = read_trace(alloc, &config, trace)?;
-    let mut logs = Logs::new(alloc, config)?;
+    let mut logs = LoggedNetworks::new(alloc, config)?;
     take_all(&mut logs, lines)?;
     Ok(logs)
 }

@@ -1,7 +1,7 @@
 use Rattle.std.proofs.Common.{◌≡◌, [], sym, subst}
 use Rattle.std.proofs.lemmas.Result.{err_from_is_err_and}
 use Rattle.trace.specs.Pieces.{ReaderView, HasRead}
-use Rattle.replay.specs.Log.{logs_of_lines}
+use Rattle.log_report.specs.Log.{logs_of_lines}
 use Rattle.replay.specs.Stream.{HasReplayed}
 use Rattle.replay.proofs.StreamEnds.{unread}
 use Rattle.replay.proofs.stream.log_stream.Goals as goal

@@ -24,7 +24,7 @@ returns-in_err-write g c =
     rw (p.1, p.2)
     (report_runs _ logs c.in_err-write.field-0.0 config c.args.config.now _ _ c.in_ok-radio.ensures.exact
     (all-reported _ logs config _ s)
-    (rw (report-logged config s.end.1.0 logs.access_point s.end.1.2) at c.in_err-write.ensures.ends)
+    (rw (report-logged config s.end.1.0 logs.access_point s.end.1.2 c.as_sections.ensures.all) at c.in_err-write.ensures.ends)
     c.in_err-write.ensures.failures)
 
 pub returns : goal.returns
@@ -33,5 +33,5 @@ returns g c =
     let logs = c.in_ok-logs.logs in
     let s = c.in_ok-logs.ensures in
     whole_runs _ logs _ config c.args.config.now _ _ c.in_ok-radio.ensures.exact (all-reported _ logs config _ s)
-    (rw (report-logged config s.end.1.0 logs.access_point s.end.1.2) at c.in_ok-write.ensures.ends)
+    (rw (report-logged config s.end.1.0 logs.access_point s.end.1.2 c.as_sections.ensures.all) at c.in_ok-write.ensures.ends)
     c.in_ok-write.ensures.failures

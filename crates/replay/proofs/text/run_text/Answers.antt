@@ -30,7 +30,7 @@ returns-in_err-write-clause-ends g c =
     c.in_ok-radio.ensures.exact (taken.0, taken.1, refl) in
     rw (p.1, p.2)
     (report_ends c.in_err-write.field-0.0 _ _ _ _ answer
-    (rw (report-logged config taken.0 logs.access_point taken.2) at c.in_err-write.ensures.ends))
+    (rw (report-logged config taken.0 logs.access_point taken.2 c.as_sections.ensures.all) at c.in_err-write.ensures.ends))
 
 pub returns-clause-ends : goal.returns-clause-ends
 returns-clause-ends g c =
@@ -41,4 +41,4 @@ returns-clause-ends g c =
     answer_of-sections config (sections_of_lines config taken.0) c.args.config.now c.args.trace.now
     c.in_ok-radio.ensures.exact (taken.0, taken.1, refl) in
     whole_written _ _ _ _ answer
-    (rw (report-logged config taken.0 logs.access_point taken.2) at c.in_ok-write.ensures.ends)
+    (rw (report-logged config taken.0 logs.access_point taken.2 c.as_sections.ensures.all) at c.in_ok-write.ensures.ends)

@@ -4,7 +4,7 @@ use Rattle.replay.proofs.DrainSteps.{Drains}
 use Rattle.replay.proofs.drained_radio.DrainedRadio.drain.Given as goal
 
 abbrev pub invariant-loop : goal.invariant-loop
-invariant-loop l = Drains l.place l.initial.self.radio l.initial.self.sent l.self.radio l.self.sent
+invariant-loop l = Drains l.place l.initial.self l.self
 
 abbrev pub decreases-loop : goal.decreases-loop
 decreases-loop l = length (view_at l.self.radio l.place).waiting

@@ -1,0 +1,3 @@
+pub mod FrameSteps
+pub mod SliceLaws
+pub mod SectionLaws

@@ -1,8 +1,0 @@
-use Rattle.replay.proofs.TakeSteps.{on_ok}
-use Rattle.replay.proofs.SectionSteps.{replay-more}
-use Rattle.replay.proofs.line_by_line.ReplayTakeLines.take_line.Goals as goal
-
-pub returns : goal.returns
-returns c config said h =
-    on_ok c.take.result (λ takes. replay-more config c.args.self.now c.take.new.self said c.args.line h takes)
-    c.take.ensures.taken
