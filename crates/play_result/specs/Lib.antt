@@ -1,0 +1,4 @@
+pub mod Sections
+pub mod Givers
+pub mod Played
+pub mod Faults
