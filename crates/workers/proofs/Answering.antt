@@ -22,14 +22,17 @@ use Rattle.ap_config.specs.declared.open_fault.OpenFault.{OpenFault}
 use Rattle.ap_config.specs.declared.open_fault.OpenFault.TheVariants as opening
 use Rattle.events.specs.declared.section.Section.{Section}
 use Rattle.workers.specs.Giving.{heard_at, AreHeard, entry_of, entries_of}
-use Rattle.workers.specs.Playing.{ArePlayed, is_from, Answers, events_at, AreAnswers, AreAnswered, IsLater, play_fault_of}
-use Rattle.workers.specs.Receipts.{receipts_of, histories_of, limits_of, dealt, AreReceipts, IsFullAt, AreFullLast}
+use Rattle.play_result.specs.Played.{ArePlayed}
+use Rattle.play_result.specs.Faults.{IsLater, play_fault_of}
+use Rattle.workers.specs.Playing.{is_from, Answers, events_at, AreAnswers, AreAnswered}
+use Rattle.play_result.specs.Givers.{histories_of, dealt}
+use Rattle.workers.specs.Receipts.{receipts_of, limits_of, AreReceipts, IsFullAt, AreFullLast}
 use Rattle.workers.specs.declared.caller.Entry.{Entry}
 use Rattle.workers.specs.declared.caller.Entry.TheVariants.{Receipt, Refused}
-use Rattle.workers.specs.declared.finish.FinishFault.TheVariants as ends
+use Rattle.play_result.specs.declared.finish_fault.FinishFault.TheVariants as ends
 use Rattle.workers.specs.declared.outcome.Outcome.{Outcome}
-use Rattle.workers.specs.declared.playing.PlayFault.{PlayFault}
-use Rattle.workers.specs.declared.playing.PlayFault.TheVariants as faults
+use Rattle.play_result.specs.declared.play_fault.PlayFault.{PlayFault}
+use Rattle.play_result.specs.declared.play_fault.PlayFault.TheVariants as faults
 use Rattle.workers.specs.declared.outcome.Outcome.TheVariants.{NotHeard, Took, Full, NoMemory}
 
 -- ---- the answers to lines after others

@@ -9,7 +9,8 @@ use Rattle.std.proofs.lemmas.List.FromFn.{get_or-enumerate_from, length-enumerat
 use Rattle.network.specs.BssView.{BssView}
 use Rattle.events.specs.declared.event.Event.{Event}
 use Rattle.workers.specs.Attributions.{AttributionView, fresh_attribution, attribution_at, histories, history_at, IsAdded, Adds, IsAttributed, AreAttributed, AreUpTo, dealt_so_far}
-use Rattle.workers.specs.Receipts.{receipt_for, receipts_of, numbered, AreReceipts, AreGivers}
+use Rattle.play_result.specs.Givers.{AreGivers}
+use Rattle.workers.specs.Receipts.{receipt_for, receipts_of, numbered, AreReceipts}
 use Rattle.workers.specs.declared.caller.Entry.{Entry}
 use Rattle.workers.proofs.Dealing.{dealt-nothing, dealt-something, dealt-more, dealt-others, dealt-whole}
 

@@ -3,7 +3,7 @@ use Rattle.std.proofs.Common.{◌≡◌, ℕ, zero, suc, ◌<◌, ◌≤◌, Boo
 use Rattle.std.specs.Prelude.{if◌then◌else◌}
 use Rattle.std.proofs.lemmas.Bool.{eq-eqb, ne_eqb}
 use Rattle.workers.specs.Attributions.{is_giver, dealt_so_far}
-use Rattle.workers.specs.Receipts.{dealt}
+use Rattle.play_result.specs.Givers.{dealt}
 
 -- nothing to a caller who gave nothing
 pub dealt-nothing : {A : Type 0} (givers : List (Option ℕ)) (items : List A) (i : ℕ) → ((n : ℕ) → get_or givers n None ≡ Some i → ⊥) → dealt_so_far givers items i ≡ []

@@ -11,9 +11,11 @@ use Rattle.events.specs.declared.air_item.AirItem.{AirItem}
 use Rattle.events.specs.declared.section.Section.{Section}
 use Rattle.workers.specs.Attributions.{histories, limits}
 use Rattle.workers.specs.Draining.{IsDrained}
-use Rattle.workers.specs.Ending.{HaveLeft, ArePlaced, items_at}
-use Rattle.workers.specs.Playing.{ArePlayed}
-use Rattle.workers.specs.Receipts.{AreReceipts, AreGivers, AreFullLast, histories_of, limits_of}
+use Rattle.play_result.specs.Sections.{HaveLeft, ArePlaced}
+use Rattle.workers.specs.Ending.{items_at}
+use Rattle.play_result.specs.Played.{ArePlayed}
+use Rattle.play_result.specs.Givers.{AreGivers, histories_of}
+use Rattle.workers.specs.Receipts.{AreReceipts, AreFullLast, limits_of}
 use Rattle.workers.specs.declared.finish.Drained.{Drained}
 use Rattle.workers.proofs.Answering.{played}
 use Rattle.workers.proofs.Frames.{items_of-append, items_of-items_at, items_of-elsewhere, placed-at}

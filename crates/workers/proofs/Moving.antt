@@ -11,7 +11,8 @@ use Rattle.ap_config.specs.declared.config.RadioConfig.{RadioConfig}
 use Rattle.events.specs.declared.air_item.AirItem.{AirItem}
 use Rattle.events.specs.declared.section.Section.{Section}
 use Rattle.ap_config.specs.declared.setting.Setting.{Setting}
-use Rattle.workers.specs.Ending.{IsSectionAt, AreSections, IsSent}
+use Rattle.play_result.specs.Sections.{IsSectionAt, AreSections}
+use Rattle.workers.specs.Ending.{IsSent}
 
 -- one frame more of one network
 pub frames-put : {V : Type 0} (f : V → List (List ℕ)) (frames frames' : List V) (item : AirItem) (was now : V) → item.place < length frames → frames' ≡ set frames item.place now → f now ≡ f was ++ item.octets ∷ [] → f was ≡ get_or (map f frames) item.place [] → (place : ℕ) → get_or (map f frames') place [] ≡ get_or (map f frames) place [] ++ items_of place (item ∷ [])

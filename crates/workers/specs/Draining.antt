@@ -3,9 +3,11 @@ use Rattle.std.specs.Prelude.{◌≡◌, List, length}
 use Rattle.ap_config.specs.declared.config.RadioConfig.{RadioConfig}
 use Rattle.events.specs.declared.line.Line.{Line}
 use Rattle.workers.specs.Attributions.{histories, limits}
-use Rattle.workers.specs.Ending.{AreSent, ArePlaced}
+use Rattle.play_result.specs.Sections.{ArePlaced}
+use Rattle.workers.specs.Ending.{AreSent}
 use Rattle.workers.specs.Playing.{AreAnswered}
-use Rattle.workers.specs.Receipts.{AreReceipts, AreGivers, AreFullLast}
+use Rattle.play_result.specs.Givers.{AreGivers}
+use Rattle.workers.specs.Receipts.{AreReceipts, AreFullLast}
 use Rattle.workers.specs.declared.caller.Entry.{Entry}
 use Rattle.workers.specs.declared.finish.Drained.{Drained}
 

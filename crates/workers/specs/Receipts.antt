@@ -1,10 +1,11 @@
 -- Which caller gave which event of the networks' histories (profile).
-use Rattle.std.specs.Prelude.{ℕ, ◌≡◌, ◌<◌, ◌==◌, All, List, [], ◌∷◌, length, map, drop, Option, Some, None, slice_get}
+use Rattle.std.specs.Prelude.{ℕ, ◌≡◌, ◌<◌, ◌==◌, List, [], length, map, drop, Option, Some, None, slice_get}
 use Rattle.std.specs.Prelude.{slice_index_or, if◌then◌else◌}
 use Rattle.std.specs.List.{enumerate_from, filter_map}
 use Rattle.network.specs.declared.bss.Refusal.TheVariants as refusals
 use Rattle.events.specs.declared.event.Event.{Event}
 use Rattle.events.specs.declared.section.Section.{Section}
+use Rattle.play_result.specs.Givers.{dealt}
 use Rattle.workers.specs.declared.caller.Entry.{Entry}
 use Rattle.workers.specs.declared.caller.Entry.TheVariants.{Receipt, Refused}
 
@@ -21,10 +22,6 @@ receipts_of place entries = filter_map (receipt_for place) entries
 
 -- ---- what networks took
 
--- the events of each network, in order of place
-abbrev pub histories_of : List Section → List (List Event)
-histories_of sections = map (λ s. s.events) sections
-
 -- how many each may take
 abbrev pub limits_of : List Section → List ℕ
 limits_of sections = map (λ s. s.config.max_events) sections
@@ -32,13 +29,6 @@ limits_of sections = map (λ s. s.config.max_events) sections
 -- each event of a history with its number, from 0
 abbrev pub numbered : List Event → List (ℕ × Event)
 numbered history = enumerate_from 0 history
-
--- what is dealt to caller i: those of the items, in order, at whose places the list of callers has i
-abbrev pub dealt : {A : Type 0} → List ℕ → List A → ℕ → List A
-dealt [] items i = []
-dealt (giver ∷ givers) [] i = []
-dealt (giver ∷ givers) (item ∷ items) i =
-    if giver == i then item ∷ dealt givers items i else dealt givers items i
 
 -- ---- how they agree
 
@@ -49,12 +39,6 @@ AreReceipts callers histories givers =
     (place i : ℕ)
     → receipts_of place (slice_index_or callers i [])
     ≡ dealt (slice_index_or givers place []) (numbered (slice_index_or histories place [])) i
-
--- each event of each network has a giver, who is one of this number of callers
-pub record AreGivers (callers : ℕ) (histories : List (List Event)) (givers : List (List ℕ)) : Type 0 where
-  pub networks : length givers ≡ length histories
-  pub events : (place : ℕ) → length (slice_index_or givers place []) ≡ length (slice_index_or histories place [])
-  pub known : (place : ℕ) → All (λ giver. giver < callers) (slice_index_or givers place [])
 
 -- there is a network at a place, which has taken as many events as it may
 abbrev pub IsFullAt : List ℕ → List (List Event) → ℕ → Type 0

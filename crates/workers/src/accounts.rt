@@ -5,15 +5,16 @@ ghost use Rattle.std.specs.Prelude.{◌≡◌, [], IfOk, OnOk, length, List};
 ghost use Rattle.events.specs.declared.line.Line.{Line};
 ghost use Rattle.workers.specs.Answers.{entry_by, entries_by, entries_of_all};
 ghost use Rattle.workers.specs.Attributions.{histories, limits, AddsEntry, AreAttributed, AreLong, AreUpTo, MarksFull};
-ghost use Rattle.workers.specs.Receipts.{AreFullLast, AreGivers, AreReceipts, IsFullLast};
+ghost use Rattle.play_result.specs.Givers.{AreGivers};
+ghost use Rattle.workers.specs.Receipts.{AreFullLast, AreReceipts, IsFullLast};
 
 use crate::answers::{Answer, Answered, Made};
 use crate::attribution::Attribution;
-use crate::finish::FinishFault;
 use crate::receipts::{cover, is_full, open, read_receipt};
 use events::Line;
 use mac_frame::List;
 use network::Bss;
+use play_result::FinishFault;
 use std::alloc::Global;
 
 /// For each network, in order of place, who gave each event of its history: the sources by their numbers, from 0. It

@@ -39,14 +39,14 @@ pub(crate) struct Span {
 }
 
 impl Span {
-    /// Those of a source with this number of lines from a first one on, `most` of them at most, but one at least.
-    pub(crate) fn from(first: usize, most: usize, lines: usize) -> Span
+    /// The one line with this number, of a source that has so many.
+    pub(crate) fn of(first: usize, lines: usize) -> Span
         requires { first < lines }
         ensures first { result.first ≡ first }
         ensures some { first < result.end }
         ensures within { result.end ≤ lines }
     {
-        let end = first.saturating_add(most.max(1)).min(lines);
+        let end = first.saturating_add(1).min(lines);
         Span { first, end }
     }
 

@@ -4,9 +4,9 @@ ghost use Rattle.std.specs.Prelude.{◌≡◌, ◌↔◌, IfOk, IsTrue, OnOk, So
 ghost use Rattle.events.specs.LentEvents.{event_of};
 ghost use Rattle.workers.specs.Attributions.{IsAdded, fresh_attribution};
 
-use crate::finish::FinishFault;
 use events::{Event, LentEvent};
 use mac_frame::{List, NoMemory};
+use play_result::FinishFault;
 use std::alloc::Global;
 use std::marker::Model;
 

@@ -6,9 +6,10 @@ ghost use Rattle.events.specs.Items.{items_of};
 ghost use Rattle.network.specs.BssView.{section_with};
 ghost use Rattle.workers.specs.Answers.{entries_of_all};
 ghost use Rattle.workers.specs.Attributions.{histories, limits};
-ghost use Rattle.workers.specs.Ending.{AreSections, HaveLeft, ArePlaced, AreSeated, AreSent, AreEnded, items_at};
-ghost use Rattle.workers.specs.Receipts.{AreReceipts, AreGivers, AreFullLast, histories_of, limits_of};
-ghost use Rattle.workers.specs.declared.finish.FinishFault.TheVariants as faults;
+ghost use Rattle.play_result.specs.Sections.{AreSections, HaveLeft, ArePlaced};
+ghost use Rattle.workers.specs.Ending.{AreSeated, AreSent, AreEnded, items_at};
+ghost use Rattle.play_result.specs.Givers.{AreGivers, histories_of};
+ghost use Rattle.workers.specs.Receipts.{AreReceipts, AreFullLast, limits_of};
 
 use crate::accounts::givers_of_sources;
 use crate::answers::Answered;
@@ -22,71 +23,9 @@ use air_queue::NetPass;
 use events::{AirItem, Section};
 use mac_frame::{List, NoMemory, Octets};
 use network::Bss;
-use std::alloc::{AllocError, AllocFailed, Global};
-use std::fmt;
+use play_result::{FinishFault, Finished};
+use std::alloc::Global;
 use std::sync::{Mutex, Wait};
-
-/// What an access point ends with (*profile*).
-#[derive(Debug, Drop)]
-pub struct Finished {
-    /// The section of each network, in order of place.
-    pub sections: List<Section>,
-    /// The frames that left, the first of them first.
-    pub left: List<AirItem>,
-    /// For each network, in order of place, the number of the caller who gave each event of its history. Callers are
-    /// numbered from 0, as they were handed in.
-    pub givers: List<List<usize>>,
-}
-
-/// Why an access point could not be finished. Its parts are gone then (*profile*).
-#[derive(Clone, Copy, Debug, PartialEq, Eq)]
-pub enum FinishFault {
-    /// F1: memory ran out.
-    NoMemory,
-    /// F2: a receipt's place, number or event is not there, another receipt repeats it, or the numbers of a caller's
-    /// receipts from one network don't rise; or a network was not at its place, which is never met.
-    BadReceipt,
-    /// F3: no receipt tells of an event of a history.
-    Uncovered,
-    /// F4: a caller was told that a network is full which is not, or which it has a later receipt from.
-    FullEarly,
-}
-
-impl From<NoMemory> for FinishFault {
-    ghost from_gives = { λ _ fault. fault ≡ faults.NoMemory };
-
-    fn from(_e: NoMemory) -> FinishFault {
-        FinishFault::NoMemory
-    }
-}
-
-impl From<AllocError> for FinishFault {
-    ghost from_gives = { λ _ fault. fault ≡ faults.NoMemory };
-
-    fn from(_e: AllocError) -> FinishFault {
-        FinishFault::NoMemory
-    }
-}
-
-impl<T: Drop> From<AllocFailed<T>> for FinishFault {
-    ghost from_gives = { λ _ fault. fault ≡ faults.NoMemory };
-
-    fn from(_e: AllocFailed<T>) -> FinishFault {
-        FinishFault::NoMemory
-    }
-}
-
-/// The fault as a user meets it, `F1` to `F4`.
-impl fmt::Display for FinishFault {
-    fn fmt<W: fmt::Write>(&self, f: &mut fmt::Formatter<W>) -> fmt::Result {
-        f.write_str(match self {
-            FinishFault::NoMemory => "F1",
-            FinishFault::BadReceipt => "F2",
-            FinishFault::Uncovered => "F3",
-            FinishFault::FullEarly => "F4",
-        })
-    }
-}
 
 impl<N: ApName> Ap<N> {
     /// Ends the access point (*profile*): what the callers were told is tested against the histories, all frames that

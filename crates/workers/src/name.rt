@@ -1,4 +1,32 @@
 //! Which access point it is, for proofs alone (*profile*).
+//!
+//! An access point has a name, for contracts alone ([`ApName`]). So who uses one is a function that is generic in it,
+//! and the call of that function picks the name, by the parts that it hands on:
+//!
+//! ```text
+//! fn beacons<R: Wait>(rt: &R, alloc: Global, config: RadioConfig) -> Result<Finished, Fail> {
+//!     beacons_of::<Brand, R>(rt, alloc, Parts::open(alloc, config, 1)?)
+//! }
+//!
+//! fn beacons_of<N: ApName, R: Wait>(rt: &R, alloc: Global, parts: Parts) -> Result<Finished, Fail>
+//!     requires { AreNamed N.config N.queue parts }
+//! {
+//!     let (ap, mut callers, transmitter) = Ap::<N>::start(alloc, parts)?;
+//!     for caller in callers.iter_mut() {
+//!         ap.tick(rt, caller)?;
+//!     }
+//!     for place in 0..ap.networks() {
+//!         ap.pump(rt, place);
+//!     }
+//!     Ok(ap.finish(rt, callers, transmitter)?)
+//! }
+//! ```
+//!
+//! and in `proofs/beacons/Invariants.antt`, the pick:
+//!
+//! ```text
+//! ghosts-beacons_of g a = record { config = a.parts.config; queue = a.parts.queue }
+//! ```
 
 use std::marker::Brand;
 

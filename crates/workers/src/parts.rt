@@ -3,15 +3,13 @@
 ghost use Rattle.std.specs.Prelude.{◌≡◌, ◌↔◌, false, None, Some, Err, IfOk};
 ghost use Rattle.ap_config.specs.Configuration.{fault_of};
 ghost use Rattle.ap_config.specs.declared.config.ConfigFault.{ConfigFault};
-ghost use Rattle.workers.specs.Names.{callers_fit};
+ghost use Rattle.play_result.specs.Faults.{callers_fit};
 
 use air_queue::{AirQueue, NetPass, RadioPass};
 use ap_config::{OpenFault, RadioConfig};
+use play_result::MAX_CALLERS;
 use std::alloc::Global;
 use std::marker::Model;
-
-/// The most callers of an access point (*profile*).
-pub const MAX_CALLERS: u32 = 64;
 
 /// What an access point is made of (*profile*): a configuration without a fault, an empty air queue with its passes,
 /// and how many callers there are to be. Contracts see the configuration, the queue's name and the number of callers.

@@ -5,119 +5,27 @@ ghost use Rattle.ap_config.specs.Configuration.{fault_of};
 ghost use Rattle.ap_config.specs.declared.config.ConfigFault.{ConfigFault};
 ghost use Rattle.events.specs.declared.air_item.AirItem.{AirItem};
 ghost use Rattle.workers.specs.Draining.{IsDrained};
-ghost use Rattle.workers.specs.Ending.{AreSections, HaveLeft, ArePlaced};
-ghost use Rattle.workers.specs.Names.{AreNamed, callers_fit};
-ghost use Rattle.workers.specs.Playing.{ArePlayed, IsLater};
-ghost use Rattle.workers.specs.Receipts.{AreGivers, histories_of};
-ghost use Rattle.workers.specs.declared.finish.FinishFault.TheVariants as ends;
-ghost use Rattle.workers.specs.declared.playing.PlayFault.TheVariants as faults;
+ghost use Rattle.play_result.specs.Sections.{AreSections, HaveLeft, ArePlaced};
+ghost use Rattle.workers.specs.Names.{AreNamed};
+ghost use Rattle.play_result.specs.Played.{ArePlayed};
+ghost use Rattle.play_result.specs.Faults.{IsLater, callers_fit};
+ghost use Rattle.play_result.specs.Givers.{AreGivers, histories_of};
+ghost use Rattle.play_result.specs.declared.finish_fault.FinishFault.TheVariants as ends;
 
 use crate::ap::Ap;
-use crate::finish::{Drained, FinishFault, Finished, end_networks};
+use crate::finish::{Drained, end_networks};
 use crate::gate::Gate;
 use crate::name::ApName;
 use crate::parts::Parts;
-use crate::sections::section_networks;
 use crate::sources::run_sources;
-use ap_config::{ConfigFault, OpenFault, RadioConfig};
-use events::{Line, Section};
-use mac_frame::{List, NoMemory};
-use std::alloc::{AllocError, AllocFailed, Global};
+use ap_config::{ConfigFault, RadioConfig};
+use events::Line;
+use mac_frame::List;
+use play_result::{Finished, PlayFault};
+use std::alloc::Global;
 use std::marker::Brand;
 use std::sync::Wait;
-use std::thread::{SpawnError, Threads};
-
-/// Why sources could not be played (*profile*). Of several faults it is the first in this order.
-#[derive(Clone, Copy, Debug, PartialEq, Eq)]
-pub enum PlayFault {
-    /// The first fault of the configuration.
-    Config(ConfigFault),
-    /// Not 1 to 64 sources.
-    Sources,
-    /// A thread could not be started.
-    NoThread,
-    /// The program or a network ran out of memory.
-    NoMemory,
-    /// The access point could not be finished.
-    Finish(FinishFault),
-}
-
-impl From<OpenFault> for PlayFault {
-    ghost use Rattle.workers.specs.Playing.{play_fault_of};
-
-    ghost from_gives = { λ opening fault. fault ≡ play_fault_of opening };
-
-    fn from(fault: OpenFault) -> PlayFault {
-        match fault {
-            OpenFault::Config(fault) => PlayFault::Config(fault),
-            OpenFault::Callers => PlayFault::Sources,
-            OpenFault::NoMemory => PlayFault::NoMemory,
-        }
-    }
-}
-
-impl From<FinishFault> for PlayFault {
-    ghost from_gives = { λ _ fault. IsLater fault };
-
-    fn from(fault: FinishFault) -> PlayFault {
-        match fault {
-            FinishFault::NoMemory => PlayFault::NoMemory,
-            _ => PlayFault::Finish(fault),
-        }
-    }
-}
-
-impl From<NoMemory> for PlayFault {
-    ghost from_gives = { λ _ fault. fault ≡ faults.NoMemory };
-
-    fn from(_e: NoMemory) -> PlayFault {
-        PlayFault::NoMemory
-    }
-}
-
-impl From<AllocError> for PlayFault {
-    ghost from_gives = { λ _ fault. fault ≡ faults.NoMemory };
-
-    fn from(_e: AllocError) -> PlayFault {
-        PlayFault::NoMemory
-    }
-}
-
-impl<T: Drop> From<AllocFailed<T>> for PlayFault {
-    ghost from_gives = { λ _ fault. fault ≡ faults.NoMemory };
-
-    fn from(_e: AllocFailed<T>) -> PlayFault {
-        PlayFault::NoMemory
-    }
-}
-
-impl<F: Drop> From<SpawnError<F>> for PlayFault {
-    ghost from_gives = { λ _ fault. fault ≡ faults.NoThread };
-
-    fn from(_refused: SpawnError<F>) -> PlayFault {
-        PlayFault::NoThread
-    }
-}
-
-/// How many lines a source gives together where no gate is asked before each.
-const BATCH: usize = 64;
-
-/// A gate that holds no source back.
-#[derive(Clone, Copy)]
-struct Open;
-
-impl Gate for Open {
-    fn before(&self, _source: u32, _line: u32) {}
-}
-
-/// What sources were played to (*profile*).
-#[derive(Debug, Drop)]
-pub struct Played {
-    /// The section of each network, in order of place.
-    pub sections: List<Section>,
-    /// For each network, in order of place, the number of the source that gave each event of its history, from 0.
-    pub givers: List<List<usize>>,
-}
+use std::thread::Threads;
 
 /// Feeds the sources' lines into an access point of this configuration, each source by a thread of its own, and
 /// finishes it (*profile*). A source's thread calls the gate before each line, gives the line, and pumps each network;
@@ -160,36 +68,6 @@ pub fn play<G: Gate + Sync, R: Threads + Wait + Sync>(
     play_of::<Brand, G, R>(rt, alloc, parts, sources.as_slice(), gate)
 }
 
-/// Does what [`play`] does, of sources that are lent, and answers the sections and who gave each event. No gate is asked:
-/// a source gives up to 64 of its lines together, to one network after the other. The frames that left are moved into
-/// the sections, so there is no list of them.
-pub fn play_lent<R: Threads + Wait + Sync>(
-    rt: &R,
-    alloc: Global,
-    config: RadioConfig,
-    sources: &[Vec<Line>],
-) -> Result<Played, PlayFault>
-    ensures config { (fault : ConfigFault) → (result ≡ Err (PlayFault.Config fault)) ↔ (fault_of config ≡ Some fault) }
-    ensures sources { (result ≡ Err PlayFault.Sources) ↔
-        ((fault_of config ≡ None) × (callers_fit (length sources.now) ≡ false)) }
-    ensures memory { result ≢ Err (PlayFault.Finish ends.NoMemory) }
-    ensures networks { IfOk result (λ end. length end.sections ≡ length config.networks) }
-    ensures sections { IfOk result (λ end. AreSections config end.sections) }
-
-    // All that each network sent on the air left.
-    ensures air { IfOk result (λ end. (left : List AirItem) × HaveLeft end.sections left × ArePlaced config left) }
-    ensures givers { IfOk result (λ end. AreGivers (length sources.now) (histories_of end.sections) end.givers) }
-    ensures played { IfOk result (λ end.
-        ArePlayed config (map (λ s. s.items) sources.now) end.sections end.givers) }
-{
-    let parts = Parts::open(
-        alloc,
-        config,
-        u32::try_from(sources.len()).unwrap_or(u32::MAX),
-    )?;
-    play_lent_of::<Brand, R>(rt, alloc, parts, sources)
-}
-
 /// What [`play`] does of the parts of an access point.
 fn play_of<N: ApName + Send + Sync, G: Gate + Sync, R: Threads + Wait + Sync>(
     rt: &R,
@@ -213,7 +91,7 @@ fn play_of<N: ApName + Send + Sync, G: Gate + Sync, R: Threads + Wait + Sync>(
         networks,
         mut left,
         givers,
-    } = drain_sources::<N, G, R>(rt, alloc, parts, sources, gate, 1)?;
+    } = drain_sources::<N, G, R>(rt, alloc, parts, sources, gate)?;
     let sections = end_networks::<N>(alloc, networks, &mut left)?;
     Ok(Finished {
         sections: List::from_vec(sections),
@@ -222,44 +100,13 @@ fn play_of<N: ApName + Send + Sync, G: Gate + Sync, R: Threads + Wait + Sync>(
     })
 }
 
-/// What [`play_lent`] does of the parts of an access point.
-fn play_lent_of<N: ApName + Send + Sync, R: Threads + Wait + Sync>(
-    rt: &R,
-    alloc: Global,
-    parts: Parts,
-    sources: &[Vec<Line>],
-) -> Result<Played, PlayFault>
-    requires named { AreNamed N.config N.queue parts }
-    requires sound { fault_of N.config ≡ None }
-    ensures err { IfErr result IsLater }
-    ensures networks { IfOk result (λ end. length end.sections ≡ length N.config.networks) }
-    ensures sections { IfOk result (λ end. AreSections N.config end.sections) }
-    ensures air { IfOk result (λ end. (left : List AirItem) × HaveLeft end.sections left × ArePlaced N.config left) }
-    ensures givers { IfOk result (λ end. AreGivers (length sources.now) (histories_of end.sections) end.givers) }
-    ensures played { IfOk result (λ end.
-        ArePlayed N.config (map (λ s. s.items) sources.now) end.sections end.givers) }
-{
-    let Drained {
-        networks,
-        left,
-        givers,
-    } = drain_sources::<N, Open, R>(rt, alloc, parts, sources, &Open, BATCH)?;
-    let sections = section_networks::<N>(alloc, networks, left)?;
-    Ok(Played {
-        sections: List::from_vec(sections),
-        givers,
-    })
-}
-
-/// Runs the sources into the access point of these parts, `most` lines of each at a time, and ends it but for the
-/// sections.
+/// Runs the sources into the access point of these parts, and ends it but for the sections.
 fn drain_sources<N: ApName + Send + Sync, G: Gate + Sync, R: Threads + Wait + Sync>(
     rt: &R,
     alloc: Global,
     parts: Parts,
     sources: &[Vec<Line>],
     gate: &G,
-    most: usize,
 ) -> Result<Drained, PlayFault>
     requires named { AreNamed N.config N.queue parts }
     ensures err { IfErr result IsLater }
@@ -274,7 +121,6 @@ fn drain_sources<N: ApName + Send + Sync, G: Gate + Sync, R: Threads + Wait + Sy
         transmitter,
         sources,
         gate,
-        most,
         capacity,
     )?;
     Ok(ap.drain(rt, answered.as_slice(), transmitter)?)

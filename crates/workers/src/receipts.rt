@@ -4,15 +4,16 @@ ghost use Rattle.std.specs.Prelude.{◌≡◌, ◌==◌, [], Some, IfOk, OnOk, l
 ghost use Rattle.events.specs.LentEvents.{event_of};
 ghost use Rattle.workers.specs.Attributions.{histories, limits, fresh_attribution, AddsEntry, AreAttributed, AreLong};
 ghost use Rattle.workers.specs.Attributions.{AreUpTo, MarksFull};
-ghost use Rattle.workers.specs.Receipts.{AreFullLast, AreGivers, AreReceipts, IsFullLast};
+ghost use Rattle.play_result.specs.Givers.{AreGivers};
+ghost use Rattle.workers.specs.Receipts.{AreFullLast, AreReceipts, IsFullLast};
 ghost use Rattle.workers.specs.declared.caller.Entry.TheVariants.{Receipt};
 
 use crate::attribution::Attribution;
 use crate::caller::{Caller, Entry};
-use crate::finish::FinishFault;
 use events::LentEvent;
 use mac_frame::{List, NoMemory};
 use network::{Bss, Refusal};
+use play_result::FinishFault;
 use std::alloc::Global;
 
 /// For each network, in order of place, who gave each event of its history: the callers by their numbers, from 0.

@@ -2,17 +2,18 @@
 
 ghost use Rattle.std.specs.Prelude.{◌≡◌, IfOk, IfErr, map};
 ghost use Rattle.workers.specs.Answers.{entries_by, entries_of_all};
-ghost use Rattle.workers.specs.Playing.{AreAnswered, AreAnswers, IsLater};
+ghost use Rattle.play_result.specs.Faults.{IsLater};
+ghost use Rattle.workers.specs.Playing.{AreAnswered, AreAnswers};
 
 use crate::answers::{Answer, Answered, Span};
 use crate::ap::Ap;
 use crate::gate::Gate;
 use crate::name::ApName;
 use crate::outlet::{Outlet, Relief};
-use crate::playing::PlayFault;
 use crate::transmitter::Transmitter;
 use events::Line;
 use mac_frame::NoMemory;
+use play_result::PlayFault;
 use std::alloc::Global;
 use std::marker::PhantomData;
 use std::sync::Wait;
@@ -47,7 +48,6 @@ pub(crate) fn run_sources<'a, N: ApName + Send + Sync, G: Gate + Sync, R: Thread
     transmitter: Transmitter<N>,
     sources: &'a [Vec<Line>],
     gate: &G,
-    most: usize,
     capacity: u16,
 ) -> Result<(Vec<Answered<'a>>, Transmitter<N>), PlayFault>
     ensures err { IfErr result IsLater }
@@ -55,7 +55,7 @@ pub(crate) fn run_sources<'a, N: ApName + Send + Sync, G: Gate + Sync, R: Thread
         AreAnswered N.config (map (λ s. s.items) sources.now) (entries_of_all r.0.items)) }
 {
     let outlet = Outlet::new(transmitter, capacity, sources.len());
-    let answered = give_sources(rt, alloc, ap, sources, gate, most, &outlet)?;
+    let answered = give_sources(rt, alloc, ap, sources, gate, &outlet)?;
     Ok((answered, outlet.into_transmitter()))
 }
 
@@ -66,7 +66,6 @@ fn give_sources<'a, N: ApName + Send + Sync, G: Gate + Sync, R: Threads + Wait +
     ap: &Ap<N>,
     sources: &'a [Vec<Line>],
     gate: &G,
-    most: usize,
     outlet: &Outlet<N>,
 ) -> Result<Vec<Answered<'a>>, PlayFault>
     ensures err { IfErr result IsLater }
@@ -81,7 +80,7 @@ fn give_sources<'a, N: ApName + Send + Sync, G: Gate + Sync, R: Threads + Wait +
                 × IfOk result (λ answered.
                 AreAnswered N.config (map (λ s. s.items) sources.entry.now) (entries_of_all answered.items)) }
         {
-            let threads = start_sources(rt, alloc, scope, ap, sources, gate, most, outlet)?;
+            let threads = start_sources(rt, alloc, scope, ap, sources, gate, outlet)?;
             Ok(join_sources(rt, alloc, sources, threads)?)
         },
     )
@@ -102,7 +101,6 @@ fn start_sources<
     ap: &'e Ap<N>,
     sources: &'a [Vec<Line>],
     gate: &'e G,
-    most: usize,
     outlet: &'e Outlet<N>,
 ) -> Result<Vec<Started<'a, N>>, PlayFault>
     ensures err { IfErr result IsLater }
@@ -112,7 +110,7 @@ fn start_sources<
     for (source, lines) in sources.iter().enumerate() {
         let number = u32::try_from(source).unwrap_or(u32::MAX);
         let lines = lines.as_slice();
-        threads.push(start_source(rt, alloc, scope, ap, gate, most, number, lines, outlet)?)?;
+        threads.push(start_source(rt, alloc, scope, ap, gate, number, lines, outlet)?)?;
     }
     Ok(threads)
 }
@@ -131,7 +129,6 @@ fn start_source<
     scope: &Scope<'s, &'e ()>,
     ap: &'e Ap<N>,
     gate: &'e G,
-    most: usize,
     source: u32,
     lines: &'a [Line],
     outlet: &'e Outlet<N>,
@@ -148,7 +145,7 @@ fn start_source<
         move || -> Result<Vec<Answer>, NoMemory>
             ensures { IfOk result (λ answers.
                 AreAnswers N.config lines.entry.now (entries_by lines.entry.now answers.items)) }
-        { play_lines(rt, alloc, ap, gate, most, source, lines, outlet) },
+        { play_lines(rt, alloc, ap, gate, source, lines, outlet) },
     )?;
     Ok(Started { lines, handle })
 }
@@ -185,13 +182,12 @@ fn join_source<'a, N: ApName, R: Threads>(
     Ok(Answered { lines, answers })
 }
 
-/// Gives the lines of a source, `most` at a time, each time when the gate lets it, and pumps each network afterwards.
+/// Gives the lines of a source one by one, each when the gate lets it, and pumps each network afterwards.
 fn play_lines<N: ApName, G: Gate, R: Wait>(
     rt: &R,
     alloc: Global,
     ap: &Ap<N>,
     gate: &G,
-    most: usize,
     source: u32,
     lines: &[Line],
     outlet: &Outlet<N>,
@@ -204,7 +200,7 @@ fn play_lines<N: ApName, G: Gate, R: Wait>(
     let mut first = 0;
     while first < lines.len() {
         gate.before(source, number_of(first));
-        let span = Span::from(first, most, lines.len());
+        let span = Span::of(first, lines.len());
         ap.hear(rt, lines, span, place, &mut answers, &mut relief)?;
         pump_all(rt, ap);
         first = span.end;

@@ -1,6 +1,6 @@
 //! How an access point is made of its parts (*profile*).
 
-ghost use Rattle.std.specs.Prelude.{◌≡◌, [], None, IfOk, vec_len, length, map, replicate};
+ghost use Rattle.std.specs.Prelude.{◌≡◌, [], None, IfOk, vec_len, length, replicate};
 ghost use Rattle.air_queue.specs.Passes.{fresh_passes};
 ghost use Rattle.ap_config.specs.Configuration.{fault_of};
 ghost use Rattle.workers.specs.Names.{AreNamed};
@@ -12,8 +12,8 @@ use crate::parts::Parts;
 use crate::seat::Seat;
 use crate::transmitter::Transmitter;
 use air_queue::NetPass;
-use ap_config::{NetConfig, RadioConfig, checked_networks};
-use mac_frame::{MacAddr, NoMemory};
+use ap_config::{RadioConfig, checked_networks};
+use mac_frame::NoMemory;
 use network::Bss;
 use std::alloc::Global;
 use std::marker::PhantomData;
@@ -39,7 +39,7 @@ impl<N: ApName> Ap<N> {
             nets,
             radio,
         } = parts;
-        let bssids = bssids_of(alloc, config.networks.as_slice())?;
+        let bssids = config.bssids(alloc)?;
         let callers = open_callers(alloc, callers)?;
         let seats = seat_networks::<N>(alloc, config, nets)?;
         let ap = Ap {
@@ -55,13 +55,6 @@ impl<N: ApName> Ap<N> {
         };
         Ok((ap, callers, transmitter))
     }
-}
-
-/// The address of each network, in order of place.
-fn bssids_of(alloc: Global, networks: &[NetConfig]) -> Result<Vec<MacAddr>, NoMemory>
-    ensures { IfOk result (λ bssids. bssids.items ≡ map (λ n. n.bssid) networks.now) }
-{
-    Ok(networks.iter().map(|network| network.bssid).collect(alloc)?)
 }
 
 /// This number of callers without entries.

@@ -10,7 +10,6 @@ use std::alloc::Global;
 use std::test::Fail;
 use workers::{Ap, ApName};
 
-mod batches;
 mod library;
 mod moves;
 mod opening;

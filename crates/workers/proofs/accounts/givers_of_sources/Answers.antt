@@ -2,7 +2,7 @@ use Rattle.std.proofs.Common.{◌≡◌, [], List, Some, length, map, sym, ap, s
 use Rattle.std.proofs.lemmas.List.{length-map, with_items_is}
 use Rattle.workers.specs.Answers.{entries_in, entries_of_all}
 use Rattle.workers.specs.Attributions.{AttributionView, AreAttributed, AreUpTo, fresh_attribution, histories}
-use Rattle.workers.specs.Receipts.{AreGivers}
+use Rattle.play_result.specs.Givers.{AreGivers}
 use Rattle.workers.proofs.Attributing.{attributed-first, receipts-covered, givers-covered}
 use Rattle.workers.proofs.accounts.givers_of_sources.Goals as goal
 use Rattle.workers.proofs.accounts.givers_of_sources.Goals.{In_ok-givers}

@@ -5,7 +5,8 @@ use Rattle.std.specs.Vec.Iter.{into_iter_items}
 use Rattle.events.specs.Lists.{IsPrefix}
 use Rattle.workers.specs.Attributions.{histories, limits}
 use Rattle.workers.specs.Ending.{IsSent, AreEnded}
-use Rattle.workers.specs.Receipts.{histories_of, limits_of}
+use Rattle.play_result.specs.Givers.{histories_of}
+use Rattle.workers.specs.Receipts.{limits_of}
 use Rattle.workers.proofs.finish.end_networks.Given as goal
 
 -- the networks so far ended, and of those that are to come all frames left or wait

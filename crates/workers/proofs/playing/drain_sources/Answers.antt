@@ -3,7 +3,8 @@ use Rattle.std.proofs.lemmas.List.{length-map}
 use Rattle.events.specs.declared.line.Line.{Line}
 use Rattle.workers.specs.Answers.{entries_in, entries_of_all}
 use Rattle.workers.specs.Attributions.{histories, limits}
-use Rattle.workers.specs.Receipts.{AreReceipts, AreGivers, AreFullLast}
+use Rattle.play_result.specs.Givers.{AreGivers}
+use Rattle.workers.specs.Receipts.{AreReceipts, AreFullLast}
 use Rattle.workers.specs.declared.answers.Answered.{Answered}
 use Rattle.workers.specs.declared.caller.Entry.{Entry}
 use Rattle.workers.specs.declared.finish.Drained.{Drained}

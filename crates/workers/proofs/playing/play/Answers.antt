@@ -3,9 +3,9 @@ use Rattle.std.specs.Prelude.{IfOk}
 use Rattle.std.proofs.lemmas.Result.{err_from_is_err_and}
 use Rattle.ap_config.specs.declared.config.RadioConfig.{RadioConfig}
 use Rattle.events.specs.declared.line.Line.{Line}
-use Rattle.workers.specs.Ending.{AreSections}
-use Rattle.workers.specs.Playing.{ArePlayed}
-use Rattle.workers.specs.declared.finish.Finished.{Finished}
+use Rattle.play_result.specs.Sections.{AreSections}
+use Rattle.play_result.specs.Played.{ArePlayed}
+use Rattle.play_result.specs.declared.finished.Finished.{Finished}
 use Rattle.workers.proofs.Answering.{config-fault, later_is_memory, opened_is_memory}
 use Rattle.workers.proofs.playing.play.Goals as goal
 

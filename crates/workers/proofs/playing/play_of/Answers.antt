@@ -3,7 +3,8 @@ use Rattle.std.specs.Prelude.{slice_get}
 use Rattle.events.specs.Items.{items_of}
 use Rattle.events.specs.declared.line.Line.{Line}
 use Rattle.events.specs.declared.section.Section.{Section}
-use Rattle.workers.specs.Receipts.{histories_of, limits_of}
+use Rattle.play_result.specs.Givers.{histories_of}
+use Rattle.workers.specs.Receipts.{limits_of}
 use Rattle.workers.proofs.Drains.{drained-played}
 use Rattle.workers.proofs.Endings.{ended-at}
 use Rattle.workers.proofs.Sizes.{sizes}

@@ -4,7 +4,8 @@ use Rattle.events.specs.declared.air_item.AirItem.{AirItem}
 use Rattle.workers.specs.Answers.{entries_of_all}
 use Rattle.workers.specs.Attributions.{histories, limits}
 use Rattle.workers.specs.Ending.{AreSent}
-use Rattle.workers.specs.Receipts.{AreReceipts, AreGivers, AreFullLast}
+use Rattle.play_result.specs.Givers.{AreGivers}
+use Rattle.workers.specs.Receipts.{AreReceipts, AreFullLast}
 use Rattle.workers.proofs.Endings.{seats-count, all-sent}
 use Rattle.workers.proofs.ap.Ap.drain.Goals as goal
 

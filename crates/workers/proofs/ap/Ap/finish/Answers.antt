@@ -6,7 +6,8 @@ use Rattle.events.specs.declared.section.Section.{Section}
 use Rattle.events.specs.declared.air_item.AirItem.{AirItem}
 use Rattle.workers.specs.Attributions.{histories, limits}
 use Rattle.workers.specs.Ending.{AreSent}
-use Rattle.workers.specs.Receipts.{histories_of, limits_of, AreFullLast}
+use Rattle.play_result.specs.Givers.{histories_of}
+use Rattle.workers.specs.Receipts.{limits_of, AreFullLast}
 use Rattle.workers.specs.declared.caller.Entry.{Entry}
 use Rattle.workers.proofs.Endings.{seats-count, all-sent, ended-at}
 use Rattle.workers.proofs.ap.Ap.finish.Goals as goal
