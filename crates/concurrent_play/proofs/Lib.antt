@@ -1,0 +1,5 @@
+pub mod Hearing
+pub mod Sources
+pub mod Steps
+pub mod Seats
+pub mod Chosen

@@ -1,0 +1,5 @@
+use Rattle.concurrent_play.proofs.playing.play_logged.Given as goal
+
+-- the play of this configuration and these lines
+abbrev pub ghosts-play_named : goal.ghosts-play_named
+ghosts-play_named g a = record { config = a.config; sources = a.sources.now }

@@ -1,0 +1,26 @@
+use Rattle.std.proofs.Common.{◌≡◌, ◌<◌, length, sym, ◌∙◌, arith}
+use Rattle.std.proofs.lemmas.List.{get_or_default}
+use Rattle.events.specs.declared.line.Line.TheVariants.{Tick}
+use Rattle.concurrent_play.proofs.Seats.{takes-next}
+use Rattle.concurrent_play.proofs.seat.Seat.take_line.Goals as goal
+
+pub invariant_of-self : goal.invariant_of-self
+invariant_of-self g c =
+    let config = g.N.PlayName.config in
+    let sources = g.N.PlayName.sources in
+    let batch = c.args.batch.now in
+    let seat = c.self.inside in
+    let count = c.self.invariant.1 in
+    let known = batch.known in
+    let long : length seat.next.items ≡ length sources = omega (arith, count, seat.next.ok.0) in
+    let inside : batch.source < length seat.next.items = omega (arith, long, known) in
+    let within : c.args.place < length batch.lines.items = omega (arith, c.requires, batch.lines.ok.0) in (
+      c.self.invariant.0,
+      c.self.invariant.1,
+      λ fine.
+          takes-next config sources seat.next.items seat.place batch.source batch.first c.args.place c.index-line.result.now
+          batch.lines.items seat.network c.take_heard.new.network long batch.known batch.stand within
+          (get_or_default seat.next.items batch.source 0 c.index.result.now inside ∙ sym c.index.ensures ∙ c.if-index-number.false)
+          (c.index-line.ensures ∙ get_or_default batch.lines.items c.args.place c.index-line.result.now Tick within)
+          (c.self.invariant.2 fine) c.in-Ok.ensures,
+    )

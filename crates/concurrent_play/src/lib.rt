@@ -1,0 +1,27 @@
+//! Several sources of lines that are played to the networks of a configuration at once, each by a thread (*profile*; the
+//! networks are those of IEEE Std 802.11-2016, 11.1 to 11.3).
+//!
+//! An event of a network is the next line of some source that this network hears. So under the lock of each network
+//! stand the network and, for each source, the number of its next line; the lines are lent, and none is copied or kept
+//! beside them. Whatever thread has the lock, the network is the one that took events that the sources gave, each
+//! source the first of those that the network hears of its lines, in their order.
+//!
+//! [`play_logged`] promises that once all lines are given each network, with the frames that it sent, is such a one, alone
+//! with its events: a [`LoggedNetwork`]. [`as_played`] says it as `play` of `workers` does. Which thread is served when,
+//! that a thread gets on, and time are promised by nothing here. Where the lines come from, and what a network's log says,
+//! is left to the crates above.
+//!
+//! [`LoggedNetwork`]: access_point::LoggedNetwork
+#![tactic(auto)]
+
+mod batch;
+mod laws;
+mod name;
+mod networks;
+mod playing;
+mod seat;
+mod source;
+mod threads;
+
+pub use laws::as_played;
+pub use playing::play_logged;
