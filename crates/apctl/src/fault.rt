@@ -8,13 +8,13 @@ ghost use Rattle.apctl.specs.declared.fault.Fault.TheVariants as faults;
 
 use ap_config::ConfigFault;
 use live::LiveFault;
+use play_result::FinishFault;
 use replay::{StreamFault, TextFault};
 use replay_play::PlayTextFault;
 use std::alloc::{AllocError, AllocFailed, Global};
 use std::fmt;
 use thiserror::Error;
 use trace::{ReportFault, Sink, TraceFault, write_all};
-use workers::FinishFault;
 
 /// The first fault of one of several traces.
 #[derive(Clone, Copy, Debug)]

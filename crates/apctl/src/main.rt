@@ -17,7 +17,7 @@ use fault::{Fault, show_fault};
 use files::{open_file, read_file, read_traces};
 use input::{STANDARD_INPUT, run_input};
 use replay::{check_text, run_stream};
-use replay_play::report_play;
+use replay_play::play_owned;
 use std::io::ErrorKind;
 use std::process::ExitCode;
 use std::sync::Wait;
@@ -68,8 +68,7 @@ fn run<T: Threads + Wait + Sync>(rt: &HostRuntime, threads: &T) -> Result<(), Fa
             let config = read_file(rt, config)?;
             let traces = read_traces(rt, traces.as_slice())?;
             let config = config.as_slice();
-            end_with(report_play(threads, alloc, config, traces.as_slice(), &mut out)?);
-            Ok(())
+            Ok(play_owned(threads, alloc, config, traces, &mut out)?)
         }
         Task::Run { config, trace } => {
             let config = read_file(rt, config)?;

@@ -1,2 +1,3 @@
 pub mod PlayEnds
 pub mod Parts
+pub mod ReadSteps

@@ -1,18 +1,24 @@
 -- What a play of several traces leaves, by how it ended.
-use Rattle.std.proofs.Common.{◌≡◌, ℕ, suc, ◌<◌, ◌++◌, ◌∷◌, [], true, false, List, Option, Some, Result, Ok, Err, length, map, get_or, refl, sym, ap, ◌∙◌, subst, arith}
-use Rattle.std.proofs.lemmas.List.{length-map}
-use Rattle.std.specs.Prelude.{slice_get}
-use Rattle.std.specs.declared.alloc.Global.{Global}
-use Rattle.std.specs.declared.vec.Vec.{Vec}
+use Rattle.std.proofs.Common.{◌≡◌, ℕ, suc, ◌+◌, ◌<◌, ◌++◌, ◌∷◌, [], true, List, Option, Some, Result, Ok, Err, length, map, get_or, refl, sym, ap, ◌∙◌, subst, arith}
+use Rattle.std.specs.Prelude.{slice_get, flat_map}
+use Rattle.std.specs.List.{enumerate_from}
 use Rattle.std.proofs.KnownBytes.{Keeps-refl}
 use Rattle.std.specs.Io.KnownBytes.{Appends}
 use Rattle.ap_config.specs.declared.config.RadioConfig.{RadioConfig}
 use Rattle.ap_config.specs.declared.config.ConfigFault.{ConfigFault}
+use Rattle.ap_config.specs.declared.setting.Setting.{Setting}
+use Rattle.ap_config.specs.Places.{setting_at}
+use Rattle.access_point.specs.Log.{log_of}
+use Rattle.access_point.specs.declared.logged_network.LoggedNetwork.{LoggedNetwork}
+use Rattle.events.specs.declared.event.Event.{Event}
+use Rattle.events.specs.declared.section.Section.{Section}
+use Rattle.log_report.specs.Log.{log_text}
+use Rattle.network.specs.Section.{section_of}
 use Rattle.events.specs.declared.line.Line.{Line}
 use Rattle.trace.specs.ConfigurationText.{configuration_of}
 use Rattle.trace.specs.Endings.{Gives, IsFaultOf, Ends, ending_of}
 use Rattle.trace.specs.Faults.{read_as, read_ending, report_as}
-use Rattle.trace.specs.Report.{report_text}
+use Rattle.trace.specs.Report.{report_text, section_text}
 use Rattle.trace.specs.Sinks.{report_ending}
 use Rattle.trace.specs.TraceText.{lines_of}
 use Rattle.trace.specs.declared.fault.TraceFault.{TraceFault}
@@ -20,16 +26,13 @@ use Rattle.text_io.specs.declared.read_fault.ReadFault.{ReadFault}
 use Rattle.text_io.specs.declared.read_fault.ReadFault.TheVariants as reads
 use Rattle.text_io.specs.declared.report_fault.ReportFault.{ReportFault}
 use Rattle.text_io.specs.declared.report_fault.ReportFault.TheVariants as reports
-use Rattle.events.specs.declared.air_item.AirItem.{AirItem}
-use Rattle.workers.specs.Ending.{AreSections, HaveLeft, ArePlaced}
-use Rattle.workers.specs.Names.{callers_fit}
-use Rattle.workers.specs.Playing.{ArePlayed}
-use Rattle.workers.specs.Receipts.{AreGivers, histories_of}
-use Rattle.workers.specs.declared.playing.Played.{Played}
-use Rattle.workers.specs.declared.finish.Finished.{Finished}
-use Rattle.workers.specs.declared.playing.PlayFault.{PlayFault}
-use Rattle.workers.specs.declared.playing.PlayFault.TheVariants as plays
-use Rattle.replay_play.specs.Playing.{AreLines, AreRead, IsTracesFault, IsPlayOf, ArePlayable, EndsPlay, in_trace, of_play}
+use Rattle.play_result.specs.Faults.{callers_fit}
+use Rattle.concurrent_play.specs.Ends.{logs_of}
+use Rattle.play_result.specs.Played.{IsPlayOf}
+use Rattle.play_result.specs.declared.finished.Finished.{Finished}
+use Rattle.play_result.specs.declared.play_fault.PlayFault.{PlayFault}
+use Rattle.play_result.specs.declared.play_fault.PlayFault.TheVariants as plays
+use Rattle.replay_play.specs.Playing.{AreLines, AreRead, IsTracesFault, ArePlayable, EndsPlay, in_trace, of_play}
 use Rattle.replay_play.specs.declared.fault.PlayTextFault.{PlayTextFault}
 use Rattle.replay_play.specs.declared.fault.PlayTextFault.TheVariants.{Config, Sources, Trace, NoThread, NoMemory, Finish, Write}
 
@@ -108,61 +111,62 @@ play_fails (plays.Finish fault) c ct traces sources old able config count =
 
 -- the report was cut short
 pub report_plays : (e : ReportFault) (c : RadioConfig) (ct : List ℕ) (traces : List (List ℕ)) (sources : List (List Line))
-    (end : Finished) (old new : Option (List ℕ)) → ArePlayable ct traces c sources → IsPlayOf c sources end
-    → Ends (ending_of {A = Unit} report_ending (Err e)) (Ok (report_text end.sections)) old new
+    (end : Finished) (text : List ℕ) (old new : Option (List ℕ)) → ArePlayable ct traces c sources
+    → IsPlayOf c sources end → text ≡ report_text end.sections
+    → Ends (ending_of {A = Unit} report_ending (Err e)) (Ok text) old new
     → EndsPlay (Err (report_as Write NoMemory e)) ct traces old new
-report_plays reports.Write c ct traces sources end old new able play part = record {
-  answer = Ok (report_text end.sections);
-  allowed = record { c = c; sources = sources; playable = able; end = end; play = play; text = refl };
+report_plays reports.Write c ct traces sources end text old new able play is part = record {
+  answer = Ok text;
+  allowed = record { c = c; sources = sources; playable = able; end = end; play = play; text = is };
   taken = part;
 }
-report_plays reports.NoMemory c ct traces sources end old new able play part = record {
-  answer = Ok (report_text end.sections);
-  allowed = record { c = c; sources = sources; playable = able; end = end; play = play; text = refl };
+report_plays reports.NoMemory c ct traces sources end text old new able play is part = record {
+  answer = Ok text;
+  allowed = record { c = c; sources = sources; playable = able; end = end; play = play; text = is };
   taken = part;
 }
 
 -- the report was written
 pub whole_plays : (c : RadioConfig) (ct : List ℕ) (traces : List (List ℕ)) (sources : List (List Line)) (end : Finished)
-    (old new : Option (List ℕ)) → ArePlayable ct traces c sources → IsPlayOf c sources end
-    → Appends old new (report_text end.sections) → EndsPlay (Ok tt) ct traces old new
-whole_plays c ct traces sources end old new able play written = record {
-  answer = Ok (report_text end.sections);
-  allowed = record { c = c; sources = sources; playable = able; end = end; play = play; text = refl };
+    (text : List ℕ) (old new : Option (List ℕ)) → ArePlayable ct traces c sources → IsPlayOf c sources end
+    → text ≡ report_text end.sections → Appends old new text → EndsPlay (Ok tt) ct traces old new
+whole_plays c ct traces sources end text old new able play is written = record {
+  answer = Ok text;
+  allowed = record { c = c; sources = sources; playable = able; end = end; play = play; text = is };
   taken = written;
 }
 
 -- ---- traces that were read side by side
 
 -- the next answer is that of the next trace
-pub read_next : (c : RadioConfig) (texts : List (List ℕ)) (answers : List (Result (Vec Line Global) (ReadFault TraceFault)))
-    (answer : Result (Vec Line Global) (ReadFault TraceFault)) (rest : List (Result (Vec Line Global) (ReadFault TraceFault)))
+pub read_next : (c : RadioConfig) (texts : List (List ℕ)) (answers : List (Result (List Line) (ReadFault TraceFault)))
+    (answer : Result (List Line) (ReadFault TraceFault)) (rest : List (Result (List Line) (ReadFault TraceFault)))
     → answers ≡ answer ∷ rest → AreRead c texts answers
     → (text : List ℕ) × (later : List (List ℕ)) × (texts ≡ text ∷ later)
-    × Gives (λ lines. lines.items) read_ending answer (lines_of c text) × AreRead c later rest
+    × Gives (λ lines. lines) read_ending answer (lines_of c text) × AreRead c later rest
 read_next c texts answers answer rest is all = parts texts (subst (AreRead c texts) is all)
   where
     parts : (ts : List (List ℕ)) → AreRead c ts (answer ∷ rest)
         → (text : List ℕ) × (later : List (List ℕ)) × (ts ≡ text ∷ later)
-        × Gives (λ lines. lines.items) read_ending answer (lines_of c text) × AreRead c later rest
+        × Gives (λ lines. lines) read_ending answer (lines_of c text) × AreRead c later rest
     parts [] h = absurd h
     parts (t ∷ ts) h = (t, ts, refl, h.0, h.1)
 
 -- what an answer says of its text
-pub read_lines : (c : RadioConfig) (text : List ℕ) (answer : Result (Vec Line Global) (ReadFault TraceFault))
-    (lines : Vec Line Global) → answer ≡ Ok lines
-    → Gives (λ lines. lines.items) read_ending answer (lines_of c text) → lines_of c text ≡ Ok lines.items
+pub read_lines : (c : RadioConfig) (text : List ℕ) (answer : Result (List Line) (ReadFault TraceFault))
+    (lines : List Line) → answer ≡ Ok lines
+    → Gives (λ lines. lines) read_ending answer (lines_of c text) → lines_of c text ≡ Ok lines
 read_lines c text answer lines is gives =
-    subst (λ (a : Result (Vec Line Global) (ReadFault TraceFault)). Gives (λ v. v.items) read_ending a (lines_of c text)) is gives
+    subst (λ (a : Result (List Line) (ReadFault TraceFault)). Gives (λ lines. lines) read_ending a (lines_of c text)) is gives
 
-pub read_fault : (c : RadioConfig) (text : List ℕ) (answer : Result (Vec Line Global) (ReadFault TraceFault))
+pub read_fault : (c : RadioConfig) (text : List ℕ) (answer : Result (List Line) (ReadFault TraceFault))
     (fault : ReadFault TraceFault) → answer ≡ Err fault
-    → Gives (λ lines. lines.items) read_ending answer (lines_of c text) → IsFaultOf (lines_of c text) (read_ending fault)
+    → Gives (λ lines. lines) read_ending answer (lines_of c text) → IsFaultOf (lines_of c text) (read_ending fault)
 read_fault c text answer fault is gives =
-    subst (λ (a : Result (Vec Line Global) (ReadFault TraceFault)). Gives (λ v. v.items) read_ending a (lines_of c text)) is gives
+    subst (λ (a : Result (List Line) (ReadFault TraceFault)). Gives (λ lines. lines) read_ending a (lines_of c text)) is gives
 
 -- no answer is left where no trace is
-pub read_none : (c : RadioConfig) (texts : List (List ℕ)) (answers : List (Result (Vec Line Global) (ReadFault TraceFault)))
+pub read_none : (c : RadioConfig) (texts : List (List ℕ)) (answers : List (Result (List Line) (ReadFault TraceFault)))
     → length answers ≡ 0 → AreRead c texts answers → texts ≡ []
 read_none c [] [] none all = refl
 read_none c [] (a ∷ others) none all = absurd all
@@ -171,9 +175,9 @@ read_none c (t ∷ ts) (a ∷ others) none all = absurd (omega (arith, none))
 
 -- an answer for each trace
 pub read_by_place : (c : RadioConfig) (texts : List (List ℕ))
-    (answers : List (Result (Vec Line Global) (ReadFault TraceFault))) → length answers ≡ length texts
-    → ((i : ℕ) (answer : Result (Vec Line Global) (ReadFault TraceFault)) → i < length texts → slice_get answers i ≡ Some answer
-    → Gives (λ lines. lines.items) read_ending answer (lines_of c (get_or texts i [])))
+    (answers : List (Result (List Line) (ReadFault TraceFault))) → length answers ≡ length texts
+    → ((i : ℕ) (answer : Result (List Line) (ReadFault TraceFault)) → i < length texts → slice_get answers i ≡ Some answer
+    → Gives (λ lines. lines) read_ending answer (lines_of c (get_or texts i [])))
     → AreRead c texts answers
 read_by_place c [] [] count each = tt
 read_by_place c [] (a ∷ others) count each = absurd (omega (arith, count))
@@ -181,21 +185,37 @@ read_by_place c (t ∷ ts) [] count each = absurd (omega (arith, count))
 read_by_place c (t ∷ ts) (a ∷ others) count each =
     (each 0 a (omega arith) refl, read_by_place c ts others (omega (arith, count)) (λ i answer within is. each (suc i) answer (omega (arith, within)) is))
 
--- ---- what was played, with the frames that left
+-- ---- the report of networks that keep no history
 
-abbrev pub whole_of : Played → List AirItem → Finished
-whole_of end left = record { sections = end.sections; left = left; givers = end.givers }
+-- it is that of their sections, the first of which is that of the network at a place
+report-from : (c : RadioConfig) (first : ℕ) (sections : List Section)
+    → ((s : Setting) (es : List Event) → log_text (log_of s es) ≡ section_text (section_of s es))
+    → ((k place : ℕ) (section : Section) → place ≡ first + k → slice_get sections k ≡ Some section
+    → section ≡ section_of (setting_at c place) section.events)
+    → flat_map log_text (map (λ s. log_of (setting_at c s.0) s.1.events) (enumerate_from first sections))
+    ≡ flat_map section_text sections
+report-from c first [] one each = refl
+report-from c first (section ∷ sections) one each =
+    ap
+    (λ (t : List ℕ).
+    t ++ flat_map log_text (map (λ s. log_of (setting_at c s.0) s.1.events) (enumerate_from (first + 1) sections)))
+    (one (setting_at c first) section.events ∙ ap section_text (sym (each 0 first section (omega arith) refl)))
+    ∙ ap (λ (t : List ℕ). section_text section ++ t)
+    (report-from c (first + 1) sections one (λ k place other at is. each (suc k) place other (omega (arith, at)) is))
 
-pub played_is : {Lent : Type 0} (c : RadioConfig) (sources lent : List Lent) (lines : Lent → List Line) → lent ≡ sources
-    → (end : Played) → length end.sections ≡ length c.networks → AreSections c end.sections
-    → (air : (left : List AirItem) × HaveLeft end.sections left × ArePlaced c left)
-    → AreGivers (length lent) (histories_of end.sections) end.givers
-    → ArePlayed c (map lines lent) end.sections end.givers → IsPlayOf c (map lines sources) (whole_of end air.0)
-played_is {Lent = Lent} c sources lent lines same end networks sections air givers played = record {
-  networks = networks;
-  sections = sections;
-  air = air.1;
-  nothing_else = air.2;
-  givers = subst (λ (n : ℕ). AreGivers n (histories_of end.sections) end.givers) (ap length same ∙ sym (length-map sources lines)) givers;
-  played = subst (λ (vs : List Lent). ArePlayed c (map lines vs) end.sections end.givers) same played;
-}
+pub report-logged : (c : RadioConfig) (sources : List (List Line)) (end : Finished) (logs : List LoggedNetwork)
+    → ((s : Setting) (es : List Event) → log_text (log_of s es) ≡ section_text (section_of s es))
+    → IsPlayOf c sources end → logs ≡ logs_of c end.sections → flat_map log_text logs ≡ report_text end.sections
+report-logged c sources end logs one play are =
+    ap (flat_map log_text) are
+    ∙ report-from c 0 end.sections one
+    (λ k place section at is.
+    let same : k ≡ place = omega (arith, at) in
+    (play.sections place section (subst (λ (i : ℕ). slice_get end.sections i ≡ Some section) same is)).alone)
+
+-- what was played, and what its report says
+pub played_as : (c : RadioConfig) (sources : List (List Line)) (logs : List LoggedNetwork)
+    → ((s : Setting) (es : List Event) → log_text (log_of s es) ≡ section_text (section_of s es))
+    → ((end : Finished) × IsPlayOf c sources end × (logs ≡ logs_of c end.sections))
+    → (end : Finished) × IsPlayOf c sources end × (flat_map log_text logs ≡ report_text end.sections)
+played_as c sources logs one (end, play, are) = (end, play, report-logged c sources end logs one play are)

@@ -1,8 +1,6 @@
 -- What is answered to the octets of a configuration and of several traces that are played at once.
 use Rattle.std.specs.Prelude.{ℕ, ◌≡◌, ◌++◌, ◌∷◌, true, false, List, Option, Result, Ok, Err, length}
 use Rattle.std.specs.List.{AllZip}
-use Rattle.std.specs.declared.alloc.Global.{Global}
-use Rattle.std.specs.declared.vec.Vec.{Vec}
 use Rattle.ap_config.specs.declared.config.RadioConfig.{RadioConfig}
 use Rattle.events.specs.declared.line.Line.{Line}
 use Rattle.trace.specs.ConfigurationText.{configuration_of}
@@ -12,13 +10,11 @@ use Rattle.trace.specs.Report.{report_text}
 use Rattle.trace.specs.TraceText.{lines_of}
 use Rattle.trace.specs.declared.fault.TraceFault.{TraceFault}
 use Rattle.text_io.specs.declared.read_fault.ReadFault.{ReadFault}
-use Rattle.workers.specs.Ending.{AreSections, HaveLeft, ArePlaced}
-use Rattle.workers.specs.Names.{callers_fit}
-use Rattle.workers.specs.Playing.{ArePlayed}
-use Rattle.workers.specs.Receipts.{AreGivers, histories_of}
-use Rattle.workers.specs.declared.finish.Finished.{Finished}
-use Rattle.workers.specs.declared.playing.PlayFault.{PlayFault}
-use Rattle.workers.specs.declared.playing.PlayFault.TheVariants as plays
+use Rattle.play_result.specs.Faults.{callers_fit}
+use Rattle.play_result.specs.Played.{IsPlayOf}
+use Rattle.play_result.specs.declared.finished.Finished.{Finished}
+use Rattle.play_result.specs.declared.play_fault.PlayFault.{PlayFault}
+use Rattle.play_result.specs.declared.play_fault.PlayFault.TheVariants as plays
 use Rattle.replay_play.specs.declared.fault.PlayTextFault.{PlayTextFault}
 use Rattle.replay_play.specs.declared.fault.PlayTextFault.TheVariants.{Config, Sources, Trace, NoThread, NoMemory}
 use Rattle.replay_play.specs.declared.fault.PlayTextFault.TheVariants.{Finish, Write}
@@ -30,9 +26,9 @@ abbrev pub AreLines : RadioConfig → List (List ℕ) → List (List Line) → T
 AreLines c traces sources = AllZip (λ text lines. lines_of c text ≡ Ok lines) traces sources
 
 -- what reading each trace answered, in order
-abbrev pub AreRead : RadioConfig → List (List ℕ) → List (Result (Vec Line Global) (ReadFault TraceFault)) → Type 0
+abbrev pub AreRead : RadioConfig → List (List ℕ) → List (Result (List Line) (ReadFault TraceFault)) → Type 0
 AreRead c traces read =
-    AllZip (λ text answer. Gives (λ lines. lines.items) read_ending answer (lines_of c text)) traces read
+    AllZip (λ text answer. Gives (λ lines. lines) read_ending answer (lines_of c text)) traces read
 
 -- The first trace that has a fault stands at this place, counted from 0, and this is its fault.
 pub record IsFirstFault (c : RadioConfig) (traces : List (List ℕ)) (source : ℕ) (fault : TraceFault) : Type 0 where
@@ -45,18 +41,6 @@ pub record IsFirstFault (c : RadioConfig) (traces : List (List ℕ)) (source : �
   pub found : lines_of c text ≡ Err fault
 
 -- ---- what is played
-
--- What an access point of this configuration ended with that was fed by sources of these lines: each section is that of
--- the network alone, with as many events at most as it may take; what left of a network is all that it sent, and
--- nothing else left; each event was given by one source; and what a source gave a network are the first of those events
--- that the network hears of the source's lines, all of them where the network is not full.
-pub record IsPlayOf (c : RadioConfig) (sources : List (List Line)) (end : Finished) : Type 0 where
-  pub networks : length end.sections ≡ length c.networks
-  pub sections : AreSections c end.sections
-  pub air : HaveLeft end.sections end.left
-  pub nothing_else : ArePlaced c end.left
-  pub givers : AreGivers (length sources) (histories_of end.sections) end.givers
-  pub played : ArePlayed c sources end.sections end.givers
 
 -- the configuration, the number of traces and each of them can be played
 pub record ArePlayable (config_text : List ℕ) (traces : List (List ℕ)) (c : RadioConfig) (sources : List (List Line))

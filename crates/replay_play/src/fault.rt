@@ -6,9 +6,9 @@ ghost use Rattle.replay_play.specs.Playing.{of_play};
 ghost use Rattle.replay_play.specs.declared.fault.PlayTextFault.TheVariants as faults;
 
 use ap_config::ConfigFault;
+use play_result::{FinishFault, PlayFault};
 use std::alloc::{AllocError, AllocFailed};
 use trace::{ConfigTextFault, ReportFault, TraceFault};
-use workers::{FinishFault, PlayFault};
 
 /// Why a configuration's text and the texts of several traces could not be played. Of several faults it is the first in
 /// this order, but `NoMemory`, which may come at any point.

@@ -1,15 +1,17 @@
 //! From the octets of a configuration and of several traces, played at once, to those of a report (*profile*).
 //!
-//! It promises, on [`play_text`], that the report that it writes is one that [`workers::play`] may make of the traces:
+//! It promises, on [`play_text`], that the report that it writes is one that `play` of `workers` may make of the traces:
 //! each network alone of its own events, of which each trace gave its own in its order; and that a fault, a
 //! [`PlayTextFault`], is the first one, and nothing was written then.
 //!
-//! The threads are those of [`workers`]. Where the texts come from, and where the report goes, is left to the program.
+//! The threads that play are those of [`concurrent_play`]. Where the texts come from, and where the report goes, is left to
+//! the program.
 #![tactic(auto)]
 
 mod fault;
 mod playing;
+mod reading;
 mod reporting;
 
 pub use fault::PlayTextFault;
-pub use playing::{play_text, report_play};
+pub use playing::{play_owned, play_text};

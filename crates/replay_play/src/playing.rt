@@ -1,29 +1,28 @@
 //! Several traces that are played at once, and the report of it.
 
-ghost use Rattle.std.specs.Prelude.{◌≡◌, ◌+◌, ◌<◌, [], length, map, slice_index_or, IfOk, MatchResult};
-ghost use Rattle.std.specs.Io.KnownBytes.{Appends};
-ghost use Rattle.trace.specs.Report.{report_text};
-ghost use Rattle.trace.specs.Endings.{Gives, failures_of, outcome_of};
-ghost use Rattle.trace.specs.Faults.{read_ending};
-ghost use Rattle.trace.specs.TraceText.{lines_of};
+ghost use Rattle.std.specs.Prelude.{◌≡◌, ◌+◌, ℕ, List, Option, None, Err, IfErr, MatchResult};
+ghost use Rattle.ap_config.specs.Configuration.{fault_of};
+ghost use Rattle.trace.specs.Endings.{failures_at, failures_of};
 ghost use Rattle.trace.specs.Sinks.{MayFail};
-ghost use Rattle.replay_play.specs.Playing.{AreLines, AreRead, EndsPlay, IsTracesFault, in_trace, play_ending};
-ghost use Rattle.workers.specs.Names.{callers_fit};
+ghost use Rattle.replay_play.specs.Playing.{ArePlayable, EndsPlay, play_ending};
+ghost use Rattle.play_result.specs.Faults.{callers_fit};
 
 use crate::fault::PlayTextFault;
+use crate::reading::read_traces;
 use crate::reporting::write_in_threads;
 use ap_config::RadioConfig;
-use events::Line;
+use concurrent_play::{as_played, play_logged};
+use line_log::LineLog;
+use log_report::as_sections;
 use mac_frame::Octets;
-use std::alloc::{AllocError, Global};
+use play_result::MAX_CALLERS;
+use std::alloc::Global;
 use std::sync::Wait;
-use std::thread;
 use std::thread::Threads;
-use trace::{ReadFault, Sink, TraceTextFault, read_config, read_trace};
-use workers::{MAX_CALLERS, Played, play_lent};
+use trace::{Sink, read_config};
 
 /// Reads a configuration and 1 to 64 traces, plays the traces at once, each as a source with a thread of its own, and
-/// appends the report of all networks to what `out` has taken ([`workers::play`]). For each network by itself it is
+/// appends the report of all networks to what `out` has taken (`play` of `workers`). For each network by itself it is
 /// what some order of the traces' lines gives, in which each trace keeps its own; which order, the threads decide.
 ///
 /// A fault is the first one of the configuration, else `Sources`, else that of the first trace that has one; these come
@@ -41,34 +40,68 @@ pub fn play_text<R: Threads + Wait + Sync, W: Sink>(
     ensures ends { EndsPlay result config.now traces.now (W.taken out.old) (W.taken out.new) }
     ensures failures { W.failed out.new ≡ W.failed out.old + failures_of play_ending result }
 {
-    report_play(rt, alloc, config, traces, out)?;
-    Ok(())
+    let (config, sources) = read_texts(rt, alloc, config, traces)?;
+    report_sources(rt, alloc, config, sources, out)
 }
 
-/// Does what [`play_text`] does, and hands out what it played and reported, so that a program that ends then need not
-/// give back their memory, one line and one event after another.
-pub fn report_play<R: Threads + Wait + Sync, W: Sink>(
+/// Does what [`play_text`] does of traces that it takes over: the memory of their texts is given back before anything
+/// is played.
+pub fn play_owned<R: Threads + Wait + Sync, W: Sink>(
+    rt: &R,
+    alloc: Global,
+    config: &[u8],
+    traces: Vec<Octets>,
+    out: &mut W,
+) -> Result<(), PlayTextFault>
+    requires { MayFail (W.failed out.old) }
+    ensures ends { EndsPlay result config.now traces.items (W.taken out.old) (W.taken out.new) }
+    ensures failures { W.failed out.new ≡ W.failed out.old + failures_of play_ending result }
+{
+    let read = read_texts(rt, alloc, config, traces.as_slice());
+    drop(traces);
+    let (config, sources) = read?;
+    report_sources(rt, alloc, config, sources, out)
+}
+
+/// The configuration and the lines of each trace, in order; or why there are none, before anything is played.
+fn read_texts<R: Threads + Sync>(
     rt: &R,
     alloc: Global,
     config: &[u8],
     traces: &[Octets],
-    out: &mut W,
-) -> Result<(Vec<Vec<Line>>, Played), PlayTextFault>
-    requires { MayFail (W.failed out.old) }
-    ensures ends { EndsPlay (outcome_of result) config.now traces.now (W.taken out.old) (W.taken out.new) }
-    ensures failures { W.failed out.new ≡ W.failed out.old + failures_of play_ending result }
-
-    // The sections that it hands out are those of the report.
-    ensures sections { IfOk result (λ r. Appends (W.taken out.old) (W.taken out.new) (report_text r.1.sections)) }
+) -> Result<(RadioConfig, Vec<LineLog>), PlayTextFault>
+    ensures read { MatchResult result
+        (λ read. (fault_of read.0 ≡ None) × ArePlayable config.now traces.now read.0 read.1.items)
+        (λ fault. (known : Option (List ℕ)) → EndsPlay (Err fault) config.now traces.now known known) }
+    ensures no_write { IfErr result (λ fault. failures_at (play_ending fault) ≡ 0) }
 {
     let config = read_config(alloc, config)?;
     if !fit(traces.len()) {
         return Err(PlayTextFault::Sources);
     }
     let sources = read_traces(rt, alloc, &config, traces)?;
-    let played = play_lent(rt, alloc, config, sources.as_slice())?;
-    write_in_threads(rt, alloc, played.sections.as_slice(), out)?;
-    Ok((sources, played))
+    Ok((config, sources))
+}
+
+/// Plays sources of lines, and reports what each network did.
+fn report_sources<R: Threads + Wait + Sync, W: Sink>(
+    rt: &R,
+    alloc: Global,
+    config: RadioConfig,
+    sources: Vec<LineLog>,
+    out: &mut W,
+) -> Result<(), PlayTextFault>
+    requires sound { fault_of config ≡ None }
+    requires can_write { MayFail (W.failed out.old) }
+    ensures ends { (text : List ℕ) (traces : List (List ℕ)) → ArePlayable text traces config sources.items
+        → EndsPlay result text traces (W.taken out.old) (W.taken out.new) }
+    ensures failures { W.failed out.new ≡ W.failed out.old + failures_of play_ending result }
+{
+    as_played();
+    as_sections();
+    let logs = play_logged(rt, alloc, config, sources.as_slice())?;
+    write_in_threads(rt, alloc, logs.as_slice(), out)?;
+    Ok(())
 }
 
 /// Whether an access point may have this many sources.
@@ -76,73 +109,4 @@ fn fit(count: usize) -> bool
     ensures { result ≡ callers_fit count }
 {
     (1..=MAX_CALLERS as usize).contains(&count)
-}
-
-/// The lines of each trace, in order, or the fault of the first trace that has one. The traces are read by threads, as
-/// far as there are any.
-fn read_traces<R: Threads + Sync>(
-    rt: &R,
-    alloc: Global,
-    config: &RadioConfig,
-    traces: &[Octets],
-) -> Result<Vec<Vec<Line>>, PlayTextFault>
-    ensures { MatchResult result
-        (λ sources. AreLines config.now traces.now (map (λ s. s.items) sources.items))
-        (λ fault. IsTracesFault config.now traces.now fault) }
-{
-    let read = read_each(rt, alloc, config, traces)?;
-    let mut sources = Vec::with_capacity(alloc, traces.len())?;
-    for lines in read {
-        match lines {
-            Ok(lines) => sources.push(lines)?,
-            Err(fault) => return Err(in_trace(sources.len(), fault)),
-        }
-    }
-    Ok(sources)
-}
-
-/// What is read of each trace, in order.
-fn read_each<R: Threads + Sync>(
-    rt: &R,
-    alloc: Global,
-    config: &RadioConfig,
-    traces: &[Octets],
-) -> Result<Vec<Result<Vec<Line>, TraceTextFault>>, AllocError>
-    ensures { IfOk result (λ read. AreRead config.now traces.now read.items) }
-{
-    let read = thread::map_indices(
-        rt,
-        alloc,
-        traces.len(),
-        &|place| -> Result<Vec<Line>, TraceTextFault>
-            requires { place < length traces.now }
-            ensures { Gives (λ lines. lines.items) read_ending result
-                (lines_of config.entry.now (slice_index_or traces.entry.now place [])) }
-        { read_one(alloc, config, traces, place) },
-    )?;
-    Ok(read)
-}
-
-/// What is read of the trace at this place.
-fn read_one(
-    alloc: Global,
-    config: &RadioConfig,
-    traces: &[Octets],
-    place: usize,
-) -> Result<Vec<Line>, TraceTextFault>
-    requires { place < length traces.now }
-    ensures { Gives (λ lines. lines.items) read_ending result
-        (lines_of config.now (slice_index_or traces.now place [])) }
-{
-    read_trace(alloc, config, traces[place].as_slice())
-}
-
-/// A fault of the trace at this place.
-fn in_trace(source: usize, fault: TraceTextFault) -> PlayTextFault
-    ensures { result ≡ in_trace source fault }
-{
-    match fault {
-        ReadFault::At(fault) => PlayTextFault::Trace { source, fault },
-        ReadFault::NoMemory => PlayTextFault::NoMemory,
-    }
 }

@@ -1,10 +1,10 @@
-use Rattle.std.proofs.Common.{◌≡◌, ◌++◌, ℕ, List, map}
+use Rattle.std.proofs.Common.{◌≡◌, ◌++◌, ℕ, List}
 use Rattle.std.specs.Vec.Iter.{into_iter_items}
 use Rattle.replay_play.specs.Playing.{AreLines, AreRead}
-use Rattle.replay_play.proofs.playing.read_traces.Given as goal
+use Rattle.replay_play.proofs.reading.read_traces.Given as goal
 
 -- the traces so far have lines, and the others were read
 abbrev pub invariant-loop-lines : goal.invariant-loop-lines
 invariant-loop-lines g l =
     (before : List (List ℕ)) × (after : List (List ℕ)) × (l.traces ≡ before ++ after)
-    × AreLines l.config before (map (λ s. s.items) l.sources.items) × AreRead l.config after (into_iter_items l.lines-iterator)
+    × AreLines l.config before l.sources.items × AreRead l.config after (into_iter_items l.lines-iterator)
