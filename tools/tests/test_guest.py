@@ -16,15 +16,16 @@ import stage  # noqa: E402
 from stations import Failed  # noqa: E402
 
 
-def load_cases():
-    """The program of the cases, whose name isn't that of a module."""
-    loader = importlib.machinery.SourceFileLoader("guest_cases", os.path.join(GUEST, "cases"))
-    module = importlib.util.module_from_spec(importlib.util.spec_from_loader("guest_cases", loader))
+def load(name):
+    """A program of this name, which isn't that of a module."""
+    loader = importlib.machinery.SourceFileLoader(f"guest_{name}", os.path.join(GUEST, name))
+    module = importlib.util.module_from_spec(importlib.util.spec_from_loader(f"guest_{name}", loader))
+    sys.modules[module.__name__] = module
     loader.exec_module(module)
     return module
 
 
-cases = load_cases()
+cases, compare = load("cases"), load("compare")
 
 
 class FakeStart:
@@ -138,20 +139,45 @@ class NoCaseDependsOnAnother(unittest.TestCase):
         self.assertEqual((played.passed, played.failed), (6, 1))
 
 
+REPORT = """
+    40.00%|400|bridge|bridge|[.] receive
+    20.00%|200|bridge|[kernel.kallsyms]|[k] pipe_write
+    10.00%|100|apctl|[kernel.kallsyms]|[k] pipe_read
+    10.00%|100|iperf3|[kernel.kallsyms]|[k] packet_rcv
+     5.00%|50|swapper|[kernel.kallsyms]|[k] default_idle
+     5.00%|50|perf|[kernel.kallsyms]|[k] pipe_read
+     5.00%|50|ksoftirqd/0|[kernel.kallsyms]|[k] ieee80211_rx_napi
+     5.00%|50|kworker/0:1|[kernel.kallsyms]|[k] strlen
+"""
+
+
+SYMBOLS = """ffffffff81000000 T _stext
+ffffffff81000010 t pipe_write
+ffffffffc0000000 t ieee80211_rx_napi	[mac80211]
+ffffffffc0000010 t pipe_write	[mac80211]
+"""
+
+
 class Profile(unittest.TestCase):
-    """What the kernel's own profile is taken for."""
+    """What the samples of a profile are taken for."""
 
-    def test_a_place_is_that_of_the_function_before_it(self):
-        """From its first octet on."""
-        names = [(0, "_stext"), (16, "pipe_read"), (48, "pipe_write")]
-        found = [profiling.last_before(names, place) for place in (0, 15, 16, 47, 48, 4096)]
-        self.assertEqual(found, ["_stext", "_stext", "pipe_read", "pipe_read", "pipe_write", "pipe_write"])
+    def test_samples_are_told_apart_by_process_and_by_what_is_done(self):
+        """What nobody does isn't counted, nor what the profile takes itself."""
+        wanted = {("bridge", profiling.ITSELF): 400, ("bridge", "pipes"): 200, ("apctl", "pipes"): 100,
+                  ("iperf3", profiling.PACKETS): 100, ("ksoftirqd/0", profiling.RADIO): 50,
+                  ("kworker/0:1", profiling.REST): 50}
+        self.assertEqual(profiling.by_process(REPORT, profiling.modules_of(SYMBOLS)), wanted)
 
-    def test_functions_are_told_apart_by_what_they_do(self):
-        """And what nobody does isn't counted."""
-        ticks = {"pipe_read": 3, "pipe_write": 2, "packet_rcv": 7, "default_idle": 50, "strlen": 1, profiling.MODULES: 9}
-        wanted = {"pipes": 5, "packet sockets and their filters": 7, profiling.REST: 1, profiling.MODULES: 9}
-        self.assertEqual(profiling.by_group(ticks), wanted)
+    def test_shares_are_of_owners_and_of_the_kernels_works(self):
+        """The former come first, the largest before others, and are all of it together."""
+        found = compare.shares(profiling.by_process(REPORT, profiling.modules_of(SYMBOLS)), 1800)
+        wanted = {"`tools/bridge`: its own": 800, "`tools/bridge`: the kernel's": 400,
+                  f"{compare.OTHERS}: the kernel's": 400, "`apctl`: the kernel's": 200, "the kernel's: pipes": 600,
+                  f"the kernel's: {profiling.PACKETS}": 200, f"the kernel's: {profiling.RADIO}": 100,
+                  f"the kernel's: {profiling.REST}": 100}
+        self.assertEqual({name: round(part) for name, part in found.items()}, wanted)
+        self.assertEqual(list(found)[0], "`tools/bridge`: its own")
+        self.assertEqual(round(sum(part for name, part in found.items() if not name.startswith("the kernel's"))), 1800)
 
 
 class Folders(unittest.TestCase):
