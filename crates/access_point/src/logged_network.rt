@@ -50,6 +50,7 @@ impl Open for LoggedNetwork {
 impl LoggedNetwork {
     /// Takes an event, unless it took as many as its history might have, and keeps the frames that it sends, which are
     /// built in spare memory.
+    #[inline(always)]
     pub fn take(&mut self, event: &ReadEvent<'_>, spare: &mut Spare) -> Result<(), NoMemory>
         ensures logs { (s : Setting) (es : List Event) → self.old ≡ log_of s es
             → OnOk result (self.new ≡ log_of s (es ++ taken_next s es (event_read event.now))) }
