@@ -1,6 +1,6 @@
 //! The networks of a play, each under a lock of its own.
 
-ghost use Rattle.std.specs.Prelude.{◌≡◌, ◌<◌, ◌≤◌, None, IfOk, IfErr, length, vec_len};
+ghost use Rattle.std.specs.Prelude.{◌≡◌, None, IfOk, IfErr, length, vec_len};
 ghost use Rattle.ap_config.specs.Configuration.{fault_of};
 ghost use Rattle.play_result.specs.Faults.{IsLater};
 ghost use Rattle.concurrent_play.specs.Plays.{IsLoggedPlay};
@@ -17,9 +17,9 @@ use play_result::PlayFault;
 use std::alloc::Global;
 use std::hint;
 use std::marker::Model;
-use std::sync::{Mutex, MutexGuard, Wait};
+use std::sync::{Mutex, Wait};
 
-/// How often a thread tries to get a lock before it sleeps until it is let go.
+/// How often a thread goes over the networks that are left before it sleeps until one is let go.
 const TRIES: u32 = 200;
 
 /// The networks of the play N, in order of place. Threads share them by reference.
@@ -54,38 +54,60 @@ impl<N: PlayName> Networks<N> {
         })
     }
 
-    /// Gives lines to each network, to one after the other. `NoMemory` where memory ran out, after which those that come
-    /// later were given none.
-    pub(crate) fn give<R: Wait>(&self, rt: &R, batch: &Batch<'_, N>) -> Result<(), NoMemory> {
-        let first = first_place(batch.source, self.seats.len());
-        for place in first..self.seats.len() {
-            self.give_at(rt, place, batch)?;
-        }
-        for place in 0..first {
-            self.give_at(rt, place, batch)?;
-        }
-        Ok(())
-    }
-
-    /// Gives lines to the network at a place.
-    fn give_at<R: Wait>(&self, rt: &R, place: usize, batch: &Batch<'_, N>) -> Result<(), NoMemory>
-        requires { place < length N.config.networks }
-    {
-        self.sit(rt, place).take(batch)
-    }
-
-    /// The network at a place, under its lock. It is tried some times before a thread sleeps.
-    fn sit<R: Wait>(&self, rt: &R, place: usize) -> MutexGuard<'_, Seat<N>>
-        requires { place < length N.config.networks }
-    {
-        let seat = &self.seats[place];
+    /// Gives lines to each network, to those first that no other thread has. `NoMemory` where memory ran out, after
+    /// which those that are left were given none.
+    pub(crate) fn give<R: Wait>(
+        &self,
+        rt: &R,
+        alloc: Global,
+        batch: &Batch<'_, N>,
+    ) -> Result<(), NoMemory> {
+        let mut given = vec![in alloc; false; self.seats.len()]?;
         for _ in 0..TRIES {
-            if let Some(guard) = seat.try_lock() {
-                return guard;
+            if self.give_free(batch, given.as_mut_slice())? {
+                return Ok(());
             }
             hint::spin_loop();
         }
-        seat.lock(rt)
+        self.give_left(rt, batch, given.as_slice())
+    }
+
+    /// Gives lines to those networks that were not given them and that no other thread has. Whether all were given
+    /// them then.
+    fn give_free(&self, batch: &Batch<'_, N>, given: &mut [bool]) -> Result<bool, NoMemory>
+        requires { length given.old ≡ length N.config.networks }
+        ensures { length given.new ≡ length given.old }
+    {
+        let mut were_free = true;
+        for place in 0..self.seats.len() {
+            if !given[place] {
+                match self.seats[place].try_lock() {
+                    Some(mut seat) => {
+                        seat.take(batch)?;
+                        given[place] = true;
+                    }
+                    None => were_free = false,
+                }
+            }
+        }
+        Ok(were_free)
+    }
+
+    /// Gives lines to the networks that were not given them, to one after the other, and sleeps until it is let go.
+    fn give_left<R: Wait>(
+        &self,
+        rt: &R,
+        batch: &Batch<'_, N>,
+        given: &[bool],
+    ) -> Result<(), NoMemory>
+        requires { length given.now ≡ length N.config.networks }
+    {
+        for place in 0..self.seats.len() {
+            if !given[place] {
+                self.seats[place].lock(rt).take(batch)?;
+            }
+        }
+        Ok(())
     }
 
     /// The networks with the frames that they sent, where each was given all lines of these sources.
@@ -146,12 +168,4 @@ fn seat_networks<N: PlayName>(
         seats.push(Mutex::new(Seat::new(alloc, place, network, sources)?))?;
     }
     Ok(seats)
-}
-
-/// The place of the network that a source gives its lines to first. Sources begin apart, since they would wait for each
-/// other if they went from network to network together.
-fn first_place(source: usize, networks: usize) -> usize
-    ensures { result ≤ networks }
-{
-    (source % networks.max(1)).min(networks)
 }

@@ -82,7 +82,7 @@ fn play_source<N: PlayName, R: Wait>(
     while first < source.lines.len() {
         let end = first.saturating_add(MOST_LINES).min(source.lines.len());
         let batch = Batch::read(alloc, &source, first, end)?;
-        networks.give(rt, &batch)?;
+        networks.give(rt, alloc, &batch)?;
         first = end;
     }
     Ok(())
