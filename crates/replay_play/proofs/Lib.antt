@@ -1,3 +1,1 @@
 pub mod PlayEnds
-pub mod Parts
-pub mod ReadSteps

@@ -1,5 +1,5 @@
 -- What a play of several traces leaves, by how it ended.
-use Rattle.std.proofs.Common.{◌≡◌, ℕ, suc, ◌+◌, ◌<◌, ◌++◌, ◌∷◌, [], true, List, Option, Some, Result, Ok, Err, length, map, get_or, refl, sym, ap, ◌∙◌, subst, arith}
+use Rattle.std.proofs.Common.{◌≡◌, ℕ, suc, ◌+◌, ◌++◌, ◌∷◌, [], true, List, Option, Some, Result, Ok, Err, length, map, refl, sym, ap, ◌∙◌, subst, arith}
 use Rattle.std.specs.Prelude.{slice_get, flat_map}
 use Rattle.std.specs.List.{enumerate_from}
 use Rattle.std.proofs.KnownBytes.{Keeps-refl}
@@ -23,6 +23,7 @@ use Rattle.trace.specs.Sinks.{report_ending}
 use Rattle.trace.specs.TraceText.{lines_of}
 use Rattle.trace.specs.declared.fault.TraceFault.{TraceFault}
 use Rattle.text_io.specs.declared.read_fault.ReadFault.{ReadFault}
+use Rattle.text_threads.specs.Reading.{AreRead}
 use Rattle.text_io.specs.declared.read_fault.ReadFault.TheVariants as reads
 use Rattle.text_io.specs.declared.report_fault.ReportFault.{ReportFault}
 use Rattle.text_io.specs.declared.report_fault.ReportFault.TheVariants as reports
@@ -32,7 +33,7 @@ use Rattle.play_result.specs.Played.{IsPlayOf}
 use Rattle.play_result.specs.declared.finished.Finished.{Finished}
 use Rattle.play_result.specs.declared.play_fault.PlayFault.{PlayFault}
 use Rattle.play_result.specs.declared.play_fault.PlayFault.TheVariants as plays
-use Rattle.replay_play.specs.Playing.{AreLines, AreRead, IsTracesFault, ArePlayable, EndsPlay, in_trace, of_play}
+use Rattle.replay_play.specs.Playing.{AreLines, IsTracesFault, ArePlayable, EndsPlay, in_trace, of_play}
 use Rattle.replay_play.specs.declared.fault.PlayTextFault.{PlayTextFault}
 use Rattle.replay_play.specs.declared.fault.PlayTextFault.TheVariants.{Config, Sources, Trace, NoThread, NoMemory, Finish, Write}
 
@@ -172,18 +173,6 @@ read_none c [] [] none all = refl
 read_none c [] (a ∷ others) none all = absurd all
 read_none c (t ∷ ts) [] none all = absurd all
 read_none c (t ∷ ts) (a ∷ others) none all = absurd (omega (arith, none))
-
--- an answer for each trace
-pub read_by_place : (c : RadioConfig) (texts : List (List ℕ))
-    (answers : List (Result (List Line) (ReadFault TraceFault))) → length answers ≡ length texts
-    → ((i : ℕ) (answer : Result (List Line) (ReadFault TraceFault)) → i < length texts → slice_get answers i ≡ Some answer
-    → Gives (λ lines. lines) read_ending answer (lines_of c (get_or texts i [])))
-    → AreRead c texts answers
-read_by_place c [] [] count each = tt
-read_by_place c [] (a ∷ others) count each = absurd (omega (arith, count))
-read_by_place c (t ∷ ts) [] count each = absurd (omega (arith, count))
-read_by_place c (t ∷ ts) (a ∷ others) count each =
-    (each 0 a (omega arith) refl, read_by_place c ts others (omega (arith, count)) (λ i answer within is. each (suc i) answer (omega (arith, within)) is))
 
 -- ---- the report of networks that keep no history
 

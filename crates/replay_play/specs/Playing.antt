@@ -4,8 +4,8 @@ use Rattle.std.specs.List.{AllZip}
 use Rattle.ap_config.specs.declared.config.RadioConfig.{RadioConfig}
 use Rattle.events.specs.declared.line.Line.{Line}
 use Rattle.trace.specs.ConfigurationText.{configuration_of}
-use Rattle.trace.specs.Endings.{Gives, Ending, Refused, WriteFailed, OutOfMemory, Ends, ending_of}
-use Rattle.trace.specs.Faults.{read_as, read_ending}
+use Rattle.trace.specs.Endings.{Ending, Refused, WriteFailed, OutOfMemory, Ends, ending_of}
+use Rattle.trace.specs.Faults.{read_as}
 use Rattle.trace.specs.Report.{report_text}
 use Rattle.trace.specs.TraceText.{lines_of}
 use Rattle.trace.specs.declared.fault.TraceFault.{TraceFault}
@@ -24,11 +24,6 @@ use Rattle.replay_play.specs.declared.fault.PlayTextFault.TheVariants.{Finish, W
 -- what each trace says, in order
 abbrev pub AreLines : RadioConfig → List (List ℕ) → List (List Line) → Type 0
 AreLines c traces sources = AllZip (λ text lines. lines_of c text ≡ Ok lines) traces sources
-
--- what reading each trace answered, in order
-abbrev pub AreRead : RadioConfig → List (List ℕ) → List (Result (List Line) (ReadFault TraceFault)) → Type 0
-AreRead c traces read =
-    AllZip (λ text answer. Gives (λ lines. lines) read_ending answer (lines_of c text)) traces read
 
 -- The first trace that has a fault stands at this place, counted from 0, and this is its fault.
 pub record IsFirstFault (c : RadioConfig) (traces : List (List ℕ)) (source : ℕ) (fault : TraceFault) : Type 0 where

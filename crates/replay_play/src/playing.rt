@@ -9,7 +9,6 @@ ghost use Rattle.play_result.specs.Faults.{callers_fit};
 
 use crate::fault::PlayTextFault;
 use crate::reading::read_traces;
-use crate::reporting::write_in_threads;
 use ap_config::RadioConfig;
 use concurrent_play::{as_played, play_logged};
 use line_log::LineLog;
@@ -19,6 +18,7 @@ use play_result::MAX_CALLERS;
 use std::alloc::Global;
 use std::sync::Wait;
 use std::thread::Threads;
+use text_threads::write_by_threads;
 use trace::{Sink, read_config};
 
 /// Reads a configuration and 1 to 64 traces, plays the traces at once, each as a source with a thread of its own, and
@@ -100,7 +100,7 @@ fn report_sources<R: Threads + Wait + Sync, W: Sink>(
     as_played();
     as_sections();
     let logs = play_logged(rt, alloc, config, sources.as_slice())?;
-    write_in_threads(rt, alloc, logs.as_slice(), out)?;
+    write_by_threads(rt, alloc, logs.as_slice(), out)?;
     Ok(())
 }
 

@@ -1,6 +1,7 @@
 use Rattle.std.proofs.Common.{◌≡◌, ◌++◌, ℕ, List}
 use Rattle.std.specs.Vec.Iter.{into_iter_items}
-use Rattle.replay_play.specs.Playing.{AreLines, AreRead}
+use Rattle.text_threads.specs.Reading.{AreRead}
+use Rattle.replay_play.specs.Playing.{AreLines}
 use Rattle.replay_play.proofs.reading.read_traces.Given as goal
 
 -- the traces so far have lines, and the others were read
