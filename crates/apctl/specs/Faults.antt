@@ -52,6 +52,10 @@ IsOfFile wanted (File name) = string_bytes name ≡ wanted
 IsOfFile wanted Memory = Unit {0}
 IsOfFile wanted _ = ⊥
 
+-- the fault of some file that can't be read, or of memory that ran out meanwhile
+abbrev pub IsOfSomeFile : Fault → Type 0
+IsOfSomeFile fault = (name : List ℕ) × IsOfFile name fault
+
 -- the fault of a run whose trace was read from a file of this name
 abbrev pub IsOfStream : StreamFault → List ℕ → Fault → Type 0
 IsOfStream (streams.Config found) wanted fault = fault ≡ Config found

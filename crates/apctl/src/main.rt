@@ -12,17 +12,15 @@
 mod fault;
 mod files;
 mod input;
+mod tasks;
 
 use fault::{Fault, show_fault};
-use files::{open_file, read_file, read_traces};
-use input::{STANDARD_INPUT, run_input};
-use replay::{check_text, run_stream};
-use replay_play::play_owned;
+use std::env;
 use std::io::ErrorKind;
 use std::process::ExitCode;
 use std::sync::Wait;
 use std::thread::Threads;
-use std::{env, mem};
+use tasks::{answer_lines, answer_records, check_config, play_traces, run_joined, run_trace};
 use trace::{Counted, ReportFault};
 use words::{Task, task_of};
 
@@ -47,56 +45,17 @@ fn tell(rt: &HostRuntime, fault: &Fault) -> u8 {
     shown.unwrap_or(UNWRITTEN)
 }
 
-/// Does what the words ask for. Files are opened in the order of the words, and a configuration is read whole, before
-/// anything is done with them, and so are the traces of `play`. The trace of `run` is read as it comes, and so are the
-/// lines or records of `live`.
-/// `threads` starts the threads of `play`.
+/// Does what the words ask for. `threads` starts the threads of `play`.
 fn run<T: Threads + Wait + Sync>(rt: &HostRuntime, threads: &T) -> Result<(), Fault> {
-    let alloc = rt.alloc();
     let words = given_words(rt)?;
-    let mut out = Counted::new(rt.stdout());
-    match task_of(alloc, words.as_slice())?.ok_or(Fault::Words)? {
-        Task::Joined => {
-            end_with(run_input(alloc, &mut rt.stdin(), &mut out)?);
-            Ok(())
-        }
-        Task::Check { config } => {
-            let config = read_file(rt, config)?;
-            Ok(check_text(alloc, config.as_slice(), &mut out)?)
-        }
-        Task::Play { config, traces } => {
-            let config = read_file(rt, config)?;
-            let traces = read_traces(rt, traces.as_slice())?;
-            let config = config.as_slice();
-            Ok(play_owned(threads, alloc, config, traces, &mut out)?)
-        }
-        Task::Run { config, trace } => {
-            let config = read_file(rt, config)?;
-            let mut source = Counted::new(open_file(rt, trace)?);
-            run_stream(alloc, config.as_slice(), &mut source, &mut out).map_err(
-                |fault| Fault::of_stream(alloc, fault, trace),
-            )
-        }
-        Task::Live { config } => {
-            let config = read_file(rt, config)?;
-            let mut source = Counted::new(rt.stdin());
-            live::live(alloc, config.as_slice(), &mut source, &mut out).map_err(
-                |fault| Fault::of_live(alloc, fault, STANDARD_INPUT),
-            )
-        }
-        Task::LiveOctets { config } => {
-            let config = read_file(rt, config)?;
-            let mut source = Counted::new(rt.stdin());
-            live::live_octets(alloc, config.as_slice(), &mut source, &mut out).map_err(
-                |fault| Fault::of_live(alloc, fault, STANDARD_INPUT),
-            )
-        }
+    match task_of(rt.alloc(), words.as_slice())?.ok_or(Fault::Words)? {
+        Task::Joined => run_joined(rt),
+        Task::Check { config } => check_config(rt, config),
+        Task::Run { config, trace } => run_trace(rt, config, trace),
+        Task::Play { config, traces } => play_traces(rt, threads, config, traces.as_slice()),
+        Task::Live { config } => answer_lines(rt, config),
+        Task::LiveOctets { config } => answer_records(rt, config),
     }
-}
-
-/// Ends with what was reported: the process ends now, and its memory goes back as a whole.
-fn end_with<T: Drop>(reported: T) {
-    mem::forget(reported);
 }
 
 /// The words that the program was given, its own name first.
