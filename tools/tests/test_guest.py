@@ -180,6 +180,22 @@ class Profile(unittest.TestCase):
         self.assertEqual(round(sum(part for name, part in found.items() if not name.startswith("the kernel's"))), 1800)
 
 
+LOG = """2026-11-27T12:00:02Z live: 02:bb:00:00:00:00 was forgotten by 02:00:00:00:01:01: silent for 14 seconds
+2026-11-27T12:00:02Z live: 02:bb:00:00:00:01 was forgotten by 02:00:00:00:01:01: silent for 14 seconds
+2026-11-27T12:00:03Z live: 46 more lines of stations in one second
+2026-11-27T12:00:03Z live: 02:bb:00:00:00:02 was forgotten by 02:00:00:00:01:01: silent for 14 seconds
+"""
+
+
+class Log(unittest.TestCase):
+    """What is read from the log of the access point."""
+
+    def test_who_is_forgotten_without_a_line_of_the_log_is_counted_too(self):
+        """The log has no room for each."""
+        self.assertEqual(compare.forgotten(LOG), 49)
+        self.assertEqual(compare.forgotten(""), 0)
+
+
 class Folders(unittest.TestCase):
     """Files of starts of one name."""
 
