@@ -93,7 +93,8 @@ impl<N: PlayName> Networks<N> {
         Ok(were_free)
     }
 
-    /// Gives lines to the networks that were not given them, to one after the other, and sleeps until it is let go.
+    /// Gives lines to the networks that were not given them, to one after the other, and sleeps while another thread has
+    /// the next.
     fn give_left<R: Wait>(
         &self,
         rt: &R,

@@ -25,8 +25,9 @@ use std::thread::Threads;
 /// nothing. The lines are lent, and stay as they are.
 ///
 /// `Config` with the first fault exactly where the configuration has one, else `Sources` exactly where there are not 1
-/// to 64 of them; else `NoThread` where a thread could not be started, and `NoMemory` where memory ran out. `Finish` is
-/// never met. It may wait for other threads.
+/// to 64 of them; else `NoThread` where a thread could not be started, and `NoMemory` where memory ran out. `Finish` would
+/// tell that a network was not given all lines of each source: no clause excludes it, and no test has met it. It may wait
+/// for other threads.
 pub fn play_logged<R: Threads + Wait + Sync>(
     rt: &R,
     alloc: Global,
@@ -37,7 +38,7 @@ pub fn play_logged<R: Threads + Wait + Sync>(
     ensures sources { (result ≡ Err PlayFault.Sources) ↔
         ((fault_of config ≡ None) × (callers_fit (length sources.now) ≡ false)) }
 
-    // Where memory ran out it is `NoMemory`.
+    // That memory ran out is never told as a fault of finishing.
     ensures memory { result ≢ Err (PlayFault.Finish ends.NoMemory) }
 
     // Each network is the one alone that took what the sources gave it: of each source the first of the events that the
