@@ -1,4 +1,3 @@
-pub mod AudienceSteps
 pub mod TakeSteps
 pub mod FrameSteps
 pub mod LogSteps

@@ -1,7 +1,6 @@
 //! Which networks hear a line.
 
 ghost use Rattle.std.specs.Prelude.{◌≡◌, ◌<◌, ◌≤◌, [], false, length, slice_index_or, ℕ};
-ghost use Rattle.std.specs.Str.{bytes_eq};
 ghost use Rattle.events.specs.LentEvents.{line_of};
 ghost use Rattle.access_point.specs.Audiences.{IsAudience, is_in};
 
@@ -38,7 +37,8 @@ impl Audience {
         }
     }
 
-    /// Two places between which all of them stand, of networks with these addresses: the first, and that after the last.
+    /// Two places between which all of them stand, of networks with these addresses: one before which none stands, and
+    /// one from which on none does. Those with an address are not looked for: that takes longer than to ask each of few.
     #[inline(always)]
     pub(crate) fn places(&self, bssids: &[MacAddr]) -> (usize, usize)
         ensures order { result.0 ≤ result.1 }
@@ -50,11 +50,7 @@ impl Audience {
     {
         match self {
             Audience::Nobody => (0, 0),
-            Audience::All => (0, bssids.len()),
-            Audience::Addressed(to) => {
-                let first = first_with(*to, bssids);
-                (first, end_with(*to, bssids).max(first))
-            }
+            Audience::All | Audience::Addressed(_) => (0, bssids.len()),
             Audience::At(named) => {
                 let first = (*named).min(bssids.len());
                 (first, named.saturating_add(1).min(bssids.len()))
@@ -74,31 +70,4 @@ impl Audience {
             Audience::At(named) => *named == place,
         }
     }
-}
-
-/// The place of the first network that has an address, or how many there are, where none has it.
-#[inline]
-fn first_with(to: MacAddr, bssids: &[MacAddr]) -> usize
-    ensures few { result ≤ length bssids.now }
-    ensures before { (place : ℕ) → place < result → bytes_eq to (slice_index_or bssids.now place []) ≡ false }
-{
-    let mut place = 0;
-    while place < bssids.len() && to != bssids[place] {
-        place += 1;
-    }
-    place
-}
-
-/// The place after the last network that has an address, or 0, where none has it.
-#[inline]
-fn end_with(to: MacAddr, bssids: &[MacAddr]) -> usize
-    ensures few { result ≤ length bssids.now }
-    ensures after { (place : ℕ) → result ≤ place → place < length bssids.now
-        → bytes_eq to (slice_index_or bssids.now place []) ≡ false }
-{
-    let mut end = bssids.len();
-    while end > 0 && to != bssids[end - 1] {
-        end -= 1;
-    }
-    end
 }

@@ -68,8 +68,8 @@ pub trait Deliver<N: Addressed, O> {
 }
 
 /// Has each network that hears a line take it, in order of place, of networks with these addresses, and leaves the
-/// others alone; none is looked at that stands before or after all that hear it. What of it is the same for each of them
-/// is read once. After `NoMemory` those behind the one at which it stopped took nothing.
+/// others alone, of which the address is read at most. What of the line is the same for each of them is read once. After
+/// `NoMemory` those behind the one at which it stopped took nothing.
 pub(crate) fn take_line<N: Addressed, O, D: Deliver<N, O>>(
     how: &D,
     bssids: &[MacAddr],
