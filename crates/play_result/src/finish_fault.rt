@@ -13,7 +13,7 @@ pub enum FinishFault {
     /// F1: memory ran out.
     NoMemory,
     /// F2: a receipt's place, number or event is not there, another receipt repeats it, or the numbers of a caller's
-    /// receipts from one network don't rise; or a network was not at its place, which is never met.
+    /// receipts from one network don't rise; or a network was not at its place, which no test has met.
     BadReceipt,
     /// F3: no receipt tells of an event of a history.
     Uncovered,
