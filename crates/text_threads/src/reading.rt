@@ -20,7 +20,8 @@ use std::thread::Threads;
 use trace::{LineReader, TraceTextFault, piece_by_piece, place_of};
 
 /// What is read of each of several traces, in order: its lines, or its first fault, as [`trace::read_trace`] tells them,
-/// or `NoMemory`. The traces are read by threads, as far as there are any. `AllocError` where memory ran out beside them.
+/// or `NoMemory` (*profile*). The traces are lent, and read by threads, as far as there are any. `AllocError` where
+/// memory ran out beside them.
 pub fn read_by_threads<R: Threads + Sync>(
     rt: &R,
     alloc: Global,

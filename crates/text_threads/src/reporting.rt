@@ -24,9 +24,9 @@ const PIECE: usize = 65536;
 /// How many octets a thread collects before it appends them to its text.
 const SMALL_PIECE: usize = 4096;
 
-/// Has the sink take the report of networks, whole, as [`log_report::write_logs`] does. The frames of each become text in
-/// several threads, as far as there are any. `Write` comes exactly where a write of `out` failed, and `NoMemory` where
-/// memory ran out; what `out` took by then is nothing or a prefix of the report.
+/// Has the sink take the report of networks, whole, as [`log_report::write_logs`] does (*profile*). The frames of each
+/// become text in several threads, as far as there are any. `Write` comes exactly where a write of `out` failed, and
+/// `NoMemory` where memory ran out; what `out` took by then is nothing or a prefix of the report.
 pub fn write_by_threads<R: Threads + Sync, W: Sink>(
     rt: &R,
     alloc: Global,
