@@ -1,5 +1,5 @@
-"""A small repository with the scripts of this one, whose `rt` is a script that proves nothing: what it builds stands in
-place of the program, so that what is built, told and installed is tried within seconds."""
+"""A small repository with the scripts of this one, whose toolchain is scripts that prove nothing: what they build stands
+in place of the program, so that what is built, told and installed is tried within seconds."""
 import glob
 import os
 import shutil
@@ -11,22 +11,32 @@ SECONDS = 60
 TOOLCHAIN = "rattle-kit-test logic 0"
 COPIED = (".ci", "share", "tools/lib", "tools/systemd", "docs", "tests/check", "tests/cases", "README.md",
           "CHANGELOG.md", "HANDLES")
-# It fails where a file `fails` is there, and waits where a file `waits` is; the program that it builds has the text of
-# the crate's source.
+# The toolchain stands in the small repository's own folder. Each of its commands fails where a file `fails` is there, and
+# waits where a file `waits` is; the program that they build has the text of the crate's source. The prover writes down
+# which crates it was called for, and says what a proved crate's verdict is, but where a file `says_nothing` is there.
 RT = f"""#!/bin/bash
 case $1 in
 version) echo '{TOOLCHAIN}' ;;
-lib | check)
-    [ ! -e "$STATES/fails" ] || {{ echo 'not proved: a goal'; exit 1; }}
-    [ ! -e "$STATES/waits" ] || {{ : >"$STATES/waiting"; sleep {SECONDS}; }}
-    mkdir -p out/rlib
-    ;;
-run) mkdir -p out && cp src/main.rt out/apctl && chmod +x out/apctl ;;
+check) [ ! -e "$STATES/fails" ] || {{ echo 'not proved: a goal'; exit 1; }} ;;
 ci)
     [ -e "$STATES/fails" ] || {{ cd crates/apctl && mkdir -p out && cp src/main.rt out/apctl; }}
     echo '1 passed, 0 failed'
     ;;
 esac
+"""
+RATTLE = f"""#!/bin/bash
+[[ $* =~ ^build\\ --crate-name\\ ([a-z]+)\\ (.*)\\ -o\\ ([^ ]+)$ ]] || exit 2
+echo "${{BASH_REMATCH[1]}}" >>"$STATES/proved"
+[ ! -e "$STATES/fails" ] || {{ echo 'not proved: a goal'; exit 1; }}
+[ ! -e "$STATES/waits" ] || {{ : >"$STATES/waiting"; sleep {SECONDS}; }}
+case "${{BASH_REMATCH[3]}}" in
+*.rlib) mkdir "${{BASH_REMATCH[3]}}" && cksum src/* >"${{BASH_REMATCH[3]}}/format" ;;
+*) cp src/main.rt "${{BASH_REMATCH[3]}}" ;;
+esac
+[ -e "$STATES/says_nothing" ] || echo 'logic=proved functions=1'
+"""
+LINK = """#!/bin/bash
+[[ $* =~ \\ -o\\ ([^ ]+)\\ ([^ ]+) ]] && cp "${BASH_REMATCH[2]}" "${BASH_REMATCH[1]}" && chmod +x "${BASH_REMATCH[1]}"
 """
 
 
@@ -54,8 +64,9 @@ class SmallRepository(ToolTest):
             self.write(f"crates/{name}", "one\n")
         self.write("crates/apctl/src/main.rt", "#!/bin/bash\necho first\n")
         self.write("crates/apctl/stdin", "")
-        self.write("bin/rt", RT)
-        os.chmod(self.path_of("bin/rt"), 0o755)
+        for name, text in (("rt", RT), ("rattle", RATTLE), ("rattle-link", LINK)):
+            self.write(f"bin/{name}", text)
+            os.chmod(self.path_of(f"bin/{name}"), 0o755)
         self.git("init", "-q")
         self.commit()
 
@@ -70,7 +81,7 @@ class SmallRepository(ToolTest):
             file.write(text)
 
     def state(self, name, holds):
-        """Has `rt` do something else from now on, or no more."""
+        """Has the toolchain do something else from now on, or no more."""
         path = os.path.join(self.states, name)
         if holds:
             with open(path, "w", encoding="ascii"):
@@ -90,7 +101,7 @@ class SmallRepository(ToolTest):
         return self.git("rev-parse", "HEAD")
 
     def environment(self):
-        """With the script for `rt`."""
+        """With the scripts for the toolchain."""
         return {**os.environ, "PATH": f"{self.path_of('bin')}:{os.environ['PATH']}", "STATES": self.states,
                 "TMPDIR": self.folder}
 
@@ -105,6 +116,16 @@ class SmallRepository(ToolTest):
         if not os.path.exists(self.path_of("build/apctl")):
             return None
         return subprocess.run([self.path_of("build/apctl")], capture_output=True, text=True, check=True).stdout.strip()
+
+    def proved(self):
+        """For which crates the prover was called since this was last asked, in this order."""
+        path = os.path.join(self.states, "proved")
+        if not os.path.exists(path):
+            return []
+        with open(path, encoding="ascii") as file:
+            found = file.read().split()
+        os.remove(path)
+        return found
 
     def build(self):
         """Builds it, which has to go well."""

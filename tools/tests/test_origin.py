@@ -1,10 +1,11 @@
-"""Tests of what is told of the program that stands built: .ci/build and .ci/gate in a small repository, whose `rt` is a
-script that proves nothing; what .ci/origin, `--version` of the tools and share/install say of what they left."""
+"""Tests of what is told of the program that stands built: .ci/build and .ci/gate in a small repository, whose toolchain
+is scripts that prove nothing; what .ci/origin, `--version` of the tools and share/install say of what they left."""
 import glob
 import os
 import shutil
 import signal
 import subprocess
+import sys
 import time
 import unittest
 
@@ -63,6 +64,56 @@ class Origin(SmallRepository):
             self.assertEqual(self.run_there(".ci/origin", *words)[0], 2, words)
 
 
+class ProvedAnew(SmallRepository):
+    """What .ci/build proves of what was proved before."""
+
+    def test_what_has_not_changed_is_not_proved_again(self):
+        """A crate is proved where its files have changed, or those of one that it stands on, and else not."""
+        self.build()
+        self.assertEqual(self.proved(), ["low", "apctl"])
+        self.build()
+        self.assertEqual(self.proved(), [])
+        self.write("crates/other/src/lib.rt", "two\n")
+        self.build()
+        self.assertEqual(self.proved(), [])
+        self.write("crates/apctl/src/main.rt", "#!/bin/bash\necho second\n")
+        self.build()
+        self.assertEqual(self.proved(), ["apctl"])
+        self.assertEqual(self.built(), "second")
+        self.write("crates/low/proofs/new.antt", "two\n")
+        self.build()
+        self.assertEqual(self.proved(), ["low", "apctl"])
+
+    def test_what_was_broken_off_is_proved_again(self):
+        """What a failed run left is not taken for proved, nor what another toolchain proved."""
+        self.state("fails", True)
+        self.assertEqual(self.run_there(".ci/build")[0], 1)
+        self.state("fails", False)
+        self.proved()
+        self.build()
+        self.assertEqual(self.proved(), ["low", "apctl"])
+        self.write("KIT-ID", "another\n")
+        self.build()
+        self.assertEqual(self.proved(), ["low", "apctl"])
+
+    def test_without_a_verdict(self):
+        """A prover that ends well and gives no verdict has proved nothing."""
+        self.state("says_nothing", True)
+        status, said = self.run_there(".ci/build")
+        self.assertEqual(status, 1)
+        self.assertIn("low: not proved", said)
+        self.assertIsNone(self.built())
+
+    def test_without_a_toolchain(self):
+        """Where there is none, that is said, and nothing is begun."""
+        os.symlink(sys.executable, self.path("python3"))
+        ran = subprocess.run([self.path_of(".ci/build")], capture_output=True, text=True, check=False, cwd=self.top,
+                             env={**self.environment(), "PATH": self.folder})
+        self.assertEqual(ran.returncode, 1)
+        self.assertIn("the toolchain's command rt is not on the path", ran.stderr)
+        self.assertEqual(self.proved(), [])
+
+
 class EarlierProgram(SmallRepository):
     """What becomes of a program that stands built while another is built."""
 
@@ -70,6 +121,7 @@ class EarlierProgram(SmallRepository):
         """The earlier one stays where a proof fails, and is told to be earlier, though its sources are the same."""
         self.build()
         commit = self.git("rev-parse", "HEAD")
+        self.write("KIT-ID", "another\n")
         self.state("fails", True)
         earlier = f"build/apctl is an earlier program, of commit {commit}: the last build did not end well"
         status, said = self.run_there(".ci/build")
