@@ -1,5 +1,6 @@
 """Tests of what is told of the program that stands built: .ci/build and .ci/gate in a small repository, whose toolchain
 is scripts that prove nothing; what .ci/origin, `--version` of the tools and share/install say of what they left."""
+import fcntl
 import glob
 import os
 import shutil
@@ -95,6 +96,21 @@ class ProvedAnew(SmallRepository):
         self.write("KIT-ID", "another\n")
         self.build()
         self.assertEqual(self.proved(), ["low", "apctl"])
+
+    def test_of_two_runs_the_second_waits(self):
+        """It says so, and proves nothing that the first has proved."""
+        self.build()
+        self.proved()
+        with open(self.path_of("build/apctl.lock"), "w", encoding="ascii") as lock:
+            fcntl.flock(lock, fcntl.LOCK_EX)
+            with subprocess.Popen([self.path_of(".ci/build")], cwd=self.top, env=self.environment(), text=True,
+                                  stderr=subprocess.PIPE) as second:
+                self.assertIn("another run proves in this checkout", second.stderr.readline())
+                self.assertIsNone(second.poll())
+                fcntl.flock(lock, fcntl.LOCK_UN)
+                second.stderr.read()
+        self.assertEqual(second.returncode, 0)
+        self.assertEqual(self.proved(), [])
 
     def test_without_a_verdict(self):
         """A prover that ends well and gives no verdict has proved nothing."""
