@@ -7,7 +7,7 @@ _waltigon() {
     waltigon-capture-from-run) options='--clutter --out' ;;
     waltigon-explain) options='--program --said' offered='check run play live' ;;
     waltigon-live)
-        options='--phy --wire --wires --monitor --country --idle --program --bridge --record --tables --status'
+        options='--phy --wire --wires --share --monitor --country --idle --program --bridge --record --tables --status'
         offered='kick status'
         ;;
     waltigon-picture) options='--out --from --to --station --network --overview --stations' ;;
@@ -20,7 +20,7 @@ _waltigon() {
     case $before in
     --fcs) mapfile -t COMPREPLY < <(compgen -W 'auto yes no' -- "$word") ;;
     --phy) mapfile -t COMPREPLY < <(compgen -W "$(ls /sys/class/ieee80211 2>/dev/null)" -- "$word") ;;
-    --network | --beacons-of | --station | --stations | --from | --to | --channel | --every | --said | --wire | \
+    --network | --beacons-of | --station | --stations | --from | --to | --channel | --every | --said | --wire | --share | \
         --monitor | --country | --idle | --tables | --status) ;;
     *)
         if [[ $word == -* ]]; then

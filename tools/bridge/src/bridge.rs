@@ -14,7 +14,6 @@ use crate::frames::{Address, Frame, FrameType};
 use crate::gathering::Gathering;
 use crate::log::{self, Level};
 use crate::operating::{Errand, Operating};
-use crate::own_frames::is_null_of_network;
 use crate::poller::{Poller, Ready, Token};
 use crate::program::{Feeder, Program};
 use crate::radiotap::reception;
@@ -492,7 +491,7 @@ impl<P: Port, C: io::Read + std::os::unix::io::AsRawFd> Bridge<P, C> {
             self.send()?;
         }
         if let Some(running) = &mut self.running {
-            let awaits = running.sender.due().is_some();
+            let awaits = running.sender.awaits_outcomes();
             match running.sender.acknowledged() {
                 Some(port) if awaits != running.awaits_acknowledged => {
                     self.poller.change(port.descriptor(), Token::Acknowledged, awaits, false)?;
@@ -586,6 +585,7 @@ impl<P: Port, C: io::Read + std::os::unix::io::AsRawFd> Bridge<P, C> {
     fn send(&mut self) -> Result<(), Fault> {
         let reads = self.phase == Phase::Running;
         if let Some(running) = self.running.as_mut().filter(|running| !running.sender.is_idle()) {
+            running.sender.flush_beacons();
             let while_it_is = if reads { running.sends_while(self.time) } else { 0..Nanos::MAX };
             for (token, descriptor, is_blocked) in running.flush(self.time, while_it_is) {
                 self.poller.change(descriptor, token, reads, is_blocked)?;
@@ -602,6 +602,7 @@ impl<P: Port, C: io::Read + std::os::unix::io::AsRawFd> Bridge<P, C> {
             self.phase = Phase::Ending;
         }
         if let Some(running) = &mut self.running {
+            running.sender.end();
             running.stop_reading(&self.poller)?;
             // The socket is tools/live's too, and would be waited for even once it was closed here.
             if let Some(clients) = self.clients.take() {
@@ -706,7 +707,7 @@ impl<P: Port> Running<P> {
     fn run(&mut self, errands: Vec<Errand>, time: Nanos) {
         for errand in errands {
             match errand {
-                Errand::Send { place, frame, retries } => self.sender.send_own(place, &frame, retries, time),
+                Errand::Send { place, frame, retries } => self.sender.send_own(place, frame, retries, time),
                 Errand::Say(octets) => self.waiting.push(AIR, Waiter { flow: None, arrived: time, octets }),
             }
         }
@@ -766,10 +767,10 @@ impl<P: Port> Running<P> {
         let mut found: Named =
             waiting.map(|(source, reason, number)| (format!("{}: {reason}", self.interface(source)), number)).collect();
         found.extend(self.sender.counts().into_iter().filter(|(what, _)| !what.starts_with("sent ")));
-        for exit in self.sender.exits() {
-            let number = exit.port.count_dropped();
+        for gate in self.sender.gates() {
+            let number = gate.port.count_dropped();
             if number > 0 {
-                found.insert(format!("{}: dropped by the kernel", exit.port.interface()), number);
+                found.insert(format!("{}: dropped by the kernel", gate.port.interface()), number);
             }
         }
         found
@@ -857,9 +858,7 @@ impl<P: Port> Running<P> {
                 self.leave_out(AIR, LeftOut::Sent);
                 self.see_sent(frame);
                 self.operating.shown(frame, outcome, arrived);
-                if !is_null_of_network(frame) {
-                    self.sender.shown(frame, outcome, arrived);
-                }
+                self.sender.shown(frame, outcome, arrived);
             }
             Judged::GoesOn(frame) => {
                 self.sender.heard(frame);
@@ -941,10 +940,10 @@ impl<P: Port> Running<P> {
         let networks = self.networks.iter().enumerate();
         let wires = networks.filter(|(_, network)| network.wire.is_some()).map(|(place, _)| Token::Wire(place));
         let mut changed = Vec::new();
-        for (token, exit) in std::iter::once(Token::Monitor).chain(wires).zip(self.sender.exits()) {
-            if exit.is_blocked() != exit.is_waited_for() {
-                exit.set_waited_for(exit.is_blocked());
-                changed.push((token, exit.port.descriptor(), exit.is_blocked()));
+        for (token, gate) in std::iter::once(Token::Monitor).chain(wires).zip(self.sender.gates()) {
+            if !gate.is_settled() {
+                gate.set_waited_for(gate.is_blocked());
+                changed.push((token, gate.port.descriptor(), gate.is_blocked()));
             }
         }
         changed
@@ -961,9 +960,9 @@ impl<P: Port> Running<P> {
                 poller.change(wire.port.descriptor(), Token::Wire(place), false, false)?;
             }
         }
-        self.sender.exits().for_each(|exit| {
-            exit.unblock();
-            exit.set_waited_for(false);
+        self.sender.gates().for_each(|gate| {
+            gate.unblock();
+            gate.set_waited_for(false);
         });
         Ok(())
     }
@@ -1016,8 +1015,8 @@ impl<P: Port> Running<P> {
         for (what, number) in self.sender.counts() {
             tell(format!("{number} frames {what}"));
         }
-        for exit in self.sender.exits() {
-            let (number, interface) = (exit.port.count_dropped(), exit.port.interface());
+        for gate in self.sender.gates() {
+            let (number, interface) = (gate.port.count_dropped(), gate.port.interface());
             if number > 0 {
                 tell(format!(
                     "{number} frames dropped by the kernel at {interface}: this machine was too slow for them"
@@ -1114,7 +1113,7 @@ done
 "#;
     const ANSWER: &str = "b000000002aa000000010200000001010200000001011000000002000000";
 
-    /// A port in place of a packet socket. A radio's shows the beacons that are sent by it, where `shows` says so.
+    /// A port in place of a packet socket. A radio's shows the frames that are sent by it, where `shows` says so.
     struct FakePort {
         interface: &'static str,
         near: UnixDatagram,
@@ -1142,7 +1141,7 @@ done
             for frame in frames {
                 thread::sleep(self.takes);
                 self.sent.lock().unwrap().push(frame.to_vec());
-                if self.shows && frame.get(sending_header(2, 0).len()) == Some(&super::BEACON) {
+                if self.shows {
                     self.far.send(frame)?;
                 }
             }
@@ -1155,6 +1154,18 @@ done
 
         fn count_dropped(&mut self) -> u64 {
             0
+        }
+
+        fn unsent(&self) -> io::Result<usize> {
+            Ok(0)
+        }
+    }
+
+    impl FakePort {
+        /// One of the same interface.
+        fn beside(&self) -> FakePort {
+            let (near, far) = (self.near.try_clone().unwrap(), self.far.try_clone().unwrap());
+            FakePort { near, far, sent: Arc::clone(&self.sent), ..*self }
         }
     }
 
@@ -1260,7 +1271,8 @@ done
         let mut ports = Some(ports);
         bridge.serve(|| {
             let (monitor, wire) = ports.take().unwrap();
-            Ok(Sender::new(networks.clone(), monitor, vec![Some(wire)]))
+            let beacons = monitor.beside();
+            Ok(Sender::new(networks.clone(), monitor, beacons, vec![Some(wire)]))
         })
     }
 
@@ -1373,7 +1385,8 @@ done
         }
     }
 
-    /// Where hundreds of frames wait to be sent, each beacon goes before them.
+    /// Where hundreds of frames wait to be sent, each beacon goes before them; those of which nobody is left to wait for
+    /// them are dropped.
     #[test]
     fn what_waits_to_be_sent_does_not_keep_beacons() {
         let answers = format!("for n in {{1..80}}; do echo 'air 02:00:00:00:01:01 {ANSWER}'; done");
@@ -1390,8 +1403,8 @@ done
         let sent = stage.sent.lock().unwrap().clone();
         let beacon = [&sending_header(2, 0)[..], &hex::decode(BEACON).unwrap()].concat();
         let between: Vec<usize> = sent.split(|frame| *frame == beacon).map(<[_]>::len).collect();
-        assert_eq!(between.iter().sum::<usize>(), 640);
-        assert!(between.iter().all(|frames| *frames < 400), "{between:?}");
+        assert!((20..=640).contains(&between.iter().sum::<usize>()), "{between:?}");
+        assert!(between.len() > 10 && between.iter().all(|frames| *frames < 110), "{between:?}");
     }
 
     #[test]

@@ -1,5 +1,5 @@
 //! The filter that the kernel applies to what the monitor interface hears, before the bridge reads it (classic BPF): it
-//! keeps out control frames but PS-Poll, what is for no network, and what this radio sent to groups. What it can't read
+//! keeps out control frames but PS-Poll, what is for no network, and beacons that this radio sent. What it can't read
 //! goes on, and is judged as ever.
 //!
 //! Frames that were acknowledged come by a socket of their own, which wakes nobody: its filter lets through those alone
@@ -7,15 +7,16 @@
 use libc::sock_filter;
 
 use crate::frames::Address;
+use crate::sending::BEACON;
 
 /// What is done with the frames that the radio shows as sent.
 #[derive(Debug, Clone, Copy, PartialEq, Eq)]
 pub enum Shown {
     /// They come, by which it is seen that the radio sends.
     All,
-    /// Those to one receiver come, cut after their addresses: what became of them is learned.
+    /// All but beacons come, cut after their addresses: what became of them is learned.
     Outcomes,
-    /// Of those to one receiver come the ones that `acknowledged_filter` doesn't let through.
+    /// Of these come the ones that `acknowledged_filter` doesn't let through.
     Failures,
 }
 
@@ -71,13 +72,13 @@ pub fn monitor_filter(bssids: &[Address], shown: Shown) -> Vec<sock_filter> {
     filter
 }
 
-/// The filter of the socket by which frames come that were sent to one receiver and acknowledged, cut after their
-/// addresses.
+/// The filter of the socket by which frames come that were sent, and acknowledged where that was awaited, cut after
+/// their addresses.
 pub fn acknowledged_filter() -> Vec<sock_filter> {
     let mut filter =
         vec![plain(LOAD_OCTET, SECOND_PRESENT_OCTET), jump(IF_ANY_BIT, TX_FLAGS_BIT, 1, 0), returned(NONE)];
     filter.extend(read_lengths(NONE));
-    filter.extend(of_groups());
+    filter.extend(of_beacons());
     filter.extend(of_outcomes(OUTCOME_LEN, NONE));
     filter
 }
@@ -118,8 +119,8 @@ fn read_lengths(odd: u32) -> Vec<sock_filter> {
 fn of_those_sent(shown: Shown) -> Vec<sock_filter> {
     let of_them = match shown {
         Shown::All => vec![returned(ALL)],
-        Shown::Outcomes => [of_groups(), vec![returned(OUTCOME_LEN)]].concat(),
-        Shown::Failures => [of_groups(), of_outcomes(NONE, OUTCOME_LEN)].concat(),
+        Shown::Outcomes => [of_beacons(), vec![returned(OUTCOME_LEN)]].concat(),
+        Shown::Failures => [of_beacons(), of_outcomes(NONE, OUTCOME_LEN)].concat(),
     };
     let mut filter =
         vec![plain(LOAD_OCTET, SECOND_PRESENT_OCTET), jump(IF_ANY_BIT, TX_FLAGS_BIT, 0, of_them.len() as u8)];
@@ -127,9 +128,9 @@ fn of_those_sent(shown: Shown) -> Vec<sock_filter> {
     filter
 }
 
-/// Frames to groups are kept out.
-fn of_groups() -> Vec<sock_filter> {
-    vec![plain(LOAD_OCTET_AT_X, RECEIVER_AT), jump(IF_ANY_BIT, 1, 0, 1), returned(NONE)]
+/// Beacons are kept out: what becomes of them is of no use.
+fn of_beacons() -> Vec<sock_filter> {
+    vec![plain(LOAD_OCTET_AT_X, 0), jump(IF_EQUAL, u32::from(BEACON), 0, 1), returned(NONE)]
 }
 
 /// Whether a frame that was sent was acknowledged, by a header that names no fields before the flags but the rate; other
@@ -251,7 +252,8 @@ mod tests {
     #[test]
     fn what_this_radio_sent_comes_as_long_as_it_is_asked_for() {
         let unit = Unit { transmitter: OURS, receiver: STRANGER, ..Unit::default() }.octets();
-        let beacon = Unit { transmitter: OURS, receiver: Address::BROADCAST, ..Unit::default() }.octets();
+        let beacon =
+            Unit { control: [BEACON, 0], transmitter: OURS, receiver: Address::BROADCAST, ..Unit::default() }.octets();
         for (asked, of_unit, of_beacon) in
             [(Shown::All, ALL, ALL), (Shown::Outcomes, OUTCOME_LEN, NONE), (Shown::Failures, OUTCOME_LEN, NONE)]
         {
@@ -280,7 +282,9 @@ mod tests {
         assert_eq!(sent(1 << 1 | 1 << 15, &[0, 0, 0, 0]), wakes);
         assert_eq!(sent(1 << 3 | 1 << 15, &[0; 6]), wakes);
         assert_eq!(sent(1 << 15 | 1 << 31, &[0; 8]), wakes);
-        let beacon = Unit { transmitter: OURS, receiver: Address::BROADCAST, ..Unit::default() }.octets();
+        let group = Unit { transmitter: OURS, receiver: Address::BROADCAST, ..Unit::default() };
+        assert_eq!(both(&radiotap(&group.octets(), 1 << 15, &[0, 0])), is_quiet);
+        let beacon = Unit { control: [BEACON, 0], ..group }.octets();
         assert_eq!(both(&radiotap(&beacon, 1 << 15, &[0, 0])), (NONE, NONE));
         for packet in [&heard(&data())[..], &[], &[0; 7], &[0, 0, 8, 0, 0, 0x80, 0, 0], &shown(&unit)[..14]] {
             assert_eq!(kept(&quiet, packet), NONE, "{packet:?}");
@@ -318,7 +322,7 @@ mod tests {
             let wanted = match Air::new([OURS, OTHER]).judge(&packet, false, false) {
                 Judged::LeftOut(LeftOut::Controls | LeftOut::Others) => NONE,
                 Judged::Sent(frame, _) if frame.len() < LEAST as usize => ALL,
-                Judged::Sent(frame, _) if frame[RECEIVER_AT as usize] & 1 != 0 => NONE,
+                Judged::Sent(frame, _) if frame[0] == BEACON => NONE,
                 Judged::Sent(..) => OUTCOME_LEN,
                 _ => ALL,
             };

@@ -11,19 +11,23 @@
 //!                                                                              ▲         │                │
 //!  the clock, `tables` of tools/live ──────────────────────────────────────────┘         │                │
 //!                                                                                        │                │
-//!  mon0 ◀──┐                                                                             │                │
-//!  wire1 ◀─┼─ sendmmsg ◀─────── sending: a line for each interface, in order; ◀═════════ │                │
-//!  wire2 ◀─┘  8 at most a call     for the air stations: at which rate,         Answers  └────────────────┘
-//!  mon0 ───▶ what became of it ──▶ and again where it is lost
+//!  wire1 ◀─┬─ sendmmsg ◀─────── sending: each wire in order;         ◀════════════════════ │                │
+//!  wire2 ◀─┘  8 at most a call                                                  Answers  │                │
+//!  mon0 ◀──── beacons, at once ◀─ transmitting                                           └────────────────┘
+//!  mon0 ◀──── as much as the  ◀── shares: whose turn it is, of the networks and of a network's receivers
+//!             radio sends in      stations: at which rate, and again where it is lost
+//!             8 milliseconds  ◀── flight: what the radio has at once
+//!  mon0 ───▶ what became of it ─▶ corrects the shares
 //!  people ◀──────────────────── lines of tables and faults
 //! ```
 //!
 //! It promises: frames of the air stay in their order, and frames of each wire; the same holds of what is sent by each
 //! wire, and on the air to each receiver. A unit that nobody acknowledged is sent once more, if none went to its
 //! station since. Each frame that comes is given to the program once, or counted as left out or dropped, but for what
-//! the kernel's filter keeps out: control frames, frames for no network, and those that this radio sent to groups. A
-//! beginning of a beacon interval waits for none of the frames that wait, and a beacon is sent before all that waits
-//! for single stations. All memory is bounded. One thread does all by `epoll`, and waits nowhere else but for its ends
+//! the kernel's filter keeps out: control frames, and frames for no network. A beginning of a beacon interval waits for
+//! none of the frames that wait. A beacon goes before all that waits, group frames of its network included; what the
+//! program sends after a beacon never goes before it. While a network has frames waiting for the air, no other one gets
+//! more than its share of it and one frame (`shares`). All memory is bounded. One thread does all by `epoll`, and waits nowhere else but for its ends
 //! of standard error and the record, and where many frames come for a millisecond at most, in which some gather
 //! (`gathering`).
 //!
@@ -38,6 +42,7 @@
 //! it tells the program that the station left. It answers who connects to its socket (`clients`).
 #![deny(unsafe_code)]
 
+mod airtime;
 mod bridge;
 mod clients;
 mod control;
@@ -45,6 +50,7 @@ mod digits;
 mod faces;
 mod faults;
 mod filter;
+mod flight;
 mod frames;
 mod gathering;
 mod hashing;
@@ -63,12 +69,14 @@ mod roster;
 #[cfg(test)]
 mod samples;
 mod sending;
+mod shares;
 mod silence;
 mod sockets;
 mod stations;
 mod status;
 mod tables;
 mod time;
+mod transmitting;
 mod waiting;
 mod words;
 
@@ -136,9 +144,9 @@ fn open(words: &Words) -> Result<Sender<PacketSocket>, Fault> {
     let wires = words.networks.iter().map(|network| network.wire.as_deref().map(open_wire).transpose());
     let wires = wires.collect::<Result<_, Fault>>()?;
     let monitor = open_port(&words.monitor, AIR_ROOM)?;
-    let acknowledged = PacketSocket::open(&words.monitor, AIR_ROOM, Some(&nothing_filter()));
-    let acknowledged = acknowledged.map_err(no_socket(&words.monitor))?;
-    Ok(Sender::new(words.networks.clone(), monitor, wires).with_acknowledged(acknowledged))
+    let beacons = open_quiet(&words.monitor)?;
+    let acknowledged = open_quiet(&words.monitor)?;
+    Ok(Sender::new(words.networks.clone(), monitor, beacons, wires).with_acknowledged(acknowledged))
 }
 
 /// A wire is heard whole: frames for any receiver.
@@ -146,6 +154,11 @@ fn open_wire(name: &str) -> Result<PacketSocket, Fault> {
     let wire = open_port(name, WIRE_ROOM)?;
     wire.hear_all().map_err(|fault| Fault::of(name, &fault))?;
     Ok(wire)
+}
+
+/// A socket that hears nothing yet.
+fn open_quiet(name: &str) -> Result<PacketSocket, Fault> {
+    PacketSocket::open(name, AIR_ROOM, Some(&nothing_filter())).map_err(no_socket(name))
 }
 
 fn open_port(name: &str, room: i32) -> Result<PacketSocket, Fault> {

@@ -4,11 +4,11 @@ use crate::faces::{Answer, Answers, Face};
 use crate::filter::{monitor_filter, Shown};
 use crate::frames::{is_tagged, Address, Frame, MOST};
 use crate::operating::{Errand, Operating};
-use crate::radiotap::{captured, reception, Outcome};
+use crate::radiotap::{captured, reception, Outcome, SENDING_LEN};
 use crate::receiving::{judge_wired, Air, Judged};
-use crate::samples::{data, network, radiotap, Seeded, Unit, OTHER, OURS, STATION};
-use crate::sending::Network;
-use crate::stations::{Stations, MOST_WAIT};
+use crate::samples::{data, network, radiotap, Recorder, Seeded, Unit, OTHER, OURS, STATION};
+use crate::sending::{Counts, Network, BEACON};
+use crate::transmitting::Transmitter;
 
 const INPUTS: usize = 1_000_000;
 
@@ -149,49 +149,61 @@ fn read(face: Face, octets: &[u8], length: usize) -> (Vec<Answer>, bool) {
     (found, false)
 }
 
-/// Whatever is heard, sent and told, what goes to stations is what was sent, perhaps once more, and none waits for ever.
+/// Whatever is heard, sent and told, what goes on the air is what was sent, perhaps once more, or is counted as not sent,
+/// and none waits for ever.
 #[test]
-fn the_way_to_stations() {
+fn the_way_to_the_air() {
     let body = [&[0; 4][..], &[1, 4, 0x82, 0x84, 0x0b, 12, 50, 1, 108]].concat();
+    let to = |control: u8, receiver: Address, transmitter: Address| {
+        Unit { control: [control, 0], receiver, transmitter, body: vec![0; 6], ..Unit::default() }.octets()
+    };
     let good = vec![
         Unit { control: [0, 0], body, ..Unit::default() }.octets(),
-        Unit { control: [0x10, 0], receiver: STATION, transmitter: OURS, body: vec![0; 6], ..Unit::default() }.octets(),
-        Unit { receiver: STATION, transmitter: OURS, ..Unit::default() }.octets(),
+        to(0x10, STATION, OURS),
+        to(0x08, STATION, OURS),
+        to(0x08, Address::BROADCAST, OTHER),
+        to(0x50, STATION, OTHER),
     ];
-    let networks = [Network { rates: vec![0x82, 0x84, 12, 108], ..network(OURS) }];
-    let (mut seeded, mut stations, mut time) = (Seeded(5), Stations::new(&networks), 0);
-    let (mut sent, mut ready, mut again) = (0u64, 0, 0);
+    let networks = [Network { rates: vec![0x82, 0x84, 12, 108], ..network(OURS) }, network(OTHER)];
+    let (mut seeded, mut time) = (Seeded(5), 0);
+    let mut air = Transmitter::new(&networks, Recorder::default(), Recorder::default());
+    let (mut given, mut again, mut beacons, mut counts) = (0u64, 0u64, 0u64, Counts::new());
     for _ in 0..INPUTS / 2 {
         let mut octets = mutated(&mut seeded, &good);
-        time += seeded.below(1 << 20) as u64;
-        match seeded.below(3) {
-            0 => drop(Frame::of(&octets).map(|frame| stations.hear(frame))),
+        let place = seeded.below(2);
+        time += seeded.below(1 << 21) as u64;
+        match seeded.below(4) {
+            0 => drop(Frame::of(&octets).map(|frame| air.heard(place, frame))),
             1 => {
                 octets.truncate(MOST);
-                sent += 1;
-                stations.send(octets, time);
+                let is_beacon = octets.first() == Some(&BEACON);
+                *(if is_beacon { &mut beacons } else { &mut given }) += 1;
+                air.send(place, octets, time);
             }
             _ => {
                 let rate = [None, Some(2), Some(12), Some(108)][seeded.below(4)];
                 let (is_acknowledged, retries) = (seeded.below(2) == 0, seeded.number() as u8);
-                stations.told(&octets, Outcome { is_acknowledged, retries, rate }, time);
+                air.told(place, &octets, Outcome { is_acknowledged, retries, rate }, time);
             }
         }
         if seeded.below(50) == 0 {
-            stations.expire(time);
+            air.expire(time);
         }
-        while let Some(next) = stations.pop() {
-            ready += 1;
-            again += u64::from(next.frame.get(1).map_or(false, |flags| flags & 0x08 != 0));
-        }
+        air.flush_beacons(&mut counts);
+        air.flush(time, u64::MAX, &mut counts);
+        let sent = &mut air.gate().port.sent;
+        again +=
+            sent.drain(..).filter(|packet| packet.get(SENDING_LEN + 1).map_or(false, |f| f & 0x08 != 0)).count() as u64;
     }
-    stations.expire(time + MOST_WAIT);
-    while let Some(due) = stations.due() {
-        stations.expire(due);
+    air.end();
+    while let Some(due) = air.due() {
+        air.expire(due);
+        air.flush(due, u64::MAX, &mut counts);
     }
-    ready += std::iter::from_fn(|| stations.pop()).count() as u64;
-    assert_eq!(ready, sent + stations.unacknowledged().again);
-    assert!(again > 1000, "{again}");
+    let unsent: u64 = air.accounts().iter().flat_map(|account| account.unsent.values()).sum();
+    assert_eq!(air.sent() - beacons + unsent, given + air.unacknowledged().again);
+    assert!(again > 1000 && air.is_idle(), "{again}");
+    assert!(air.accounts().iter().all(|account| account.waiting == 0));
 }
 
 /// Whatever is heard, answered and told, the bridge sends frames of its networks to stations, and says departures.

@@ -1,6 +1,12 @@
-//! Frames that several tests use.
+//! Frames that several tests use, and a port that keeps what is sent by it.
+use std::io;
+use std::os::unix::io::RawFd;
+
+use libc::sock_filter;
+
 use crate::frames::Address;
 use crate::sending::Network;
+use crate::sockets::{Batch, Port};
 
 pub const OURS: Address = Address::of([2, 0, 0, 0, 1, 1]);
 pub const OTHER: Address = Address::of([2, 0, 0, 0, 1, 2]);
@@ -9,7 +15,7 @@ pub const STRANGER: Address = Address::of([2, 0xbb, 0, 0, 0, 1]);
 
 /// A network of this address, without a wire.
 pub fn network(bssid: Address) -> Network {
-    Network { bssid, rates: vec![0x82], max_known: 100, wire: None }
+    Network { bssid, rates: vec![0x82], max_known: 100, wire: None, weight: 1 }
 }
 
 /// A frame with a header of three addresses: of data from a station to one of our networks unless said otherwise.
@@ -71,5 +77,55 @@ impl Seeded {
     /// A number below this one.
     pub fn below(&mut self, most: usize) -> usize {
         (self.number() % most.max(1) as u64) as usize
+    }
+}
+
+/// A port that keeps what is sent by it, or refuses it.
+#[derive(Debug, Default)]
+pub struct Recorder {
+    pub sent: Vec<Vec<u8>>,
+    /// How many frames it has room for, if not for all.
+    pub room: Option<usize>,
+    /// How long a frame may be.
+    pub longest: Option<usize>,
+    /// The octets that it hasn't sent yet.
+    pub unsent: usize,
+}
+
+impl Port for Recorder {
+    fn descriptor(&self) -> RawFd {
+        -1
+    }
+
+    fn interface(&self) -> &str {
+        "mon0"
+    }
+
+    fn receive(&mut self, _: &mut Batch) -> io::Result<usize> {
+        Ok(0)
+    }
+
+    fn send(&mut self, frames: &[&[u8]]) -> io::Result<usize> {
+        let long = frames.iter().position(|frame| self.longest.map_or(false, |most| frame.len() > most));
+        let fitting = frames.len().min(self.room.unwrap_or(usize::MAX)).min(long.unwrap_or(usize::MAX));
+        if fitting == 0 {
+            let number = if long == Some(0) { libc::EMSGSIZE } else { libc::EAGAIN };
+            return Err(io::Error::from_raw_os_error(number));
+        }
+        self.room = self.room.map(|room| room - fitting);
+        self.sent.extend(frames[..fitting].iter().map(|frame| frame.to_vec()));
+        Ok(fitting)
+    }
+
+    fn set_filter(&mut self, _: &[sock_filter]) -> io::Result<()> {
+        Ok(())
+    }
+
+    fn count_dropped(&mut self) -> u64 {
+        0
+    }
+
+    fn unsent(&self) -> io::Result<usize> {
+        Ok(self.unsent)
     }
 }

@@ -80,6 +80,8 @@ pub trait Port {
     fn set_filter(&mut self, filter: &[sock_filter]) -> io::Result<()>;
     /// How many packets the kernel has dropped here so far, since nobody read them.
     fn count_dropped(&mut self) -> u64;
+    /// How many octets the interface was given and hasn't sent yet, what the kernel keeps beside them included.
+    fn unsent(&self) -> io::Result<usize>;
 }
 
 /// A socket that hears all of an interface and sends whole frames by it.
@@ -167,6 +169,10 @@ impl Port for PacketSocket {
         }
         self.dropped
     }
+
+    fn unsent(&self) -> io::Result<usize> {
+        number_of(self.descriptor(), libc::TIOCOUTQ)
+    }
 }
 
 /// The number of an interface.
@@ -204,9 +210,14 @@ fn attach(socket: &OwnedFd, filter: &[sock_filter]) -> io::Result<()> {
 
 /// How many octets of a pipe wait to be read.
 pub fn octets_in_pipe(pipe: RawFd) -> io::Result<usize> {
+    number_of(pipe, libc::FIONREAD)
+}
+
+/// The number that a request by ioctl(2) answers, for one of those that write one number.
+fn number_of(descriptor: RawFd, request: libc::c_ulong) -> io::Result<usize> {
     let mut found: c_int = 0;
     // SAFETY: the kernel writes one number.
-    unsafe { checked(libc::ioctl(pipe, libc::FIONREAD, &mut found as *mut c_int))? };
+    unsafe { checked(libc::ioctl(descriptor, request, &mut found as *mut c_int))? };
     Ok(found.max(0) as usize)
 }
 

@@ -7,11 +7,12 @@ use std::str::FromStr;
 use crate::faces::Face;
 use crate::frames::Address;
 use crate::sending::Network;
+use crate::shares::MOST_WEIGHT;
 
 /// How it is called.
 pub const USAGE: &str = "bridge --face text|octets --phy NAME --channel NUMBER --monitor NAME --interval UNITS \
                          [--idle SECONDS] [--socket DESCRIPTOR] [--alive] [--record FILE] \
-                         --network BSSID/RATES/KNOWN[/WIRE]... PROGRAM CONFIG";
+                         --network BSSID/RATES/KNOWN/SHARE[/WIRE]... PROGRAM CONFIG";
 
 /// What the words ask for.
 #[derive(Debug, Clone, PartialEq, Eq)]
@@ -56,6 +57,7 @@ impl fmt::Display for NotWords {
 const IDLE: u32 = 300;
 /// The descriptors below are standard input, output and error.
 const FIRST_DESCRIPTOR: RawFd = 3;
+const WEIGHTS: RangeInclusive<u8> = 1..=MOST_WEIGHT;
 
 impl Words {
     /// Reads them.
@@ -120,10 +122,13 @@ fn read_network(text: &str) -> Result<Network, NotWords> {
     let bssid: Option<Address> = parts.next().and_then(|part| part.parse().ok());
     let rates = parts.next().and_then(|part| hex::decode(part).ok()).filter(|rates| !rates.is_empty());
     let max_known: Option<u16> = parts.next().and_then(|part| part.parse().ok()).filter(|number| *number > 0);
+    let weight: Option<u8> = parts.next().and_then(|part| part.parse().ok()).filter(|weight| WEIGHTS.contains(weight));
     let wire = parts.next().map(str::to_owned);
-    match (bssid, rates, max_known, parts.next()) {
-        (Some(bssid), Some(rates), Some(max_known), None) => Ok(Network { bssid, rates, max_known, wire }),
-        _ => Err(NotWords(format!("{text} is no BSSID/RATES/KNOWN[/WIRE]"))),
+    match (bssid, rates, max_known, weight, parts.next()) {
+        (Some(bssid), Some(rates), Some(max_known), Some(weight), None) => {
+            Ok(Network { bssid, rates, max_known, wire, weight })
+        }
+        _ => Err(NotWords(format!("{text} is no BSSID/RATES/KNOWN/SHARE[/WIRE]"))),
     }
 }
 
@@ -133,8 +138,8 @@ mod tests {
     use crate::samples::{OTHER, OURS};
 
     const GOOD: &str = "--face octets --phy phy0 --channel 6 --monitor mon0 --interval 100 --idle 60 --socket 5 \
-                        --alive --record r --network 02:00:00:00:01:01/8284/256/wire1 --network \
-                        02:00:00:00:01:02/16/10000 apctl config";
+                        --alive --record r --network 02:00:00:00:01:01/8284/256/1/wire1 --network \
+                        02:00:00:00:01:02/16/10000/16 apctl config";
 
     fn read(text: &str) -> Result<Words, NotWords> {
         Words::read(text.split_whitespace().map(str::to_owned))
@@ -143,8 +148,8 @@ mod tests {
     #[test]
     fn good_words_are_read() {
         let networks = vec![
-            Network { bssid: OURS, rates: vec![0x82, 0x84], max_known: 256, wire: Some("wire1".into()) },
-            Network { bssid: OTHER, rates: vec![0x16], max_known: 10_000, wire: None },
+            Network { bssid: OURS, rates: vec![0x82, 0x84], max_known: 256, wire: Some("wire1".into()), weight: 1 },
+            Network { bssid: OTHER, rates: vec![0x16], max_known: 10_000, wire: None, weight: 16 },
         ];
         let wanted = Words {
             face: Face::Octets,
@@ -183,8 +188,11 @@ mod tests {
             ("8284", "82g4"),
             ("256", "0"),
             ("256", "x"),
-            ("256/wire1", ""),
-            ("/10000", ""),
+            ("256/1/wire1", ""),
+            ("/10000/16", ""),
+            ("10000/16", "10000"),
+            ("10000/16", "10000/17"),
+            ("256/1/", "256/0/"),
             ("01:01", "01"),
             ("wire1", "a/b"),
             ("apctl config", "apctl"),

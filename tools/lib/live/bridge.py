@@ -65,9 +65,10 @@ class Signals:
             pass
 
 
-def network_word(network: Network, wires: dict[bytes, str]) -> str:
+def network_word(network: Network, wires: dict[bytes, str], shares: dict[bytes, int]) -> str:
     """What the bridge is told of a network."""
-    parts = [address_text(network.bssid), network.rates.hex(), str(network.max_known)]
+    parts = [address_text(network.bssid), network.rates.hex(), str(network.max_known),
+             str(shares.get(network.bssid, 1))]
     return "/".join(parts + [wires[network.bssid]] if network.bssid in wires else parts)
 
 
@@ -82,7 +83,7 @@ def words_of(wanted: Wanted, plan: Plan, descriptor: int, tells_alive: bool) -> 
     if wanted.record is not None:
         words += ["--record", wanted.record]
     for network in settings.networks:
-        words += ["--network", network_word(network, dict(plan.wires))]
+        words += ["--network", network_word(network, dict(plan.wires), dict(plan.shares))]
     return [*words, wanted.program, wanted.config]
 
 

@@ -19,6 +19,8 @@ from live.settings import MOST_EVENTS, Settings, read_settings
 from live.telling import tell
 
 Wires = tuple[tuple[bytes, str], ...]
+Shares = tuple[tuple[bytes, int], ...]
+MOST_WEIGHT = 16
 MOST_NAME = 15
 COUNTRY_SECONDS = 3.0
 LOCAL = "127.0.0.1"
@@ -31,7 +33,8 @@ CARGO, PACKAGES = "/usr/bin/cargo", "cargo librust-hex-dev librust-libc-dev libr
 @dataclass(frozen=True)
 class Wanted:
     """What the words ask for; `wires` are pairs of a BSSID and an interface, and more of them stand in the file
-    `wires_file`. Stations of which nothing was heard for `idle` seconds are asked, with 0 nobody is."""
+    `wires_file`; `shares` are pairs of a BSSID and the weight of its share of the air, which is 1 of all others. Stations
+    of which nothing was heard for `idle` seconds are asked, with 0 nobody is."""
 
     config: str
     program: str
@@ -45,6 +48,7 @@ class Wanted:
     country: str | None = None
     wires_file: str | None = None
     status: int | None = None
+    shares: Shares = ()
 
     def network_interface(self, place: int) -> str:
         """The interface that stands for the network of this place, so that the radio acknowledges what comes to it."""
@@ -53,12 +57,13 @@ class Wanted:
 
 @dataclass(frozen=True)
 class Plan:
-    """What is to be served: the settings of a configuration in which no fault was found, the wires, and how the program
-    is spoken to."""
+    """What is to be served: the settings of a configuration in which no fault was found, the wires, how the program is
+    spoken to, and the weights of shares of the air."""
 
     settings: Settings
     wires: Wires
     face: str
+    shares: Shares = ()
 
 
 def check(wanted: Wanted, made: Changes, stack: ExitStack) -> Plan:
@@ -69,19 +74,24 @@ def check(wanted: Wanted, made: Changes, stack: ExitStack) -> Plan:
     settings = check_config(wanted)
     wires = wanted.wires + read_wires(wanted.wires_file)
     check_wires(wanted, settings, wires)
+    check_shares(wanted, settings)
     check_port(wanted.status)
     check_record(wanted, settings)
     check_radio(wanted, settings, made, stack)
-    return Plan(settings, wires, face_of(wanted))
+    return Plan(settings, wires, face_of(wanted), wanted.shares)
 
 
 def check_again(wanted: Wanted, before: Plan) -> Plan:
-    """The plan of a configuration that is read again while a bridge runs; nothing is changed. A wire of the words whose
-    network is there no more is told, and not used."""
+    """The plan of a configuration that is read again while a bridge runs; nothing is changed. A wire or a share of the
+    words whose network is there no more is told, and not used."""
     settings = check_config(wanted)
     known = [(bssid, name) for bssid, name in wanted.wires if bssid in settings.bssids]
     for bssid, name in set(wanted.wires) - set(known):
         tell(f"--wire {address_text(bssid)}={name}: no network has this BSSID any more: this wire isn't used")
+    shares = tuple((bssid, weight) for bssid, weight in wanted.shares if bssid in settings.bssids)
+    for bssid, weight in wanted.shares:
+        if bssid not in settings.bssids:
+            tell(f"--share {address_text(bssid)}={weight}: no network has this BSSID any more: this share isn't used")
     wires = tuple(known) + read_wires(wanted.wires_file)
     check_wires(wanted, settings, wires)
     check_names(wanted, len(settings.networks))
@@ -90,7 +100,7 @@ def check_again(wanted: Wanted, before: Plan) -> Plan:
         if Interface(name).exists:
             raise Fault(f"{name}: there already, and not of this bridge")
     check_abilities(wanted.phy, read_phy(machine.run("iw", "phy", wanted.phy, "info")), settings)
-    return replace(before, settings=settings, wires=wires)
+    return replace(before, settings=settings, wires=wires, shares=shares)
 
 
 def check_rights() -> None:
@@ -147,6 +157,24 @@ def wire_of(text: str) -> tuple[bytes, str]:
     if not separator or not name:
         raise ValueError(f"{text} is no BSSID=INTERFACE")
     return address_of(bssid), name
+
+
+def share_of(text: str) -> tuple[bytes, int]:
+    """A share as `BSSID=WEIGHT`; ValueError where it is none."""
+    bssid, _, weight = text.partition("=")
+    if not (weight.isascii() and weight.isdigit() and 1 <= int(weight) <= MOST_WEIGHT):
+        raise ValueError(f"{text} is no BSSID=WEIGHT with a weight from 1 to {MOST_WEIGHT}")
+    return address_of(bssid), int(weight)
+
+
+def check_shares(wanted: Wanted, settings: Settings) -> None:
+    """Each share has to be of one network."""
+    bssids = [bssid for bssid, _ in wanted.shares]
+    for bssid, weight in wanted.shares:
+        if bssid not in settings.bssids:
+            raise Fault(f"--share {address_text(bssid)}={weight}: no network of {wanted.config} has this BSSID")
+        if bssids.count(bssid) > 1:
+            raise Fault(f"--share {address_text(bssid)}: this network has two shares")
 
 
 def read_wires(path: str | None) -> Wires:

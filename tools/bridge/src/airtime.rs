@@ -1,0 +1,140 @@
+//! How long a frame takes on the air of the 2.4 GHz band: what shares of the air are reckoned by.
+//!
+//! Times are those of IEEE Std 802.11-2016 (16.3.4 and 18.5.3.2; tables 15-4, 16-4 and 18-5), with long preambles and
+//! long slots. A try takes DIFS, half of its contention window, the frame, and SIFS with the acknowledgement where one
+//! is awaited. The window doubles with each try (10.3.3).
+use crate::time::Nanos;
+
+const MICROSECOND: Nanos = 1000;
+const SLOT: Nanos = 20 * MICROSECOND;
+const SIFS: Nanos = 10 * MICROSECOND;
+const DIFS: Nanos = SIFS + 2 * SLOT;
+const LONG_PREAMBLE: Nanos = 192 * MICROSECOND;
+const OFDM_PREAMBLE: Nanos = 20 * MICROSECOND;
+const OFDM_SYMBOL: Nanos = 4 * MICROSECOND;
+const SIGNAL_EXTENSION: Nanos = 6 * MICROSECOND;
+/// The service field and the tail, in bits.
+const OFDM_BITS: u64 = 16 + 6;
+const FCS_LEN: usize = 4;
+const ACK_LEN: usize = 14;
+/// The rates of DSSS and HR/DSSS in units of 500 kb/s; all others are of OFDM.
+const SPREAD: [u8; 4] = [2, 4, 11, 22];
+/// The mandatory rates of OFDM, at which acknowledgements are sent (10.7.6.5.2).
+const MANDATORY: [u8; 3] = [12, 24, 48];
+const LEAST_WINDOW: [u64; 2] = [15, 31];
+const MOST_WINDOW: u64 = 1023;
+/// After so many doublings no window is below the most.
+const DOUBLINGS: u32 = 6;
+
+/// A frame as the air sees it.
+#[derive(Debug, Clone, Copy, PartialEq, Eq)]
+pub struct Size {
+    /// Its octets, without the frame check sequence.
+    pub octets: usize,
+    /// In units of 500 kb/s.
+    pub rate: u8,
+    /// Whether its receiver acknowledges it.
+    pub is_acknowledged: bool,
+}
+
+impl Size {
+    /// How long so many tries take in all, on the average of what is drawn.
+    pub fn tries(self, number: u32) -> Nanos {
+        let once = DIFS + airtime(self.rate, self.octets) + self.acknowledgement();
+        (0..number).map(|try_number| once + backoff(self.rate, try_number)).sum()
+    }
+
+    /// How many tries fit into a time, and `least` where fewer do.
+    pub fn tries_within(self, most: Nanos, least: u8) -> u8 {
+        (least..u8::MAX).take_while(|number| self.tries(u32::from(number + 1)) <= most).last().map_or(least, |n| n + 1)
+    }
+
+    fn acknowledgement(self) -> Nanos {
+        if !self.is_acknowledged {
+            return 0;
+        }
+        let mandatory: &[u8] = if is_spread(self.rate) { &SPREAD } else { &MANDATORY };
+        let rate = mandatory.iter().copied().filter(|rate| *rate <= self.rate).max().unwrap_or(self.rate);
+        SIFS + airtime(rate, ACK_LEN - FCS_LEN)
+    }
+}
+
+/// How long a frame is on the air.
+fn airtime(rate: u8, octets: usize) -> Nanos {
+    let bits = 8 * (octets + FCS_LEN) as u64;
+    let rate = u64::from(rate.max(1));
+    if is_spread(rate as u8) {
+        return LONG_PREAMBLE + bits * 2 * MICROSECOND / rate;
+    }
+    let bits_of_symbol = 2 * rate;
+    let symbols = (OFDM_BITS + bits + bits_of_symbol - 1) / bits_of_symbol;
+    OFDM_PREAMBLE + OFDM_SYMBOL * symbols + SIGNAL_EXTENSION
+}
+
+/// How long is waited before a try, the first being 0: half of the window.
+fn backoff(rate: u8, try_number: u32) -> Nanos {
+    let least = LEAST_WINDOW[usize::from(is_spread(rate))];
+    let window = ((least + 1) << try_number.min(DOUBLINGS)).min(MOST_WINDOW + 1) - 1;
+    window * SLOT / 2
+}
+
+fn is_spread(rate: u8) -> bool {
+    SPREAD.contains(&rate)
+}
+
+#[cfg(test)]
+mod tests {
+    use super::*;
+    use crate::time::MILLISECOND;
+
+    fn size(octets: usize, rate: u8) -> Size {
+        Size { octets, rate, is_acknowledged: true }
+    }
+
+    #[test]
+    fn frames_take_as_long_as_the_standard_says() {
+        // 1,500 octets with the check sequence at 1 Mb/s: 192 and 12,000 microseconds.
+        assert_eq!(airtime(2, 1496), 12_192_000);
+        assert_eq!(airtime(22, 1496), 192_000 + 1_090_909);
+        // At 54 Mb/s 216 bits a symbol: 12,022 bits are 56 symbols. At 6 Mb/s 24 bits: 501.
+        assert_eq!(airtime(108, 1496), 20_000 + 56 * 4_000 + 6_000);
+        assert_eq!(airtime(12, 1496), 20_000 + 501 * 4_000 + 6_000);
+    }
+
+    #[test]
+    fn acknowledgements_are_sent_at_mandatory_rates() {
+        // At 24 Mb/s 134 bits are two symbols, at 6 Mb/s six.
+        assert_eq!(size(0, 108).acknowledgement(), 10_000 + 20_000 + 8_000 + 6_000);
+        assert_eq!(size(0, 18).acknowledgement(), 10_000 + 20_000 + 24_000 + 6_000);
+        assert_eq!(size(0, 2).acknowledgement(), 10_000 + 192_000 + 112_000);
+        assert_eq!(Size { is_acknowledged: false, ..size(0, 2) }.acknowledgement(), 0);
+    }
+
+    #[test]
+    fn a_try_takes_its_backoff_and_its_acknowledgement_too() {
+        // At 54 Mb/s: DIFS, 7.5 slots, 26 microseconds and 54 symbols, SIFS and the acknowledgement.
+        assert_eq!(size(1436, 108).tries(1), 50_000 + 150_000 + 242_000 + 44_000);
+        assert_eq!(Size { is_acknowledged: false, ..size(1436, 2) }.tries(1), 50_000 + 310_000 + 192_000 + 11_520_000);
+        assert_eq!(size(1436, 108).tries(0), 0);
+    }
+
+    #[test]
+    fn seven_tries_of_a_long_unit_fit_25_milliseconds_at_54_megabits_and_two_at_one() {
+        let most = 25_200 * MICROSECOND;
+        assert_eq!(size(1436, 108).tries_within(most, 2), 7);
+        assert_eq!(size(1436, 2).tries_within(most, 2), 2);
+        assert_eq!(size(2400, 2).tries_within(most, 2), 2);
+        assert_eq!(size(80, 2).tries_within(most, 2), 5);
+        assert!(size(1436, 108).tries(7) < 23 * MILLISECOND && size(1436, 2).tries(2) < 26 * MILLISECOND);
+    }
+
+    #[test]
+    fn each_rate_and_length_takes_a_time() {
+        for rate in 0..=u8::MAX {
+            for octets in [0, 10, 1500, 4096] {
+                assert!(size(octets, rate).tries(1) > DIFS);
+                assert!(size(octets, rate).tries_within(0, 2) == 2);
+            }
+        }
+    }
+}

@@ -1,0 +1,227 @@
+//! What the radio was given and hasn't told of yet, and whether it is given more: as much as it sends in some
+//! milliseconds.
+//!
+//! A frame that the radio has can't be overtaken by another network's. So what it has at once is bounded by the clock:
+//! by the last outcomes one knows how long the radio takes for what is reckoned, others' turns on the air included. One
+//! frame it always has. Nothing is sent or timed here.
+use std::collections::VecDeque;
+
+use crate::frames::Address;
+use crate::shares::Place;
+use crate::time::{Nanos, MILLISECOND};
+
+/// How long the radio takes at most for what it has at once, unless that is one frame.
+const MOST_AT_ONCE: Nanos = 8 * MILLISECOND;
+/// A frame of which nothing was told for so long is one of which nothing will be.
+pub const MOST_OUT: Nanos = 200 * MILLISECOND;
+/// The weight of the last outcome in what is known of the radio's pace, as a part.
+const PACE_PARTS: u64 = 8;
+/// The radio isn't taken for faster than this many times what is reckoned: short preambles and slots are half of it.
+const FASTEST: u64 = 4;
+/// Nor for slower than one that takes so long for a frame: it was away, or the bridge was.
+const MOST_STEP: Nanos = 100 * MILLISECOND;
+
+/// A frame by what the radio tells of it.
+#[derive(Debug, Clone, Copy, PartialEq, Eq)]
+pub struct Name {
+    /// The network that sends it.
+    pub place: Place,
+    /// Who it is for.
+    pub receiver: Address,
+    /// Its fragment and sequence number.
+    pub number: Option<u16>,
+}
+
+/// A frame that the radio has.
+#[derive(Debug)]
+struct Given<W> {
+    name: Name,
+    what: W,
+    reckoned: Nanos,
+    since: Nanos,
+    /// When it has been out for twice the time that was reckoned for it and for all before it.
+    overdue: Nanos,
+}
+
+/// The frames that the radio has, in the order in which it got them, and how fast it is.
+#[derive(Debug)]
+pub struct Flight<W> {
+    frames: VecDeque<Given<W>>,
+    reckoned: Nanos,
+    /// The clock's time and the reckoned time of the last outcomes, the latest counting most.
+    spent: Nanos,
+    used: Nanos,
+    last_told: Nanos,
+}
+
+impl<W> Flight<W> {
+    /// The radio has nothing, and is taken to be as fast as is reckoned.
+    pub fn new() -> Flight<W> {
+        let used = PACE_PARTS * MILLISECOND;
+        Flight { frames: VecDeque::new(), reckoned: 0, spent: used, used, last_told: 0 }
+    }
+
+    /// Whether a frame that is reckoned to take so long may be given to it.
+    pub fn has_room(&self, reckoned: Nanos) -> bool {
+        self.frames.is_empty() || self.by_clock(self.reckoned + reckoned) <= MOST_AT_ONCE
+    }
+
+    /// How long the radio takes for what is reckoned to take so long, by its pace.
+    fn by_clock(&self, reckoned: Nanos) -> Nanos {
+        let fastest = reckoned / FASTEST;
+        let scaled = u128::from(reckoned) * u128::from(self.spent) / u128::from(self.used.max(1));
+        Nanos::try_from(scaled).unwrap_or(Nanos::MAX).max(fastest)
+    }
+
+    /// The radio is given a frame.
+    pub fn give(&mut self, name: Name, what: W, reckoned: Nanos, now: Nanos) {
+        self.reckoned += reckoned;
+        let overdue = now.saturating_add(2 * self.by_clock(self.reckoned).max(self.reckoned));
+        self.frames.push_back(Given { name, what, reckoned, since: now, overdue });
+    }
+
+    /// The radio told of a frame at this time, for which it has used so much by what `used` says of it; answers what was
+    /// given, and how much more it used than was reckoned. `None` of a frame that it doesn't have.
+    pub fn told(&mut self, name: Name, now: Nanos, used: impl FnOnce(&W) -> Nanos) -> Option<(W, Nanos)> {
+        let found = self.frames.iter().position(|given| given.name == name)?;
+        let Given { what, reckoned, since, .. } = self.frames.remove(found)?;
+        self.reckoned -= reckoned;
+        let used = used(&what);
+        let step = now.saturating_sub(since.max(self.last_told)).min(MOST_STEP);
+        self.last_told = self.last_told.max(now);
+        self.spent = self.spent - self.spent / PACE_PARTS + step;
+        self.used = self.used - self.used / PACE_PARTS + used;
+        Some((what, used.saturating_sub(reckoned)))
+    }
+
+    /// The radio was never given this frame.
+    pub fn forget(&mut self, name: Name) {
+        if let Some(place) = self.frames.iter().rposition(|given| given.name == name) {
+            self.reckoned -= self.frames.remove(place).map_or(0, |given| given.reckoned);
+        }
+    }
+
+    /// Whether the radio has a frame for this receiver that is out for more than twice its reckoned time.
+    pub fn is_overdue(&self, place: Place, receiver: Address, now: Nanos) -> bool {
+        let of_it = |given: &&Given<W>| given.name.place == place && given.name.receiver == receiver;
+        self.frames.iter().find(of_it).map_or(false, |given| given.overdue < now)
+    }
+
+    /// Takes out the frames of which nothing will be told any more at this time.
+    pub fn expire(&mut self, now: Nanos) -> Vec<Name> {
+        let mut gone = Vec::new();
+        while let Some(given) = self.frames.front().filter(|given| given.since + MOST_OUT <= now) {
+            gone.push(given.name);
+            self.reckoned -= given.reckoned;
+            self.frames.pop_front();
+        }
+        gone
+    }
+
+    /// The radio has nothing any more: answers what it had.
+    pub fn clear(&mut self) -> Vec<Name> {
+        self.reckoned = 0;
+        self.frames.drain(..).map(|given| given.name).collect()
+    }
+
+    /// When its first frame is out for more than twice its reckoned time.
+    pub fn overdue(&self) -> Option<Nanos> {
+        self.frames.front().map(|given| given.overdue)
+    }
+
+    /// When `expire` has something to do.
+    pub fn due(&self) -> Option<Nanos> {
+        self.frames.front().map(|given| given.since + MOST_OUT)
+    }
+
+    /// How many frames it has.
+    pub fn len(&self) -> usize {
+        self.frames.len()
+    }
+}
+
+#[cfg(test)]
+mod tests {
+    use super::*;
+    use crate::samples::{OTHER, STATION};
+
+    fn name(number: u16) -> Name {
+        Name { place: 0, receiver: STATION, number: Some(number) }
+    }
+
+    fn flight() -> Flight<()> {
+        Flight::new()
+    }
+
+    /// The radio takes so many times the reckoned millisecond for each of a hundred frames.
+    fn at_pace(times: u64) -> Flight<()> {
+        let mut flight = flight();
+        for number in 0..100 {
+            flight.give(name(number), (), MILLISECOND, times * MILLISECOND * u64::from(number));
+            flight.told(name(number), times * MILLISECOND * u64::from(number + 1), |_| MILLISECOND);
+        }
+        flight
+    }
+
+    fn fitting(mut flight: Flight<()>) -> usize {
+        while flight.has_room(MILLISECOND) {
+            flight.give(name(flight.len() as u16), (), MILLISECOND, 0);
+        }
+        flight.len()
+    }
+
+    #[test]
+    fn the_radio_has_what_it_sends_in_eight_milliseconds() {
+        assert_eq!(fitting(flight()), 8);
+        assert_eq!(fitting(at_pace(1)), 8);
+        assert_eq!(fitting(at_pace(4)), 2);
+        assert_eq!(fitting(at_pace(0)), 32);
+    }
+
+    #[test]
+    fn one_frame_it_always_has() {
+        assert_eq!(fitting(at_pace(50)), 1);
+        let mut flight = flight();
+        assert!(flight.has_room(Nanos::from(u32::MAX)));
+        flight.give(name(1), (), 7 * MILLISECOND, 0);
+        assert!(flight.has_room(MILLISECOND) && !flight.has_room(MILLISECOND + 1));
+    }
+
+    #[test]
+    fn what_was_used_beyond_what_was_reckoned_is_told() {
+        let mut flight = flight();
+        flight.give(name(1), (), 300, 0);
+        flight.give(name(2), (), 300, 0);
+        assert_eq!(flight.told(name(2), 5, |_| 700), Some(((), 400)));
+        assert_eq!(flight.told(name(2), 5, |_| 700), None);
+        assert_eq!(flight.told(Name { place: 1, ..name(1) }, 5, |_| 700), None);
+        assert_eq!(flight.told(name(1), 5, |_| 200), Some(((), 0)));
+        assert_eq!(flight.len(), 0);
+    }
+
+    #[test]
+    fn a_frame_is_overdue_after_twice_the_time_of_all_before_it() {
+        let mut flight = flight();
+        flight.give(name(1), (), MILLISECOND, 0);
+        flight.give(Name { receiver: OTHER, ..name(2) }, (), MILLISECOND, 0);
+        assert!(!flight.is_overdue(0, STATION, 2 * MILLISECOND));
+        assert!(flight.is_overdue(0, STATION, 2 * MILLISECOND + 1));
+        assert!(!flight.is_overdue(0, OTHER, 4 * MILLISECOND) && flight.is_overdue(0, OTHER, 4 * MILLISECOND + 1));
+        assert!(!flight.is_overdue(1, STATION, MOST_OUT));
+    }
+
+    #[test]
+    fn what_is_never_told_of_is_taken_out() {
+        let mut flight = flight();
+        assert_eq!(flight.due(), None);
+        flight.give(name(1), (), 5, 0);
+        flight.give(name(2), (), 5, 1);
+        assert_eq!(flight.due(), Some(MOST_OUT));
+        assert_eq!(flight.expire(MOST_OUT - 1), []);
+        assert_eq!(flight.expire(MOST_OUT), [name(1)]);
+        assert_eq!((flight.clear(), flight.reckoned), (vec![name(2)], 0));
+        flight.give(name(3), (), 5, 1);
+        flight.forget(name(3));
+        assert_eq!((flight.len(), flight.reckoned, flight.overdue()), (0, 0, None));
+    }
+}

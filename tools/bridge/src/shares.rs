@@ -1,0 +1,557 @@
+//! Shares of the air: which frame goes next of several networks that send by one radio.
+//!
+//! The rule is start-time fair queueing (Goyal, Vin and Cheng, 1996), written as debts. It has no clock, no quantum and
+//! no round. Each network has a weight and a debt. Of those that have a frame waiting, the one of least debt goes next,
+//! and of several the one of the lowest place. What that one owed is taken off every debt, as far as there is any. Its
+//! own debt becomes the cost of its frame over its weight. What the radio used beyond that cost is added when it is
+//! told. Within a network its receivers take turns by the same rule, all of one weight; of several that owe the same,
+//! the lowest goes.
+//!
+//! So for any order of calls:
+//!
+//! 1. While a network has frames waiting, no other one gets more than its share and one frame beyond it.
+//! 2. A frame that comes to a network with no debt and nothing waiting goes once each other network has sent one frame.
+//! 3. Idle time earns nothing: a network that was idle owes at least nothing when it comes back.
+//! 4. Frames for one receiver leave in the order in which they came; one that is sent again goes first.
+//! 5. Each frame that came waits, was served or was dropped: one of them, once.
+//! 6. The work of a call doesn't grow with the frames that wait. It grows with the number of networks, and with the
+//!    logarithm of the number of receivers.
+//!
+//! A receiver may be held: its next frame waits for what becomes of the one before. It isn't waiting for a turn then.
+use std::collections::{BTreeSet, HashMap, VecDeque};
+use std::hash::Hash;
+
+use crate::hashing::Keyed;
+
+/// The largest weight of a network; the least is 1.
+pub const MOST_WEIGHT: u8 = 16;
+/// A common multiple of all weights: over a weight it is what a unit of cost adds to a debt.
+const SCALE: u64 = 720_720;
+/// The most receivers of a network that are known for what they owe alone.
+const MOST_RESTING: usize = 4096;
+
+/// A network by its number, in the order of the configuration.
+pub type Place = usize;
+
+/// The frames that wait, of several networks to several receivers.
+#[derive(Debug)]
+pub struct Shares<R, T> {
+    networks: Vec<Network<R, T>>,
+}
+
+#[derive(Debug)]
+struct Network<R, T> {
+    /// What a unit of cost adds to the debt.
+    scale: u64,
+    debt: u64,
+    turns: Turns<R, T>,
+}
+
+impl<R: Copy + Ord + Hash, T> Shares<R, T> {
+    /// Networks of these weights, from 1 to `MOST_WEIGHT`, with no debts and nothing that waits.
+    pub fn new(weights: impl IntoIterator<Item = u8>) -> Shares<R, T> {
+        let scales = weights.into_iter().map(|weight| SCALE / u64::from(weight.clamp(1, MOST_WEIGHT)));
+        Shares { networks: scales.map(|scale| Network { scale, debt: 0, turns: Turns::new() }).collect() }
+    }
+
+    /// A frame of a network waits for a receiver, behind all that wait for it.
+    pub fn push(&mut self, place: Place, receiver: R, frame: T) {
+        self.networks[place].turns.change(receiver, |lane| lane.waiting.push_back(frame));
+    }
+
+    /// A frame is sent again: it waits before all others for its receiver.
+    pub fn push_first(&mut self, place: Place, receiver: R, frame: T) {
+        self.networks[place].turns.change(receiver, |lane| lane.waiting.push_front(frame));
+    }
+
+    /// Whose frame goes next, with the frame; `None` where none waits for a turn.
+    pub fn first(&self) -> Option<(Place, R, &T)> {
+        let place = self.first_network()?;
+        let (receiver, frame) = self.networks[place].turns.first()?;
+        Some((place, receiver, frame))
+    }
+
+    /// The one of least debt of those that have a frame waiting.
+    fn first_network(&self) -> Option<Place> {
+        let ready = self.networks.iter().enumerate().filter(|(_, network)| !network.turns.ready.is_empty());
+        ready.min_by_key(|(_, network)| network.debt).map(|(place, _)| place)
+    }
+
+    /// The frame that goes next goes, and is reckoned to cost so much.
+    pub fn serve(&mut self, cost: u64) -> Option<T> {
+        let place = self.first_network()?;
+        let least = self.networks[place].debt;
+        self.networks.iter_mut().for_each(|network| network.debt = network.debt.saturating_sub(least));
+        let served = &mut self.networks[place];
+        served.debt = served.scale.saturating_mul(cost);
+        served.turns.serve(cost)
+    }
+
+    /// The first frame for a receiver is dropped.
+    pub fn drop_first(&mut self, place: Place, receiver: R) -> Option<T> {
+        self.networks[place].turns.change(receiver, |lane| lane.waiting.pop_front())
+    }
+
+    /// A frame of a network for a receiver cost so much more than was reckoned.
+    pub fn told(&mut self, place: Place, receiver: R, more: u64) {
+        let network = &mut self.networks[place];
+        network.debt = network.debt.saturating_add(network.scale.saturating_mul(more));
+        network.turns.change(receiver, |lane| lane.start = lane.start.saturating_add(more));
+    }
+
+    /// A receiver is held: none of its frames goes next until it is released.
+    pub fn hold(&mut self, place: Place, receiver: R) {
+        self.networks[place].turns.change(receiver, |lane| lane.is_held = true);
+    }
+
+    /// A receiver is held no more.
+    pub fn release(&mut self, place: Place, receiver: R) {
+        self.networks[place].turns.change(receiver, |lane| lane.is_held = false);
+    }
+
+    /// Whether a receiver is held.
+    pub fn is_held(&self, place: Place, receiver: R) -> bool {
+        self.networks[place].turns.lanes.get(&receiver).map_or(false, |lane| lane.is_held)
+    }
+
+    /// How many frames of a network wait for a receiver.
+    pub fn waiting(&self, place: Place, receiver: R) -> usize {
+        self.networks[place].turns.lanes.get(&receiver).map_or(0, |lane| lane.waiting.len())
+    }
+
+    /// Takes all frames out that wait for a receiver and of which this is true, in their order.
+    pub fn take_all(&mut self, place: Place, receiver: R, mut is_meant: impl FnMut(&T) -> bool) -> Vec<T> {
+        let (mut taken, mut kept) = (Vec::new(), VecDeque::new());
+        self.networks[place].turns.change(receiver, |lane| {
+            for frame in lane.waiting.drain(..) {
+                if is_meant(&frame) {
+                    taken.push(frame);
+                } else {
+                    kept.push_back(frame);
+                }
+            }
+            lane.waiting = kept;
+        });
+        taken
+    }
+
+    /// The receiver for which most frames of a network wait.
+    pub fn longest(&self, place: Place) -> Option<R> {
+        self.networks[place].turns.lengths.iter().next_back().map(|(_, receiver)| *receiver)
+    }
+
+    /// Whether a frame waits for a turn.
+    pub fn has_ready(&self) -> bool {
+        self.networks.iter().any(|network| !network.turns.ready.is_empty())
+    }
+
+    /// Whether no frame waits, for a turn or held.
+    pub fn is_empty(&self) -> bool {
+        self.networks.iter().all(|network| network.turns.lengths.is_empty())
+    }
+}
+
+/// The receivers of one network, and whose turn it is. In place of a debt each has a start: the debt and `begun`, so that
+/// no debt has to be lowered when one is served.
+#[derive(Debug)]
+struct Turns<R, T> {
+    lanes: HashMap<R, Lane<T>, Keyed>,
+    /// Those that wait for a turn, by their starts.
+    ready: BTreeSet<(u64, R)>,
+    /// Those for which nothing waits, and which may still owe something.
+    resting: BTreeSet<(u64, R)>,
+    /// Those for which something waits, by how much.
+    lengths: BTreeSet<(usize, R)>,
+    /// The start of the one that was served last.
+    begun: u64,
+}
+
+/// The frames that wait for one receiver.
+#[derive(Debug)]
+struct Lane<T> {
+    waiting: VecDeque<T>,
+    start: u64,
+    is_held: bool,
+}
+
+/// In which set of its network a receiver stands.
+#[derive(Debug, Clone, Copy, PartialEq, Eq)]
+enum Standing {
+    Ready,
+    Resting,
+    Held,
+}
+
+impl<T> Lane<T> {
+    fn standing(&self) -> Standing {
+        match (self.is_held, self.waiting.is_empty()) {
+            (true, _) => Standing::Held,
+            (false, true) => Standing::Resting,
+            (false, false) => Standing::Ready,
+        }
+    }
+}
+
+impl<R: Copy + Ord + Hash, T> Turns<R, T> {
+    fn new() -> Turns<R, T> {
+        Turns {
+            lanes: HashMap::default(),
+            ready: BTreeSet::new(),
+            resting: BTreeSet::new(),
+            lengths: BTreeSet::new(),
+            begun: 0,
+        }
+    }
+
+    fn first(&self) -> Option<(R, &T)> {
+        let (_, receiver) = self.ready.iter().next()?;
+        Some((*receiver, self.lanes.get(receiver)?.waiting.front()?))
+    }
+
+    fn serve(&mut self, cost: u64) -> Option<T> {
+        let (start, receiver) = self.ready.iter().next().copied()?;
+        self.begun = start;
+        let frame = self.change(receiver, |lane| {
+            lane.start = start.saturating_add(cost);
+            lane.waiting.pop_front()
+        });
+        self.forget_rested();
+        frame
+    }
+
+    /// Changes what waits for a receiver, and keeps it in the set where it belongs. One that isn't there owes nothing.
+    fn change<A>(&mut self, receiver: R, change: impl FnOnce(&mut Lane<T>) -> A) -> A {
+        let begun = self.begun;
+        let unknown = || Lane { waiting: VecDeque::new(), start: begun, is_held: false };
+        let lane = self.lanes.entry(receiver).or_insert_with(unknown);
+        let (before, standing, key) = (lane.waiting.len(), lane.standing(), (lane.start, receiver));
+        lane.start = lane.start.max(begun);
+        let answer = change(lane);
+        let (after, new_key) = (lane.waiting.len(), (lane.start, receiver));
+        match standing {
+            Standing::Ready => self.ready.remove(&key),
+            Standing::Resting => self.resting.remove(&key),
+            Standing::Held => false,
+        };
+        match lane.standing() {
+            Standing::Ready => self.ready.insert(new_key),
+            Standing::Resting => self.resting.insert(new_key),
+            Standing::Held => false,
+        };
+        if before != after {
+            self.lengths.remove(&(before, receiver));
+            if after > 0 {
+                self.lengths.insert((after, receiver));
+            }
+        }
+        answer
+    }
+
+    /// Receivers for which nothing waits, and which owe nothing any more, are forgotten, and those that owe least where
+    /// there are too many.
+    fn forget_rested(&mut self) {
+        while let Some(key) = self.resting.iter().next().copied() {
+            if key.0 > self.begun && self.resting.len() <= MOST_RESTING {
+                return;
+            }
+            self.resting.remove(&key);
+            self.lanes.remove(&key.1);
+        }
+    }
+}
+
+#[cfg(test)]
+mod tests {
+    use super::*;
+    use crate::samples::Seeded;
+
+    /// The rule as its sentences say it: debts that are lowered one by one, lists that are searched.
+    struct Model {
+        networks: Vec<ModelNetwork>,
+    }
+
+    struct ModelNetwork {
+        scale: u128,
+        debt: u128,
+        receivers: Vec<ModelReceiver>,
+    }
+
+    struct ModelReceiver {
+        name: u8,
+        debt: u128,
+        is_held: bool,
+        waiting: Vec<u32>,
+    }
+
+    impl Model {
+        fn new(weights: &[u8]) -> Model {
+            let networks = weights.iter().map(|weight| {
+                let receivers = 0..RECEIVERS as u8;
+                let receivers =
+                    receivers.map(|name| ModelReceiver { name, debt: 0, is_held: false, waiting: Vec::new() });
+                let scale = u128::from(SCALE) / u128::from(*weight);
+                ModelNetwork { scale, debt: 0, receivers: receivers.collect() }
+            });
+            Model { networks: networks.collect() }
+        }
+
+        fn of(&mut self, place: Place, receiver: u8) -> &mut ModelReceiver {
+            &mut self.networks[place].receivers[usize::from(receiver)]
+        }
+
+        fn waits(&self, place: Place) -> bool {
+            self.networks[place].receivers.iter().any(ModelReceiver::is_ready)
+        }
+
+        fn first(&self) -> Option<(Place, u8, u32)> {
+            let places = (0..self.networks.len()).filter(|place| self.waits(*place));
+            let place = places.min_by_key(|place| (self.networks[*place].debt, *place))?;
+            let ready = self.networks[place].receivers.iter().filter(|receiver| receiver.is_ready());
+            let receiver = ready.min_by_key(|receiver| (receiver.debt, receiver.name))?;
+            Some((place, receiver.name, receiver.waiting[0]))
+        }
+
+        fn serve(&mut self, cost: u64) -> Option<u32> {
+            let (place, receiver, frame) = self.first()?;
+            let least = self.networks[place].debt;
+            self.networks.iter_mut().for_each(|network| network.debt = network.debt.saturating_sub(least));
+            self.networks[place].debt = self.networks[place].scale * u128::from(cost);
+            let least = self.of(place, receiver).debt;
+            self.networks[place].receivers.iter_mut().for_each(|one| one.debt = one.debt.saturating_sub(least));
+            self.of(place, receiver).debt = u128::from(cost);
+            self.of(place, receiver).waiting.remove(0);
+            Some(frame)
+        }
+
+        fn told(&mut self, place: Place, receiver: u8, more: u64) {
+            self.networks[place].debt += self.networks[place].scale * u128::from(more);
+            self.of(place, receiver).debt += u128::from(more);
+        }
+    }
+
+    impl ModelReceiver {
+        fn is_ready(&self) -> bool {
+            !self.is_held && !self.waiting.is_empty()
+        }
+    }
+
+    /// What each network got of the air since another one waits without a break, and since a frame came to one that had
+    /// nothing waiting and owed nothing.
+    struct Watch {
+        weights: Vec<u64>,
+        waits: Vec<bool>,
+        got: Vec<Vec<u64>>,
+        /// The most that a turn of each took, what was told before its next turn included.
+        most: Vec<u64>,
+        turn: Vec<u64>,
+        newcomer: Vec<Option<Vec<u32>>>,
+    }
+
+    impl Watch {
+        fn new(weights: &[u8]) -> Watch {
+            let number = weights.len();
+            Watch {
+                weights: weights.iter().copied().map(u64::from).collect(),
+                waits: vec![false; number],
+                got: vec![vec![0; number]; number],
+                most: vec![0; number],
+                turn: vec![0; number],
+                newcomer: vec![None; number],
+            }
+        }
+
+        fn gets(&mut self, place: Place, time: u64, is_turn: bool) {
+            self.turn[place] = if is_turn { time } else { self.turn[place] + time };
+            self.most[place] = self.most[place].max(self.turn[place]);
+            self.got.iter_mut().for_each(|of_one| of_one[place] += time);
+            if is_turn {
+                self.newcomer[place] = None;
+                for turns in self.newcomer.iter_mut().flatten() {
+                    turns[place] += 1;
+                    assert!(turns[place] <= 1, "a newcomer waits for one frame of each other network");
+                }
+            } else {
+                self.newcomer[place] = None;
+            }
+        }
+
+        fn look(&mut self, model: &Model) {
+            for one in 0..self.waits.len() {
+                let waited = std::mem::replace(&mut self.waits[one], model.waits(one));
+                if !self.waits[one] || !waited {
+                    self.got[one].fill(0);
+                    self.newcomer[one] = None;
+                }
+                if self.waits[one] && !waited && model.networks[one].debt == 0 {
+                    self.newcomer[one] = Some(vec![0; self.waits.len()]);
+                }
+                for other in (0..self.waits.len()).filter(|other| *other != one) {
+                    let own = (self.got[one][one] + self.most[one]) * self.weights[other];
+                    let others = self.got[one][other].saturating_sub(self.most[other]) * self.weights[one];
+                    assert!(others <= own, "{other} gets more than its share and a frame while {one} waits");
+                }
+            }
+        }
+    }
+
+    const RECEIVERS: usize = 5;
+
+    /// A million calls in any order: the same frames in the same order as by the slow model, and what the sentences
+    /// promise of shares and of newcomers.
+    #[test]
+    fn any_calls_go_by_the_rule() {
+        let mut seeded = Seeded(11);
+        let mut served = 0u64;
+        for run in 0..500 {
+            let number = 1 + seeded.below(4);
+            let weights: Vec<u8> = (0..number).map(|_| 1 + seeded.below(16) as u8).collect();
+            let (mut shares, mut model, mut watch) =
+                (Shares::new(weights.clone()), Model::new(&weights), Watch::new(&weights));
+            let (mut pushed, mut gone, pushes) = (0u32, 0u32, 1 + seeded.below(6));
+            for _ in 0..2000 {
+                let (place, receiver) = (seeded.below(number), seeded.below(RECEIVERS) as u8);
+                match seeded.below(8 + pushes) {
+                    0..=3 => {
+                        let cost = 1 + seeded.below(1000) as u64;
+                        let first = model.first();
+                        assert_eq!(shares.first().map(|(place, receiver, frame)| (place, receiver, *frame)), first);
+                        assert_eq!(shares.serve(cost), model.serve(cost));
+                        if let Some((place, _, _)) = first {
+                            watch.gets(place, cost, true);
+                            (served, gone) = (served + 1, gone + 1);
+                        }
+                    }
+                    4 => {
+                        let more = seeded.below(300) as u64;
+                        shares.told(place, receiver, more);
+                        model.told(place, receiver, more);
+                        watch.gets(place, more, false);
+                    }
+                    5 => {
+                        shares.hold(place, receiver);
+                        model.of(place, receiver).is_held = true;
+                    }
+                    6 => {
+                        shares.release(place, receiver);
+                        model.of(place, receiver).is_held = false;
+                    }
+                    7 => {
+                        let waiting = &mut model.of(place, receiver).waiting;
+                        let dropped = if waiting.is_empty() { None } else { Some(waiting.remove(0)) };
+                        assert_eq!(shares.drop_first(place, receiver), dropped);
+                        gone += u32::from(dropped.is_some());
+                    }
+                    8 => {
+                        shares.push_first(place, receiver, pushed);
+                        model.of(place, receiver).waiting.insert(0, pushed);
+                        pushed += 1;
+                    }
+                    _ => {
+                        shares.push(place, receiver, pushed);
+                        model.of(place, receiver).waiting.push(pushed);
+                        pushed += 1;
+                    }
+                }
+                watch.look(&model);
+                assert_eq!(shares.waiting(place, receiver), model.of(place, receiver).waiting.len());
+                assert_eq!(shares.is_held(place, receiver), model.of(place, receiver).is_held);
+            }
+            let waiting: usize =
+                model.networks.iter().flat_map(|network| &network.receivers).map(|one| one.waiting.len()).sum();
+            assert_eq!((pushed, shares.is_empty()), (gone + waiting as u32, waiting == 0), "{run}");
+        }
+        assert!(served > 100_000, "{served}");
+    }
+
+    /// Networks that all want all get what their weights say, whatever their frames cost.
+    #[test]
+    fn who_wants_all_gets_its_share() {
+        let mut shares = Shares::new([1, 2, 3]);
+        let (costs, mut got) = ([12_000, 500, 1700], [0u64; 3]);
+        for _ in 0..30_000 {
+            (0..3).for_each(|place| shares.push(place, 0u8, place));
+            let place = shares.first().unwrap().0;
+            got[place] += costs[place];
+            assert_eq!(shares.serve(costs[place]), Some(place));
+        }
+        let all: u64 = got.iter().sum();
+        for (place, weight) in [1, 2, 3].into_iter().enumerate() {
+            let wanted = all * weight / 6;
+            assert!(got[place].abs_diff(wanted) < wanted / 100, "{got:?}");
+        }
+    }
+
+    #[test]
+    fn what_was_told_later_counts_too() {
+        let mut shares = Shares::new([1, 1]);
+        let mut turns = [0u64; 2];
+        for _ in 0..10_000 {
+            (0..2).for_each(|place| shares.push(place, 0u8, place));
+            let place = shares.serve(100).unwrap();
+            turns[place] += 1;
+            if place == 0 {
+                shares.told(0, 0, 300);
+            }
+        }
+        assert!(turns[1].abs_diff(4 * turns[0]) < turns[1] / 100, "{turns:?}");
+    }
+
+    #[test]
+    fn receivers_of_a_network_take_turns_by_time() {
+        let mut shares = Shares::new([1]);
+        (0..9).for_each(|_| shares.push(0, 'a', 3));
+        (0..9).for_each(|_| shares.push(0, 'b', 1));
+        let order: Vec<u64> = std::iter::from_fn(|| {
+            let cost = *shares.first()?.2;
+            shares.serve(cost)
+        })
+        .collect();
+        assert_eq!(order[..9], [3, 1, 1, 1, 3, 1, 1, 1, 3]);
+    }
+
+    #[test]
+    fn idle_time_earns_nothing() {
+        let mut shares = Shares::new([1, 1]);
+        (0..50).for_each(|_| shares.push(0, 'a', 'a'));
+        (0..40).for_each(|_| assert_eq!(shares.serve(10), Some('a')));
+        (0..50).for_each(|_| shares.push(1, 'b', 'b'));
+        let order: String = std::iter::from_fn(|| shares.serve(10)).take(8).collect();
+        assert_eq!(order, "babababa");
+    }
+
+    #[test]
+    fn a_held_receiver_waits_and_keeps_its_order() {
+        let mut shares = Shares::new([1]);
+        [1, 2].into_iter().for_each(|frame| shares.push(0, 'a', frame));
+        shares.hold(0, 'a');
+        assert_eq!((shares.first(), shares.has_ready(), shares.is_empty()), (None, false, false));
+        shares.push_first(0, 'a', 0);
+        shares.release(0, 'a');
+        assert_eq!([(); 4].map(|_| shares.serve(1)), [Some(0), Some(1), Some(2), None]);
+        assert!(shares.is_empty());
+    }
+
+    #[test]
+    fn frames_are_taken_out_by_what_they_are() {
+        let mut shares = Shares::new([1]);
+        (0..6).for_each(|frame| shares.push(0, 'a', frame));
+        assert_eq!(shares.longest(0), Some('a'));
+        assert_eq!(shares.take_all(0, 'a', |frame| frame % 2 == 0), [0, 2, 4]);
+        assert_eq!([(); 4].map(|_| shares.serve(1)), [Some(1), Some(3), Some(5), None]);
+        assert_eq!((shares.take_all(0, 'b', |_| true), shares.longest(0)), (vec![], None));
+    }
+
+    /// What is kept of receivers doesn't grow with those that were.
+    #[test]
+    fn receivers_that_owe_nothing_are_forgotten() {
+        let mut shares = Shares::new([1]);
+        for receiver in 0..10_000u32 {
+            shares.push(0, receiver, ());
+            shares.serve(5);
+        }
+        assert_eq!(shares.networks[0].turns.lanes.len(), MOST_RESTING);
+        (0..2).for_each(|_| shares.push(0, 7, ()));
+        (0..2).for_each(|_| assert_eq!(shares.serve(5), Some(())));
+        assert_eq!(shares.networks[0].turns.lanes.len(), 1);
+    }
+}
