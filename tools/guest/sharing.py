@@ -114,12 +114,9 @@ class Beacons:
         time.sleep(0.2)
         self.process.terminate()
         self.process.wait()
-        times = {address_of(bssid): [self.begun] for bssid in bssids}
-        for moment, frame in self.heard():
-            if frame.transmitter in times and moment <= ended:
-                times[frame.transmitter].append(max(moment, self.begun))
-        gaps = (after - before for moments in times.values() for before, after in zip(moments, [*moments[1:], ended]))
-        return 1000 * max(gaps)
+        heard = self.heard()
+        return 1000 * max(longest_silence([moment for moment, frame in heard if frame.transmitter == address_of(bssid)],
+                                          self.begun, ended) for bssid in bssids)
 
     def heard(self) -> list[tuple[float, Frame]]:
         """The frames that were captured, each with its time in seconds."""
@@ -134,6 +131,13 @@ class Beacons:
             if packet:
                 found.append((seconds + microseconds / 1e6, Frame(packet.frame)))
         return found
+
+
+def longest_silence(moments: list[float], begun: float, ended: float) -> float:
+    """The longest time between two of these moments, of which those count that lie between two others; what lies before
+    the first of them and behind the last is counted too."""
+    within = [begun, *(moment for moment in moments if begun < moment < ended), ended]
+    return max(after - before for before, after in zip(within, within[1:]))
 
 
 def probe(number: int, seconds: float) -> None:
