@@ -111,8 +111,9 @@ bridge: ## builds the bridge of tools/live, by Debian's cargo
 
 # Tests tools/live beside the gate: first the parts of its bridge and its own, then, in a guest, unmodified Linux
 # stations that join the networks of the built program, the same as a service of systemd and from the package of `make
-# deb`, and at last on an air that loses frames, with hostapd beside it. Takes root and Debian's packages debootstrap,
-# e2fsprogs, qemu-system-x86 and python3, and those of `make deb`. Each run in the guest ends with 'N passed, M failed'.
+# deb`, then on an air that loses frames, and at last where networks share the air of one radio, both with hostapd
+# beside it. Takes root and Debian's packages debootstrap, e2fsprogs, qemu-system-x86 and python3, and those of `make
+# deb`. Each run in the guest ends with 'N passed, M failed'.
 test-live: apctl ## tests the bridge with real stations in a guest; takes root
 	@tools/bridge/build test
 	@tools/guest/air/build test
@@ -122,6 +123,7 @@ test-live: apctl ## tests the bridge with real stations in a guest; takes root
 	@share/deb
 	@tools/test-live package
 	@tools/test-live air
+	@tools/test-live shares
 
 # Draws the example of three networks, the picture of README.md, and those of docs/EXAMPLES.md.
 picture: ## draws the pictures of README.md and docs/

@@ -8,8 +8,11 @@ from stage import Net, Start
 from stations import Failed, Host, Station, run, wait_for
 
 READY, DONE = "ready", "ok"
+BEFORE_ALL = ("chrt", "--fifo", "50")
 TRIED = re.compile(r"from (?P<sender>\d+) to (?P<to>\S+) (?P<kind>\S+) at (?P<rate>\S+) tries (?P<tries>\d+) "
                    r"heard (?P<heard>\d+) acknowledged (?P<acknowledged>\d+)")
+TIMED = re.compile(r"from (?P<sender>\S+) to (?P<to>\S+) (?P<kind>\S+) tries (?P<tries>\d+) sending (?P<sending>\d+) "
+                   r"spaces (?P<spaces>\d+) dropped (?P<dropped>\d+)")
 BRIDGE, AP = "br0", "ap0"
 HOSTAPD_TEXT = """interface={interface}
 bridge={bridge}
@@ -42,14 +45,29 @@ class Tried:
     acknowledged: int
 
 
-class Air:
-    """The program that carries the frames of the simulated radios from now on; `observer` hears all of them."""
+@dataclass(frozen=True)
+class Airtime:
+    """How long one address sent to another, of one kind of frame: nanoseconds of the frames with their acknowledgements,
+    and of what is waited before each; and how many frames the radio dropped."""
 
-    def __init__(self, program: str, radios: int, seed: int, observer: int, log: str) -> None:
+    sender: str
+    to: str
+    kind: str
+    tries: int
+    sending: int
+    spaces: int
+    dropped: int
+
+
+class Air:
+    """The program that carries the frames of the simulated radios from now on; `observer` hears all of them. With
+    `is_first` it waits for no other program of the guest, as an air doesn't, however busy the processor is."""
+
+    def __init__(self, program: str, radios: int, seed: int, observer: int, log: str, is_first: bool = False) -> None:
         self.observer = observer
+        words = [*(BEFORE_ALL if is_first else ()), program, str(radios), str(seed)]
         with open(log, "wb") as file:
-            self.process = subprocess.Popen([program, str(radios), str(seed)], stdin=subprocess.PIPE,
-                                            stdout=subprocess.PIPE, stderr=file, text=True)
+            self.process = subprocess.Popen(words, stdin=subprocess.PIPE, stdout=subprocess.PIPE, stderr=file, text=True)
         if self.process.stdout.readline().strip() != READY:
             raise Failed(f"the air didn't begin: {log}")
         self.lose()
@@ -72,6 +90,16 @@ class Air:
         self.tell("clear")
         for rule in (*rules, f"frames 0% to {self.observer}"):
             self.tell(f"lose {rule}")
+
+    def queue_by(self, radio: int, discipline: str) -> None:
+        """From now on a radio queues by a discipline: `unbounded`, `one` or `fair`."""
+        self.tell(f"queue {radio} {discipline}")
+
+    def airtimes(self) -> list[Airtime]:
+        """How long was sent since it began to count."""
+        found = (TIMED.fullmatch(line) for line in self.tell("airtime"))
+        return [Airtime(match["sender"], match["to"], match["kind"], int(match["tries"]), int(match["sending"]),
+                        int(match["spaces"]), int(match["dropped"])) for match in found if match]
 
     def forget(self) -> None:
         """Begins to count anew."""

@@ -10,8 +10,11 @@ import unittest
 
 GUEST = os.path.join(os.path.dirname(os.path.dirname(os.path.realpath(__file__))), "guest")
 sys.path.append(GUEST)
+import airing  # noqa: E402
 import parts  # noqa: E402
+import points  # noqa: E402
 import profiling  # noqa: E402
+import sharing  # noqa: E402
 import stage  # noqa: E402
 from stations import Failed  # noqa: E402
 
@@ -25,7 +28,7 @@ def load(name):
     return module
 
 
-cases, compare = load("cases"), load("compare")
+cases, compare, share_cases = load("cases"), load("compare"), load("share-cases")
 
 
 class FakeStart:
@@ -204,6 +207,92 @@ class Folders(unittest.TestCase):
         with tempfile.TemporaryDirectory() as folder:
             names = [os.path.basename(stage.new_folder(folder, "silence")) for _ in range(3)]
             self.assertEqual(names, ["silence", "silence-2", "silence-3"])
+
+
+class Shares(unittest.TestCase):
+    """What is said of networks that share the air, and what has to hold."""
+
+    figures = share_cases.Figures(units=2990, at_95=0.84, worst=1203.4, lost=2, beacons=131.2, guests=1010, busy=0.3)
+
+    def test_a_cell_says_all_figures(self):
+        """The guests are left out where they have nothing to receive."""
+        self.assertEqual(str(self.figures), "2,990; 0.8, 1,203; 2; 131; guests 1,010")
+        alone = share_cases.Figures(3000, 12.6, 21.2, 0, 104.0, None, 0.3)
+        self.assertEqual(str(alone), "3,000; 13, 21; 0; 104")
+
+    def test_each_aim_that_is_missed_is_told_with_its_figure(self):
+        """And no other."""
+        missed = self.figures.misses(share_cases.Aims(guests=1011), "fair")
+        self.assertEqual(missed, ["2,990 units, not 3,000", "of 1,203 ms at worst, not 150", "2 pings lost, not 0",
+                                  "131 ms without a beacon, not 130", "1,010 units of guests, not 1,011"])
+        easy = share_cases.Aims(2990, 0.84, 1204, 2, 132, 132, 1010)
+        self.assertEqual(self.figures.misses(easy, "fair"), [])
+        late = share_cases.Aims(2990, 0.8, 1204, 2, 132, 132, 1010)
+        self.assertEqual(self.figures.misses(late, "fair"), ["a delay of 0.8 ms at 95 %, not 0.8"])
+
+    def test_beacons_may_be_later_on_one_queue_where_a_guest_vanishes(self):
+        """There alone."""
+        vanished = next(row for row in share_cases.ROWS if "vanishes" in row.name)
+        figures = share_cases.Figures(2990, 50.0, 100.0, 1, 150.0, 300, 0.3)
+        self.assertEqual(figures.misses(vanished.aims, "one"), [])
+        self.assertEqual(figures.misses(vanished.aims, "fair"), ["150 ms without a beacon, not 130"])
+
+    def test_nothing_received_is_no_good_delay(self):
+        """It is endless."""
+        none = sharing.Delays([])
+        self.assertEqual((none.at(95), none.at(100)), (float("inf"), float("inf")))
+        some = sharing.Delays([float(number) for number in range(100, 0, -1)])
+        self.assertEqual((some.at(95), some.at(100)), (95.0, 100.0))
+
+    def test_silence_counts_from_the_begin_and_to_the_end(self):
+        """So a network that never sends again is silent for long."""
+        self.assertEqual(sharing.longest_silence([1.0, 2.0, 4.5], 0.5, 5.0), 2.5)
+        self.assertEqual(sharing.longest_silence([1.0, 2.0], 0.5, 9.0), 7.0)
+        self.assertEqual(sharing.longest_silence([], 1.0, 9.0), 8.0)
+        self.assertEqual(sharing.longest_silence([0.1, 1.2, 1.9, 9.5], 1.0, 2.0), 0.7)
+
+    def test_weights_are_words_of_the_access_point(self):
+        """A weight of 1 needs none."""
+        point = points.Own.__new__(points.Own)
+        wanted = {(1, 1, 1): (), (2, 1): ("--share", "02:00:00:00:01:01=2")}
+        for division in share_cases.DIVISIONS:
+            self.assertEqual(division.words(point), wanted[division.weights])
+
+    def test_parts_of_the_air_leave_beacons_out(self):
+        """And others' frames."""
+        class Stage:
+            """An air that has counted."""
+
+            class air:  # pylint: disable=invalid-name
+                """What it counted."""
+
+                @staticmethod
+                def airtimes():
+                    """Two networks, one of them twice, a beacon, and a stranger."""
+                    return [airing.Airtime("02:00:00:00:01:01", "a", "data", 1, 30, 30, 0),
+                            airing.Airtime("02:00:00:00:01:01", "b", "probe", 1, 20, 0, 0),
+                            airing.Airtime("02:00:00:00:01:01", "b", "beacon", 1, 900, 900, 0),
+                            airing.Airtime("02:00:00:00:01:02", "c", "data", 1, 150, 20, 0),
+                            airing.Airtime("02:00:00:00:09:09", "c", "data", 1, 150, 20, 0)]
+
+        played = share_cases.Cases(None, Stage)
+        parts_of_air = played.parts(points.Own.__new__(points.Own), 2)
+        self.assertEqual(parts_of_air.sending, [25.0, 75.0])
+        self.assertEqual(parts_of_air.with_spaces, [32.0, 68.0])
+
+    def test_air_times_are_read(self):
+        """As the air writes them."""
+        line = "from 02:00:00:00:01:ab to ff:ff:ff:ff:ff:ff beacon tries 2 sending 15 spaces 11 dropped 3"
+        air = airing.Air.__new__(airing.Air)
+        air.tell = lambda said: [line, "refused 0"] if said == "airtime" else []
+        self.assertEqual(air.airtimes(), [airing.Airtime("02:00:00:00:01:ab", "ff:ff:ff:ff:ff:ff", "beacon", 2, 15, 11,
+                                                         3)])
+
+    def test_no_row_is_asked_for_by_the_name_of_another(self):
+        """Each can be run alone."""
+        names = [row.name for row in share_cases.ROWS] + [division.name for division in share_cases.DIVISIONS]
+        for name in names:
+            self.assertEqual([other for other in names if name in other], [name])
 
 
 if __name__ == "__main__":

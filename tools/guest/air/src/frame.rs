@@ -4,6 +4,7 @@ use std::fmt;
 use std::str::FromStr;
 
 const RECEIVER: std::ops::Range<usize> = 4..10;
+const TRANSMITTER: std::ops::Range<usize> = 10..16;
 const GROUP: u8 = 1;
 const TYPE_AND_SUBTYPE: u8 = 0xfc;
 const RETRY: u8 = 0x08;
@@ -20,25 +21,28 @@ pub enum Kind {
     Beacon,
     Data,
     Null,
+    Probe,
     PsPoll,
     Other,
 }
 
-const NAMES: [(Kind, &str); 7] = [
+const NAMES: [(Kind, &str); 8] = [
     (Kind::Association, "association"),
     (Kind::Authentication, "authentication"),
     (Kind::Beacon, "beacon"),
     (Kind::Data, "data"),
     (Kind::Null, "null"),
+    (Kind::Probe, "probe"),
     (Kind::PsPoll, "ps-poll"),
     (Kind::Other, "other"),
 ];
 
 impl Kind {
-    /// The kind of a frame; requests and responses, and association and reassociation, are one.
+    /// The kind of a frame; requests and responses, and association and reassociation, are one kind.
     pub fn of(frame: &[u8]) -> Kind {
         match frame.first().map(|octet| octet & TYPE_AND_SUBTYPE) {
             Some(0x00 | 0x10 | 0x20 | 0x30) => Kind::Association,
+            Some(0x40 | 0x50) => Kind::Probe,
             Some(0xb0) => Kind::Authentication,
             Some(0x80) => Kind::Beacon,
             Some(0x08 | 0x88) => Kind::Data,
@@ -46,6 +50,11 @@ impl Kind {
             Some(0xa4) => Kind::PsPoll,
             _ => Kind::Other,
         }
+    }
+
+    /// Whether it is a frame of type Data, a Null frame among them.
+    pub fn is_data(self) -> bool {
+        matches!(self, Kind::Data | Kind::Null)
     }
 }
 
@@ -68,6 +77,11 @@ impl FromStr for Kind {
 /// Whom a frame is for, or None where it is too short to say.
 pub fn receiver(frame: &[u8]) -> Option<Address> {
     frame.get(RECEIVER)?.try_into().ok()
+}
+
+/// The address of whom a frame is from, or None where it is too short to say.
+pub fn transmitter(frame: &[u8]) -> Option<Address> {
+    frame.get(TRANSMITTER)?.try_into().ok()
 }
 
 /// Whether an address is that of a group.
@@ -98,8 +112,9 @@ mod tests {
             (0x48, Kind::Null),
             (0x80, Kind::Beacon),
             (0xa4, Kind::PsPoll),
+            (0x40, Kind::Probe),
+            (0x50, Kind::Probe),
             (0xc0, Kind::Other),
-            (0x40, Kind::Other),
         ] {
             assert_eq!(Kind::of(&[octet]), kind);
         }
@@ -113,6 +128,14 @@ mod tests {
             assert_eq!(kind.to_string(), name);
         }
         assert!("poll".parse::<Kind>().is_err());
+    }
+
+    #[test]
+    fn the_first_two_addresses_are_whom_it_is_for_and_whom_it_is_from() {
+        let frame: Vec<u8> = (0..16).collect();
+        assert_eq!(receiver(&frame), Some([4, 5, 6, 7, 8, 9]));
+        assert_eq!(transmitter(&frame), Some([10, 11, 12, 13, 14, 15]));
+        assert_eq!(transmitter(&frame[..15]), None);
     }
 
     #[test]

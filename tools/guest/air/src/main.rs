@@ -16,14 +16,24 @@
 //! ```text
 //! lose frames|acknowledgements SHARE% [of KIND] [from RADIO] [to RADIO] [at RATE|above RATE]
 //! clear       lose nothing any more
+//! queue RADIO unbounded|one|fair
+//!             in which order what waits in this radio goes, and what it drops: the module `queues` has which
 //! report      before `ok`, a line for what was sent from whom to whom, of which kind, at which rate
+//! airtime     before `ok`, a line for how long was sent from which address to which, of which kind
 //! forget      begin to count anew
 //! ```
+//!
+//! Each time in the answer to `airtime` is in nanoseconds. `sending` is that of the frames, each with that of its
+//! acknowledgement where one is wanted, heard or not; `spaces` is that of DIFS and backoff before them; both together
+//! are what nobody else could use. A frame that its radio drops is reported to the kernel as not acknowledged.
 
+mod airtime;
+mod exchange;
 mod frame;
 mod hwsim;
 mod medium;
 mod netlink;
+mod queues;
 mod rate;
 mod rules;
 
@@ -150,7 +160,9 @@ impl Air {
         match said {
             Said::Sent(sent) => {
                 let now = self.now();
-                self.medium.take(sent, now);
+                if let Some(effect) = self.medium.take(sent, now) {
+                    self.tell(&effect);
+                }
             }
             Said::Has(radio, address) => self.medium.give_address(radio, address),
             Said::HasNoMore(radio, address) => self.medium.take_address(radio, address),
@@ -186,6 +198,7 @@ impl Air {
         match line.trim().split_once(' ').unwrap_or((line.trim(), "")) {
             ("lose", rule) => self.medium.rules.add(rule.parse()?),
             ("clear", "") => self.medium.rules.clear(),
+            ("queue", words) => self.queue_by(words)?,
             ("forget", "") => self.medium.clear_counts(),
             ("report", "") => {
                 for (way, count) in self.medium.counts() {
@@ -197,7 +210,17 @@ impl Air {
                 }
                 println!("refused {}", self.refused);
             }
+            ("airtime", "") => self.medium.airtimes().for_each(|(flow, airtime)| println!("{flow} {airtime}")),
             _ => return Err(format!("nothing is known of the line `{line}`")),
+        }
+        Ok(())
+    }
+
+    /// Obeys the words behind `queue`.
+    fn queue_by(&mut self, words: &str) -> Result<(), String> {
+        let (radio, discipline) = words.split_once(' ').ok_or("a radio and how it queues are wanted")?;
+        for effect in self.medium.queue_by(radio.parse()?, discipline.parse()?) {
+            self.tell(&effect);
         }
         Ok(())
     }

@@ -4,15 +4,19 @@
 //! at a time. Radios that have something to send take turns, a try each; before each try comes DIFS and a number of
 //! slots that is drawn from a window which doubles with each try (IEEE Std 802.11-2016, 10.3.4.3), so there are no
 //! collisions. A try that is heard by the radio that it is for is acknowledged; where the frame or the acknowledgement
-//! is lost it is sent again, with Retry set, at the rates and as often as its sender asked.
+//! is lost it is sent again, with Retry set, at the rates and as often as its sender asked. In which order the frames of
+//! one radio go is the module `queues`; what each used is the module `airtime`.
 
 use std::collections::hash_map::DefaultHasher;
-use std::collections::{BTreeMap, HashMap, VecDeque};
+use std::collections::{BTreeMap, HashMap};
 use std::hash::{Hash, Hasher};
 use std::rc::Rc;
 
-use crate::frame::{again, is_group, receiver, Address, Kind};
+use crate::airtime::{Airtime, Airtimes, Flow};
+use crate::exchange::Exchange;
+use crate::frame::{Address, Kind};
 use crate::hwsim::{Attempt, Sent};
+use crate::queues::{Discipline, Queue};
 use crate::rate::{Rate, DIFS, SLOT};
 use crate::rules::{Lost, Radio, Rules, Try};
 
@@ -70,67 +74,15 @@ pub struct Count {
     pub acknowledged: u64,
 }
 
+/// A try that is on the air.
 #[derive(Debug)]
-struct Exchange {
-    sent: Sent,
-    frame: Rc<Vec<u8>>,
-    kind: Kind,
-    receiver: Option<Address>,
-    tried: Vec<Attempt>,
-    tries: u32,
-}
-
-impl Exchange {
-    fn new(sent: Sent) -> Exchange {
-        Exchange {
-            frame: Rc::new(sent.frame.clone()),
-            kind: Kind::of(&sent.frame),
-            receiver: receiver(&sent.frame),
-            tried: Vec::new(),
-            tries: 0,
-            sent,
-        }
-    }
-
-    fn wants_acknowledgement(&self) -> bool {
-        !self.sent.wants_no_acknowledgement() && self.receiver.map_or(false, |address| !is_group(address))
-    }
-
-    /// The rate of the next try, or None where it was tried as often as its sender asked.
-    fn next_rate(&self) -> Option<Rate> {
-        let mut left = self.tries;
-        self.sent.attempts.iter().find_map(|attempt| match left.checked_sub(u32::from(attempt.count)) {
-            Some(rest) => {
-                left = rest;
-                None
-            }
-            None => Some(attempt.rate),
-        })
-    }
-
-    fn count_try(&mut self, rate: Rate) {
-        let begins = self.begins_attempt();
-        match self.tried.last_mut() {
-            Some(attempt) if !begins => attempt.count += 1,
-            _ => self.tried.push(Attempt { rate, count: 1 }),
-        }
-        self.tries += 1;
-    }
-
-    /// Whether the next try is the first of those at its place in the sender's list.
-    fn begins_attempt(&self) -> bool {
-        let mut ends = self.sent.attempts.iter().scan(0, |sum, attempt| {
-            *sum += u32::from(attempt.count);
-            Some(*sum)
-        });
-        self.tries == 0 || ends.any(|end| end == self.tries)
-    }
-}
-
-#[derive(Clone, Copy, Debug)]
 struct OnAir {
-    from: Radio,
+    exchange: Exchange,
     rate: Rate,
+    /// Nanoseconds of DIFS and slots before it.
+    spaces: u64,
+    /// Nanoseconds of the frame and, where one is wanted, of its acknowledgement.
+    sending: u64,
     ends: u64,
 }
 
@@ -143,10 +95,11 @@ pub struct Medium {
     /// Who acknowledges what comes to an address, and how often that was said: the kernel says it of an interface, and
     /// again of the address by which it scans, which may be the same.
     owners: BTreeMap<Address, (Radio, u32)>,
-    queues: BTreeMap<Radio, VecDeque<Exchange>>,
+    queues: BTreeMap<Radio, Queue>,
     on_air: Option<OnAir>,
     last: Radio,
     counts: BTreeMap<Way, Count>,
+    airtimes: Airtimes,
 }
 
 impl Medium {
@@ -161,6 +114,7 @@ impl Medium {
             on_air: None,
             last: Radio(0),
             counts: BTreeMap::new(),
+            airtimes: Airtimes::default(),
         }
     }
 
@@ -179,25 +133,35 @@ impl Medium {
         }
     }
 
-    /// A radio has something to send, at this time in nanoseconds.
-    pub fn take(&mut self, sent: Sent, now: u64) {
-        self.queues.entry(sent.from).or_default().push_back(Exchange::new(sent));
+    /// From now on a radio keeps what waits by this discipline; what it drops for that is done with.
+    pub fn queue_by(&mut self, radio: Radio, discipline: Discipline) -> Vec<Effect> {
+        let dropped = self.queues.entry(radio).or_default().change(discipline);
+        dropped.into_iter().map(|exchange| self.drop_frame(exchange)).collect()
+    }
+
+    /// A radio has something to send, at this time in nanoseconds; what it drops for that is done with.
+    pub fn take(&mut self, sent: Sent, now: u64) -> Option<Effect> {
+        let dropped = self.queues.entry(sent.from).or_default().put(Exchange::new(sent));
         if self.on_air.is_none() {
             self.begin(now);
         }
+        dropped.map(|exchange| self.drop_frame(exchange))
     }
 
     /// When something happens next, in nanoseconds; None where nothing is on the air.
     pub fn due(&self) -> Option<u64> {
-        self.on_air.map(|on_air| on_air.ends)
+        self.on_air.as_ref().map(|on_air| on_air.ends)
     }
 
     /// What has happened by this time, in order.
     pub fn advance(&mut self, now: u64) -> Vec<Effect> {
         let mut effects = Vec::new();
-        while let Some(on_air) = self.on_air.filter(|on_air| on_air.ends <= now) {
-            self.end(on_air, &mut effects);
-            self.begin(on_air.ends);
+        while self.due().map_or(false, |due| due <= now) {
+            if let Some(on_air) = self.on_air.take() {
+                let ended = on_air.ends;
+                self.end(on_air, &mut effects);
+                self.begin(ended);
+            }
         }
         effects
     }
@@ -207,35 +171,45 @@ impl Medium {
         self.counts.iter()
     }
 
+    /// How long was sent since the counts were cleared, by addresses.
+    pub fn airtimes(&self) -> impl Iterator<Item = (&Flow, &Airtime)> {
+        self.airtimes.iter()
+    }
+
     pub fn clear_counts(&mut self) {
         self.counts.clear();
+        self.airtimes.clear();
+    }
+
+    /// A frame for which its radio has no room is reported as one that was never tried, and not acknowledged.
+    fn drop_frame(&mut self, exchange: Exchange) -> Effect {
+        self.airtimes.of(&exchange).dropped += 1;
+        Effect::Done { sent: exchange.sent, tried: exchange.tried, acknowledged: false }
     }
 
     /// Lets the next radio begin a try, after the one whose turn it was.
     fn begin(&mut self, at: u64) {
-        let waiting = |(_, queue): &(&Radio, &VecDeque<Exchange>)| !queue.is_empty();
+        let waiting = |(_, queue): &(&Radio, &Queue)| !queue.is_empty();
         let next = self.queues.range(Radio(self.last.0.saturating_add(1))..).find(waiting);
-        let found = next.or_else(|| self.queues.iter().find(waiting));
-        self.on_air =
-            found.and_then(|(from, queue)| queue.front().map(|exchange| (*from, exchange))).map(|(from, exchange)| {
-                let rate = exchange.next_rate().unwrap_or_else(Rate::slowest);
-                let answered = if exchange.wants_acknowledgement() { rate.acknowledgement() } else { 0 };
-                let least = LEAST_WINDOW[usize::from(rate.is_spread())];
-                let window = ((least + 1) << exchange.tries.min(6)).min(MOST_WINDOW + 1);
-                let slots = self.draws.number(from, from) % window;
-                let ends = at + DIFS + slots * SLOT + rate.airtime(exchange.frame.len()) + answered;
-                OnAir { from, rate, ends }
-            });
+        let found = next.or_else(|| self.queues.iter().find(waiting)).map(|(radio, _)| *radio);
+        let taken = found.and_then(|radio| self.queues.get_mut(&radio)).and_then(Queue::take);
+        self.on_air = taken.map(|exchange| {
+            let rate = exchange.next_rate().unwrap_or_else(Rate::slowest);
+            let answered = if exchange.wants_acknowledgement() { rate.acknowledgement() } else { 0 };
+            let least = LEAST_WINDOW[usize::from(rate.is_spread())];
+            let window = ((least + 1) << exchange.tries.min(6)).min(MOST_WINDOW + 1);
+            let slots = self.draws.number(exchange.sent.from, exchange.sent.from) % window;
+            let spaces = DIFS + slots * SLOT;
+            let sending = rate.airtime(exchange.frame.len()) + answered;
+            OnAir { exchange, rate, spaces, sending, ends: at + spaces + sending }
+        });
     }
 
-    /// Ends the try that is on the air.
+    /// Ends the try that was on the air.
     fn end(&mut self, on_air: OnAir, effects: &mut Vec<Effect>) {
-        let OnAir { from, rate, .. } = on_air;
+        let OnAir { mut exchange, rate, spaces, sending, .. } = on_air;
+        let from = exchange.sent.from;
         self.last = from;
-        let mut exchange = match self.queues.get_mut(&from).and_then(VecDeque::pop_front) {
-            Some(exchange) => exchange,
-            None => return,
-        };
         exchange.count_try(rate);
         let to = exchange.receiver.and_then(|address| self.owners.get(&address)).map(|owner| owner.0);
         let was_heard = self.deliver(&exchange, from, rate, to, effects);
@@ -250,11 +224,14 @@ impl Medium {
         count.tries += 1;
         count.heard += u64::from(was_heard);
         count.acknowledged += u64::from(acknowledged);
+        self.airtimes.of(&exchange).count_try(sending, spaces);
+        let queue = self.queues.entry(from).or_default();
+        queue.charge(&exchange, sending + spaces);
         if acknowledged || !exchange.wants_acknowledgement() || exchange.next_rate().is_none() {
             effects.push(Effect::Done { sent: exchange.sent, tried: exchange.tried, acknowledged });
         } else {
-            exchange.frame = Rc::new(again(&exchange.sent.frame));
-            self.queues.entry(from).or_default().push_front(exchange);
+            exchange.set_retry();
+            queue.put_again(exchange);
         }
     }
 
@@ -392,7 +369,7 @@ mod tests {
     fn shares_are_met_and_come_again_with_the_seed() {
         let run = || {
             let mut medium = medium(&["frames 20%"]);
-            (0..5000).for_each(|_| medium.take(data(0, STATION, &[("54", 1)]), 0));
+            (0..5000).for_each(|_| drop(medium.take(data(0, STATION, &[("54", 1)]), 0)));
             done(&medium.advance(FOREVER)).into_iter().map(|(_, acknowledged)| acknowledged).collect::<Vec<_>>()
         };
         let first = run();
@@ -411,6 +388,99 @@ mod tests {
         assert_eq!(found, [(way, Count { tries: 3, heard: 3, acknowledged: 0 })]);
         medium.clear_counts();
         assert_eq!(medium.counts().count(), 0);
+    }
+
+    /// A frame of data of a network to a receiver at a rate, of 100 octets.
+    fn data_of(network: u8, to: Address, word: &str) -> Sent {
+        let mut sent = data(0, to, &[(word, 1)]);
+        sent.frame[10..16].copy_from_slice(&[2, 0, 0, 0, 1, network]);
+        sent
+    }
+
+    #[test]
+    fn air_time_is_counted_by_addresses() {
+        let mut medium = medium(&["acknowledgements 100%"]);
+        let mut sent = data_of(1, STATION, "54");
+        sent.attempts[0].count = 3;
+        medium.take(sent, 0);
+        medium.take(data_of(2, [0xff; 6], "1"), 0);
+        let ended = medium.advance(FOREVER);
+        assert_eq!(done(&ended).len(), 2);
+        let found: Vec<_> = medium.airtimes().map(|(flow, airtime)| (*flow, *airtime)).collect();
+        let flow = |network, to| Flow { from: Some([2, 0, 0, 0, 1, network]), to: Some(to), kind: Kind::Data };
+        assert_eq!(found.iter().map(|(flow, _)| *flow).collect::<Vec<_>>(), [flow(1, STATION), flow(2, [0xff; 6])]);
+        let sending = 3 * (rate("54").airtime(100) + rate("54").acknowledgement());
+        assert_eq!((found[0].1.tries, found[0].1.sending), (3, sending));
+        assert_eq!((found[1].1.tries, found[1].1.sending), (1, rate("1").airtime(100)));
+        assert!(found[0].1.spaces >= 3 * DIFS && (found[0].1.spaces - 3 * DIFS) % SLOT == 0);
+        medium.clear_counts();
+        assert_eq!(medium.airtimes().count(), 0);
+    }
+
+    #[test]
+    fn what_was_counted_is_all_the_time_that_passed() {
+        let mut medium = medium(&["frames 50%"]);
+        (0..100).for_each(|place| drop(medium.take(data_of(place % 3, STATION, "11"), 0)));
+        let mut last = 0;
+        while let Some(due) = medium.due() {
+            last = due;
+            medium.advance(due);
+        }
+        let sum: u64 = medium.airtimes().map(|(_, airtime)| airtime.sending + airtime.spaces).sum();
+        assert_eq!(sum, last);
+    }
+
+    #[test]
+    fn a_frame_without_room_is_reported_as_never_tried() {
+        let mut medium = medium(&[]);
+        assert!(medium.queue_by(Radio(0), Discipline::One).is_empty());
+        let dropped: Vec<_> = (0..70).filter_map(|_| medium.take(data(0, STATION, &[("54", 4)]), 0)).collect();
+        assert_eq!(done(&dropped), vec![(vec![], false); 5]);
+        assert_eq!(done(&medium.advance(FOREVER)).len(), 65);
+        assert_eq!(medium.airtimes().map(|(_, airtime)| airtime.dropped).sum::<u64>(), 5);
+    }
+
+    #[test]
+    fn without_a_word_a_radio_drops_nothing() {
+        let mut medium = medium(&[]);
+        assert!((0..500).all(|_| medium.take(data(0, STATION, &[("54", 4)]), 0).is_none()));
+        assert_eq!(done(&medium.advance(FOREVER)).len(), 500);
+    }
+
+    #[test]
+    fn fair_queues_divide_the_air_evenly_whatever_the_rates_and_tries() {
+        let slow: Address = [2, 0, 0, 0, 2, 1];
+        let mut medium = medium(&["frames 50% to 1"]);
+        medium.give_address(Radio(1), slow);
+        medium.queue_by(Radio(0), Discipline::Fair);
+        let mut now = 0;
+        while now < 2_000_000_000 {
+            medium.take(data_of(1, STATION, "54"), now);
+            let mut sent = data_of(2, slow, "1");
+            sent.attempts[0].count = 7;
+            medium.take(sent, now);
+            now += 100_000;
+            medium.advance(now);
+        }
+        let used: Vec<_> = medium.airtimes().map(|(_, airtime)| (airtime.sending + airtime.spaces) as f64).collect();
+        assert_eq!(used.len(), 2);
+        assert!((used[0] / used[1] - 1.0).abs() < 0.02, "{used:?}");
+    }
+
+    #[test]
+    fn retries_are_not_interleaved_with_other_frames_of_the_radio() {
+        for discipline in [Discipline::Unbounded, Discipline::One, Discipline::Fair] {
+            let mut medium = medium(&["frames 100% to 2"]);
+            medium.queue_by(Radio(0), discipline);
+            medium.take(data(0, STATION, &[("6", 3)]), 0);
+            let first = medium.due().unwrap();
+            medium.take(data_of(2, [0xff; 6], "9"), 0);
+            medium.take(data(1, [0xff; 6], &[("12", 1)]), 0);
+            medium.advance(first);
+            let order: Vec<_> =
+                done(&medium.advance(FOREVER)).into_iter().map(|(tried, _)| tried[0].0.clone()).collect();
+            assert_eq!(order, ["12", "6", "9"], "{discipline:?}");
+        }
     }
 
     #[test]

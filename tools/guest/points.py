@@ -1,0 +1,147 @@
+"""Two access points of several networks each: this one, and Debian's hostapd with the kernel's own. Both serve the same
+wired hosts by the same radio, one after the other."""
+import os
+import signal
+import subprocess
+from dataclasses import dataclass
+
+from airing import RATES
+from stage import NETWORK_TEXT, RADIO_TEXT, READY, TIMEOUT
+from stations import Failed, Host, run, wait_for
+
+SECONDS_TO_END = 60
+AP = "ap0"
+HOSTAPD_TEXT = """interface={interface}
+driver=nl80211
+ctrl_interface={folder}/control
+bridge={bridge}
+ssid={ssid}
+hw_mode=g
+channel=6
+beacon_int=100
+dtim_period=1
+auth_algs=1
+wmm_enabled=0
+basic_rates=10 20
+supported_rates=10 20 55 110 60 90 120 180 240 360 480 540
+"""
+MORE_HOSTAPD_TEXT = """bss={interface}
+bssid={bssid}
+bridge={bridge}
+ssid={ssid}
+dtim_period=1
+auth_algs=1
+wmm_enabled=0
+"""
+
+
+@dataclass(frozen=True)
+class Served:
+    """A network that an access point has to serve: its name, and the host at its wire."""
+
+    ssid: str
+    host: Host
+
+
+class Point:
+    """An access point, of which a process is the main part."""
+
+    name = ""
+    # The address of its first network; those of the others follow.
+    first_bssid = 0
+
+    def __init__(self, folder: str, phy: str) -> None:
+        self.folder, self.phy = os.path.join(folder, self.name), phy
+        os.makedirs(self.folder, exist_ok=True)
+        self.config, self.log = (os.path.join(self.folder, file) for file in ("config", "log"))
+        self.process: subprocess.Popen | None = None
+
+    def bssid(self, place: int) -> str:
+        """The address of the network at this place."""
+        return f"02:00:00:00:01:{self.first_bssid + place:02x}"
+
+    def start(self, words: list[str], says: str) -> None:
+        """Starts the process, and waits until it says that it has begun."""
+        with open(self.log, "ab") as log:
+            log.truncate(0)
+            self.process = subprocess.Popen(words, stdin=subprocess.DEVNULL, stdout=log, stderr=log)
+        wait_for(f"{self.name} begins", TIMEOUT, lambda: says in self.told() or not self.is_running(), 0.1)
+        if not self.is_running():
+            raise Failed(f"{self.name} didn't begin: {self.told()}")
+
+    def is_running(self) -> bool:
+        """Whether it has begun and not ended."""
+        return self.process is not None and self.process.poll() is None
+
+    def told(self) -> str:
+        """What it has told since it began."""
+        with open(self.log, encoding="utf-8") as file:
+            return file.read()
+
+    def end(self) -> None:
+        """Ends the process, where it hasn't ended by itself."""
+        if self.is_running():
+            self.process.send_signal(signal.SIGTERM)
+        if self.process is not None:
+            self.process.wait(SECONDS_TO_END)
+
+
+class Own(Point):
+    """This access point: tools/live with a bridge and a program."""
+
+    name = "waltigon"
+    first_bssid = 1
+
+    def __init__(self, folder: str, phy: str, live: str, program: str, bridge: str | None) -> None:
+        super().__init__(folder, phy)
+        self.words = [live, self.config, "--phy", phy, "--program", program]
+        self.words += ["--bridge", bridge] if bridge else []
+
+    def begin(self, networks: list[Served], more: tuple[str, ...] = ()) -> None:
+        """Begins it with these networks, and with more words of tools/live."""
+        words = [*self.words, *more]
+        with open(self.config, "w", encoding="utf-8") as file:
+            file.write(RADIO_TEXT.format(version=1))
+            for place, network in enumerate(networks):
+                file.write(NETWORK_TEXT.format(bssid=self.bssid(place), ssid=network.ssid, rates=RATES, dtim=1, more=""))
+                words += ["--wire", f"{self.bssid(place)}={network.host.port}"]
+        self.start(words, READY)
+
+
+class Hostapd(Point):
+    """Debian's hostapd; each network is bridged to its wire by the kernel."""
+
+    name = "hostapd"
+
+    def __init__(self, folder: str, phy: str) -> None:
+        super().__init__(folder, phy)
+        self.bridges: list[str] = []
+
+    def begin(self, networks: list[Served], more: tuple[str, ...] = ()) -> None:
+        """Begins it with these networks; there are no more words."""
+        assert not more
+        run("iw", "phy", self.phy, "interface", "add", AP, "type", "managed", "addr", self.bssid(0))
+        self.bridges = [f"br{place}" for place, _ in enumerate(networks)]
+        with open(self.config, "w", encoding="utf-8") as file:
+            for place, (network, bridge) in enumerate(zip(networks, self.bridges)):
+                text = MORE_HOSTAPD_TEXT if place else HOSTAPD_TEXT
+                file.write(text.format(interface=f"{AP}_{place}" if place else AP, folder=self.folder, bridge=bridge,
+                                       ssid=network.ssid, bssid=self.bssid(place)))
+                self.join_wire(bridge, network.host.port)
+        self.start(["hostapd", self.config], "AP-ENABLED")
+
+    def join_wire(self, bridge: str, port: str) -> None:
+        """Makes a bridge of the kernel, with a wire in it."""
+        run("ip", "link", "add", bridge, "type", "bridge")
+        for name in (port, bridge):
+            run("ip", "link", "set", name, "addrgenmode", "none")
+        run("ip", "link", "set", port, "master", bridge, "up")
+        run("ip", "link", "set", bridge, "up")
+
+    def end(self) -> None:
+        """Ends it, and takes down what it needed."""
+        super().end()
+        for bridge in self.bridges:
+            run("ip", "link", "del", bridge)
+        self.bridges = []
+        run("iw", "dev", AP, "del")
