@@ -10,7 +10,7 @@ use crate::control::{say, Notice, Request, Requests};
 use crate::faces::{Answer, Event};
 use crate::faults::{reason, tell, Fault};
 use crate::filter::{acknowledged_filter, monitor_filter, Shown};
-use crate::frames::{Address, Frame, FrameType};
+use crate::frames::{Address, Frame};
 use crate::gathering::Gathering;
 use crate::log::{self, Level};
 use crate::operating::{Errand, Operating};
@@ -25,7 +25,7 @@ use crate::sockets::{Batch, Packet, Port, AT_A_TIME};
 use crate::status::{error, Faults, Named, Status};
 use crate::tables::{Asker, Tables};
 use crate::time::{now, wall_now, Lateness, Nanos, Ticks, MILLISECOND, SECOND};
-use crate::waiting::{Flow, Source, Waiter, Waiting};
+use crate::waiting::{Source, Waiter, Waiting};
 
 const TO_BEACON: Nanos = SECOND;
 const TO_READY: Nanos = 20 * SECOND;
@@ -34,8 +34,6 @@ const TO_END: Nanos = 20 * SECOND;
 const UNREAD_ACKNOWLEDGED: u64 = AT_A_TIME as u64;
 /// How many batches of one socket are read, and pieces of the program's output, before something else is looked at.
 const IN_A_ROW: usize = 4;
-/// The lane of the air; those of wires come after, in the networks' order.
-const AIR: Source = 0;
 
 /// So long before a beacon interval begins frames gather no more: a sleep may end some 50 µs late.
 const BEFORE_TICK: Nanos = MILLISECOND / 5;
@@ -77,6 +75,13 @@ enum Phase {
     Ending,
 }
 
+/// By what a frame came: the air, or the wire of the network of this place.
+#[derive(Debug, Clone, Copy, PartialEq, Eq, PartialOrd, Ord)]
+enum Way {
+    Air,
+    Wire(usize),
+}
+
 /// What was given to the program, by kind.
 #[derive(Debug, Default, Clone, Copy)]
 struct Given {
@@ -107,9 +112,9 @@ struct Running<P> {
     /// Until when the first beacon has to be seen as sent, while none was.
     beacon_due: Option<Nanos>,
     given: Given,
-    left_out: BTreeMap<(Source, LeftOut), u64>,
+    left_out: BTreeMap<(Way, LeftOut), u64>,
     has_told_drops: bool,
-    /// How often the bridge was woken, and of each source in which waking it was read last.
+    /// How often the bridge was woken, and in which waking the air and each wire were read last.
     wakings: u64,
     read_in: Vec<u64>,
     /// How many frames were sent on the air when those that were acknowledged were read last.
@@ -638,7 +643,7 @@ impl<P: Port> Running<P> {
         Running {
             sender,
             air: Air::new(networks.iter().map(|network| network.bssid)),
-            waiting: Waiting::new(1 + networks.len()),
+            waiting: Waiting::new(networks.len()),
             gathering: Gathering::default(),
             operating: Operating::new(&networks, manner.most_silence),
             tables: Tables::new(networks.len()),
@@ -707,8 +712,16 @@ impl<P: Port> Running<P> {
         for errand in errands {
             match errand {
                 Errand::Send { place, frame, retries } => self.sender.send_own(place, &frame, retries, time),
-                Errand::Say(octets) => self.waiting.push(AIR, Waiter { flow: None, arrived: time, octets }),
+                Errand::Say(octets) => self.wait_of_air(&octets, time),
             }
+        }
+    }
+
+    /// A frame of the air waits for the program.
+    fn wait_of_air(&mut self, octets: &[u8], arrived: Nanos) {
+        if let Some(frame) = Frame::of(octets) {
+            let source = Source::of_air(self.air.place_of(&frame.receiver()));
+            self.waiting.push(source, Waiter::of_air(frame, arrived));
         }
     }
 
@@ -764,7 +777,7 @@ impl<P: Port> Running<P> {
     fn drops(&mut self) -> Named {
         let waiting = self.waiting.dropped();
         let mut found: Named =
-            waiting.map(|(source, reason, number)| (format!("{}: {reason}", self.interface(source)), number)).collect();
+            waiting.map(|(source, reason, number)| (format!("{}: {reason}", self.lane(source)), number)).collect();
         found.extend(self.sender.counts().into_iter().filter(|(what, _)| !what.starts_with("sent ")));
         for exit in self.sender.exits() {
             let number = exit.port.count_dropped();
@@ -778,7 +791,7 @@ impl<P: Port> Running<P> {
     /// What was left out, by what people call it.
     fn left_out(&self) -> Named {
         let counts = self.left_out.iter();
-        counts.map(|((source, reason), number)| (format!("{}: {reason}", self.interface(*source)), *number)).collect()
+        counts.map(|((way, reason), number)| (format!("{}: {reason}", self.interface(*way)), *number)).collect()
     }
 
     fn unblock(&mut self, token: Token) {
@@ -834,15 +847,15 @@ impl<P: Port> Running<P> {
     /// How many packets are asked for at a time: one where an interface had nothing at the last waking, since a question
     /// for one more that isn't there costs as much as reading one.
     fn to_ask_for(&mut self, token: Token) -> usize {
-        let source = match token {
-            Token::Monitor => AIR,
-            Token::Wire(place) => AIR + 1 + place,
+        let way = match token {
+            Token::Monitor => 0,
+            Token::Wire(place) => 1 + place,
             _ => {
                 self.sent_before = self.sender.sent_on_air();
                 return AT_A_TIME;
             }
         };
-        let before = std::mem::replace(&mut self.read_in[source], self.wakings);
+        let before = std::mem::replace(&mut self.read_in[way], self.wakings);
         if before + 1 == self.wakings || self.gathering.are_many() {
             AT_A_TIME
         } else {
@@ -852,9 +865,9 @@ impl<P: Port> Running<P> {
 
     fn take_air(&mut self, packet: &Packet<'_>, arrived: Nanos) {
         match self.air.judge(packet.octets, packet.is_outgoing, packet.is_cut) {
-            Judged::LeftOut(reason) => self.leave_out(AIR, reason),
+            Judged::LeftOut(reason) => self.leave_out(Way::Air, reason),
             Judged::Sent(frame, outcome) => {
-                self.leave_out(AIR, LeftOut::Sent);
+                self.leave_out(Way::Air, LeftOut::Sent);
                 self.see_sent(frame);
                 self.operating.shown(frame, outcome, arrived);
                 if !is_null_of_network(frame) {
@@ -864,8 +877,7 @@ impl<P: Port> Running<P> {
             Judged::GoesOn(frame) => {
                 self.sender.heard(frame);
                 self.operating.heard(frame, reception(packet.octets), arrived);
-                let waiter = Waiter { flow: flow_of_air(frame), arrived, octets: frame.octets().to_vec() };
-                self.waiting.push(AIR, waiter);
+                self.wait_of_air(frame.octets(), arrived);
             }
         }
     }
@@ -879,32 +891,28 @@ impl<P: Port> Running<P> {
     }
 
     fn take_wired(&mut self, place: usize, packet: &Packet<'_>, arrived: Nanos) {
-        let source = AIR + 1 + place;
         match judge_wired(packet.octets, packet.is_outgoing, packet.had_tag, packet.is_cut) {
-            Err(reason) => self.leave_out(source, reason),
-            Ok(octets) => {
-                let waiter = Waiter { flow: Some(flow_of_wire(octets)), arrived, octets: octets.to_vec() };
-                self.waiting.push(source, waiter);
-            }
+            Err(reason) => self.leave_out(Way::Wire(place), reason),
+            Ok(octets) => self.waiting.push(Source::Wire(place), Waiter::of_wire(octets, arrived)),
         }
         if packet.has_no_checksum {
             self.tell_of_checksums(place);
         }
     }
 
-    fn leave_out(&mut self, source: Source, reason: LeftOut) {
-        *self.left_out.entry((source, reason)).or_default() += 1;
+    fn leave_out(&mut self, way: Way, reason: LeftOut) {
+        *self.left_out.entry((way, reason)).or_default() += 1;
     }
 
     /// Says a frame to the program.
     fn say(&mut self, source: Source, waiter: &Waiter, feeder: &mut Feeder, time: Nanos) -> Result<(), Fault> {
-        match source.checked_sub(AIR + 1) {
-            None => {
+        match source {
+            Source::AirForAll | Source::Air(_) => {
                 self.given.air += 1;
                 self.operating.said(&waiter.octets, time);
                 feeder.say(Event::Air(&waiter.octets))
             }
-            Some(place) => {
+            Source::Wire(place) => {
                 self.given.wires += 1;
                 feeder.say(Event::Wire(self.networks[place].bssid, &waiter.octets))
             }
@@ -968,10 +976,19 @@ impl<P: Port> Running<P> {
         Ok(())
     }
 
-    fn interface(&self, source: Source) -> &str {
-        match source.checked_sub(AIR + 1) {
-            None => "the air",
-            Some(place) => self.networks[place].wire.as_deref().unwrap_or("a wire"),
+    fn interface(&self, way: Way) -> &str {
+        match way {
+            Way::Air => "the air",
+            Way::Wire(place) => self.networks[place].wire.as_deref().unwrap_or("a wire"),
+        }
+    }
+
+    /// What people call a lane.
+    fn lane(&self, source: Source) -> String {
+        match source {
+            Source::AirForAll => "the air for all".to_owned(),
+            Source::Air(place) => format!("the air for {}", self.networks[place].bssid),
+            Source::Wire(place) => self.interface(Way::Wire(place)).to_owned(),
         }
     }
 
@@ -981,7 +998,7 @@ impl<P: Port> Running<P> {
             tell(format!(
                 "{}: frames come without checksums, and stations drop them: on the interface that sends them, `ethtool \
                  -K NAME tx off gso off tso off`",
-                self.interface(AIR + 1 + place)
+                self.interface(Way::Wire(place))
             ));
         }
         self.given.without_checksums += 1;
@@ -1002,13 +1019,13 @@ impl<P: Port> Running<P> {
         for (kind, number) in given.into_iter().filter(|(_, number)| *number > 0) {
             tell(format!("{number} lines given: {kind}"));
         }
-        for ((source, reason), number) in &self.left_out {
-            tell(format!("{number} frames {reason} left out: {}", self.interface(*source)));
+        for ((way, reason), number) in &self.left_out {
+            tell(format!("{number} frames {reason} left out: {}", self.interface(*way)));
         }
         let mut dropped: Vec<_> = self.waiting.dropped().collect();
         dropped.sort();
         for (source, reason, number) in dropped {
-            tell(format!("{number} dropped of {}: {reason}", self.interface(source)));
+            tell(format!("{number} dropped of {}: {reason}", self.lane(source)));
         }
         if !self.waiting.is_empty() {
             tell(format!("{} frames still waited for the program", self.waiting.len()));
@@ -1025,20 +1042,6 @@ impl<P: Port> Running<P> {
             }
         }
     }
-}
-
-/// Whose data a frame of the air is; `None` where it isn't data: a Null frame says whether a station dozes.
-fn flow_of_air(frame: Frame<'_>) -> Option<Flow> {
-    match frame.transmitter() {
-        Some(sender) if frame.frame_type() == FrameType::Data && !frame.is_null() => Some((sender, frame.receiver())),
-        _ => None,
-    }
-}
-
-/// Whose data a frame of a wire is.
-fn flow_of_wire(octets: &[u8]) -> Flow {
-    let nobody = Address::of([0; 6]);
-    (Address::at(octets, 6).unwrap_or(nobody), Address::at(octets, 0).unwrap_or(nobody))
 }
 
 #[cfg(test)]

@@ -3,7 +3,7 @@ use std::collections::VecDeque;
 use std::fmt;
 
 use crate::frames::{is_tagged, Address, Frame, FrameType, LEAST, MOST};
-use crate::hashing::{AddressSet, PairMap};
+use crate::hashing::{AddressMap, PairMap};
 use crate::radiotap::{captured, Outcome};
 
 /// Of how many senders the last sequence control is known.
@@ -66,14 +66,21 @@ pub enum Judged<'a> {
 /// known (IEEE Std 802.11-2016, 10.3.2.11).
 #[derive(Debug)]
 pub struct Air {
-    bssids: AddressSet,
+    /// The places of the networks.
+    places: AddressMap<usize>,
     last: LastHeard,
 }
 
 impl Air {
     /// Nothing was heard yet for these networks.
     pub fn new(bssids: impl IntoIterator<Item = Address>) -> Air {
-        Air { bssids: bssids.into_iter().collect(), last: LastHeard::default() }
+        let places = bssids.into_iter().enumerate().map(|(place, bssid)| (bssid, place)).collect();
+        Air { places, last: LastHeard::default() }
+    }
+
+    /// The place of the network with this address, in the order in which they were given.
+    pub fn place_of(&self, bssid: &Address) -> Option<usize> {
+        self.places.get(bssid).copied()
     }
 
     /// What is done with a packet; `is_outgoing` where this machine sent it, `is_cut` where it was longer.
@@ -99,8 +106,8 @@ impl Air {
             Some(_) if octets.len() > MOST => return Judged::LeftOut(LeftOut::Long),
             Some(frame) => frame,
         };
-        let is_own = frame.transmitter().map_or(false, |found| self.bssids.contains(&found));
-        let is_ours = self.bssids.contains(&frame.receiver());
+        let is_own = frame.transmitter().map_or(false, |found| self.places.contains_key(&found));
+        let is_ours = self.places.contains_key(&frame.receiver());
         if frame.frame_type() == FrameType::Control && !frame.is_ps_poll() {
             Judged::LeftOut(LeftOut::Controls)
         } else if is_own {
