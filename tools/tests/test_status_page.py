@@ -105,7 +105,7 @@ class Shown(unittest.TestCase):
         text = self.browser.value(TEXT)
         self.assertEqual(text.count("No station is here."), 2)
         self.assertIn("02:00:00:00:01:01, wire wire1, which went down 1 min 30 s ago", text)
-        self.assertIn("02:00:00:00:01:02, wire wire2\n", text)
+        self.assertNotIn("wire wire2, which", text)
         self.assertIn("no counts yet", text)
         self.assertIn("(name not told yet)", text)
         self.assertEqual(self.browser.faults, [])
