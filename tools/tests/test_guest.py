@@ -185,7 +185,7 @@ class Profile(unittest.TestCase):
 
 LOG = """2026-11-27T12:00:02Z live: 02:bb:00:00:00:00 was forgotten by 02:00:00:00:01:01: silent for 14 seconds
 2026-11-27T12:00:02Z live: 02:bb:00:00:00:01 was forgotten by 02:00:00:00:01:01: silent for 14 seconds
-2026-11-27T12:00:03Z live: 46 more lines of stations in one second
+2026-11-27T12:00:03Z live: 46 more lines of stations in one second, of 02:00:00:00:01:01
 2026-11-27T12:00:03Z live: 02:bb:00:00:00:02 was forgotten by 02:00:00:00:01:01: silent for 14 seconds
 """
 

@@ -752,8 +752,8 @@ class Running(WithFiles):
 
     def test_fault(self):
         """What the bridge can't go on with is this program's fault, whatever comes after it."""
-        with self.assertRaisesRegex(Fault, "^wire1: Network is down: was it taken down[?]$"):
-            self.run_bridge(does="break", after="echo 'fault wire1: Network is down: was it taken down?'; exit 1")
+        with self.assertRaisesRegex(Fault, "^mon0: Network is down: was it taken down[?]$"):
+            self.run_bridge(does="break", after="echo 'fault mon0: Network is down: was it taken down?'; exit 1")
         self.assertIn("the program ended with status 0", self.told.getvalue())
 
     def test_killed(self):

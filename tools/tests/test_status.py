@@ -28,7 +28,7 @@ THREE = document(
     network(1, b"guests", [station(1), station(2, dozes=True, kept=3, signal=None), only_known(3)],
             refusals={"1": 5, "18": 1}),
     network(2, MARKUP, counts=None, wire=None),
-    network(3, b"\xff\n\x00"),
+    network(3, b"\xff\n\x00", wire_down=12.5),
     drops={'the air: "late"\nframes': 3}, left_out={"the air: sent again": 12},
     faults=[{"seconds": 3.2, "text": "fault L2 line 3"}])
 SAMPLE = re.compile(r"([a-z_]+)(?:\{(.*)\})? (\S+)")
@@ -126,6 +126,7 @@ class Metrics(unittest.TestCase):
         self.assertEqual(samples(self.families, "network_stations", **guests, state="authenticated"), [1])
         self.assertEqual(samples(self.families, "network_refusals_total", **guests, status="1"), [5])
         self.assertEqual(samples(self.families, "network_lost_units_total", **guests), [2])
+        self.assertEqual(samples(self.families, "network_wire_up"), [1, 0], "one has no wire")
         self.assertEqual(samples(self.families, "network_events_total", ssid=MARKUP.decode()), [], "not known yet")
         self.assertEqual(samples(self.families, "network_stations", ssid=MARKUP.decode()), [0, 0])
         crowded = parse(metrics_of(complete(document(network(1, b"x", [station(1), only_known(2)], known=5000)), 0)))

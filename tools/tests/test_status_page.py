@@ -99,11 +99,13 @@ class Shown(unittest.TestCase):
         self.look("unfolded")
 
     def test_no_station(self):
-        self.told = document(network(1, b"guests"), {**network(2, b"office", counts=None), "ssid": None})
+        self.told = document(network(1, b"guests", wire_down=90.5), {**network(2, b"office", counts=None), "ssid": None})
         self.open()
         self.look("none")
         text = self.browser.value(TEXT)
         self.assertEqual(text.count("No station is here."), 2)
+        self.assertIn("02:00:00:00:01:01, wire wire1, which went down 1 min 30 s ago", text)
+        self.assertNotIn("wire wire2, which", text)
         self.assertIn("no counts yet", text)
         self.assertIn("(name not told yet)", text)
         self.assertEqual(self.browser.faults, [])

@@ -9,8 +9,8 @@ use crate::clients::{Clients, Question};
 use crate::control::{say, Notice, Request, Requests};
 use crate::faces::{Answer, Event};
 use crate::faults::{reason, tell, Fault};
-use crate::filter::{acknowledged_filter, monitor_filter, Shown};
-use crate::frames::{Address, Frame, FrameType};
+use crate::filter::{acknowledged_filter, monitor_filter, nothing_filter, Shown};
+use crate::frames::{Address, Frame};
 use crate::gathering::Gathering;
 use crate::log::{self, Level};
 use crate::operating::{Errand, Operating};
@@ -18,13 +18,13 @@ use crate::poller::{Poller, Ready, Token};
 use crate::program::{Feeder, Program};
 use crate::radiotap::reception;
 use crate::receiving::{judge_wired, Air, Judged, LeftOut};
-use crate::sending::{Network, Sender, BEACON};
+use crate::sending::{Gate, Network, Sender, BEACON};
 use crate::silence;
 use crate::sockets::{Batch, Packet, Port, AT_A_TIME};
 use crate::status::{error, Faults, Named, Status};
 use crate::tables::{Asker, Tables};
 use crate::time::{now, wall_now, Lateness, Nanos, Ticks, MILLISECOND, SECOND};
-use crate::waiting::{Flow, Source, Waiter, Waiting};
+use crate::waiting::{Source, Waiter, Waiting};
 
 const TO_BEACON: Nanos = SECOND;
 const TO_READY: Nanos = 20 * SECOND;
@@ -33,8 +33,6 @@ const TO_END: Nanos = 20 * SECOND;
 const UNREAD_ACKNOWLEDGED: u64 = AT_A_TIME as u64;
 /// How many batches of one socket are read, and pieces of the program's output, before something else is looked at.
 const IN_A_ROW: usize = 4;
-/// The lane of the air; those of wires come after, in the networks' order.
-const AIR: Source = 0;
 
 /// So long before a beacon interval begins frames gather no more: a sleep may end some 50 µs late.
 const BEFORE_TICK: Nanos = MILLISECOND / 5;
@@ -76,6 +74,21 @@ enum Phase {
     Ending,
 }
 
+/// By what a frame came: the air, or the wire of the network of this place.
+#[derive(Debug, Clone, Copy, PartialEq, Eq, PartialOrd, Ord)]
+enum Way {
+    Air,
+    Wire(usize),
+}
+
+/// A wire whose interface went down, or away.
+#[derive(Debug)]
+struct Ended {
+    since: Nanos,
+    /// How many frames of its network were lost since.
+    lost: u64,
+}
+
 /// What was given to the program, by kind.
 #[derive(Debug, Default, Clone, Copy)]
 struct Given {
@@ -106,9 +119,11 @@ struct Running<P> {
     /// Until when the first beacon has to be seen as sent, while none was.
     beacon_due: Option<Nanos>,
     given: Given,
-    left_out: BTreeMap<(Source, LeftOut), u64>,
+    left_out: BTreeMap<(Way, LeftOut), u64>,
     has_told_drops: bool,
-    /// How often the bridge was woken, and of each source in which waking it was read last.
+    /// The wires that ended, by the places of their networks.
+    ended: BTreeMap<usize, Ended>,
+    /// How often the bridge was woken, and in which waking the air and each wire were read last.
     wakings: u64,
     read_in: Vec<u64>,
     /// How many frames were sent on the air when those that were acknowledged were read last.
@@ -371,7 +386,7 @@ impl<P: Port, C: io::Read + std::os::unix::io::AsRawFd> Bridge<P, C> {
                     self.tell_of_dismissal();
                 }
             }
-            (Answer::Wire(bssid, octets), Some(running)) => running.sender.send_on_wire(bssid, octets, time)?,
+            (Answer::Wire(bssid, octets), Some(running)) => running.send_on_wire(bssid, octets, time)?,
             (Answer::Air(..) | Answer::Wire(..), None) => {
                 return Err(Fault::new("the program sent a frame before it was given one"))
             }
@@ -458,7 +473,13 @@ impl<P: Port, C: io::Read + std::os::unix::io::AsRawFd> Bridge<P, C> {
         }
         let was_waited_for = running.beacon_due.is_some();
         if ready.can_read && self.phase == Phase::Running {
-            running.receive(ready.token, &mut self.batch, self.time)?;
+            let outcome = running.receive(ready.token, &mut self.batch, self.time);
+            match (outcome, ready.token) {
+                (Err(fault), Token::Wire(place)) => {
+                    running.end_wire(place, &fault, &mut self.batch, &self.poller, self.time)?;
+                }
+                (outcome, _) => outcome?,
+            }
         }
         if was_waited_for && running.beacon_due.is_none() {
             say(&Notice::Sending);
@@ -639,7 +660,7 @@ impl<P: Port> Running<P> {
         Running {
             sender,
             air: Air::new(networks.iter().map(|network| network.bssid)),
-            waiting: Waiting::new(1 + networks.len()),
+            waiting: Waiting::new(networks.len()),
             gathering: Gathering::default(),
             operating: Operating::new(&networks, manner.most_silence),
             tables: Tables::new(networks.len()),
@@ -655,6 +676,7 @@ impl<P: Port> Running<P> {
             given: Given::default(),
             left_out: BTreeMap::new(),
             has_told_drops: false,
+            ended: BTreeMap::new(),
             wakings: 0,
             sent_before: 0,
             awaits_acknowledged: false,
@@ -670,6 +692,17 @@ impl<P: Port> Running<P> {
         self.sender.send_on_air(bssid, octets, time)?;
         self.run(errands, time);
         Ok(())
+    }
+
+    /// A network sends a frame on its wire. Where that has ended the frame is lost, and counted.
+    fn send_on_wire(&mut self, bssid: Address, octets: Vec<u8>, time: Nanos) -> Result<(), Fault> {
+        match self.air.place_of(&bssid).and_then(|place| self.ended.get_mut(&place)) {
+            Some(ended) => {
+                ended.lost += 1;
+                Ok(())
+            }
+            None => self.sender.send_on_wire(bssid, octets, time),
+        }
     }
 
     /// A beacon came of the program. Behind the last one that is due stations are looked at that are silent.
@@ -708,8 +741,16 @@ impl<P: Port> Running<P> {
         for errand in errands {
             match errand {
                 Errand::Send { place, frame, retries } => self.sender.send_own(place, frame, retries, time),
-                Errand::Say(octets) => self.waiting.push(AIR, Waiter { flow: None, arrived: time, octets }),
+                Errand::Say(octets) => self.wait_of_air(&octets, time),
             }
+        }
+    }
+
+    /// A frame of the air waits for the program.
+    fn wait_of_air(&mut self, octets: &[u8], arrived: Nanos) {
+        if let Some(frame) = Frame::of(octets) {
+            let source = Source::of_air(self.air.place_of(&frame.receiver()));
+            self.waiting.push(source, Waiter::of_air(frame, arrived));
         }
     }
 
@@ -755,6 +796,7 @@ impl<P: Port> Running<P> {
             drops,
             left_out,
             networks: &self.networks,
+            wires_down: (0..self.networks.len()).map(|place| Some(self.ended.get(&place)?.since)).collect(),
             roster: self.operating.roster(),
             tables: &self.tables,
             now,
@@ -765,8 +807,9 @@ impl<P: Port> Running<P> {
     fn drops(&mut self) -> Named {
         let waiting = self.waiting.dropped();
         let mut found: Named =
-            waiting.map(|(source, reason, number)| (format!("{}: {reason}", self.interface(source)), number)).collect();
+            waiting.map(|(source, reason, number)| (format!("{}: {reason}", self.lane(source)), number)).collect();
         found.extend(self.sender.counts().into_iter().filter(|(what, _)| !what.starts_with("sent ")));
+        found.extend(self.lost_on_wires());
         for gate in self.sender.gates() {
             let number = gate.port.count_dropped();
             if number > 0 {
@@ -776,10 +819,17 @@ impl<P: Port> Running<P> {
         found
     }
 
+    /// What was lost since wires ended, by what people call it.
+    fn lost_on_wires(&self) -> Named {
+        let lost = self.ended.iter().filter(|(_, ended)| ended.lost > 0);
+        lost.map(|(place, ended)| (format!("lost, since {} is down", self.interface(Way::Wire(*place))), ended.lost))
+            .collect()
+    }
+
     /// What was left out, by what people call it.
     fn left_out(&self) -> Named {
         let counts = self.left_out.iter();
-        counts.map(|((source, reason), number)| (format!("{}: {reason}", self.interface(*source)), *number)).collect()
+        counts.map(|((way, reason), number)| (format!("{}: {reason}", self.interface(*way)), *number)).collect()
     }
 
     fn unblock(&mut self, token: Token) {
@@ -832,18 +882,49 @@ impl<P: Port> Running<P> {
         Ok(())
     }
 
+    /// The interface of a wire is down, or gone: that wire ends, and nothing else does. What came by it before is still
+    /// read. What waits to be sent by it is refused and counted by the next flush, and what comes later is lost.
+    fn end_wire(
+        &mut self,
+        place: usize,
+        fault: &Fault,
+        batch: &mut Batch,
+        poller: &Poller,
+        time: Nanos,
+    ) -> Result<(), Fault> {
+        let bssid = self.networks[place].bssid;
+        log::write_event(
+            Level::Warning,
+            format_args!(
+                "{fault} The wire of {bssid} has ended: what that network sends there is lost. All else goes on"
+            ),
+        );
+        let hears_no_more = |wire: &mut Gate<P>| wire.port.set_filter(&nothing_filter()).is_ok();
+        if self.sender.wire(place).map_or(false, hears_no_more) {
+            while self.receive(Token::Wire(place), batch, time).is_ok() && batch.packets().next().is_some() {}
+        }
+        if let Some(wire) = self.sender.wire(place) {
+            poller.remove(wire.port.descriptor())?;
+            wire.port.close();
+            wire.unblock();
+            wire.set_waited_for(false);
+        }
+        self.ended.insert(place, Ended { since: time, lost: 0 });
+        Ok(())
+    }
+
     /// How many packets are asked for at a time: one where an interface had nothing at the last waking, since a question
     /// for one more that isn't there costs as much as reading one.
     fn to_ask_for(&mut self, token: Token) -> usize {
-        let source = match token {
-            Token::Monitor => AIR,
-            Token::Wire(place) => AIR + 1 + place,
+        let way = match token {
+            Token::Monitor => 0,
+            Token::Wire(place) => 1 + place,
             _ => {
                 self.sent_before = self.sender.sent_on_air();
                 return AT_A_TIME;
             }
         };
-        let before = std::mem::replace(&mut self.read_in[source], self.wakings);
+        let before = std::mem::replace(&mut self.read_in[way], self.wakings);
         if before + 1 == self.wakings || self.gathering.are_many() {
             AT_A_TIME
         } else {
@@ -853,9 +934,9 @@ impl<P: Port> Running<P> {
 
     fn take_air(&mut self, packet: &Packet<'_>, arrived: Nanos) {
         match self.air.judge(packet.octets, packet.is_outgoing, packet.is_cut) {
-            Judged::LeftOut(reason) => self.leave_out(AIR, reason),
+            Judged::LeftOut(reason) => self.leave_out(Way::Air, reason),
             Judged::Sent(frame, outcome) => {
-                self.leave_out(AIR, LeftOut::Sent);
+                self.leave_out(Way::Air, LeftOut::Sent);
                 self.see_sent(frame);
                 self.operating.shown(frame, outcome, arrived);
                 self.sender.shown(frame, outcome, arrived);
@@ -863,8 +944,7 @@ impl<P: Port> Running<P> {
             Judged::GoesOn(frame) => {
                 self.sender.heard(frame);
                 self.operating.heard(frame, reception(packet.octets), arrived);
-                let waiter = Waiter { flow: flow_of_air(frame), arrived, octets: frame.octets().to_vec() };
-                self.waiting.push(AIR, waiter);
+                self.wait_of_air(frame.octets(), arrived);
             }
         }
     }
@@ -878,32 +958,28 @@ impl<P: Port> Running<P> {
     }
 
     fn take_wired(&mut self, place: usize, packet: &Packet<'_>, arrived: Nanos) {
-        let source = AIR + 1 + place;
         match judge_wired(packet.octets, packet.is_outgoing, packet.had_tag, packet.is_cut) {
-            Err(reason) => self.leave_out(source, reason),
-            Ok(octets) => {
-                let waiter = Waiter { flow: Some(flow_of_wire(octets)), arrived, octets: octets.to_vec() };
-                self.waiting.push(source, waiter);
-            }
+            Err(reason) => self.leave_out(Way::Wire(place), reason),
+            Ok(octets) => self.waiting.push(Source::Wire(place), Waiter::of_wire(octets, arrived)),
         }
         if packet.has_no_checksum {
             self.tell_of_checksums(place);
         }
     }
 
-    fn leave_out(&mut self, source: Source, reason: LeftOut) {
-        *self.left_out.entry((source, reason)).or_default() += 1;
+    fn leave_out(&mut self, way: Way, reason: LeftOut) {
+        *self.left_out.entry((way, reason)).or_default() += 1;
     }
 
     /// Says a frame to the program.
     fn say(&mut self, source: Source, waiter: &Waiter, feeder: &mut Feeder, time: Nanos) -> Result<(), Fault> {
-        match source.checked_sub(AIR + 1) {
-            None => {
+        match source {
+            Source::AirForAll | Source::Air(_) => {
                 self.given.air += 1;
                 self.operating.said(&waiter.octets, time);
                 feeder.say(Event::Air(&waiter.octets))
             }
-            Some(place) => {
+            Source::Wire(place) => {
                 self.given.wires += 1;
                 feeder.say(Event::Wire(self.networks[place].bssid, &waiter.octets))
             }
@@ -955,7 +1031,7 @@ impl<P: Port> Running<P> {
         if let Some(port) = self.sender.acknowledged() {
             poller.change(port.descriptor(), Token::Acknowledged, false, false)?;
         }
-        for place in 0..self.networks.len() {
+        for place in (0..self.networks.len()).filter(|place| !self.ended.contains_key(place)) {
             if let Some(wire) = self.sender.wire(place) {
                 poller.change(wire.port.descriptor(), Token::Wire(place), false, false)?;
             }
@@ -967,10 +1043,19 @@ impl<P: Port> Running<P> {
         Ok(())
     }
 
-    fn interface(&self, source: Source) -> &str {
-        match source.checked_sub(AIR + 1) {
-            None => "the air",
-            Some(place) => self.networks[place].wire.as_deref().unwrap_or("a wire"),
+    fn interface(&self, way: Way) -> &str {
+        match way {
+            Way::Air => "the air",
+            Way::Wire(place) => self.networks[place].wire.as_deref().unwrap_or("a wire"),
+        }
+    }
+
+    /// What people call a lane.
+    fn lane(&self, source: Source) -> String {
+        match source {
+            Source::AirForAll => "the air for all".to_owned(),
+            Source::Air(place) => format!("the air for {}", self.networks[place].bssid),
+            Source::Wire(place) => self.interface(Way::Wire(place)).to_owned(),
         }
     }
 
@@ -980,7 +1065,7 @@ impl<P: Port> Running<P> {
             tell(format!(
                 "{}: frames come without checksums, and stations drop them: on the interface that sends them, `ethtool \
                  -K NAME tx off gso off tso off`",
-                self.interface(AIR + 1 + place)
+                self.interface(Way::Wire(place))
             ));
         }
         self.given.without_checksums += 1;
@@ -1001,18 +1086,18 @@ impl<P: Port> Running<P> {
         for (kind, number) in given.into_iter().filter(|(_, number)| *number > 0) {
             tell(format!("{number} lines given: {kind}"));
         }
-        for ((source, reason), number) in &self.left_out {
-            tell(format!("{number} frames {reason} left out: {}", self.interface(*source)));
+        for ((way, reason), number) in &self.left_out {
+            tell(format!("{number} frames {reason} left out: {}", self.interface(*way)));
         }
         let mut dropped: Vec<_> = self.waiting.dropped().collect();
         dropped.sort();
         for (source, reason, number) in dropped {
-            tell(format!("{number} dropped of {}: {reason}", self.interface(source)));
+            tell(format!("{number} dropped of {}: {reason}", self.lane(source)));
         }
         if !self.waiting.is_empty() {
             tell(format!("{} frames still waited for the program", self.waiting.len()));
         }
-        for (what, number) in self.sender.counts() {
+        for (what, number) in self.sender.counts().into_iter().chain(self.lost_on_wires()) {
             tell(format!("{number} frames {what}"));
         }
         for gate in self.sender.gates() {
@@ -1026,20 +1111,6 @@ impl<P: Port> Running<P> {
     }
 }
 
-/// Whose data a frame of the air is; `None` where it isn't data: a Null frame says whether a station dozes.
-fn flow_of_air(frame: Frame<'_>) -> Option<Flow> {
-    match frame.transmitter() {
-        Some(sender) if frame.frame_type() == FrameType::Data && !frame.is_null() => Some((sender, frame.receiver())),
-        _ => None,
-    }
-}
-
-/// Whose data a frame of a wire is.
-fn flow_of_wire(octets: &[u8]) -> Flow {
-    let nobody = Address::of([0; 6]);
-    (Address::at(octets, 6).unwrap_or(nobody), Address::at(octets, 0).unwrap_or(nobody))
-}
-
 #[cfg(test)]
 mod tests {
     use super::*;
@@ -1047,7 +1118,7 @@ mod tests {
     use crate::own_frames::{deauthentication, departure, INACTIVITY};
     use crate::program::Record;
     use crate::radiotap::sending_header;
-    use crate::samples::{data, network, radiotap, Unit, OURS, STATION};
+    use crate::samples::{data, network, radiotap, Unit, OTHER, OURS, STATION};
     use libc::sock_filter;
     use std::fs::{self, Permissions};
     use std::io::{BufRead, BufReader, Write};
@@ -1055,6 +1126,7 @@ mod tests {
     use std::os::unix::io::{AsRawFd, RawFd};
     use std::os::unix::net::{UnixDatagram, UnixListener, UnixStream};
     use std::path::PathBuf;
+    use std::sync::atomic::{AtomicBool, Ordering};
     use std::sync::{Arc, Mutex};
     use std::thread;
     use std::time::Duration;
@@ -1113,6 +1185,21 @@ done
 "#;
     const ANSWER: &str = "b000000002aa000000010200000001010200000001011000000002000000";
 
+    /// A program of two networks: a beacon of each for each tick, each frame heard the same on the network's wire, and
+    /// tables.
+    const TWO: &str = r#"#!/bin/bash
+echo 'ok 1'
+while read -r word rest; do
+    case $word in
+    T) echo 'air 02:00:00:00:01:01 BEACON'; echo 'air 02:00:00:00:01:02 BEACON' ;;
+    A) echo "wire 02:00:00:00:01:${rest:18:2} $rest" ;;
+    I) printf 'network 02:00:00:00:01:0%s ssid 6c
+end
+' 1 2 ;;
+    esac
+done
+"#;
+
     /// A port in place of a packet socket. A radio's shows the frames that are sent by it, where `shows` says so.
     struct FakePort {
         interface: &'static str,
@@ -1122,6 +1209,21 @@ done
         shows: bool,
         /// How long it takes for a frame.
         takes: Duration,
+        /// Whether it goes down once it is read.
+        goes_down: Arc<AtomicBool>,
+        is_closed: bool,
+    }
+
+    impl FakePort {
+        /// One with its other end, and what is sent by it.
+        fn new(interface: &'static str) -> (FakePort, UnixDatagram, Arc<Mutex<Vec<Vec<u8>>>>) {
+            let ((near, far), sent) = (UnixDatagram::pair().unwrap(), Arc::default());
+            let other_end = far.try_clone().unwrap();
+            let (takes, goes_down) = (Duration::ZERO, Arc::default());
+            let port = FakePort { interface, near, far, sent, shows: false, takes, goes_down, is_closed: false };
+            let sent = Arc::clone(&port.sent);
+            (port, other_end, sent)
+        }
     }
 
     impl Port for FakePort {
@@ -1134,10 +1236,14 @@ done
         }
 
         fn receive(&mut self, batch: &mut Batch) -> io::Result<usize> {
+            if self.goes_down.swap(false, Ordering::SeqCst) {
+                return Err(io::Error::from_raw_os_error(libc::ENETDOWN));
+            }
             batch.receive(self.descriptor())
         }
 
         fn send(&mut self, frames: &[&[u8]]) -> io::Result<usize> {
+            assert!(!self.is_closed);
             for frame in frames {
                 thread::sleep(self.takes);
                 self.sent.lock().unwrap().push(frame.to_vec());
@@ -1159,13 +1265,18 @@ done
         fn unsent(&self) -> io::Result<usize> {
             Ok(0)
         }
+
+        fn close(&mut self) {
+            self.is_closed = true;
+        }
     }
 
     impl FakePort {
         /// One of the same interface.
         fn beside(&self) -> FakePort {
             let (near, far) = (self.near.try_clone().unwrap(), self.far.try_clone().unwrap());
-            FakePort { near, far, sent: Arc::clone(&self.sent), ..*self }
+            let (sent, goes_down) = (Arc::clone(&self.sent), Arc::clone(&self.goes_down));
+            FakePort { near, far, sent, goes_down, ..*self }
         }
     }
 
@@ -1177,6 +1288,11 @@ done
         wire: UnixDatagram,
         sent: Arc<Mutex<Vec<Vec<u8>>>>,
         sent_on_wire: Arc<Mutex<Vec<Vec<u8>>>>,
+        /// The second network's wire.
+        other_wire: UnixDatagram,
+        sent_on_other_wire: Arc<Mutex<Vec<Vec<u8>>>>,
+        other_goes_down: Arc<AtomicBool>,
+        air_goes_down: Arc<AtomicBool>,
     }
 
     impl Stage {
@@ -1204,11 +1320,13 @@ done
         takes: Duration,
         interval: u16,
         max_known: u16,
+        /// How many networks there are: one or two.
+        networks: usize,
     }
 
     impl Default for Surroundings {
         fn default() -> Surroundings {
-            Surroundings { shows: true, takes: Duration::ZERO, interval: 100, max_known: 100 }
+            Surroundings { shows: true, takes: Duration::ZERO, interval: 100, max_known: 100, networks: 1 }
         }
     }
 
@@ -1229,17 +1347,25 @@ done
         let path = folder.join("program");
         fs::write(&path, text.replace("BEACON", BEACON)).unwrap();
         fs::set_permissions(&path, Permissions::from_mode(0o755)).unwrap();
-        let (near, far) = UnixDatagram::pair().unwrap();
-        let (wire_near, wire_far) = UnixDatagram::pair().unwrap();
         let (asked, requests) = UnixStream::pair().unwrap();
-        let (sent, sent_on_wire) = (Arc::default(), Arc::default());
-        let (air, wire) = (far.try_clone().unwrap(), wire_far.try_clone().unwrap());
-        let mut stage =
-            Stage { folder, requests, air, wire, sent: Arc::clone(&sent), sent_on_wire: Arc::clone(&sent_on_wire) };
-        let Surroundings { shows, takes, .. } = surroundings;
-        let monitor = FakePort { interface: "mon0", near, far, sent, shows, takes };
-        let (near, far, sent) = (wire_near, wire_far, sent_on_wire);
-        let wire = FakePort { interface: "wire1", near, far, sent, shows: false, takes: Duration::ZERO };
+        let (monitor, air, sent) = FakePort::new("mon0");
+        let monitor = FakePort { shows: surroundings.shows, takes: surroundings.takes, ..monitor };
+        let (wire, far_wire, sent_on_wire) = FakePort::new("wire1");
+        let (other, other_wire, sent_on_other_wire) = FakePort::new("wire2");
+        let (other_goes_down, air_goes_down) = (Arc::clone(&other.goes_down), Arc::clone(&monitor.goes_down));
+        let mut stage = Stage {
+            folder,
+            requests,
+            air,
+            wire: far_wire,
+            sent,
+            sent_on_wire,
+            other_wire,
+            sent_on_other_wire,
+            other_goes_down,
+            air_goes_down,
+        };
+        let ports = (monitor, vec![Some(wire), Some(other)]);
         let clients = Clients::new(UnixListener::bind(stage.folder.join("socket")).unwrap()).unwrap();
         let outcome = thread::scope(|scope| {
             let record = Record::create(stage.folder.join("record").to_str().unwrap()).unwrap();
@@ -1249,7 +1375,7 @@ done
                 thread::sleep(Duration::from_millis(400));
                 later(&mut stage);
             });
-            serve(face, path.to_str().unwrap(), record, (asked, clients), (monitor, wire), surroundings)
+            serve(face, path.to_str().unwrap(), record, (asked, clients), ports, surroundings)
         });
         (outcome, stage)
     }
@@ -1259,20 +1385,23 @@ done
         path: &str,
         record: Record,
         (asked, clients): (UnixStream, Clients),
-        ports: (FakePort, FakePort),
+        (monitor, mut wires): (FakePort, Vec<Option<FakePort>>),
         surroundings: Surroundings,
     ) -> Result<(), Fault> {
         let Surroundings { interval, max_known, .. } = surroundings;
-        let networks = vec![Network { wire: Some("wire1".into()), max_known, ..network(OURS) }];
+        let of = |bssid, wire: &str| Network { wire: Some(wire.into()), max_known, ..network(bssid) };
+        let mut networks = vec![of(OURS, "wire1"), of(OTHER, "wire2")];
+        networks.truncate(surroundings.networks);
+        wires.truncate(surroundings.networks);
         let (program, feeder) = Program::start(path, "radio.toml", face, Some(record))?;
         let manner =
             Manner { phy: "phy0".into(), channel: 6, interval, most_silence: Some(300 * SECOND), tells_alive: false };
         let mut bridge = Bridge::new(program, feeder, Requests::new(asked)?, Some(clients), manner)?;
-        let mut ports = Some(ports);
+        let mut ports = Some((monitor, wires));
         bridge.serve(|| {
-            let (monitor, wire) = ports.take().unwrap();
+            let (monitor, wires) = ports.take().unwrap();
             let beacons = monitor.beside();
-            Ok(Sender::new(networks.clone(), monitor, beacons, vec![Some(wire)]))
+            Ok(Sender::new(networks.clone(), monitor, beacons, wires))
         })
     }
 
@@ -1350,6 +1479,51 @@ done
         assert!(stage.record().contains(&format!("A {}", hex::encode(departure(OURS, STATION)))));
         let told = [&sending_header(2, 0)[..], &deauthentication(OURS, STATION, INACTIVITY, 2049)].concat();
         assert!(stage.sent.lock().unwrap().contains(&told));
+    }
+
+    /// What came by it before is given to the program; what its network sends later is lost and counted; all else goes on.
+    #[test]
+    fn a_wire_that_goes_down_ends_alone() {
+        let two = Surroundings { networks: 2, ..Surroundings::default() };
+        let to_other = |sequence| Unit { receiver: OTHER, sequence, ..Unit::default() }.octets();
+        let (before, mut status) = ([7; 20], String::new());
+        let (outcome, stage) = run_with(Face::Text, TWO, two, |stage| {
+            stage.hear(&to_other(0x10));
+            thread::sleep(Duration::from_millis(100));
+            stage.other_goes_down.store(true, Ordering::SeqCst);
+            stage.other_wire.send(&before).unwrap();
+            for sequence in 2..22 {
+                thread::sleep(Duration::from_millis(20));
+                stage.hear(&Unit { sequence: sequence << 4, ..Unit::default() }.octets());
+                stage.hear(&to_other(sequence << 4));
+            }
+            thread::sleep(Duration::from_millis(200));
+            status = ask(stage, "status");
+            end(stage);
+        });
+        assert_eq!(outcome, Ok(()));
+        assert_eq!(*stage.sent_on_other_wire.lock().unwrap(), [to_other(0x10)]);
+        let wanted: Vec<_> = (2..22).map(|number| Unit { sequence: number << 4, ..Unit::default() }.octets()).collect();
+        assert_eq!(*stage.sent_on_wire.lock().unwrap(), wanted);
+        let lines = stage.record();
+        assert!(lines.contains(&format!("W 02:00:00:00:01:02 {}", hex::encode(before))), "{lines:?}");
+        let ticks = lines.iter().filter(|line| *line == "T").count();
+        let is_beacon = |frame: &&Vec<u8>| frame.get(sending_header(2, 0).len()) == Some(&super::BEACON);
+        assert_eq!(stage.sent.lock().unwrap().iter().filter(is_beacon).count(), 2 * ticks);
+        assert!(ticks >= 8, "{ticks}");
+        let is_down = r#""wire":"wire2","wire_down":0."#;
+        for wanted in [is_down, r#""wire":"wire1","wire_down":null"#, r#""lost, since wire2 is down":20"#] {
+            assert!(status.contains(wanted), "{status}");
+        }
+    }
+
+    #[test]
+    fn a_monitor_interface_that_goes_down_ends_all() {
+        let (outcome, _) =
+            run_with(Face::Text, TWO, Surroundings { networks: 2, ..Surroundings::default() }, |stage| {
+                stage.air_goes_down.store(true, Ordering::SeqCst);
+            });
+        assert_eq!(outcome, Err(Fault::new("mon0: Network is down: was it taken down?")));
     }
 
     #[test]

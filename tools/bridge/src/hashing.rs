@@ -1,7 +1,7 @@
 //! Tables by addresses. An address is hashed as one number, by a multiplication with a factor that is drawn at the start:
 //! who sends frames from addresses of its choice doesn't know which of them fall together.
 use std::collections::hash_map::RandomState;
-use std::collections::{HashMap, HashSet};
+use std::collections::HashMap;
 use std::hash::{BuildHasher, Hasher};
 
 use crate::frames::Address;
@@ -10,8 +10,6 @@ use crate::frames::Address;
 pub type AddressMap<V> = HashMap<Address, V, Keyed>;
 /// Something of each pair of addresses.
 pub type PairMap<V> = HashMap<(Address, Address), V, Keyed>;
-/// Addresses.
-pub type AddressSet = HashSet<Address, Keyed>;
 
 /// What is drawn for a table.
 #[derive(Debug, Clone)]

@@ -6,8 +6,11 @@ use std::os::unix::fs::MetadataExt;
 
 use crate::time::{wall_now, Nanos, SECOND};
 
-/// How many lines are written in a second at most that stations can cause.
-const MOST_A_SECOND: u64 = 50;
+/// How many lines are written in a second at most that stations of one network can cause.
+const MOST_OF_NETWORK: u64 = 50;
+/// How many lines are written in a second at most that stations can cause, of all networks: where there are more than
+/// four, each has an equal part of these. So no other network's lines keep those of one out.
+const MOST_A_SECOND: u64 = 200;
 const SECONDS_A_DAY: u64 = 86_400;
 
 /// How much a line matters.
@@ -82,38 +85,46 @@ fn civil(days: u64) -> (u64, u64, u64) {
     (era * 400 + year_of_era + u64::from(month <= 2), month, day)
 }
 
-/// Bounds the lines that stations can cause: what is more is counted, and told once the second is over.
-#[derive(Debug, Default)]
+/// Bounds the lines that stations can cause, for each network by itself: what is more is counted, and told once the
+/// second is over.
+#[derive(Debug)]
 pub struct Bounded {
+    most: u64,
     second: Nanos,
-    lines: u64,
+    /// Of each network its lines of this second.
+    lines: Vec<u64>,
 }
 
 impl Bounded {
-    /// Nothing is written before the end of time.
-    #[cfg(test)]
-    pub fn quiet() -> Bounded {
-        Bounded { second: Nanos::MAX - SECOND, lines: MOST_A_SECOND }
+    /// For so many networks, of which nothing was written yet.
+    pub fn new(networks: usize) -> Bounded {
+        let part = MOST_A_SECOND / networks.max(1) as u64;
+        Bounded { most: part.clamp(1, MOST_OF_NETWORK), second: 0, lines: vec![0; networks] }
     }
 
-    /// Writes a line, or counts it.
-    pub fn write(&mut self, level: Level, text: impl fmt::Display, now: Nanos) {
-        self.tell_left_out(now);
-        self.lines += 1;
-        if self.lines <= MOST_A_SECOND {
+    /// Nothing is written before the end of time.
+    #[cfg(test)]
+    pub fn quiet(networks: usize) -> Bounded {
+        Bounded { most: 0, second: Nanos::MAX - SECOND, lines: vec![0; networks] }
+    }
+
+    /// Writes a line of the network of this place, or counts it.
+    pub fn write(&mut self, network: usize, level: Level, text: impl fmt::Display) {
+        self.lines[network] += 1;
+        if self.lines[network] <= self.most {
             write_event(level, text);
         }
     }
 
-    /// Tells how many lines were left out, where a second is over.
-    pub fn tell_left_out(&mut self, now: Nanos) {
-        if now >= self.second + SECOND {
-            let left_out = self.lines.saturating_sub(MOST_A_SECOND);
-            if left_out > 0 {
-                write_event(Level::Notice, format_args!("{left_out} more lines of stations in one second"));
-            }
-            (self.second, self.lines) = (now, 0);
+    /// Where a second is over, the next one begins; answers of which networks lines were left out in it, and how many.
+    pub fn take_left_out(&mut self, now: Nanos) -> Vec<(usize, u64)> {
+        if now < self.second + SECOND {
+            return Vec::new();
         }
+        self.second = now;
+        let counts = self.lines.iter_mut().map(std::mem::take).enumerate();
+        let more = counts.map(|(network, lines)| (network, lines.saturating_sub(self.most)));
+        more.filter(|(_, more)| *more > 0).collect()
     }
 }
 
@@ -137,13 +148,25 @@ mod tests {
     }
 
     #[test]
-    fn lines_of_a_second_are_bounded() {
-        let mut bounded = Bounded::default();
-        for line in 0..MOST_A_SECOND + 7 {
-            bounded.write(Level::Info, format_args!("line {line} of a test"), 5 * SECOND);
+    fn lines_of_a_second_are_bounded_for_each_network() {
+        let mut bounded = Bounded::new(2);
+        assert_eq!(bounded.take_left_out(5 * SECOND), []);
+        for line in 0..MOST_OF_NETWORK + 7 {
+            bounded.write(1, Level::Info, format_args!("line {line} of a test"));
         }
-        assert_eq!(bounded.lines, MOST_A_SECOND + 7);
-        bounded.tell_left_out(6 * SECOND);
-        assert_eq!(bounded.lines, 0);
+        bounded.write(0, Level::Info, "a line of another network");
+        assert_eq!(bounded.lines, [1, MOST_OF_NETWORK + 7]);
+        assert_eq!(bounded.take_left_out(6 * SECOND - 1), []);
+        assert_eq!(bounded.take_left_out(6 * SECOND), [(1, 7)]);
+        assert_eq!(bounded.take_left_out(7 * SECOND), []);
+    }
+
+    #[test]
+    fn lines_of_all_networks_are_bounded() {
+        for (networks, wanted) in [(0, 50), (1, 50), (4, 50), (5, 40), (16, 12), (1000, 1)] {
+            let most = Bounded::new(networks).most;
+            assert_eq!(most, wanted);
+            assert!(networks > 200 || most * networks as u64 <= MOST_A_SECOND);
+        }
     }
 }

@@ -4,10 +4,10 @@
 //! ```text
 //!      what comes                                                                        the program
 //!
-//!  mon0 ───▶ filter ───▶ recvmmsg ──▶ receiving ──▶ waiting: a lane of   ──▶ Feeder ═══▶ ┌────────────────┐
-//!            (kernel)    8 at most    judged, or    the air and of each      pipe of 32  │                │
-//!  wire1 ──────────────▶ a call       counted as    wire, which take         events at   │   apctl live   │
-//!  wire2 ──────────────▶              left out      turns; 50 ms at most     most unread │   [--octets]   │
+//!  mon0 ───▶ filter ───▶ recvmmsg ──▶ receiving ──▶ waiting: two lanes   ──▶ Feeder ═══▶ ┌────────────────┐
+//!            (kernel)    8 at most    judged, or    of each network, one     pipe of 32  │                │
+//!  wire1 ──────────────▶ a call       counted as    of the air for all,      events at   │   apctl live   │
+//!  wire2 ──────────────▶              left out      which take turns         most unread │   [--octets]   │
 //!                                                                              ▲         │                │
 //!  the clock, `tables` of tools/live ──────────────────────────────────────────┘         │                │
 //!                                                                                        │                │
@@ -21,8 +21,9 @@
 //!  people ◀──────────────────── lines of tables and faults
 //! ```
 //!
-//! It promises: frames of the air stay in their order, and frames of each wire; the same holds of what is sent by each
-//! wire, and on the air to each receiver. A unit that nobody acknowledged is sent once more, if none went to its
+//! It promises: frames of the air for one network stay in their order, frames of the air for all networks, and frames of
+//! each wire. What is for all and what is for one network may overtake each other (`waiting`). What is sent by each wire
+//! stays in its order, and on the air to each receiver. A unit that nobody acknowledged is sent once more, if none went to its
 //! station since. Each frame that comes is given to the program once, or counted as left out or dropped, but for what
 //! the kernel's filter keeps out: control frames, and frames for no network. A beginning of a beacon interval waits for
 //! none of the frames that wait. A beacon goes before all that waits, group frames of its network included; what the

@@ -2,7 +2,7 @@
 //! happens to them, asks those that have fallen silent, and lets the program know who is gone. Whatever it tells the
 //! program is an event as any other: a station's deauthentication, which stands in the record too.
 use crate::frames::{Address, Frame};
-use crate::log::{Bounded, Level};
+use crate::log::{self, Bounded, Level};
 use crate::own_frames::{
     deauthentication, departure, disassociation, is_null_of_network, null, number_beside, INACTIVITY, LEAVING,
 };
@@ -47,7 +47,7 @@ impl Operating {
         Operating {
             roster: Roster::new(bssids.clone()),
             silence: Silence::new(most_silence, networks.iter().map(|network| usize::from(network.max_known))),
-            log: Bounded::default(),
+            log: Bounded::new(bssids.len()),
             numbers: vec![0; bssids.len()],
             listen: vec![false; bssids.len()],
             to_dismiss: Vec::new(),
@@ -58,7 +58,7 @@ impl Operating {
     /// The same, and nothing is told of stations.
     #[cfg(test)]
     pub fn quiet(networks: &[Network], most_silence: Option<Nanos>) -> Operating {
-        Operating { log: Bounded::quiet(), ..Operating::new(networks, most_silence) }
+        Operating { log: Bounded::quiet(networks.len()), ..Operating::new(networks, most_silence) }
     }
 
     /// The stations.
@@ -175,10 +175,13 @@ impl Operating {
 
     /// Tells what happened to stations.
     fn tell(&mut self, now: Nanos) {
-        self.log.tell_left_out(now);
+        for (place, more) in self.log.take_left_out(now) {
+            let bssid = self.bssids[place];
+            log::write_event(Level::Notice, format_args!("{more} more lines of stations in one second, of {bssid}"));
+        }
         for ((place, station), news) in self.roster.take_news() {
             let (level, text) = sentence(station, self.bssids[place], news);
-            self.log.write(level, text, now);
+            self.log.write(place, level, text);
         }
     }
 }

@@ -3,10 +3,10 @@ use std::collections::VecDeque;
 use std::fmt;
 
 use crate::frames::{is_tagged, Address, Frame, FrameType, LEAST, MOST};
-use crate::hashing::{AddressSet, PairMap};
+use crate::hashing::AddressMap;
 use crate::radiotap::{captured, Outcome};
 
-/// Of how many senders the last sequence control is known.
+/// Of how many senders a network knows the last sequence control.
 const MOST_SENDERS: usize = 4096;
 
 /// Why a frame doesn't go on.
@@ -62,18 +62,27 @@ pub enum Judged<'a> {
     Sent(&'a [u8], Outcome),
 }
 
-/// What was heard: the frames that go on, and of each sender the last sequence control, by which repeated ones are
-/// known (IEEE Std 802.11-2016, 10.3.2.11).
+/// What was heard: the frames that go on, and of each sender to a network the last sequence control, by which repeated
+/// ones are known (IEEE Std 802.11-2016, 10.3.2.11). Each network has a table of its own, which others don't fill.
 #[derive(Debug)]
 pub struct Air {
-    bssids: AddressSet,
-    last: LastHeard,
+    /// The places of the networks.
+    places: AddressMap<usize>,
+    /// Of each network.
+    last: Vec<LastHeard>,
 }
 
 impl Air {
     /// Nothing was heard yet for these networks.
     pub fn new(bssids: impl IntoIterator<Item = Address>) -> Air {
-        Air { bssids: bssids.into_iter().collect(), last: LastHeard::default() }
+        let places = bssids.into_iter().enumerate().map(|(place, bssid)| (bssid, place));
+        let (places, last) = places.map(|found| (found, LastHeard::default())).unzip();
+        Air { places, last }
+    }
+
+    /// The place of the network with this address, in the order in which they were given.
+    pub fn place_of(&self, bssid: &Address) -> Option<usize> {
+        self.places.get(bssid).copied()
     }
 
     /// What is done with a packet; `is_outgoing` where this machine sent it, `is_cut` where it was longer.
@@ -99,26 +108,26 @@ impl Air {
             Some(_) if octets.len() > MOST => return Judged::LeftOut(LeftOut::Long),
             Some(frame) => frame,
         };
-        let is_own = frame.transmitter().map_or(false, |found| self.bssids.contains(&found));
-        let is_ours = self.bssids.contains(&frame.receiver());
+        let is_own = frame.transmitter().map_or(false, |found| self.places.contains_key(&found));
+        let network = self.place_of(&frame.receiver());
         if frame.frame_type() == FrameType::Control && !frame.is_ps_poll() {
             Judged::LeftOut(LeftOut::Controls)
         } else if is_own {
             Judged::LeftOut(LeftOut::Own)
-        } else if !is_ours && frame.receiver() != Address::BROADCAST {
+        } else if network.is_none() && frame.receiver() != Address::BROADCAST {
             Judged::LeftOut(LeftOut::Others)
-        } else if is_ours && self.is_repeated(frame) {
+        } else if network.map_or(false, |network| self.is_repeated(network, frame)) {
             Judged::LeftOut(LeftOut::Repeated)
         } else {
             Judged::GoesOn(frame)
         }
     }
 
-    /// Whether this network has taken it before; it is remembered as its sender's last.
-    fn is_repeated(&mut self, frame: Frame<'_>) -> bool {
+    /// Whether the network of this place has taken it before; it is remembered as its sender's last.
+    fn is_repeated(&mut self, network: usize, frame: Frame<'_>) -> bool {
         match (frame.transmitter(), frame.sequence_control()) {
             (Some(sender), Some(number)) => {
-                let before = self.last.replace((sender, frame.receiver()), number);
+                let before = self.last[network].replace(sender, number);
                 frame.retry() && before == Some(number)
             }
             _ => false,
@@ -126,24 +135,21 @@ impl Air {
     }
 }
 
-/// A sender, and the network that heard it.
-type Pair = (Address, Address);
-
-/// Of so many pairs of a sender and a receiver, those heard last, the last sequence control.
+/// Of the senders to a network that were heard last, the last sequence control.
 #[derive(Debug, Default)]
 struct LastHeard {
-    numbers: PairMap<(u16, u64)>,
+    numbers: AddressMap<(u16, u64)>,
     /// When each was heard, the oldest first; an entry counts where its time is the one of `numbers`.
-    order: VecDeque<(Pair, u64)>,
+    order: VecDeque<(Address, u64)>,
     times: u64,
 }
 
 impl LastHeard {
     /// Remembers a number, and answers the one before.
-    fn replace(&mut self, pair: Pair, number: u16) -> Option<u16> {
+    fn replace(&mut self, sender: Address, number: u16) -> Option<u16> {
         self.times += 1;
-        let before = self.numbers.insert(pair, (number, self.times));
-        self.order.push_back((pair, self.times));
+        let before = self.numbers.insert(sender, (number, self.times));
+        self.order.push_back((sender, self.times));
         while self.numbers.len() > MOST_SENDERS || self.order.len() > 4 * MOST_SENDERS {
             match self.order.pop_front() {
                 Some((oldest, time)) if self.is_last(&oldest, time) => self.take_oldest(oldest, time),
@@ -154,24 +160,24 @@ impl LastHeard {
         before.map(|(number, _)| number)
     }
 
-    fn is_last(&self, pair: &Pair, time: u64) -> bool {
-        self.numbers.get(pair).map_or(false, |&(_, last)| last == time)
+    fn is_last(&self, sender: &Address, time: u64) -> bool {
+        self.numbers.get(sender).map_or(false, |&(_, last)| last == time)
     }
 
-    /// Forgets the pair heard longest ago, where there are too many; else puts it back at the begin.
-    fn take_oldest(&mut self, pair: Pair, time: u64) {
+    /// Forgets the sender heard longest ago, where there are too many; else puts it back at the begin.
+    fn take_oldest(&mut self, sender: Address, time: u64) {
         if self.numbers.len() > MOST_SENDERS {
-            self.numbers.remove(&pair);
+            self.numbers.remove(&sender);
         } else {
             self.drop_outdated();
-            self.order.push_front((pair, time));
+            self.order.push_front((sender, time));
         }
     }
 
-    /// Leaves out the times that are no more the last of their pair.
+    /// Leaves out the times that are no more the last of their sender.
     fn drop_outdated(&mut self) {
         let numbers = &self.numbers;
-        self.order.retain(|(pair, time)| numbers.get(pair).map_or(false, |&(_, last)| last == *time));
+        self.order.retain(|(sender, time)| numbers.get(sender).map_or(false, |&(_, last)| last == *time));
     }
 }
 
@@ -321,9 +327,21 @@ mod tests {
         for number in 0..MOST_SENDERS + 10 {
             goes_on(air, Unit { transmitter: sender(number), ..Unit::default() });
         }
-        assert_eq!(air.last.numbers.len(), MOST_SENDERS);
+        assert_eq!(air.last[0].numbers.len(), MOST_SENDERS);
         assert!(!goes_on(air, Unit { transmitter: sender(MOST_SENDERS + 9), ..again() }));
         assert!(goes_on(air, Unit { transmitter: sender(0), ..again() }));
+    }
+
+    #[test]
+    fn senders_to_one_network_push_none_out_of_another() {
+        let air = &mut air();
+        assert!(goes_on(air, Unit { receiver: OTHER, transmitter: STRANGER, ..Unit::default() }));
+        for number in 0..2 * MOST_SENDERS {
+            let transmitter = Address::of([2, 0, 0, 0, (number >> 8) as u8, number as u8]);
+            goes_on(air, Unit { transmitter, ..Unit::default() });
+        }
+        assert!(!goes_on(air, Unit { receiver: OTHER, transmitter: STRANGER, ..again() }));
+        assert_eq!(air.last[1].numbers.len(), 1);
     }
 
     #[test]
@@ -333,7 +351,7 @@ mod tests {
         for number in 0..20 * MOST_SENDERS {
             goes_on(air, Unit { sequence: number as u16, ..Unit::default() });
         }
-        assert!(air.last.order.len() <= 4 * MOST_SENDERS);
+        assert!(air.last[0].order.len() <= 4 * MOST_SENDERS);
         assert!(!goes_on(air, Unit { transmitter: STRANGER, sequence: 0x30, ..again() }));
     }
 

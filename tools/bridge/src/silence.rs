@@ -3,7 +3,8 @@
 //! Stations are looked at every so often at a time at which no beacon is due; while one dozes, behind a beacon of its
 //! network after which units for the group may come: then it listens (IEEE Std 802.11-2016, 11.2.3.6). An
 //! acknowledgement is an answer, as any frame is. Questions go out a few at a time: each that nobody acknowledges takes
-//! some 8 ms of the air at 1 Mb/s.
+//! some 8 ms of the air at 1 Mb/s. Networks share this pace: the one whose last frame went longest ago is looked at
+//! first. So one that has thousands of silent stations takes no more of it, where others want it, than its turns.
 //!
 //! Where a network knows nearly as many stations as it may, those that authenticated and didn't associate are given up
 //! soon and unasked, so that made-up addresses don't keep newcomers out: who is there associates at once, or else
@@ -67,6 +68,8 @@ impl Queue {
 /// The stations of a network, by when they are to be looked at.
 #[derive(Debug)]
 struct Watched {
+    /// Its turn: the number, among those of all networks, of the last frame that went to a station that may be gone.
+    last_taken: u64,
     max_known: usize,
     /// When the network was nearly full last.
     nearly_full: Option<Nanos>,
@@ -85,22 +88,23 @@ enum Found {
     Enough,
 }
 
-/// How many frames went of late to stations that may be gone.
+/// How many frames went to stations that may be gone, and how many may go until when.
 #[derive(Debug, Default)]
 struct Pace {
     until: Nanos,
     left: u32,
+    taken: u64,
 }
 
 impl Pace {
-    /// Whether one more may go now.
-    fn takes(&mut self, now: Nanos) -> bool {
+    /// Whether one more may go now; answers its number among all.
+    fn take(&mut self, now: Nanos) -> Option<u64> {
         if now >= self.until {
             (self.until, self.left) = (now + EVERY, MOST_AT_A_TIME);
         }
-        let takes = self.left > 0;
-        self.left -= u32::from(takes);
-        takes
+        self.left = self.left.checked_sub(1)?;
+        self.taken += 1;
+        Some(self.taken)
     }
 }
 
@@ -110,43 +114,53 @@ pub struct Silence {
     /// After how long those are asked that are associated; `None` where nobody is asked.
     most: Option<Nanos>,
     networks: Vec<Watched>,
-    /// Whose stations are looked at first.
-    turn: usize,
     pace: Pace,
 }
 
 impl Silence {
     /// For networks that know so many stations at most; `None` asks nobody.
     pub fn new(most: Option<Nanos>, max_known: impl IntoIterator<Item = usize>) -> Silence {
-        let watched = |max_known| Watched { max_known, nearly_full: None, queues: Default::default() };
+        let watched = |max_known| Watched { last_taken: 0, max_known, nearly_full: None, queues: Default::default() };
         let networks = max_known.into_iter().map(watched).collect();
-        Silence { most, networks, turn: 0, pace: Pace::default() }
+        Silence { most, networks, pace: Pace::default() }
     }
 
     /// What is to be done at a time at which no beacon is due, of stations of the networks of these places, of each of
     /// which it is known whether stations that doze listen now.
     pub fn look(&mut self, roster: &mut Roster, listen: &[bool], now: Nanos) -> Vec<(usize, Step)> {
-        let number = self.networks.len();
-        let places: Vec<usize> = (0..number).map(|place| (self.turn + place) % number).collect();
-        self.turn = (self.turn + 1) % number.max(1);
-        let (entered, mut steps) = (roster.take_entered(), Vec::new());
-        places.iter().for_each(|place| self.give_up(roster, *place, now, &mut steps));
-        let most = match self.most {
-            Some(most) => most,
-            None => return steps,
-        };
-        for member in entered {
-            let heard = roster.station(&member).map_or(now, |station| station.heard);
-            self.put(roster, member, heard + AUTHENTICATED.min(most), Queue::Authenticated);
+        let mut steps = Vec::new();
+        for member in roster.take_entered() {
+            if let Some(most) = self.most {
+                let heard = roster.station(&member).map_or(now, |station| station.heard);
+                self.put(roster, member, heard + AUTHENTICATED.min(most), Queue::Authenticated);
+            }
         }
-        for queue in [Queue::Authenticated, Queue::Associated, Queue::Dozing] {
-            for place in &places {
-                if queue != Queue::Dozing || listen.get(*place) == Some(&true) {
-                    self.look_at(roster, (*place, queue), most, now, &mut steps);
+        for place in self.in_turn() {
+            self.give_up(roster, place, now, &mut steps);
+            for queue in [Queue::Authenticated, Queue::Associated, Queue::Dozing] {
+                match self.most {
+                    Some(most) if queue != Queue::Dozing || listen.get(place) == Some(&true) => {
+                        self.look_at(roster, (place, queue), most, now, &mut steps);
+                    }
+                    _ => {}
                 }
             }
         }
         steps
+    }
+
+    /// The places of the networks: first the one whose last frame to a station that may be gone went longest ago.
+    fn in_turn(&self) -> Vec<usize> {
+        let mut places: Vec<usize> = (0..self.networks.len()).collect();
+        places.sort_by_key(|place| self.networks[*place].last_taken);
+        places
+    }
+
+    /// Whether a network may have one more frame go now to a station that may be gone.
+    fn takes(&mut self, place: usize, now: Nanos) -> bool {
+        let taken = self.pace.take(now);
+        self.networks[place].last_taken = taken.unwrap_or(self.networks[place].last_taken);
+        taken.is_some()
     }
 
     /// Gives up who has been authenticated only for too long and was so while its network was nearly full, some at a
@@ -164,7 +178,7 @@ impl Silence {
         let found = found.take_while(|(since, _)| *since <= nearly_full && since + TO_ASSOCIATE <= now);
         for (since, station) in found.take(network.max_known / PARTS + 1) {
             let why = Forgotten::Unassociated(now - since);
-            steps.push((place, Step::Forget { station, why, tells: self.pace.takes(now) }));
+            steps.push((place, Step::Forget { station, why, tells: self.takes(place, now) }));
         }
     }
 
@@ -185,7 +199,7 @@ impl Silence {
             };
             let member = (place, address);
             let station = roster.station(&member).filter(|station| station.asked.due == due);
-            let found = station.map(|station| self.judge(station, address, queue, most, now));
+            let found = station.map(|station| self.judge(station, (place, address), queue, most, now));
             if matches!(found, Some(Found::Enough)) {
                 return;
             }
@@ -206,12 +220,12 @@ impl Silence {
     }
 
     /// What is to be done of a station that is due.
-    fn judge(&mut self, station: &Station, address: Address, queue: Queue, most: Nanos, now: Nanos) -> Found {
+    fn judge(&mut self, station: &Station, member: Member, queue: Queue, most: Nanos, now: Nanos) -> Found {
         let (limit, questions) = match station.state {
             State::Associated(_) => (most, QUESTIONS),
             State::Authenticated => (AUTHENTICATED.min(most), QUESTIONS_AUTHENTICATED),
         };
-        let Asked { times, .. } = station.asked;
+        let (Asked { times, .. }, (place, address)) = (station.asked, member);
         let silent = now.saturating_sub(station.heard);
         if silent < limit {
             Found::Again { due: station.heard + limit, times: 0, step: None }
@@ -220,7 +234,7 @@ impl Silence {
             Found::Again { due: now + AGAIN, times, step: Some(step) }
         } else if Queue::of(station) > queue {
             Found::Later(Queue::of(station))
-        } else if !self.pace.takes(now) {
+        } else if !self.takes(place, now) {
             Found::Enough
         } else {
             Found::Again { due: now + TO_ANSWER, times: times + 1, step: Some(Step::Ask(address)) }
@@ -240,14 +254,19 @@ mod tests {
     use super::*;
     use crate::own_frames::departure;
     use crate::radiotap::Outcome;
-    use crate::samples::{OURS, STATION};
+    use crate::samples::{OTHER, OURS, STATION, STRANGER};
 
     const MOST: Nanos = 300 * SECOND;
 
+    /// A frame of a network to a station.
+    fn of(bssid: Address, station: Address, control: u8, body: &[u8]) -> Vec<u8> {
+        let head = [&[control, 0, 0, 0][..], station.octets(), bssid.octets(), bssid.octets(), &[0, 0]].concat();
+        [&head[..], body].concat()
+    }
+
     /// A frame of our network to a station.
     fn to(station: Address, control: u8, body: &[u8]) -> Vec<u8> {
-        let head = [&[control, 0, 0, 0][..], station.octets(), OURS.octets(), OURS.octets(), &[0, 0]].concat();
-        [&head[..], body].concat()
+        of(OURS, station, control, body)
     }
 
     fn enter(roster: &mut Roster, station: Address, now: Nanos) {
@@ -382,6 +401,42 @@ mod tests {
             assert!(asked <= before + MOST_AT_A_TIME, "{tenth}");
         }
         assert!(asked > 990 && forgotten > 960, "{asked} {forgotten}");
+    }
+
+    /// Of a second network a station is awake and one dozes, and both fell silent: they are asked in time, whatever goes
+    /// on in the first, be it that thousands are silent there, or are given up since it is full.
+    #[test]
+    fn silent_stations_of_one_network_keep_those_of_another_from_no_question() {
+        for max_known in [5000, 2000] {
+            let mut roster = Roster::new(vec![OURS, OTHER]);
+            let mut silence = Silence::new(Some(MOST), [max_known, 100]);
+            for station in [STATION, STRANGER] {
+                roster.answered(1, &of(OTHER, station, 0xb0, &[0, 0, 2, 0, 0, 0]), 0);
+                roster.answered(1, &of(OTHER, station, 0x10, &[1, 0, 0, 0, 1, 0xc0]), 0);
+            }
+            let null = [&[0x48, 0x11, 0, 0][..], OTHER.octets(), STATION.octets(), OTHER.octets(), &[0, 0]].concat();
+            roster.said(&null, 0);
+            (0..1900).for_each(|number| enter(&mut roster, made_up(number), MOST - AUTHENTICATED - SECOND));
+            let (mut asked, mut others) = (Vec::new(), 0);
+            for tenth in 0..3100 {
+                let now = tenth * SECOND / 10;
+                if tenth > 2900 && max_known == 2000 {
+                    (0..1900).for_each(|number| enter(&mut roster, made_up(number), now - 4 * SECOND));
+                }
+                for (place, step) in silence.look(&mut roster, &[true, tenth % 4 == 1], now) {
+                    match (place, step) {
+                        (1, Step::Ask(station)) if tenth < 3010 => asked.push((tenth, station)),
+                        (0, Step::Forget { station, tells, .. }) => {
+                            others += u32::from(tells);
+                            roster.said(&departure(OURS, station), now);
+                        }
+                        _ => others += 1,
+                    }
+                }
+            }
+            assert_eq!(asked, [(3000, STRANGER), (3001, STATION)], "{max_known}");
+            assert!(others > 20, "{max_known}: {others}");
+        }
     }
 
     /// Where those that are authenticated only and those that are associated fell silent at once, the first are asked

@@ -82,13 +82,17 @@ pub trait Port {
     fn count_dropped(&mut self) -> u64;
     /// How many octets the interface was given and hasn't sent yet, what the kernel keeps beside them included.
     fn unsent(&self) -> io::Result<usize>;
+    /// Gives the interface up: nothing is heard or sent by it any more, and its descriptor is none. What is read or sent
+    /// from then on is refused as by an interface that is down.
+    fn close(&mut self) {}
 }
 
 /// A socket that hears all of an interface and sends whole frames by it.
 #[derive(Debug)]
 pub struct PacketSocket {
     interface: String,
-    socket: OwnedFd,
+    /// `None` once it was closed.
+    socket: Option<OwnedFd>,
     dropped: u64,
 }
 
@@ -120,7 +124,7 @@ impl PacketSocket {
             let place = &address as *const sockaddr_ll;
             checked(libc::bind(socket.as_raw_fd(), place.cast(), size_of::<sockaddr_ll>() as u32))?;
         }
-        Ok(PacketSocket { interface: interface.to_owned(), socket, dropped: 0 })
+        Ok(PacketSocket { interface: interface.to_owned(), socket: Some(socket), dropped: 0 })
     }
 
     /// Takes frames for any receiver, as long as the socket is there.
@@ -131,13 +135,18 @@ impl PacketSocket {
             mr_alen: 0,
             mr_address: [0; 8],
         };
-        set_option(&self.socket, libc::SOL_PACKET, libc::PACKET_ADD_MEMBERSHIP, &membership)
+        set_option(self.open_socket()?, libc::SOL_PACKET, libc::PACKET_ADD_MEMBERSHIP, &membership)
+    }
+
+    /// The socket, where it wasn't closed.
+    fn open_socket(&self) -> io::Result<&OwnedFd> {
+        self.socket.as_ref().ok_or_else(|| io::Error::from_raw_os_error(libc::ENETDOWN))
     }
 }
 
 impl Port for PacketSocket {
     fn descriptor(&self) -> RawFd {
-        self.socket.as_raw_fd()
+        self.socket.as_ref().map_or(-1, AsRawFd::as_raw_fd)
     }
 
     fn interface(&self) -> &str {
@@ -145,18 +154,21 @@ impl Port for PacketSocket {
     }
 
     fn receive(&mut self, batch: &mut Batch) -> io::Result<usize> {
-        batch.receive(self.descriptor())
+        batch.receive(self.open_socket()?.as_raw_fd())
     }
 
     fn send(&mut self, frames: &[&[u8]]) -> io::Result<usize> {
-        send_many(self.descriptor(), frames)
+        send_many(self.open_socket()?.as_raw_fd(), frames)
     }
 
     fn set_filter(&mut self, filter: &[sock_filter]) -> io::Result<()> {
-        attach(&self.socket, filter)
+        attach(self.open_socket()?, filter)
     }
 
     fn count_dropped(&mut self) -> u64 {
+        if self.socket.is_none() {
+            return self.dropped;
+        }
         let mut found = Statistics::default();
         let mut length = size_of_val(&found) as u32;
         // SAFETY: the kernel writes at most `length` octets into `found`, which is as long.
@@ -171,7 +183,12 @@ impl Port for PacketSocket {
     }
 
     fn unsent(&self) -> io::Result<usize> {
-        number_of(self.descriptor(), libc::TIOCOUTQ)
+        number_of(self.open_socket()?.as_raw_fd(), libc::TIOCOUTQ)
+    }
+
+    fn close(&mut self) {
+        self.count_dropped();
+        self.socket = None;
     }
 }
 
@@ -454,6 +471,17 @@ mod tests {
             assert_eq!(sending.send(&[&good, &long, &good]).unwrap(), 1);
             assert!(sending.send(&[&long]).is_err());
             assert_eq!(heard(&mut hearing, b"good one", 1).len(), 1);
+        }
+    }
+
+    #[test]
+    fn a_socket_that_was_closed_is_as_an_interface_that_is_down() {
+        if let Some((mut hearing, mut sending)) = pair() {
+            hearing.close();
+            sending.close();
+            let down = |outcome: io::Result<usize>| outcome.unwrap_err().raw_os_error() == Some(libc::ENETDOWN);
+            assert!(down(hearing.receive(&mut Batch::new())) && down(sending.send(&[&ethernet(b"closed")])));
+            assert_eq!((hearing.descriptor(), hearing.count_dropped(), hearing.interface()), (-1, 0, "lo"));
         }
     }
 

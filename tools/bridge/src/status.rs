@@ -50,6 +50,8 @@ pub struct Status<'a> {
     pub left_out: Named,
     /// The networks in order.
     pub networks: &'a [Network],
+    /// Of each network since when its wire is down, if it is.
+    pub wires_down: Vec<Option<Nanos>>,
     /// Their stations.
     pub roster: &'a Roster,
     /// What the program said of them.
@@ -90,7 +92,10 @@ impl Status<'_> {
     fn write_network(&self, to: &mut String, place: usize) -> fmt::Result {
         let (network, table) = (&self.networks[place], self.tables.last().and_then(|tables| tables.get(place)));
         let (ssid, wire) = (Maybe(table.map(|table| Text(&table.ssid))), Maybe(network.wire.as_deref().map(Text)));
-        write!(to, "{{\"bssid\":{},\"ssid\":{ssid},\"wire\":{wire},\"counts\":", Text(&network.bssid.to_string()))?;
+        write!(to, "{{\"bssid\":{},\"ssid\":{ssid},\"wire\":{wire},", Text(&network.bssid.to_string()))?;
+        let down = self.wires_down.get(place).copied().flatten();
+        let down = Maybe(down.map(|since| Seconds(self.now.saturating_sub(since))));
+        write!(to, "\"wire_down\":{down},\"counts\":")?;
         match table {
             Some(table) => named(to, &table.counts.iter().cloned().collect())?,
             None => to.push_str("null"),
@@ -268,6 +273,7 @@ mod tests {
             drops: Named::from([("the air: late".to_owned(), 3)]),
             left_out: Named::new(),
             networks: &networks,
+            wires_down: vec![Some(SECOND / 2), None],
             roster: &roster,
             tables: &tables,
             now: 3 * SECOND,
@@ -277,12 +283,13 @@ mod tests {
             r#""faults":[{"seconds":2.000,"text":"fault L2 line 3"},{"seconds":1.000,"text":"fault L1 line 4"}],"#,
             r#""beacons":{"sent":2,"late_ms_mean":3.000,"late_ms_worst":4.000,"missed":0},"#,
             r#""drops":{"the air: late":3},"left_out":{},"networks":["#,
-            r#"{"bssid":"02:00:00:00:01:01","ssid":"6c","wire":"wire1","#,
+            r#"{"bssid":"02:00:00:00:01:01","ssid":"6c","wire":"wire1","wire_down":2.500,"#,
             r#""counts":{"clock":1,"events":4,"kept":2,"lost":0,"unread":0},"refusals":{},"#,
             r#""known":1,"stations":[{"address":"02:aa:00:00:00:01","state":"associated","aid":3,"dozes":false,"#,
             r#""since":2.000,"heard":2.000,"signal":null,"rate_to":null,"rate_from":null,"#,
             r#""octets_to":0,"octets_from":0,"frames_to":0,"frames_from":0,"kept":2}]},"#,
-            r#"{"bssid":"02:00:00:00:01:02","ssid":"6d","wire":null,"counts":{},"refusals":{"1":1},"known":0,"stations":[]}]}"#,
+            r#"{"bssid":"02:00:00:00:01:02","ssid":"6d","wire":null,"wire_down":null,"#,
+            r#""counts":{},"refusals":{"1":1},"known":0,"stations":[]}]}"#,
         ];
         let (line, wanted) = (status.line(), wanted.concat());
         assert!(line.starts_with(&format!("{{\"version\":{}", Text(VERSION))), "{line}");

@@ -100,6 +100,7 @@ def of_networks(networks: list[dict]) -> Iterator[Family]:
         "kept": gauge("network_kept_units", "Units that a network keeps for stations that doze."),
     }
     stations = gauge("network_stations", "Stations that a network knows, by their state.")
+    wires = gauge("network_wire_up", "1 where the wire of a network is up, 0 where it went down.")
     refusals = counter("network_refusals", "Authentications and associations that a network refused, by the status.")
     for network in networks:
         labels = {"bssid": network["bssid"], "ssid": network["name"]}
@@ -108,9 +109,11 @@ def of_networks(networks: list[dict]) -> Iterator[Family]:
         associated = sum(station["state"] == ASSOCIATED for station in network["stations"])
         stations.add(associated, **labels, state=ASSOCIATED)
         stations.add(network["known"] - associated, **labels, state="authenticated")
+        if network["wire"] is not None:
+            wires.add(int(network["wire_down"] is None), **labels)
         for status, number in network["refusals"].items():
             refusals.add(number, **labels, status=str(status))
-    yield from (*counts.values(), stations, refusals)
+    yield from (*counts.values(), stations, wires, refusals)
 
 
 def of_stations(networks: list[dict]) -> Iterator[Family]:
