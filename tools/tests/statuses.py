@@ -21,6 +21,7 @@ def only_known(number):
 def network(number, ssid, stations=(), **other):
     """A network with these stations; `ssid` in octets."""
     return {"bssid": f"02:00:00:00:01:{number:02x}", "ssid": ssid.hex(), "wire": f"wire{number}", "wire_down": None,
+            "air": {"weight": 1, "seconds": 1.5, "waiting": 0, "unsent": {}},
             "counts": {"events": 84, "clock": 46, "unread": 3, "lost": 2, "kept": 1}, "refusals": {},
             "stations": list(stations), **other}
 

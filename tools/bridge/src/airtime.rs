@@ -1,8 +1,9 @@
 //! How long a frame takes on the air of the 2.4 GHz band: what shares of the air are reckoned by.
 //!
 //! Times are those of IEEE Std 802.11-2016 (16.3.4 and 18.5.3.2; tables 15-4, 16-4 and 18-5), with long preambles and
-//! long slots. A try takes DIFS, half of its contention window, the frame, and SIFS with the acknowledgement where one
-//! is awaited. The window doubles with each try (10.3.3).
+//! long slots. A frame is sent for its preamble and its octets, and for SIFS and the acknowledgement where one is
+//! awaited: by this shares are reckoned. A try takes DIFS and half of its contention window besides, which doubles with
+//! each try (10.3.3): by this one reckons how long to try.
 use crate::time::Nanos;
 
 const MICROSECOND: Nanos = 1000;
@@ -38,10 +39,14 @@ pub struct Size {
 }
 
 impl Size {
+    /// How long it is sent in so many tries.
+    pub fn sending(self, tries: u32) -> Nanos {
+        Nanos::from(tries) * (airtime(self.rate, self.octets) + self.acknowledgement())
+    }
+
     /// How long so many tries take in all, on the average of what is drawn.
     pub fn tries(self, number: u32) -> Nanos {
-        let once = DIFS + airtime(self.rate, self.octets) + self.acknowledgement();
-        (0..number).map(|try_number| once + backoff(self.rate, try_number)).sum()
+        self.sending(number) + (0..number).map(|try_number| DIFS + backoff(self.rate, try_number)).sum::<Nanos>()
     }
 
     /// How many tries fit into a time, and `least` where fewer do.
@@ -115,7 +120,7 @@ mod tests {
         // At 54 Mb/s: DIFS, 7.5 slots, 26 microseconds and 54 symbols, SIFS and the acknowledgement.
         assert_eq!(size(1436, 108).tries(1), 50_000 + 150_000 + 242_000 + 44_000);
         assert_eq!(Size { is_acknowledged: false, ..size(1436, 2) }.tries(1), 50_000 + 310_000 + 192_000 + 11_520_000);
-        assert_eq!(size(1436, 108).tries(0), 0);
+        assert_eq!((size(1436, 108).tries(0), size(1436, 108).sending(3)), (0, 3 * 286_000));
     }
 
     #[test]

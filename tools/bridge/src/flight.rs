@@ -50,15 +50,15 @@ pub struct Flight<W> {
     reckoned: Nanos,
     /// The clock's time and the reckoned time of the last outcomes, the latest counting most.
     spent: Nanos,
-    used: Nanos,
+    took: Nanos,
     last_told: Nanos,
 }
 
 impl<W> Flight<W> {
     /// The radio has nothing, and is taken to be as fast as is reckoned.
     pub fn new() -> Flight<W> {
-        let used = PACE_PARTS * MILLISECOND;
-        Flight { frames: VecDeque::new(), reckoned: 0, spent: used, used, last_told: 0 }
+        let took = PACE_PARTS * MILLISECOND;
+        Flight { frames: VecDeque::new(), reckoned: 0, spent: took, took, last_told: 0 }
     }
 
     /// Whether a frame that is reckoned to take so long may be given to it.
@@ -69,7 +69,7 @@ impl<W> Flight<W> {
     /// How long the radio takes for what is reckoned to take so long, by its pace.
     fn by_clock(&self, reckoned: Nanos) -> Nanos {
         let fastest = reckoned / FASTEST;
-        let scaled = u128::from(reckoned) * u128::from(self.spent) / u128::from(self.used.max(1));
+        let scaled = u128::from(reckoned) * u128::from(self.spent) / u128::from(self.took.max(1));
         Nanos::try_from(scaled).unwrap_or(Nanos::MAX).max(fastest)
     }
 
@@ -80,18 +80,17 @@ impl<W> Flight<W> {
         self.frames.push_back(Given { name, what, reckoned, since: now, overdue });
     }
 
-    /// The radio told of a frame at this time, for which it has used so much by what `used` says of it; answers what was
-    /// given, and how much more it used than was reckoned. `None` of a frame that it doesn't have.
-    pub fn told(&mut self, name: Name, now: Nanos, used: impl FnOnce(&W) -> Nanos) -> Option<(W, Nanos)> {
+    /// The radio told of a frame at this time, which has taken as long as `took` says of it; answers what was given.
+    /// `None` of a frame that it doesn't have.
+    pub fn told(&mut self, name: Name, now: Nanos, took: impl FnOnce(&W) -> Nanos) -> Option<W> {
         let found = self.frames.iter().position(|given| given.name == name)?;
         let Given { what, reckoned, since, .. } = self.frames.remove(found)?;
         self.reckoned -= reckoned;
-        let used = used(&what);
         let step = now.saturating_sub(since.max(self.last_told)).min(MOST_STEP);
         self.last_told = self.last_told.max(now);
         self.spent = self.spent - self.spent / PACE_PARTS + step;
-        self.used = self.used - self.used / PACE_PARTS + used;
-        Some((what, used.saturating_sub(reckoned)))
+        self.took = self.took - self.took / PACE_PARTS + took(&what);
+        Some(what)
     }
 
     /// The radio was never given this frame.
@@ -188,15 +187,15 @@ mod tests {
     }
 
     #[test]
-    fn what_was_used_beyond_what_was_reckoned_is_told() {
-        let mut flight = flight();
-        flight.give(name(1), (), 300, 0);
-        flight.give(name(2), (), 300, 0);
-        assert_eq!(flight.told(name(2), 5, |_| 700), Some(((), 400)));
+    fn a_frame_is_told_of_once() {
+        let mut flight = Flight::new();
+        flight.give(name(1), 'a', 300, 0);
+        flight.give(name(2), 'b', 300, 0);
+        assert_eq!(flight.told(name(2), 5, |_| 700), Some('b'));
         assert_eq!(flight.told(name(2), 5, |_| 700), None);
         assert_eq!(flight.told(Name { place: 1, ..name(1) }, 5, |_| 700), None);
-        assert_eq!(flight.told(name(1), 5, |_| 200), Some(((), 0)));
-        assert_eq!(flight.len(), 0);
+        assert_eq!(flight.told(name(1), 5, |_| 200), Some('a'));
+        assert_eq!((flight.len(), flight.reckoned), (0, 0));
     }
 
     #[test]

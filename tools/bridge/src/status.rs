@@ -6,6 +6,7 @@ use crate::roster::{Roster, State, Station};
 use crate::sending::Network;
 use crate::tables::Tables;
 use crate::time::{Lateness, Nanos, MILLISECOND, SECOND};
+use crate::transmitting::Account;
 
 /// Which version runs.
 pub const VERSION: &str = match option_env!("BRIDGE_VERSION") {
@@ -52,6 +53,8 @@ pub struct Status<'a> {
     pub networks: &'a [Network],
     /// Of each network since when its wire is down, if it is.
     pub wires_down: Vec<Option<Nanos>>,
+    /// What the air was to each.
+    pub accounts: &'a [Account],
     /// Their stations.
     pub roster: &'a Roster,
     /// What the program said of them.
@@ -95,7 +98,9 @@ impl Status<'_> {
         write!(to, "{{\"bssid\":{},\"ssid\":{ssid},\"wire\":{wire},", Text(&network.bssid.to_string()))?;
         let down = self.wires_down.get(place).copied().flatten();
         let down = Maybe(down.map(|since| Seconds(self.now.saturating_sub(since))));
-        write!(to, "\"wire_down\":{down},\"counts\":")?;
+        write!(to, "\"wire_down\":{down},\"air\":")?;
+        self.write_air(to, place)?;
+        to.push_str(",\"counts\":");
         match table {
             Some(table) => named(to, &table.counts.iter().cloned().collect())?,
             None => to.push_str("null"),
@@ -111,6 +116,15 @@ impl Status<'_> {
             let kept = table.and_then(|table| table.stations.get(&address)).map(|(_, kept)| kept);
             write!(to, ",\"kept\":{}}}", Maybe(kept))
         })?;
+        to.push('}');
+        Ok(())
+    }
+
+    fn write_air(&self, to: &mut String, place: usize) -> fmt::Result {
+        let Account { used, waiting, unsent, .. } = &self.accounts[place];
+        write!(to, "{{\"weight\":{},\"seconds\":{}", self.networks[place].weight, Seconds(*used))?;
+        write!(to, ",\"waiting\":{waiting},\"unsent\":")?;
+        named(to, &unsent.iter().map(|(why, number)| (why.to_string(), *number)).collect())?;
         to.push('}');
         Ok(())
     }
@@ -217,6 +231,7 @@ mod tests {
     use super::*;
     use crate::samples::{network, OTHER, OURS, STATION};
     use crate::tables::Asker;
+    use crate::transmitting::Unsent;
 
     #[test]
     fn texts_are_escaped() {
@@ -264,6 +279,8 @@ mod tests {
         let mut beacons = Lateness::default();
         beacons.count(2 * MILLISECOND);
         beacons.count(4 * MILLISECOND);
+        let mut accounts = vec![Account { used: 2500 * MILLISECOND, waiting: 7, ..Account::default() }; 2];
+        accounts[0].unsent.insert(Unsent::Late, 5);
         let status = Status {
             phy: "phy0",
             channel: 6,
@@ -274,6 +291,7 @@ mod tests {
             left_out: Named::new(),
             networks: &networks,
             wires_down: vec![Some(SECOND / 2), None],
+            accounts: &accounts,
             roster: &roster,
             tables: &tables,
             now: 3 * SECOND,
@@ -284,11 +302,13 @@ mod tests {
             r#""beacons":{"sent":2,"late_ms_mean":3.000,"late_ms_worst":4.000,"missed":0},"#,
             r#""drops":{"the air: late":3},"left_out":{},"networks":["#,
             r#"{"bssid":"02:00:00:00:01:01","ssid":"6c","wire":"wire1","wire_down":2.500,"#,
+            r#""air":{"weight":1,"seconds":2.500,"waiting":7,"unsent":{"had waited too long":5}},"#,
             r#""counts":{"clock":1,"events":4,"kept":2,"lost":0,"unread":0},"refusals":{},"#,
             r#""known":1,"stations":[{"address":"02:aa:00:00:00:01","state":"associated","aid":3,"dozes":false,"#,
             r#""since":2.000,"heard":2.000,"signal":null,"rate_to":null,"rate_from":null,"#,
             r#""octets_to":0,"octets_from":0,"frames_to":0,"frames_from":0,"kept":2}]},"#,
             r#"{"bssid":"02:00:00:00:01:02","ssid":"6d","wire":null,"wire_down":null,"#,
+            r#""air":{"weight":1,"seconds":2.500,"waiting":7,"unsent":{}},"#,
             r#""counts":{},"refusals":{"1":1},"known":0,"stations":[]}]}"#,
         ];
         let (line, wanted) = (status.line(), wanted.concat());

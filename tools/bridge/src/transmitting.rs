@@ -152,11 +152,12 @@ impl fmt::Display for Unsent {
 /// What the air was to one network.
 #[derive(Debug, Clone, Default, PartialEq, Eq)]
 pub struct Account {
-    /// How much of the air its frames took, beacons left out, as it is reckoned and told.
+    /// For how long its frames were sent, all tries counted and beacons left out.
     pub used: Nanos,
-    /// How many of its frames wait, and their octets.
+    /// How many of its frames wait.
     pub waiting: usize,
-    octets: usize,
+    /// How many octets they have.
+    pub octets: usize,
     /// How many frames never went, and why.
     pub unsent: BTreeMap<Unsent, u64>,
 }
@@ -424,18 +425,18 @@ impl<P: Port> Transmitter<P> {
         };
         let (choice, waits) = self.choice(place, address, kind, &octets, now);
         let size = Size { rate: choice.rate, ..size };
-        let reckoned = size.tries(1);
-        if let Some(frame) = self.shares.serve(reckoned) {
+        let cost = size.sending(1);
+        if let Some(frame) = self.shares.serve(cost) {
             self.count_out(place, &frame);
         }
         if waits {
             self.shares.hold(place, receiver);
         }
-        self.accounts[place].used += reckoned;
+        self.accounts[place].used += cost;
         let number = Frame::of(&octets).and_then(|frame| frame.sequence_control());
         let name = Name { place, receiver: address, number };
         let is_own = matches!(kind, Kind::Own { .. });
-        self.flight.give(name, Sent { size, receiver, is_own }, reckoned, now);
+        self.flight.give(name, Sent { size, receiver, is_own }, size.tries(1), now);
         let mut packet = Vec::with_capacity(SENDING_LEN + octets.len());
         packet.extend(sending_header(choice.rate, choice.retries));
         packet.extend(&*octets);
@@ -493,14 +494,15 @@ impl<P: Port> Transmitter<P> {
             None => return,
         };
         let name = Name { place, receiver: address, number };
-        let tries = u32::from(outcome.retries) + 1;
-        let found = self.flight.told(name, now, |sent| sent.size.tries(tries));
-        if let Some((sent, more)) = &found {
+        let retries = u32::from(outcome.retries);
+        let found = self.flight.told(name, now, |sent| sent.size.tries(retries + 1));
+        if let Some(sent) = &found {
+            let more = sent.size.sending(retries);
             self.is_full = false;
             self.accounts[place].used += more;
-            self.shares.told(place, sent.receiver, *more);
+            self.shares.told(place, sent.receiver, more);
         }
-        let is_own = found.map_or_else(|| is_null_of_network(frame), |(sent, _)| sent.is_own);
+        let is_own = found.map_or_else(|| is_null_of_network(frame), |sent| sent.is_own);
         if address.is_group() || is_own {
             return;
         }
@@ -923,7 +925,7 @@ mod tests {
                 }
                 for seen in driver.run(1) {
                     let place = usize::from(seen.frame[15] == OTHER.octets()[5]);
-                    used[place] += Size { octets: seen.frame.len(), rate: seen.rate, is_acknowledged: true }.tries(1);
+                    used[place] += Size { octets: seen.frame.len(), rate: seen.rate, is_acknowledged: true }.sending(1);
                 }
             }
             let wanted = (used[0] + used[1]) * parts[0] / (parts[0] + parts[1]);
@@ -1065,6 +1067,6 @@ mod tests {
         let sent = driver.flush();
         driver.told(0, &sent[0], 6, true);
         let size = Size { octets: sent[0].frame.len(), rate: 108, is_acknowledged: true };
-        assert_eq!(driver.air.accounts[0].used - before, size.tries(7));
+        assert_eq!(driver.air.accounts[0].used - before, size.sending(7));
     }
 }

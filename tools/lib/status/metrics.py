@@ -101,6 +101,9 @@ def of_networks(networks: list[dict]) -> Iterator[Family]:
     }
     stations = gauge("network_stations", "Stations that a network knows, by their state.")
     wires = gauge("network_wire_up", "1 where the wire of a network is up, 0 where it went down.")
+    air = counter("network_air_seconds", "For how long frames of a network were sent, all tries counted, beacons left out.")
+    waiting = gauge("network_air_waiting_frames", "Frames of a network that wait for the air.")
+    unsent = counter("network_air_unsent_frames", "Frames of a network that never went on the air, by the reason.")
     refusals = counter("network_refusals", "Authentications and associations that a network refused, by the status.")
     for network in networks:
         labels = {"bssid": network["bssid"], "ssid": network["name"]}
@@ -111,9 +114,13 @@ def of_networks(networks: list[dict]) -> Iterator[Family]:
         stations.add(network["known"] - associated, **labels, state="authenticated")
         if network["wire"] is not None:
             wires.add(int(network["wire_down"] is None), **labels)
+        air.add(network["air"]["seconds"], **labels)
+        waiting.add(network["air"]["waiting"], **labels)
+        for reason, number in network["air"]["unsent"].items():
+            unsent.add(number, **labels, reason=reason)
         for status, number in network["refusals"].items():
             refusals.add(number, **labels, status=str(status))
-    yield from (*counts.values(), stations, wires, refusals)
+    yield from (*counts.values(), stations, wires, air, waiting, unsent, refusals)
 
 
 def of_stations(networks: list[dict]) -> Iterator[Family]:
