@@ -184,10 +184,12 @@ class Stage:
         self.air.end()
         unload_radios()
 
-    def hear_at_most(self, rates: dict[int, float], *more: str) -> None:
-        """From now on the station of a radio hears nothing that is sent to it faster than so many Mb/s."""
+    def hear_at_most(self, rates: dict[int, float]) -> None:
+        """From now on the station of a radio hears nothing that is sent to it faster than so many Mb/s; a station for
+        which no rate is given hears nothing at all."""
+        silent = [party.radio for party in self.parties if party.radio not in rates]
         self.air.lose(*(f"frames 100% from {AP_RADIO} to {radio} above {rate:g}" for radio, rate in rates.items()),
-                      *more)
+                      *(f"frames 100% to {radio}" for radio in silent))
 
     def begin(self, point: Point, discipline: str, number: int, rates: dict[int, float],
               more: tuple[str, ...] = ()) -> list[Party]:

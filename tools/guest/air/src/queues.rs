@@ -1,7 +1,7 @@
 //! What waits in a radio: in which order its frames go, and which of them it drops.
 //!
-//! A frame that is tried again goes before all that wait, whatever the discipline: retries are not interleaved with
-//! other frames of the same radio.
+//! A frame that is tried again goes before all that wait: retries are not interleaved with other frames of the same
+//! radio. Fair queues let beacons go between tries, as a radio does that has a queue for them.
 
 use std::collections::{BTreeMap, VecDeque};
 use std::mem;
@@ -22,7 +22,7 @@ pub enum Discipline {
     /// All frames go in the order in which they came. Where `MOST_WAITING` frames of data wait, one more is dropped;
     /// beacons and management have no bound.
     One,
-    /// Beacons go first, then management, then data. Data has a line for each transmitter's address and receiver, and
+    /// Beacons go first, between two tries of another frame too; then management, then data. Data has a line for each transmitter's address and receiver, and
     /// the line that has used least air goes next. In each line the oldest is dropped where more than `MOST_WAITING`
     /// wait.
     Fair,
@@ -45,7 +45,8 @@ impl FromStr for Discipline {
 #[derive(Debug, Default)]
 pub struct Queue {
     discipline: Discipline,
-    again: Option<Exchange>,
+    /// What is tried again; of several, of which all but the last gave way to a beacon, the last goes first.
+    again: Vec<Exchange>,
     /// What waits where all frames go in one order.
     ordered: VecDeque<Exchange>,
     fair: Fair,
@@ -57,7 +58,7 @@ impl Queue {
     }
 
     pub fn is_empty(&self) -> bool {
-        self.again.is_none() && self.ordered.is_empty() && self.fair.is_empty()
+        self.again.is_empty() && self.ordered.is_empty() && self.fair.is_empty()
     }
 
     /// Puts a frame behind those of its line; gives the one that is dropped for want of room, which may be this one.
@@ -72,12 +73,13 @@ impl Queue {
 
     /// Takes the frame whose turn it is, or None where nothing waits.
     pub fn take(&mut self) -> Option<Exchange> {
-        self.again.take().or_else(|| self.ordered.pop_front()).or_else(|| self.fair.take())
+        let beacon = self.fair.beacons.pop_front();
+        beacon.or_else(|| self.again.pop()).or_else(|| self.ordered.pop_front()).or_else(|| self.fair.take())
     }
 
-    /// The frame that was taken last is tried again, before all others.
+    /// The frame that was taken last is tried again, before all that wait but beacons of fair queues.
     pub fn put_again(&mut self, exchange: Exchange) {
-        self.again = Some(exchange);
+        self.again.push(exchange);
     }
 
     /// A frame that was taken has used so many nanoseconds of air, for which its line stands back.
@@ -88,7 +90,7 @@ impl Queue {
     /// From now on it keeps what waits by another discipline; gives what is dropped for want of room then.
     pub fn change(&mut self, discipline: Discipline) -> Vec<Exchange> {
         let mut before = mem::replace(self, Queue::new(discipline));
-        self.again = before.again.take();
+        self.again = mem::take(&mut before.again);
         std::iter::from_fn(|| before.take()).filter_map(|exchange| self.put(exchange)).collect()
     }
 
@@ -145,9 +147,10 @@ impl Fair {
         None
     }
 
+    /// Takes what goes next but for beacons, which go before what is tried again too.
     fn take(&mut self) -> Option<Exchange> {
-        let Fair { beacons, management, lines, reached } = self;
-        beacons.pop_front().or_else(|| management.pop_front()).or_else(|| {
+        let Fair { management, lines, reached, .. } = self;
+        management.pop_front().or_else(|| {
             let line = lines.values_mut().filter(|line| !line.frames.is_empty()).min_by_key(|line| line.used)?;
             *reached = line.used;
             line.frames.pop_front()
@@ -280,18 +283,28 @@ mod tests {
     }
 
     #[test]
-    fn what_is_tried_again_goes_before_all() {
-        for discipline in [Discipline::Unbounded, Discipline::One, Discipline::Fair] {
+    fn what_is_tried_again_goes_before_all_but_beacons_of_fair_queues() {
+        let orders = [[0, 1, 2, 3], [0, 1, 2, 3], [1, 0, 3, 2]];
+        for (discipline, order) in [Discipline::Unbounded, Discipline::One, Discipline::Fair].into_iter().zip(orders) {
             let mut queue = Queue::new(discipline);
             queue.put(frame(DATA, 1, 0));
             let exchange = queue.take().unwrap();
             queue.charge(&exchange, 1_000_000);
             queue.put(frame(BEACON, 1, 1));
             queue.put(frame(DATA, 2, 2));
+            queue.put(frame(PROBE_RESPONSE, 2, 3));
             queue.put_again(exchange);
-            assert_eq!(queue.take().map(number), Some(0));
-            assert_eq!(drained(&mut queue), [1, 2]);
+            assert_eq!(drained(&mut queue), order, "{discipline:?}");
         }
+    }
+
+    #[test]
+    fn of_several_that_are_tried_again_the_last_goes_first_and_none_is_lost() {
+        let mut queue = Queue::new(Discipline::Fair);
+        for place in 0..2 {
+            queue.put_again(frame(DATA, 1, place));
+        }
+        assert_eq!(drained(&mut queue), [1, 0]);
     }
 
     #[test]
