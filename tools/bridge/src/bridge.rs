@@ -19,7 +19,7 @@ use crate::poller::{Poller, Ready, Token};
 use crate::program::{Feeder, Program};
 use crate::radiotap::reception;
 use crate::receiving::{judge_wired, Air, Judged, LeftOut};
-use crate::sending::{Exit, Network, Sender, BEACON};
+use crate::sending::{Network, Sender, BEACON};
 use crate::silence;
 use crate::sockets::{Batch, Packet, Port, AT_A_TIME};
 use crate::status::{error, Faults, Named, Status};
@@ -898,8 +898,11 @@ impl<P: Port> Running<P> {
                 "{fault} The wire of {bssid} has ended: what that network sends there is lost. All else goes on"
             ),
         );
-        let hears_no_more = |wire: &mut Exit<P>| wire.port.set_filter(&nothing_filter()).is_ok();
-        if self.sender.wire(place).map_or(false, hears_no_more) {
+        let hears_no_more = match self.sender.wire(place) {
+            Some(wire) => wire.port.set_filter(&nothing_filter()).is_ok(),
+            None => false,
+        };
+        if hears_no_more {
             while self.receive(Token::Wire(place), batch, time).is_ok() && batch.packets().next().is_some() {}
         }
         if let Some(wire) = self.sender.wire(place) {
