@@ -1573,14 +1573,18 @@ done
     #[test]
     fn what_floods_does_not_keep_beacons_and_is_counted() {
         let slow = LINES.replace("A) echo", "A) sleep 0.01; echo");
+        let mut status = String::new();
         let (outcome, stage) = run(Face::Text, &slow, true, |stage| {
             for _ in 0..1000 {
                 stage.hear(&data());
             }
             thread::sleep(Duration::from_millis(1500));
+            status = ask(stage, "status");
             end(stage);
         });
         assert_eq!(outcome, Ok(()));
+        let dropped = "the air for 02:00:00:00:01:01: frames of data before 32 younger ones of the same sender";
+        assert!(status.contains(dropped), "{status}");
         let lines = stage.record();
         let (ticks, frames) = (lines.iter().filter(|line| *line == "T").count(), lines.len());
         assert!(ticks > 1, "{ticks}");
