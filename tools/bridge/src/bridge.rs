@@ -1471,15 +1471,23 @@ done
         assert!(stage.sent.lock().unwrap().contains(&told));
     }
 
+    /// Waits until this is so, for some seconds at most.
+    fn wait_until(mut is_so: impl FnMut() -> bool) {
+        let until = now() + 5 * SECOND;
+        while !is_so() && now() < until {
+            thread::sleep(Duration::from_millis(10));
+        }
+    }
+
     /// What came by it before is given to the program; what its network sends later is lost and counted; all else goes on.
     #[test]
     fn a_wire_that_goes_down_ends_alone() {
         let two = Surroundings { networks: 2, ..Surroundings::default() };
         let to_other = |sequence| Unit { receiver: OTHER, sequence, ..Unit::default() }.octets();
-        let (before, mut status) = ([7; 20], String::new());
+        let (before, lost, mut status) = ([7; 20], r#""lost, since wire2 is down":20"#, String::new());
         let (outcome, stage) = run_with(Face::Text, TWO, two, |stage| {
             stage.hear(&to_other(0x10));
-            thread::sleep(Duration::from_millis(100));
+            wait_until(|| !stage.sent_on_other_wire.lock().unwrap().is_empty());
             stage.other_goes_down.store(true, Ordering::SeqCst);
             stage.other_wire.send(&before).unwrap();
             for sequence in 2..22 {
@@ -1487,8 +1495,10 @@ done
                 stage.hear(&Unit { sequence: sequence << 4, ..Unit::default() }.octets());
                 stage.hear(&to_other(sequence << 4));
             }
-            thread::sleep(Duration::from_millis(200));
-            status = ask(stage, "status");
+            wait_until(|| {
+                status = ask(stage, "status");
+                status.contains(lost) && stage.sent_on_wire.lock().unwrap().len() == 20
+            });
             end(stage);
         });
         assert_eq!(outcome, Ok(()));
@@ -1500,11 +1510,11 @@ done
         let ticks = lines.iter().filter(|line| *line == "T").count();
         let is_beacon = |frame: &&Vec<u8>| frame.get(sending_header(2, 0).len()) == Some(&super::BEACON);
         assert_eq!(stage.sent.lock().unwrap().iter().filter(is_beacon).count(), 2 * ticks);
-        assert!(ticks >= 8, "{ticks}");
-        let is_down = r#""wire":"wire2","wire_down":0."#;
-        for wanted in [is_down, r#""wire":"wire1","wire_down":null"#, r#""lost, since wire2 is down":20"#] {
+        assert!(ticks >= 5, "{ticks}");
+        for wanted in [r#""wire":"wire2","wire_down":"#, r#""wire":"wire1","wire_down":null"#, lost] {
             assert!(status.contains(wanted), "{status}");
         }
+        assert!(!status.contains(r#""wire":"wire2","wire_down":null"#), "{status}");
     }
 
     #[test]
