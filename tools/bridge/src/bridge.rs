@@ -18,7 +18,7 @@ use crate::poller::{Poller, Ready, Token};
 use crate::program::{Feeder, Program};
 use crate::radiotap::reception;
 use crate::receiving::{judge_wired, Air, Judged, LeftOut};
-use crate::sending::{Gate, Network, Sender, BEACON};
+use crate::sending::{Network, Sender, BEACON};
 use crate::silence;
 use crate::sockets::{Batch, Packet, Port, AT_A_TIME};
 use crate::status::{error, Faults, Named, Status};
@@ -900,8 +900,11 @@ impl<P: Port> Running<P> {
                 "{fault} The wire of {bssid} has ended: what that network sends there is lost. All else goes on"
             ),
         );
-        let hears_no_more = |wire: &mut Gate<P>| wire.port.set_filter(&nothing_filter()).is_ok();
-        if self.sender.wire(place).map_or(false, hears_no_more) {
+        let hears_no_more = match self.sender.wire(place) {
+            Some(wire) => wire.port.set_filter(&nothing_filter()).is_ok(),
+            None => false,
+        };
+        if hears_no_more {
             while self.receive(Token::Wire(place), batch, time).is_ok() && batch.packets().next().is_some() {}
         }
         if let Some(wire) = self.sender.wire(place) {
@@ -1482,15 +1485,23 @@ done
         assert!(stage.sent.lock().unwrap().contains(&told));
     }
 
+    /// Waits until this is so, for some seconds at most.
+    fn wait_until(mut is_so: impl FnMut() -> bool) {
+        let until = now() + 5 * SECOND;
+        while !is_so() && now() < until {
+            thread::sleep(Duration::from_millis(10));
+        }
+    }
+
     /// What came by it before is given to the program; what its network sends later is lost and counted; all else goes on.
     #[test]
     fn a_wire_that_goes_down_ends_alone() {
         let two = Surroundings { networks: 2, ..Surroundings::default() };
         let to_other = |sequence| Unit { receiver: OTHER, sequence, ..Unit::default() }.octets();
-        let (before, mut status) = ([7; 20], String::new());
+        let (before, lost, mut status) = ([7; 20], r#""lost, since wire2 is down":20"#, String::new());
         let (outcome, stage) = run_with(Face::Text, TWO, two, |stage| {
             stage.hear(&to_other(0x10));
-            thread::sleep(Duration::from_millis(100));
+            wait_until(|| !stage.sent_on_other_wire.lock().unwrap().is_empty());
             stage.other_goes_down.store(true, Ordering::SeqCst);
             stage.other_wire.send(&before).unwrap();
             for sequence in 2..22 {
@@ -1498,8 +1509,10 @@ done
                 stage.hear(&Unit { sequence: sequence << 4, ..Unit::default() }.octets());
                 stage.hear(&to_other(sequence << 4));
             }
-            thread::sleep(Duration::from_millis(200));
-            status = ask(stage, "status");
+            wait_until(|| {
+                status = ask(stage, "status");
+                status.contains(lost) && stage.sent_on_wire.lock().unwrap().len() == 20
+            });
             end(stage);
         });
         assert_eq!(outcome, Ok(()));
@@ -1511,11 +1524,11 @@ done
         let ticks = lines.iter().filter(|line| *line == "T").count();
         let is_beacon = |frame: &&Vec<u8>| frame.get(sending_header(2, 0).len()) == Some(&super::BEACON);
         assert_eq!(stage.sent.lock().unwrap().iter().filter(is_beacon).count(), 2 * ticks);
-        assert!(ticks >= 8, "{ticks}");
-        let is_down = r#""wire":"wire2","wire_down":0."#;
-        for wanted in [is_down, r#""wire":"wire1","wire_down":null"#, r#""lost, since wire2 is down":20"#] {
+        assert!(ticks >= 5, "{ticks}");
+        for wanted in [r#""wire":"wire2","wire_down":"#, r#""wire":"wire1","wire_down":null"#, lost] {
             assert!(status.contains(wanted), "{status}");
         }
+        assert!(!status.contains(r#""wire":"wire2","wire_down":null"#), "{status}");
     }
 
     #[test]
@@ -1585,14 +1598,18 @@ done
     #[test]
     fn what_floods_does_not_keep_beacons_and_is_counted() {
         let slow = LINES.replace("A) echo", "A) sleep 0.01; echo");
+        let mut status = String::new();
         let (outcome, stage) = run(Face::Text, &slow, true, |stage| {
             for _ in 0..1000 {
                 stage.hear(&data());
             }
             thread::sleep(Duration::from_millis(1500));
+            status = ask(stage, "status");
             end(stage);
         });
         assert_eq!(outcome, Ok(()));
+        let dropped = "the air for 02:00:00:00:01:01: frames of data before 32 younger ones of the same sender";
+        assert!(status.contains(dropped), "{status}");
         let lines = stage.record();
         let (ticks, frames) = (lines.iter().filter(|line| *line == "T").count(), lines.len());
         assert!(ticks > 1, "{ticks}");

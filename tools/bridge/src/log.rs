@@ -108,12 +108,10 @@ impl Bounded {
         Bounded { most: 0, second: Nanos::MAX - SECOND, lines: vec![0; networks] }
     }
 
-    /// Writes a line of the network of this place, or counts it.
-    pub fn write(&mut self, network: usize, level: Level, text: impl fmt::Display) {
+    /// Whether one more line of the network of this place may be written; it is counted in any case.
+    pub fn takes(&mut self, network: usize) -> bool {
         self.lines[network] += 1;
-        if self.lines[network] <= self.most {
-            write_event(level, text);
-        }
+        self.lines[network] <= self.most
     }
 
     /// Where a second is over, the next one begins; answers of which networks lines were left out in it, and how many.
@@ -151,13 +149,13 @@ mod tests {
     fn lines_of_a_second_are_bounded_for_each_network() {
         let mut bounded = Bounded::new(2);
         assert_eq!(bounded.take_left_out(5 * SECOND), []);
-        for line in 0..MOST_OF_NETWORK + 7 {
-            bounded.write(1, Level::Info, format_args!("line {line} of a test"));
-        }
-        bounded.write(0, Level::Info, "a line of another network");
-        assert_eq!(bounded.lines, [1, MOST_OF_NETWORK + 7]);
+        assert!((0..MOST_OF_NETWORK).all(|_| bounded.takes(1)));
+        assert!((0..7).all(|_| !bounded.takes(1)));
+        assert!(bounded.takes(0));
         assert_eq!(bounded.take_left_out(6 * SECOND - 1), []);
-        assert_eq!(bounded.take_left_out(6 * SECOND), [(1, 7)]);
+        assert!(!bounded.takes(1) && bounded.takes(0));
+        assert_eq!(bounded.take_left_out(6 * SECOND), [(1, 8)]);
+        assert!(bounded.takes(1));
         assert_eq!(bounded.take_left_out(7 * SECOND), []);
     }
 

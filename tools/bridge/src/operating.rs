@@ -180,8 +180,10 @@ impl Operating {
             log::write_event(Level::Notice, format_args!("{more} more lines of stations in one second, of {bssid}"));
         }
         for ((place, station), news) in self.roster.take_news() {
-            let (level, text) = sentence(station, self.bssids[place], news);
-            self.log.write(place, level, text);
+            if self.log.takes(place) {
+                let (level, text) = sentence(station, self.bssids[place], news);
+                log::write_event(level, text);
+            }
         }
     }
 }
