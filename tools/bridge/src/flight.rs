@@ -3,7 +3,8 @@
 //!
 //! A frame that the radio has can't be overtaken by another network's. So what it has at once is bounded by the clock:
 //! by the last outcomes one knows how long the radio takes for what is reckoned, others' turns on the air included. One
-//! frame it always has. Nothing is sent or timed here.
+//! frame it always has. A radio that lets newer frames go before one that it has had for long is given nothing more
+//! until that one went. Nothing is sent or timed here.
 use std::collections::VecDeque;
 
 use crate::frames::Address;
@@ -61,9 +62,13 @@ impl<W> Flight<W> {
         Flight { frames: VecDeque::new(), reckoned: 0, spent: took, took, last_told: 0 }
     }
 
-    /// Whether a frame that is reckoned to take so long may be given to it.
-    pub fn has_room(&self, reckoned: Nanos) -> bool {
-        self.frames.is_empty() || self.by_clock(self.reckoned + reckoned) <= MOST_AT_ONCE
+    /// Whether a frame that is reckoned to take so long may be given to it now.
+    pub fn has_room(&self, reckoned: Nanos, now: Nanos) -> bool {
+        match self.frames.front() {
+            None => true,
+            Some(oldest) if oldest.overdue.max(oldest.since + 2 * MOST_AT_ONCE) < now => false,
+            Some(_) => self.by_clock(self.reckoned + reckoned) <= MOST_AT_ONCE,
+        }
     }
 
     /// How long the radio takes for what is reckoned to take so long, by its pace.
@@ -163,7 +168,7 @@ mod tests {
     }
 
     fn fitting(mut flight: Flight<()>) -> usize {
-        while flight.has_room(MILLISECOND) {
+        while flight.has_room(MILLISECOND, 0) {
             flight.give(name(flight.len() as u16), (), MILLISECOND, 0);
         }
         flight.len()
@@ -181,9 +186,23 @@ mod tests {
     fn one_frame_it_always_has() {
         assert_eq!(fitting(at_pace(50)), 1);
         let mut flight = flight();
-        assert!(flight.has_room(Nanos::from(u32::MAX)));
+        assert!(flight.has_room(Nanos::from(u32::MAX), 0));
         flight.give(name(1), (), 7 * MILLISECOND, 0);
-        assert!(flight.has_room(MILLISECOND) && !flight.has_room(MILLISECOND + 1));
+        assert!(flight.has_room(MILLISECOND, 0) && !flight.has_room(MILLISECOND + 1, 0));
+    }
+
+    #[test]
+    fn nothing_is_given_while_an_old_frame_waits_for_newer_ones() {
+        let mut flight = flight();
+        flight.give(name(1), (), MILLISECOND, 0);
+        for millisecond in 1..=16 {
+            assert!(flight.has_room(MILLISECOND, millisecond * MILLISECOND));
+            flight.give(name(1 + millisecond as u16), (), MILLISECOND, millisecond * MILLISECOND);
+            flight.told(name(1 + millisecond as u16), (millisecond + 1) * MILLISECOND, |_| MILLISECOND);
+        }
+        assert!(!flight.has_room(MILLISECOND, 17 * MILLISECOND));
+        flight.told(name(1), 18 * MILLISECOND, |_| MILLISECOND);
+        assert!(flight.has_room(MILLISECOND, 18 * MILLISECOND));
     }
 
     #[test]

@@ -410,7 +410,7 @@ impl<P: Port> Transmitter<P> {
                 let rate = self.stations.expected_rate(place, address, is_unit);
                 let is_acknowledged = !address.is_group();
                 let size = Size { octets: frame.octets.len(), rate, is_acknowledged };
-                self.is_full = !self.is_ending && !self.flight.has_room(size.tries(1));
+                self.is_full = !self.is_ending && !self.flight.has_room(size.tries(1), now);
                 return !self.is_full && self.take(place, receiver, size, now);
             }
         }
