@@ -80,8 +80,8 @@ pub trait Port {
     fn set_filter(&mut self, filter: &[sock_filter]) -> io::Result<()>;
     /// How many packets the kernel has dropped here so far, since nobody read them.
     fn count_dropped(&mut self) -> u64;
-    /// Gives the interface up: nothing is heard or sent by it any more, and its descriptor is none. What is read or sent
-    /// from then on is refused as by an interface that is down.
+    /// Gives the interface up: nothing is heard or sent by it any more, and it has no descriptor. What is read or sent
+    /// from then on is refused as by an interface that is down. A port without a socket has nothing to close.
     fn close(&mut self) {}
 }
 

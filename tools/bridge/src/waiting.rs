@@ -10,7 +10,7 @@
 //! for all, networks read probe requests alone, and those change no station (docs/PROTOCOL.md, 'What is read').
 //!
 //! A frame is dropped where it waited longer than its kind is worth, or where `MOST_OF_FLOW` younger ones of its kind
-//! wait of its sender to its receiver. Where a lane is full the oldest frame is dropped of the kind that is worth least.
+//! wait of its sender to its receiver. A full lane drops the oldest frame of the kind that is worth least.
 //! So who sends more than goes through loses its own frames, and others don't wait behind them. A drop takes the same
 //! time however many frames wait, and each one is counted.
 use std::collections::HashMap;
