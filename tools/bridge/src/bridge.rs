@@ -1493,7 +1493,7 @@ done
         }
     }
 
-    /// What came by it before is given to the program; what its network sends later is lost and counted; all else goes on.
+    /// What came by it before is given to the program. What its network sends later is lost and counted.
     #[test]
     fn a_wire_that_goes_down_ends_alone() {
         let two = Surroundings { networks: 2, ..Surroundings::default() };

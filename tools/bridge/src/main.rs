@@ -23,7 +23,9 @@
 //!
 //! It promises: frames of the air for one network stay in their order, frames of the air for all networks, and frames of
 //! each wire. What is for all and what is for one network may overtake each other (`waiting`). What is sent by each wire
-//! stays in its order, and on the air to each receiver. A unit that nobody acknowledged is sent once more, if none went to its
+//! stays in its order, and on the air to each receiver.
+//!
+//! A unit that nobody acknowledged is sent once more, if none went to its
 //! station since. Each frame that comes is given to the program once, or counted as left out or dropped, but for what
 //! the kernel's filter keeps out: control frames, and frames for no network. A beginning of a beacon interval waits for
 //! none of the frames that wait. A beacon goes before all that waits, group frames of its network included; what the

@@ -403,8 +403,8 @@ mod tests {
         assert!(asked > 990 && forgotten > 960, "{asked} {forgotten}");
     }
 
-    /// Of a second network a station is awake and one dozes, and both fell silent: they are asked in time, whatever goes
-    /// on in the first, be it that thousands are silent there, or are given up since it is full.
+    /// Of a second network a station is awake and one dozes, and both fell silent. They are asked in time where
+    /// thousands are silent in the first, or are given up since it is full.
     #[test]
     fn silent_stations_of_one_network_keep_those_of_another_from_no_question() {
         for max_known in [5000, 2000] {

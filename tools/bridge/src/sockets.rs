@@ -82,8 +82,8 @@ pub trait Port {
     fn count_dropped(&mut self) -> u64;
     /// How many octets the interface was given and hasn't sent yet, what the kernel keeps beside them included.
     fn unsent(&self) -> io::Result<usize>;
-    /// Gives the interface up: nothing is heard or sent by it any more, and its descriptor is none. What is read or sent
-    /// from then on is refused as by an interface that is down.
+    /// Gives the interface up: nothing is heard or sent by it any more, and it has no descriptor. What is read or sent
+    /// from then on is refused as by an interface that is down. A port without a socket has nothing to close.
     fn close(&mut self) {}
 }
 

@@ -9,10 +9,10 @@
 //! looks for networks and then authenticates may be answered in the other order. Nothing else comes of it: of what is
 //! for all, networks read probe requests alone, and those change no station (docs/PROTOCOL.md, 'What is read').
 //!
-//! A frame is dropped where it is worth nothing any more, since it waited longer than its kind is awaited; where
-//! `MOST_OF_FLOW` younger ones of its kind wait of its sender to its receiver; or where its lane is full, the oldest of
-//! the kind that is worth least. So who sends more than goes through loses its own frames, and others don't wait behind
-//! them. Each call takes the same time however many frames wait, and each frame that is dropped is counted.
+//! A frame is dropped where it waited longer than its kind is worth, or where `MOST_OF_FLOW` younger ones of its kind
+//! wait of its sender to its receiver. A full lane drops the oldest frame of the kind that is worth least.
+//! So who sends more than goes through loses its own frames, and others don't wait behind them. A drop takes the same
+//! time however many frames wait, and each one is counted.
 use std::collections::HashMap;
 use std::fmt;
 
@@ -86,7 +86,7 @@ impl Kind {
         }
     }
 
-    /// How long one is worth to wait. What a notice says is as true later, and nothing says it again: it has no end.
+    /// How long it is worth to let one wait. A notice has no end: what it says is as true later, and isn't said again.
     fn longest(self) -> Option<Nanos> {
         match self {
             Kind::Probe | Kind::Data => Some(LONGEST),
