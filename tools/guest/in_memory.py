@@ -26,7 +26,8 @@ def go_on_in_memory(program: str) -> None:
     bridge = os.path.join(IN_MEMORY, os.path.relpath(COMPILED, TOP))
     os.makedirs(os.path.dirname(bridge))
     shutil.copy(COMPILED, bridge)
-    for words in (*READ_ONCE, (os.path.join(IN_MEMORY, "tools", "live"), "--help")):
+    own = [(os.path.join(IN_MEMORY, "tools", name), "--help") for name in ("live", "guest/stamped")]
+    for words in (*READ_ONCE, *own):
         subprocess.run(words, stdin=subprocess.DEVNULL, capture_output=True, check=False)
-    own = os.path.join(IN_MEMORY, "tools", "guest", program)
-    os.execv(own, [own, *sys.argv[1:]])
+    path = os.path.join(IN_MEMORY, "tools", "guest", program)
+    os.execv(path, [path, *sys.argv[1:]])
