@@ -47,8 +47,8 @@ class Tried:
 
 @dataclass(frozen=True)
 class Airtime:
-    """How long one address sent to another, of one kind of frame: nanoseconds of the frames with their acknowledgements,
-    and of what is waited before each; and how many frames the radio dropped."""
+    """How long one address sent to another, of one kind of frame: nanoseconds of the frames with their
+    acknowledgements, and of what is waited before each; and how many frames the radio dropped."""
 
     sender: str
     to: str
@@ -67,7 +67,8 @@ class Air:
         self.observer = observer
         words = [*(BEFORE_ALL if is_first else ()), program, str(radios), str(seed)]
         with open(log, "wb") as file:
-            self.process = subprocess.Popen(words, stdin=subprocess.PIPE, stdout=subprocess.PIPE, stderr=file, text=True)
+            self.process = subprocess.Popen(words, stdin=subprocess.PIPE, stdout=subprocess.PIPE, stderr=file,
+                                            text=True)
         if self.process.stdout.readline().strip() != READY:
             raise Failed(f"the air didn't begin: {log}")
         self.lose()

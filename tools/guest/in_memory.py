@@ -1,5 +1,5 @@
-"""Goes on in the guest's own memory. While a file is read from the machine that runs the guest, the guest waits, and with
-SLEEP=off its time passes at once: what has to come within some seconds would be late."""
+"""Goes on in the guest's own memory. While a file is read from the machine that runs the guest, the guest waits, and
+with SLEEP=off its time passes at once: what has to come within some seconds would be late."""
 import os
 import shutil
 import subprocess
@@ -19,14 +19,15 @@ def is_in_memory() -> bool:
 
 
 def go_on_in_memory(program: str) -> None:
-    """Goes on as a copy of a program of tools/guest in the guest's own memory, with the same words, once all others were
-    read; it doesn't come back."""
+    """Goes on as a copy of a program of tools/guest in the guest's own memory, with the same words, once all others
+    were read; it doesn't come back."""
     shutil.rmtree(IN_MEMORY, ignore_errors=True)
     shutil.copytree(os.path.join(TOP, "tools"), os.path.join(IN_MEMORY, "tools"), symlinks=True)
     bridge = os.path.join(IN_MEMORY, os.path.relpath(COMPILED, TOP))
     os.makedirs(os.path.dirname(bridge))
     shutil.copy(COMPILED, bridge)
-    for words in (*READ_ONCE, (os.path.join(IN_MEMORY, "tools", "live"), "--help")):
+    own = [(os.path.join(IN_MEMORY, "tools", name), "--help") for name in ("live", "guest/stamped")]
+    for words in (*READ_ONCE, *own):
         subprocess.run(words, stdin=subprocess.DEVNULL, capture_output=True, check=False)
-    own = os.path.join(IN_MEMORY, "tools", "guest", program)
-    os.execv(own, [own, *sys.argv[1:]])
+    path = os.path.join(IN_MEMORY, "tools", "guest", program)
+    os.execv(path, [path, *sys.argv[1:]])

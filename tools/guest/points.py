@@ -103,8 +103,9 @@ class Own(Point):
         with open(self.config, "w", encoding="utf-8") as file:
             file.write(RADIO_TEXT.format(version=1))
             for place, network in enumerate(networks):
-                file.write(NETWORK_TEXT.format(bssid=self.bssid(place), ssid=network.ssid, rates=RATES, dtim=1, more=""))
-                words += ["--wire", f"{self.bssid(place)}={network.host.port}"]
+                bssid = self.bssid(place)
+                file.write(NETWORK_TEXT.format(bssid=bssid, ssid=network.ssid, rates=RATES, dtim=1, more=""))
+                words += ["--wire", f"{bssid}={network.host.port}"]
         self.start(words, READY)
 
 

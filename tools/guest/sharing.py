@@ -55,17 +55,22 @@ class Delays:
         return ordered[max(0, math.ceil(len(ordered) * percent / 100) - 1)] if ordered else math.inf
 
 
+def start_stamped(part: Station | Host, *words: str) -> subprocess.Popen:
+    """Starts the program `stamped` in a part, and waits until it is ready."""
+    process = part.start(os.path.join(HERE, "stamped"), *words, output=subprocess.PIPE)
+    said = process.stdout.readline().strip()
+    if said != b"ready":
+        said += process.communicate()[0]
+        raise Failed(f"{part.name}: stamped {words[0]}: {said.decode()}")
+    return process
+
+
 class Receiving:
     """Datagrams that a part takes from now on, as many as these at most, with the program `stamped`."""
 
     def __init__(self, part: Station | Host, port: int, number: int, address: str | None = None) -> None:
-        words = [os.path.join(HERE, "stamped"), "receive", address or part.address, str(port), str(number),
-                 str(SECONDS_OF_SILENCE)]
-        self.process = part.start(*words, output=subprocess.PIPE)
-        said = self.process.stdout.readline().strip()
-        if said != b"ready":
-            said += self.process.communicate()[0]
-            raise Failed(f"{part.name} doesn't take datagrams: {said.decode()}")
+        words = "receive", address or part.address, str(port), str(number), str(SECONDS_OF_SILENCE)
+        self.process = start_stamped(part, *words)
 
     def expect_no_more(self) -> None:
         """Ends it, though fewer came."""
@@ -85,10 +90,14 @@ class Flow:
     seconds: float
 
     def start(self, sender: Station | Host, to: str, port: int, begin: float) -> subprocess.Popen:
-        """Lets a part send them from a moment on; an address that ends in 255 is that of all."""
+        """Lets a part send them from a moment on, for which it has to be ready; an address that ends in 255 is that of
+        all."""
         words = ["--broadcast"] if to.endswith(".255") else []
-        return sender.start(os.path.join(HERE, "stamped"), "send", to, str(port), str(begin), str(self.seconds),
-                            str(self.rate), str(self.octets - HEADERS_LEN), *words)
+        process = start_stamped(sender, "send", to, str(port), str(begin), str(self.seconds), str(self.rate),
+                                str(self.octets - HEADERS_LEN), *words)
+        if time.monotonic() > begin:
+            raise Failed(f"{sender.name} was too late to send")
+        return process
 
 
 class Beacons:
