@@ -212,12 +212,13 @@ class Folders(unittest.TestCase):
 class Shares(unittest.TestCase):
     """What is said of networks that share the air, and what has to hold."""
 
-    figures = share_cases.Figures(units=2990, at_95=0.84, worst=1203.4, lost=2, beacons=131.2, guests=1010, busy=0.3)
+    figures = share_cases.Figures(units=2990, at_95=0.84, worst=1203.4, lost=2, beacons=131.2, guests=1010,
+                                  answers=301.0, busy=0.3)
 
     def test_a_cell_says_all_figures(self):
         """The guests are left out where they have nothing to receive."""
         self.assertEqual(str(self.figures), "2,990; 0.8, 1,203; 2; 131; guests 1,010")
-        alone = share_cases.Figures(3000, 12.6, 21.2, 0, 104.0, None, 0.3)
+        alone = share_cases.Figures(3000, 12.6, 21.2, 0, 104.0, None, 0.0, 0.3)
         self.assertEqual(str(alone), "3,000; 13, 21; 0; 104")
 
     def test_each_aim_that_is_missed_is_told_with_its_figure(self):
@@ -229,11 +230,13 @@ class Shares(unittest.TestCase):
         self.assertEqual(self.figures.misses(easy, "fair"), [])
         late = share_cases.Aims(2990, 0.8, 1204, 2, 132, 132, 1010)
         self.assertEqual(self.figures.misses(late, "fair"), ["a delay of 0.8 ms at 95 %, not 0.8"])
+        probed = share_cases.Aims(2990, 0.84, 1204, 2, 132, 132, 1010, 300)
+        self.assertEqual(self.figures.misses(probed, "fair"), ["301 ms of answers to probes, not 300"])
 
     def test_beacons_may_be_later_on_one_queue_where_a_guest_vanishes(self):
         """There alone."""
         vanished = next(row for row in share_cases.ROWS if "vanishes" in row.name)
-        figures = share_cases.Figures(2990, 50.0, 100.0, 1, 150.0, 300, 0.3)
+        figures = share_cases.Figures(2990, 50.0, 100.0, 1, 150.0, 300, 0.0, 0.3)
         self.assertEqual(figures.misses(vanished.aims, "one"), [])
         self.assertEqual(figures.misses(vanished.aims, "fair"), ["150 ms without a beacon, not 130"])
 
@@ -254,7 +257,7 @@ class Shares(unittest.TestCase):
     def test_weights_are_words_of_the_access_point(self):
         """A weight of 1 needs none."""
         point = points.Own.__new__(points.Own)
-        wanted = {(1, 1, 1): (), (2, 1): ("--share", "02:00:00:00:01:01=2")}
+        wanted = {(1, 1, 1): (), (1, 1): (), (2, 1): ("--share", "02:00:00:00:01:01=2")}
         for division in share_cases.DIVISIONS:
             self.assertEqual(division.words(point), wanted[division.weights])
 
