@@ -1,0 +1,42 @@
+# shellcheck shell=bash
+# Read by scripts that show that cases fail with bridges that are wrong on purpose: tools/guest/wrong-bridges built them.
+word=${1:-}
+built=$(realpath ../../build/wrong)
+tried=0
+seen=0
+
+# Runs cases with the bridge of a name. The lines that they have to tell come first, up to `--`, as extended regular
+# expressions: what fails, and by what, and what the breaking leaves whole; then words of the cases' names. The command
+# that runs cases stands in the list `runs`.
+try() {
+    local name=$1 told=() wanted=() cases=() missing=0 line
+    [[ $name == *"$word"* ]] || return
+    tried=$((tried + 1))
+    shift
+    while [ "$1" != -- ]; do
+        wanted+=("$1")
+        shift
+    done
+    shift
+    for line in "$@"; do
+        cases+=(--case "$line")
+    done
+    echo "$name:"
+    while IFS= read -r line; do
+        printf '%.160s\n' "$line"
+        told+=("$line")
+    done < <("${runs[@]}" --built-bridge "$built/$name" "${cases[@]}")
+    for line in "${wanted[@]}"; do
+        printf '%s\n' "${told[@]}" | grep -qE "^$line" || {
+            echo "not seen: $line"
+            missing=1
+        }
+    done
+    [ "$missing" = 1 ] || seen=$((seen + 1))
+}
+
+# Says how many were seen; fails where one wasn't, or none was tried.
+tell_seen() {
+    echo "$seen of $tried were seen"
+    [ "$tried" != 0 ] && [ "$seen" = "$tried" ]
+}
