@@ -1,0 +1,87 @@
+//! What the rule keeps of a network, and the rule.
+
+ghost use Rattle.std.specs.Prelude.{◌≡◌, ◌+◌, ◌*◌, ◌<◌, ◌^◌, ◌↔◌, ℕ, false, length, IsTrue, Some};
+ghost use Rattle.std.specs.Prelude.{IfSome, IfNone};
+ghost use Rattle.std.specs.Bool.{OnTrue, OnFalse};
+ghost use Rattle.air_share.specs.Lanes.{chosen, after_turn, after_telling, lane_at, IsChoice};
+
+/// What the rule keeps of a network. A caller lays the lanes of a radio side by side and names a lane by its place. It
+/// begins each with debt 0, and from then on writes `waits` alone.
+#[derive(Clone, Copy, Debug, PartialEq, Eq)]
+#[repr(C)]
+pub struct Lane {
+    /// What the network owes for air it had: a number of time units, each times the scale.
+    pub debt: u64,
+    /// What a time unit of air costs the network: a common multiple of all weights over its own weight.
+    pub scale: u32,
+    /// Whether a frame of the network waits.
+    pub waits: bool,
+}
+
+/// Whose turn it is: of those that wait the lane of least debt, and of several the one of lowest place. `None` where
+/// none waits.
+pub fn choose(lanes: &[Lane]) -> Option<usize>
+    ensures exact { result ≡ chosen lanes.now }
+    ensures some { IfSome result (IsChoice lanes.now) }
+    ensures none { IfNone result ((place : ℕ) → (lane_at lanes.now place).waits ≡ false) }
+{
+    let mut best = None;
+    let mut least = 0;
+    for (place, lane) in lanes.iter().enumerate() {
+        if lane.waits && (best.is_none() || lane.debt < least) {
+            best = Some(place);
+            least = lane.debt;
+        }
+    }
+    best
+}
+
+/// Serves the lane whose turn it is with a frame of this cost in time units of air: every debt becomes itself less that
+/// lane's, not below 0, and that lane's its scale times the cost. `false` where it is another's turn or nobody's, and
+/// then nothing changes. No product overflows.
+pub fn served(lanes: &mut [Lane], place: usize, cost: u32) -> bool
+    ensures turn { IsTrue result ↔ (chosen lanes.old ≡ Some place) }
+    ensures after { OnTrue result (lanes.new ≡ after_turn lanes.old place cost) }
+    ensures refused { OnFalse result (lanes.new ≡ lanes.old) }
+{
+    if choose(lanes) != Some(place) {
+        return false;
+    }
+    charge(lanes, place, cost);
+    true
+}
+
+/// Lowers every debt by that of the lane at a place, not below 0, and sets that lane's to its scale times a cost.
+pub(crate) fn charge(lanes: &mut [Lane], place: usize, cost: u32)
+    requires { place < length lanes.old }
+    ensures { lanes.new ≡ after_turn lanes.old place cost }
+{
+    let least = lanes[place].debt;
+    for lane in lanes.iter_mut() {
+        lane.debt = lane.debt.saturating_sub(least);
+    }
+    let lane = &mut lanes[place];
+    lane.debt = u64::from(lane.scale) * u64::from(cost);
+}
+
+/// Adds the time units of air that a lane used beyond what was reckoned: its debt grows by its scale times them. `false`
+/// where the debt would reach 2^64, or where there is no such lane, and then nothing changes.
+pub fn told(lanes: &mut [Lane], place: usize, more: u32) -> bool
+    ensures fits { IsTrue result ↔ ((place < length lanes.old)
+        × ((lane_at lanes.old place).debt + (lane_at lanes.old place).scale * more < 2 ^ 64)) }
+    ensures after { OnTrue result (lanes.new ≡ after_telling lanes.old place more) }
+    ensures refused { OnFalse result (lanes.new ≡ lanes.old) }
+{
+    if place >= lanes.len() {
+        return false;
+    }
+    let lane = &mut lanes[place];
+    let Some(debt) = lane
+        .debt
+        .checked_add(u64::from(lane.scale) * u64::from(more))
+    else {
+        return false;
+    };
+    lane.debt = debt;
+    true
+}
