@@ -3,8 +3,7 @@ use Rattle.std.proofs.Common.{◌≡◌, ℕ, zero, suc, ◌<◌, ◌≤◌, Boo
 use Rattle.std.proofs.Common.{Option, Some, None, refl, sym, ap, arith, inl, inr}
 use Rattle.std.specs.List.{list_all}
 use Rattle.std.specs.Option.{option_map}
-use Rattle.std.proofs.lemmas.Bool.{and_parts, and_from, and_left, or_cases, or_left, or_right, leb-true, le-leb, false_from_ne_true, cases_Bool, both_ways, not-true, cases_lt}
-use Rattle.std.proofs.lemmas.List.{get_or_past}
+use Rattle.std.proofs.lemmas.Bool.{and_parts, and_from, and_left, or_cases, or_left, or_right, leb-true, le-leb, false_from_ne_true, cases_Bool, both_ways, not-true}
 use Rattle.air_share.specs.declared.lane.Lane.{Lane}
 use Rattle.air_share.specs.Lanes.{lane_at, no_lane, is_least, first_place, chosen, IsChoice}
 use Rattle.air_share.proofs.Lists.{list_all_from, list_all_at}
@@ -130,20 +129,10 @@ pub record IsBest (lanes : List Lane) (n place least : ℕ) : Type 0 where
   pub lowest : (k : ℕ) → k < n → (lane_at lanes k).waits ≡ true → least ≤ (lane_at lanes k).debt
   pub first : (k : ℕ) → k < place → (lane_at lanes k).waits ≡ true → least < (lane_at lanes k).debt
 
--- what is chosen of the first lanes, and its debt
-abbrev pub IsBestOf : List Lane → ℕ → Option ℕ → ℕ → Type 0
-IsBestOf lanes n None least = (k : ℕ) → k < n → (lane_at lanes k).waits ≡ false
-IsBestOf lanes n (Some place) least = IsBest lanes n place least
-
 -- of all lanes, it is what the function chooses
-pub chosen_of_best : (lanes : List Lane) (best : Option ℕ) (least n : ℕ) → length lanes ≤ n → IsBestOf lanes n best least
-    → best ≡ chosen lanes
-chosen_of_best lanes None least n all h =
-    sym (chosen_none lanes (λ k. elim (cases_lt k n) [ inl l ↦ h k l | inr p ↦ none_past k (omega arith) ]))
-  where
-    none_past : (k : ℕ) → length lanes ≤ k → (lane_at lanes k).waits ≡ false
-    none_past k p = ap (λ lane. lane.waits) (get_or_past lanes k no_lane p)
-chosen_of_best lanes (Some place) least n all h =
+pub chosen_of_best : (lanes : List Lane) (n place least : ℕ) → length lanes ≤ n → IsBest lanes n place least
+    → Some place ≡ chosen lanes
+chosen_of_best lanes n place least all h =
     sym (chosen_from lanes place (record {
       waits = h.waits;
       least = λ k w. omega (arith, h.debt, h.lowest k (omega (arith, waits_within lanes k w)) w);

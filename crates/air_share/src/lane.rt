@@ -1,6 +1,6 @@
 //! What the rule keeps of a network, and the rule.
 
-ghost use Rattle.std.specs.Prelude.{◌≡◌, ◌+◌, ◌*◌, ◌<◌, ◌^◌, ◌↔◌, ℕ, false, length, IsTrue, Some};
+ghost use Rattle.std.specs.Prelude.{◌≡◌, ◌+◌, ◌*◌, ◌<◌, ◌^◌, ◌↔◌, ℕ, true, false, length, IsTrue, Some};
 ghost use Rattle.std.specs.Prelude.{IfSome, IfNone};
 ghost use Rattle.std.specs.Bool.{OnTrue, OnFalse};
 ghost use Rattle.air_share.specs.Lanes.{chosen, after_turn, after_telling, lane_at, IsChoice};
@@ -25,15 +25,26 @@ pub fn choose(lanes: &[Lane]) -> Option<usize>
     ensures some { IfSome result (IsChoice lanes.now) }
     ensures none { IfNone result ((place : ℕ) → (lane_at lanes.now place).waits ≡ false) }
 {
-    let mut best = None;
-    let mut least = 0;
-    for (place, lane) in lanes.iter().enumerate() {
-        if lane.waits && (best.is_none() || lane.debt < least) {
-            best = Some(place);
+    let mut best = first_that_waits(lanes)?;
+    let mut least = lanes[best].debt;
+    for place in best + 1..lanes.len() {
+        let lane = lanes[place];
+        if lane.waits && lane.debt < least {
+            best = place;
             least = lane.debt;
         }
     }
-    best
+    Some(best)
+}
+
+/// The lowest place of a lane that waits, if one does.
+fn first_that_waits(lanes: &[Lane]) -> Option<usize>
+    ensures some { IfSome result (λ place. (lane_at lanes.now place).waits ≡ true) }
+    ensures first { IfSome result (λ place. (other : ℕ) → other < place → (lane_at lanes.now other).waits ≡ false) }
+    ensures none { IfNone result ((place : ℕ) → (lane_at lanes.now place).waits ≡ false) }
+    ensures within { IfSome result (λ place. place < length lanes.now) }
+{
+    lanes.iter().position(|lane| lane.waits)
 }
 
 /// Serves the lane whose turn it is with a frame of this cost in time units of air: every debt becomes itself less that
