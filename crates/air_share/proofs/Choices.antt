@@ -3,7 +3,7 @@ use Rattle.std.proofs.Common.{◌≡◌, ℕ, zero, suc, ◌<◌, ◌≤◌, Boo
 use Rattle.std.proofs.Common.{Option, Some, None, refl, sym, ap, arith, inl, inr}
 use Rattle.std.specs.List.{list_all}
 use Rattle.std.specs.Option.{option_map}
-use Rattle.std.proofs.lemmas.Bool.{and_parts, and_from, and_left, or_cases, or_left, or_right, leb-true, le-leb, false_from_ne_true, cases_Bool, both_ways, not-true}
+use Rattle.std.proofs.lemmas.Bool.{and_parts, and_from, and_left, or_cases, or_left, or_right, leb-true, le-leb, false_from_ne_true, cases_Bool, both_ways, cases_lt, not-true}
 use Rattle.air_share.specs.declared.lane.Lane.{Lane}
 use Rattle.air_share.specs.Lanes.{lane_at, no_lane, is_least, first_place, chosen, IsChoice}
 use Rattle.air_share.proofs.Lists.{list_all_from, list_all_at}
@@ -27,20 +27,27 @@ first_place_none test (lane ∷ lanes) f =
 
 IsPassed : (Lane → Bool) → List Lane → Option ℕ → Type 0
 IsPassed test lanes None = Unit {0}
-IsPassed test lanes (Some place) = (test (lane_at lanes place) ≡ true) × (place < length lanes)
+IsPassed test lanes (Some place) =
+    (test (lane_at lanes place) ≡ true) × (place < length lanes) × ((k : ℕ) → k < place → test (lane_at lanes k) ≡ false)
 
 first_place_passes : (test : Lane → Bool) (lanes : List Lane) → IsPassed test lanes (first_place test lanes)
 unfolding IsPassed
 first_place_passes test [] = tt
 first_place_passes test (lane ∷ lanes) =
     elim (cases_Bool (test lane)) [
-      | inl t ↦ rw t (t, omega arith)
-      | inr f ↦ rw f (later (first_place test lanes) (first_place_passes test lanes))
+      | inl t ↦ rw t (t, omega arith, λ k b. absurd (omega arith))
+      | inr f ↦ rw f (later f (first_place test lanes) (first_place_passes test lanes))
     ]
   where
-    later : (found : Option ℕ) → IsPassed test lanes found → IsPassed test (lane ∷ lanes) (option_map suc found)
-    later None p = tt
-    later (Some place) p = (p.0, omega (arith, p.1))
+    not_before : test lane ≡ false → (place : ℕ) → ((k : ℕ) → k < place → test (lane_at lanes k) ≡ false)
+        → (k : ℕ) → k < suc place → test (lane_at (lane ∷ lanes) k) ≡ false
+    not_before f place h zero b = f
+    not_before f place h (suc k) b = h k (omega arith)
+
+    later : test lane ≡ false → (found : Option ℕ) → IsPassed test lanes found
+        → IsPassed test (lane ∷ lanes) (option_map suc found)
+    later f None p = tt
+    later f (Some place) p = (p.0, omega (arith, p.1), not_before f place p.2)
 
 -- ---- it waits
 
@@ -100,25 +107,29 @@ pub chosen_none : (lanes : List Lane) → ((k : ℕ) → (lane_at lanes k).waits
 unfolding chosen
 chosen_none lanes none = first_place_none (is_least lanes) lanes (λ k l. and_left _ _ (none k))
 
-IsLeastAt : List Lane → Option ℕ → Type 0
-IsLeastAt lanes None = Unit {0}
-IsLeastAt lanes (Some place) = (place < length lanes) × ((lane_at lanes place).waits ≡ true)
-    × ((k : ℕ) → (lane_at lanes k).waits ≡ true → (lane_at lanes place).debt ≤ (lane_at lanes k).debt)
+chosen_passes : (lanes : List Lane) (place : ℕ) → chosen lanes ≡ Some place
+    → (is_least lanes (lane_at lanes place) ≡ true) × (place < length lanes)
+    × ((k : ℕ) → k < place → is_least lanes (lane_at lanes k) ≡ false)
+unfolding chosen IsPassed
+chosen_passes lanes place e =
+    let P : Option ℕ → Type 0 = IsPassed (is_least lanes) lanes in
+    subst P e (first_place_passes (is_least lanes) lanes)
 
-least_of_passed : (lanes : List Lane) (found : Option ℕ) → IsPassed (is_least lanes) lanes found → IsLeastAt lanes found
-unfolding IsPassed IsLeastAt
-least_of_passed lanes None p = tt
-least_of_passed lanes (Some place) p =
-    let g = least_gives lanes (lane_at lanes place) p.0 in (p.1, g.0, g.1)
-
--- what the function chooses is a lane that waits, and no lane that waits has less debt
-pub chosen_gives : (lanes : List Lane) (place : ℕ) → chosen lanes ≡ Some place
-    → (place < length lanes) × ((lane_at lanes place).waits ≡ true)
-    × ((k : ℕ) → (lane_at lanes k).waits ≡ true → (lane_at lanes place).debt ≤ (lane_at lanes k).debt)
-unfolding chosen IsLeastAt
+-- the relation holds where the function chooses
+pub chosen_gives : (lanes : List Lane) (place : ℕ) → chosen lanes ≡ Some place → IsChoice lanes place
 chosen_gives lanes place e =
-    let P : Option ℕ → Type 0 = IsLeastAt lanes in
-    subst P e (least_of_passed lanes (chosen lanes) (first_place_passes (is_least lanes) lanes))
+    let p = chosen_passes lanes place e in
+    let g = least_gives lanes (lane_at lanes place) p.0 in
+    record { waits = g.0; least = g.1; first = λ k b w. less k w (p.2 k b) g.1 }
+  where
+    less : (k : ℕ) → (lane_at lanes k).waits ≡ true → is_least lanes (lane_at lanes k) ≡ false
+        → ((j : ℕ) → (lane_at lanes j).waits ≡ true → (lane_at lanes place).debt ≤ (lane_at lanes j).debt)
+        → (lane_at lanes place).debt < (lane_at lanes k).debt
+    less k w f least =
+        elim (cases_lt (lane_at lanes place).debt (lane_at lanes k).debt) [
+          | inl l ↦ l
+          | inr ge ↦ absurd (both_ways _ f (least_from lanes (lane_at lanes k) w (λ j v. omega (arith, ge, least j v))))
+        ]
 
 -- ---- the best of the first lanes
 

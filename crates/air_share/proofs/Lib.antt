@@ -1,3 +1,5 @@
 pub mod Lists
 pub mod Choices
 pub mod Turns
+pub mod Steps
+pub mod Runs

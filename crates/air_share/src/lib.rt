@@ -10,5 +10,7 @@
 #![tactic(auto)]
 
 mod lane;
+mod lane_laws;
 
 pub use lane::{Lane, choose, served, told};
+pub use lane_laws::{bounded, exact, one_choice, soon};
