@@ -1,2 +1,4 @@
 pub mod Lanes
 pub mod LaneRuns
+pub mod Shares
+pub mod Queues

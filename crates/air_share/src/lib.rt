@@ -11,6 +11,10 @@
 
 mod lane;
 mod lane_laws;
+mod share;
+mod waiting;
 
 pub use lane::{Lane, choose, served, told};
 pub use lane_laws::{bounded, exact, one_choice, soon};
+pub use share::{MAX_WEIGHT, Share};
+pub use waiting::{Turn, Waiting};
