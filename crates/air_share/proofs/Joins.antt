@@ -69,7 +69,7 @@ pub network_read : (lanes : List Lane) (queues : List Queue) (place : ℕ) → A
 network_read lanes queues place k =
     network_at-joined lanes (queues_of queues) place (k.lengths ∙ sym (length-map queues (λ q. q.items)))
 
-lane_of-at : (networks : List Network) (place : ℕ) → lane_at (lanes_of networks) place ≡ lane_of (network_at networks place)
+pub lane_of-at : (networks : List Network) (place : ℕ) → lane_at (lanes_of networks) place ≡ lane_of (network_at networks place)
 lane_of-at [] place = refl
 lane_of-at (n ∷ networks) zero = refl
 lane_of-at (n ∷ networks) (suc place) = lane_of-at networks place

@@ -5,3 +5,4 @@ pub mod Steps
 pub mod Runs
 pub mod Joins
 pub mod Calls
+pub mod ShareRuns

@@ -12,9 +12,11 @@
 mod lane;
 mod lane_laws;
 mod share;
+mod share_laws;
 mod waiting;
 
 pub use lane::{Lane, choose, served, told};
 pub use lane_laws::{bounded, exact, one_choice, soon};
 pub use share::{MAX_WEIGHT, Share};
+pub use share_laws::{by_the_rule, conserved, fair, prompt};
 pub use waiting::{Turn, Waiting};
