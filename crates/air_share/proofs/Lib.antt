@@ -6,3 +6,5 @@ pub mod Runs
 pub mod Joins
 pub mod Calls
 pub mod ShareRuns
+pub mod LaneRows
+pub mod ShareRows

@@ -9,9 +9,9 @@ use Rattle.air_share.specs.declared.waiting.Waiting.{Waiting}
 use Rattle.air_share.specs.Lanes.{lane_at, no_lane, lowered, with_debt, chosen, after_turn, after_telling}
 use Rattle.air_share.specs.LaneRuns.{LaneEvent, lane_step, after_choice, lanes_after, is_turn_of, air_of, HasNoDebts, WaitsThroughout, IsPassedOver, IsWithin}
 use Rattle.air_share.specs.Shares.{Network, no_network, network_at, new_network, has_some, lane_of, lanes_of, Event, Push, Told, Send, Drop, step, after, after_first, cost_of_first, forgiven, turn_events, lane_events_by, lane_events}
-use Rattle.air_share.specs.ShareRuns.{air_share_of, KeepsWaiting, GetsNoTurn, KeepsWithin, IsWeight, IsByTheRule, IsFair, IsPrompt, IsConserved, came_by, left_by, came, left}
+use Rattle.air_share.specs.ShareRuns.{air_share_of, KeepsWaiting, GetsNoTurn, KeepsWithin, IsWeight, IsByTheRule, IsExactlyFair, IsFair, IsPrompt, IsConserved, came_by, left_by, came, left}
 use Rattle.air_share.proofs.Choices.{chosen_gives, waits_within}
-use Rattle.air_share.proofs.Runs.{lanes_after-append, is_bounded, is_soon}
+use Rattle.air_share.proofs.Runs.{lanes_after-append, is_exact, is_bounded, is_soon}
 use Rattle.air_share.proofs.Joins.{lane_of-at, lanes_of-forgiven, has_some-push}
 
 -- ---- one event
@@ -132,6 +132,34 @@ at_lanes networks past P h = subst P (is_by_the_rule networks past) h
 at_networks : (networks : List Network) (past : List Event) (P : List Lane → Type 0)
     → P (lanes_after (lanes_of networks) (lane_events networks past)) → P (lanes_of (after networks past))
 at_networks networks past P h = subst P (sym (is_by_the_rule networks past)) h
+
+debt_of : (networks : List Network) (place : ℕ) → (lane_at (lanes_of networks) place).debt ≡ (network_at networks place).debt
+debt_of networks place = ap (λ lane. lane.debt) (lane_of-at networks place)
+
+scale_of : (networks : List Network) (place : ℕ) → (lane_at (lanes_of networks) place).scale ≡ (network_at networks place).scale
+scale_of networks place = ap (λ lane. lane.scale) (lane_of-at networks place)
+
+debt_later : (networks : List Network) (events : List Event) (place : ℕ)
+    → (lane_at (lanes_after (lanes_of networks) (lane_events networks events)) place).debt ≡ (network_at (after networks events) place).debt
+debt_later networks events place =
+    ap (λ lanes. (lane_at lanes place).debt) (sym (is_by_the_rule networks events)) ∙ debt_of (after networks events) place
+
+pub is_exactly_fair : IsExactlyFair
+is_exactly_fair networks events b c waits =
+    let lanes : List Lane = lanes_of networks in
+    let exact = is_exact lanes (lane_events networks events) b c waits in
+    let of_b = ap (λ scale. scale * air_share_of b networks events) (scale_of networks b) in
+    let of_c = ap (λ scale. scale * air_share_of c networks events) (scale_of networks c) in
+    omega (
+      arith,
+      exact,
+      of_b,
+      of_c,
+      debt_of networks b,
+      debt_of networks c,
+      debt_later networks events b,
+      debt_later networks events c,
+    )
 
 pub is_fair : IsFair
 is_fair weights past events b c limit_b limit_c all in_b in_c within_b within_c waits =

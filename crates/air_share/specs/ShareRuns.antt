@@ -33,6 +33,13 @@ abbrev pub IsByTheRule : Type 0
 IsByTheRule = (networks : List Network) (events : List Event)
     → lanes_of (after networks events) ≡ lanes_after (lanes_of networks) (lane_events networks events)
 
+-- while something of b waits, what c gets beyond its share beside b is no more than what it owes the more
+abbrev pub IsExactlyFair : Type 0
+IsExactlyFair = (networks : List Network) (events : List Event) (b c : ℕ) → KeepsWaiting b networks events
+    → let later = after networks events in
+    (network_at networks c).scale * air_share_of c networks events + (network_at networks c).debt + (network_at later b).debt
+    ≤ (network_at networks b).scale * air_share_of b networks events + (network_at later c).debt + (network_at networks b).debt
+
 -- while something of b waits, c gets no more than its share beside b, and a turn of each
 abbrev pub IsFair : Type 0
 IsFair = (weights : List ℕ) (past events : List Event) (b c limit_b limit_c : ℕ) → All IsWeight weights

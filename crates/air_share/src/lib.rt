@@ -18,5 +18,5 @@ mod waiting;
 pub use lane::{Lane, choose, served, told};
 pub use lane_laws::{bounded, exact, one_choice, soon};
 pub use share::{MAX_WEIGHT, Share};
-pub use share_laws::{by_the_rule, conserved, fair, prompt};
+pub use share_laws::{by_the_rule, conserved, exactly_fair, fair, prompt};
 pub use waiting::{Turn, Waiting};

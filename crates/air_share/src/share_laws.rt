@@ -1,10 +1,16 @@
 //! What a [`Share`](crate::Share) promises, over any list of events.
 
-ghost use Rattle.air_share.specs.ShareRuns.{IsByTheRule, IsFair, IsPrompt, IsConserved};
+ghost use Rattle.air_share.specs.ShareRuns.{IsByTheRule, IsExactlyFair, IsFair, IsPrompt, IsConserved};
 
 /// What becomes of the networks is what becomes of their lanes, so that the laws of lanes hold of them.
 pub fn by_the_rule()
     ensures { IsByTheRule }
+{}
+
+/// While something of a network waits, what another gets beyond its share beside that one is no more than what it owes
+/// the more.
+pub fn exactly_fair()
+    ensures { IsExactlyFair }
 {}
 
 /// While something of a network waits, another gets no more air than its share beside that one, and a turn of each,

@@ -1,4 +1,5 @@
-use Rattle.std.proofs.Common.{◌<◌, length, Result, Ok, Err, OnErr, sym, ap, ◌∙◌, arith}
+use Rattle.std.proofs.Common.{◌<◌, List, length, Result, Ok, Err, OnErr, sym, ap, ◌∙◌, arith}
+use Rattle.air_share.specs.declared.waiting.Waiting.{Waiting}
 use Rattle.air_share.specs.Shares.{Push, step}
 use Rattle.air_share.proofs.Joins.{length-networks, same_queue}
 use Rattle.air_share.proofs.Calls.{pushed}
@@ -14,7 +15,7 @@ invariant_of-self c =
     let within : c.args.place < length fields.lanes.items =
     omega (arith, length-networks fields.lanes.items fields.queues.items c.self.invariant, ap length c.self.view_is, c.requires) in
     (same_queue fields.lanes.items fields.queues.items c.args.place c.index_mut.result.now c.push_back.new.self
-    c.self.invariant within c.index_mut.ensures.value (sym c.in_err-push_back.ensures.items)).0
+    c.self.invariant within c.index_mut.ensures.value (sym {A = List Waiting} c.in_err-push_back.ensures.items)).0
 
 pub returns-in_err-push_back-clause-err : goal.returns-in_err-push_back-clause-err
 returns-in_err-push_back-clause-err c =
@@ -23,7 +24,7 @@ returns-in_err-push_back-clause-err c =
     omega (arith, length-networks fields.lanes.items fields.queues.items c.self.invariant, ap length c.self.view_is, c.requires) in
     on_err c.from_residual.result
     ((same_queue fields.lanes.items fields.queues.items c.args.place c.index_mut.result.now c.push_back.new.self
-    c.self.invariant within c.index_mut.ensures.value (sym c.in_err-push_back.ensures.items)).1 ∙ c.self.view_is)
+    c.self.invariant within c.index_mut.ensures.value (sym {A = List Waiting} c.in_err-push_back.ensures.items)).1 ∙ c.self.view_is)
 
 pub invariant_of-self-2 : goal.invariant_of-self-2
 invariant_of-self-2 c =
