@@ -230,7 +230,7 @@ first_length networks (Some place) =
     length-set (map (forgiven (network_at networks place).debt) networks) place _
     ∙ length-map networks (forgiven (network_at networks place).debt)
 
-length-step : (networks : List Network) (event : Event) → length (step networks event) ≡ length networks
+pub length-step : (networks : List Network) (event : Event) → length (step networks event) ≡ length networks
 unfolding step
 length-step networks (Push place ticket cost) = length-set networks place _
 length-step networks (Told place more) = length-set networks place _

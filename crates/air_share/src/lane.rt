@@ -87,10 +87,8 @@ pub fn told(lanes: &mut [Lane], place: usize, more: u32) -> bool
         return false;
     }
     let lane = &mut lanes[place];
-    let Some(debt) = lane
-        .debt
-        .checked_add(u64::from(lane.scale) * u64::from(more))
-    else {
+    let used = u64::from(lane.scale) * u64::from(more);
+    let Some(debt) = lane.debt.checked_add(used) else {
         return false;
     };
     lane.debt = debt;

@@ -1,12 +1,12 @@
 //! The rule by which the networks of a radio share its air: start-time fair queueing (Goyal, Vin and Cheng, 1996),
-//! written as debts. It knows no clock, no frames and no 802.11, only what a frame's air time is reckoned to be.
+//! written as debts.
 //!
-//! It promises that while a network waits, no other gets more than its share and a frame: [`exact`], [`bounded`] and
-//! [`soon`] say how much, over any list of events. The type to know first is [`Lane`], what the rule keeps of a network.
-//! [`choose`] tells whose turn it is, [`served`] what a frame of it costs, and [`told`] adds what the radio used beyond
-//! that.
+//! It promises that while a network waits, no other gets more than its share and a turn, over any list of events
+//! ([`fair`]), and that no more than a turn of each other comes before a turn of it ([`prompt`]). The types to know first
+//! are [`Lane`], what the rule keeps of a network, with [`choose`], [`served`] and [`told`], and [`Share`], the networks of
+//! a radio with the frames that wait.
 //!
-//! What a frame's air time is, and which frames wait, is left to the callers.
+//! How much air a frame takes is left to the callers: here are no clock, no frame and no 802.11.
 #![tactic(auto)]
 
 mod lane;

@@ -86,6 +86,7 @@ impl Share {
         requires { place < length self.old }
         ensures ok { OnOk result (self.new ≡ step self.old (Push place ticket cost)) }
         ensures err { OnErr result (self.new ≡ self.old) }
+        ensures networks { length self.new ≡ length self.old }
     {
         self.queues[place].push_back(Waiting { ticket, cost })?;
         self.lanes[place].waits = true;
@@ -99,6 +100,7 @@ impl Share {
         ensures turn { result ≡ next_turn self.old }
         ensures after { self.new ≡ step self.old Send }
         ensures none { IfNone result ((place : ℕ) → (network_at self.old place).waiting ≡ []) }
+        ensures networks { length self.new ≡ length self.old }
     {
         let place = choose(self.lanes.as_slice())?;
         let queue = &mut self.queues[place];
@@ -123,6 +125,7 @@ impl Share {
             ↔ ((network_at self.old place).debt + (network_at self.old place).scale * more < 2 ^ 64) }
         ensures after { OnTrue result (self.new ≡ step self.old (Told place more)) }
         ensures refused { OnFalse result (self.new ≡ self.old) }
+        ensures networks { length self.new ≡ length self.old }
     {
         told(self.lanes.as_mut_slice(), place, more)
     }
@@ -133,6 +136,7 @@ impl Share {
         requires { place < length self.old }
         ensures first { result ≡ slice_get (network_at self.old place).waiting 0 }
         ensures after { self.new ≡ step self.old (Drop place) }
+        ensures networks { length self.new ≡ length self.old }
     {
         let queue = &mut self.queues[place];
         let first = queue.pop_front()?;

@@ -3,6 +3,7 @@ use Rattle.std.specs.List.{slice_get}
 use Rattle.air_share.specs.Shares.{Drop, step, network_at}
 use Rattle.air_share.proofs.Joins.{length-networks}
 use Rattle.air_share.proofs.Calls.{dropped, dropped_none}
+use Rattle.air_share.proofs.ShareRuns.{length-step}
 use Rattle.air_share.proofs.share.Share.drop_first.Goals as goal
 
 pub invariant_of-self : goal.invariant_of-self
@@ -60,3 +61,24 @@ returns-clause-after c =
     c.pop_front.new.self c.in_ok-first.first c.is_empty.result c.self.invariant within c.index_mut.ensures.value
     c.index_mut-queue.ensures.value c.in_ok-first.ensures.items c.is_empty.ensures).1
     ∙ ap (λ ns. step ns (Drop c.args.place)) c.self.view_is
+
+pub returns-in_err-first-clause-networks : goal.returns-in_err-first-clause-networks
+returns-in_err-first-clause-networks c =
+    let fields = c.self.inside in
+    let within : c.args.place < length fields.lanes.items =
+    omega (arith, length-networks fields.lanes.items fields.queues.items c.self.invariant, ap length c.self.view_is, c.requires) in
+    ap length ((dropped_none fields.lanes.items fields.queues.items c.args.place c.index_mut-queue.result.now c.pop_front.new.self
+    c.self.invariant within c.index_mut-queue.ensures.value c.in_err-first.ensures.items c.in_err-first.ensures.variant).1
+    ∙ ap (λ ns. step ns (Drop c.args.place)) c.self.view_is)
+    ∙ length-step c.args.self.now (Drop c.args.place)
+
+pub returns-clause-networks : goal.returns-clause-networks
+returns-clause-networks c =
+    let fields = c.self.inside in
+    let within : c.args.place < length fields.lanes.items =
+    omega (arith, length-networks fields.lanes.items fields.queues.items c.self.invariant, ap length c.self.view_is, c.requires) in
+    ap length ((dropped fields.lanes.items fields.queues.items c.args.place c.index_mut.result.now c.index_mut-queue.result.now
+    c.pop_front.new.self c.in_ok-first.first c.is_empty.result c.self.invariant within c.index_mut.ensures.value
+    c.index_mut-queue.ensures.value c.in_ok-first.ensures.items c.is_empty.ensures).1
+    ∙ ap (λ ns. step ns (Drop c.args.place)) c.self.view_is)
+    ∙ length-step c.args.self.now (Drop c.args.place)

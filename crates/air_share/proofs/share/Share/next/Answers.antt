@@ -6,6 +6,7 @@ use Rattle.air_share.specs.Shares.{Send, step, next_turn, lanes_of, network_at}
 use Rattle.air_share.proofs.Choices.{chosen_gives, waits_within}
 use Rattle.air_share.proofs.Joins.{turn_of_none}
 use Rattle.air_share.proofs.Calls.{not_empty, nothing_waits, sent}
+use Rattle.air_share.proofs.ShareRuns.{length-step}
 use Rattle.air_share.proofs.share.Share.next.Goals as goal
 
 pub returns-in_err-place-clause-turn : goal.returns-in_err-place-clause-turn
@@ -87,3 +88,21 @@ returns-clause-after c =
     c.pop_front.new.self c.in-Some.field-0 c.is_empty-more.result c.self.invariant within exact
     c.index_mut-queue.ensures.value c.in-Some.ensures.items c.is_empty-more.ensures turn c.index_mut.ensures.value in
     done.1 ∙ ap (λ ns. step ns Send) c.self.view_is
+
+pub returns-clause-networks : goal.returns-clause-networks
+returns-clause-networks c =
+    let fields = c.self.inside in
+    let lanes = fields.lanes.items in
+    let exact : Some c.in_ok-place.place ≡ chosen lanes = c.in_ok-place.ensures.exact ∙ ap chosen c.as_slice.ensures.value in
+    let within : c.in_ok-place.place < length lanes =
+    waits_within lanes c.in_ok-place.place (chosen_gives lanes c.in_ok-place.place (sym exact)).waits in
+    let turned = (with_items fields.lanes c.charge.new.lanes).items in
+    let turn : turned ≡ after_turn lanes c.in_ok-place.place c.in-Some.field-0.cost =
+    with_items_is fields.lanes c.charge.new.lanes
+    (omega (arith, c.charge.auto.lanes, ap length c.as_mut_slice.ensures.value, fields.lanes.ok))
+    ∙ c.charge.ensures
+    ∙ ap (λ ls. after_turn ls c.in_ok-place.place c.in-Some.field-0.cost) c.as_mut_slice.ensures.value in
+    let done = sent lanes turned fields.queues.items c.in_ok-place.place c.index_mut.result.now c.index_mut-queue.result.now
+    c.pop_front.new.self c.in-Some.field-0 c.is_empty-more.result c.self.invariant within exact
+    c.index_mut-queue.ensures.value c.in-Some.ensures.items c.is_empty-more.ensures turn c.index_mut.ensures.value in
+    ap length (done.1 ∙ ap (λ ns. step ns Send) c.self.view_is) ∙ length-step c.args.self.now Send
