@@ -1,8 +1,9 @@
 -- What a turn makes of the lanes.
-use Rattle.std.proofs.Common.{◌≡◌, ℕ, ◌*◌, ◌<◌, List, length, map, set, ap, ◌∙◌}
+use Rattle.std.proofs.Common.{◌≡◌, ℕ, ◌*◌, ◌<◌, List, length, map, set, Some, sym, ap, ◌∙◌}
 use Rattle.std.proofs.lemmas.List.{get_or-map}
 use Rattle.air_share.specs.declared.lane.Lane.{Lane}
-use Rattle.air_share.specs.Lanes.{lane_at, no_lane, lowered, with_debt, after_turn}
+use Rattle.air_share.specs.Lanes.{lane_at, no_lane, lowered, with_debt, after_turn, chosen}
+use Rattle.air_share.specs.LaneRuns.{Serve, lane_step, after_choice}
 use Rattle.air_share.proofs.Lists.{mapped_first, mapped_first-all}
 
 -- where all debts are lowered and then one is set
@@ -17,3 +18,9 @@ charged before lanes place n cost within all e =
     ap (λ ys. set ys place (with_debt ((lane_at ys place).scale * cost) (lane_at ys place))) whole
     ∙ ap (λ lane. set (map (lowered by) before) place (with_debt (lane.scale * cost) lane))
     (get_or-map (lowered by) before place no_lane no_lane within)
+
+-- the turn of the lane that is chosen is the event of a turn
+pub turn_is_event : (lanes : List Lane) (place cost : ℕ) → chosen lanes ≡ Some place
+    → after_turn lanes place cost ≡ lane_step lanes (Serve cost)
+unfolding lane_step
+turn_is_event lanes place cost e = ap (after_choice lanes cost) (sym e)

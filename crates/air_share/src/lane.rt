@@ -3,6 +3,7 @@
 ghost use Rattle.std.specs.Prelude.{◌≡◌, ◌+◌, ◌*◌, ◌<◌, ◌^◌, ◌↔◌, ℕ, true, false, length, IsTrue, Some};
 ghost use Rattle.std.specs.Prelude.{IfSome, IfNone};
 ghost use Rattle.std.specs.Bool.{OnTrue, OnFalse};
+ghost use Rattle.air_share.specs.LaneRuns.{Serve, Tell, lane_step};
 ghost use Rattle.air_share.specs.Lanes.{chosen, after_turn, after_telling, lane_at, IsChoice};
 
 /// What the rule keeps of a network. A caller lays the lanes of a radio side by side and names a lane by its place. It
@@ -53,6 +54,7 @@ fn first_that_waits(lanes: &[Lane]) -> Option<usize>
 pub fn served(lanes: &mut [Lane], place: usize, cost: u32) -> bool
     ensures turn { IsTrue result ↔ (chosen lanes.old ≡ Some place) }
     ensures after { OnTrue result (lanes.new ≡ after_turn lanes.old place cost) }
+    ensures event { OnTrue result (lanes.new ≡ lane_step lanes.old (Serve cost)) }
     ensures refused { OnFalse result (lanes.new ≡ lanes.old) }
 {
     if choose(lanes) != Some(place) {
@@ -81,6 +83,7 @@ pub fn told(lanes: &mut [Lane], place: usize, more: u32) -> bool
     ensures fits { IsTrue result ↔ ((place < length lanes.old)
         × ((lane_at lanes.old place).debt + (lane_at lanes.old place).scale * more < 2 ^ 64)) }
     ensures after { OnTrue result (lanes.new ≡ after_telling lanes.old place more) }
+    ensures event { OnTrue result (lanes.new ≡ lane_step lanes.old (Tell place more)) }
     ensures refused { OnFalse result (lanes.new ≡ lanes.old) }
 {
     if place >= lanes.len() {

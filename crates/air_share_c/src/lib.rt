@@ -6,6 +6,7 @@
 
 ghost use Rattle.std.specs.Prelude.{◌≡◌, ◌+◌, ◌*◌, ◌<◌, ◌^◌, ◌↔◌, length, IsTrue, Some, unwrap_or};
 ghost use Rattle.std.specs.Bool.{OnTrue, OnFalse};
+ghost use Rattle.air_share.specs.LaneRuns.{Serve, Tell, lane_step};
 ghost use Rattle.air_share.specs.Lanes.{chosen, after_turn, after_telling, lane_at};
 
 use air_share::Lane;
@@ -23,6 +24,7 @@ pub extern "C" fn air_share_choose(lanes: &[Lane]) -> usize
 pub extern "C" fn air_share_served(lanes: &mut [Lane], place: usize, cost: u32) -> bool
     ensures turn { IsTrue result ↔ (chosen lanes.old ≡ Some place) }
     ensures after { OnTrue result (lanes.new ≡ after_turn lanes.old place cost) }
+    ensures event { OnTrue result (lanes.new ≡ lane_step lanes.old (Serve cost)) }
     ensures refused { OnFalse result (lanes.new ≡ lanes.old) }
 {
     air_share::served(lanes, place, cost)
@@ -34,6 +36,7 @@ pub extern "C" fn air_share_told(lanes: &mut [Lane], place: usize, more: u32) ->
     ensures fits { IsTrue result ↔ ((place < length lanes.old)
         × ((lane_at lanes.old place).debt + (lane_at lanes.old place).scale * more < 2 ^ 64)) }
     ensures after { OnTrue result (lanes.new ≡ after_telling lanes.old place more) }
+    ensures event { OnTrue result (lanes.new ≡ lane_step lanes.old (Tell place more)) }
     ensures refused { OnFalse result (lanes.new ≡ lanes.old) }
 {
     air_share::told(lanes, place, more)
