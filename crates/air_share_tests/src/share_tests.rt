@@ -23,9 +23,9 @@ fn of_turn(turn: Option<Turn>) -> Option<(u64, usize)> {
 fn frames_go_by_weight_and_in_their_order(rt: HostRuntime) -> Result<(), Fail> {
     let mut share = office_and_guest(rt.alloc())?;
     assert_eq!(rt; share.networks(), 2);
-    for ticket in [11, 12, 13] {
-        share.push(0, ticket, 300)?;
-    }
+    share.push(0, 11, 300)?;
+    share.push(0, 12, 300)?;
+    share.push(0, 13, 300)?;
     share.push(1, 21, 300)?;
     assert_eq!(rt; share.len(0), 3);
     assert_eq!(rt; of_turn(share.next()), Some((11, 0)));
