@@ -89,13 +89,13 @@ HasNoDebts lanes = (place : ℕ) → (lane_at lanes place).debt ≡ 0
 
 -- ---- the laws
 
--- while something of b waits, what any c gets beyond its share is no more than what it owes the more
+-- while something of b waits, what any c gets beyond its share beside b is no more than what it owes the more
 abbrev pub IsExact : Type 0
 IsExact = (lanes : List Lane) (events : List LaneEvent) (b c : ℕ) → WaitsThroughout b lanes events
     → (lane_at lanes c).scale * air_of c lanes events + (lane_at lanes c).debt + (lane_at (lanes_after lanes events) b).debt
     ≤ (lane_at lanes b).scale * air_of b lanes events + (lane_at (lanes_after lanes events) c).debt + (lane_at lanes b).debt
 
--- while something of b waits, any c gets no more than its share and a turn, where turns keep within limits
+-- while something of b waits, any c gets no more than its share beside b, a turn of c, and its share beside a turn of b
 abbrev pub IsBounded : Type 0
 IsBounded = (lanes : List Lane) (past events : List LaneEvent) (b c limit_b limit_c : ℕ) → HasNoDebts lanes
     → IsWithin b limit_b lanes 0 (past ++ events) → IsWithin c limit_c lanes 0 (past ++ events)
@@ -103,7 +103,7 @@ IsBounded = (lanes : List Lane) (past events : List LaneEvent) (b c limit_b limi
     → (lane_at lanes c).scale * air_of c (lanes_after lanes past) events
     ≤ (lane_at lanes b).scale * (air_of b (lanes_after lanes past) events + limit_b) + (lane_at lanes c).scale * limit_c
 
--- from when something of b waits until b's turn, any c gets no more than a turn and its share beside a turn of b
+-- while something of b waits for b's turn, any c gets no more than a turn of c, and its share beside a turn of b
 abbrev pub IsSoon : Type 0
 IsSoon = (lanes : List Lane) (past events : List LaneEvent) (b c limit_b limit_c : ℕ) → HasNoDebts lanes
     → IsWithin b limit_b lanes 0 (past ++ events) → IsWithin c limit_c lanes 0 (past ++ events)

@@ -1,4 +1,4 @@
-//! What the rule keeps of a network, and the rule.
+//! What the rule keeps of a network, and the rule: start-time fair queueing (Goyal, Vin and Cheng, 1996).
 
 ghost use Rattle.std.specs.Prelude.{◌≡◌, ◌+◌, ◌*◌, ◌<◌, ◌^◌, ◌↔◌, ℕ, true, false, length, IsTrue, Some};
 ghost use Rattle.std.specs.Prelude.{IfSome, IfNone};
@@ -48,9 +48,9 @@ fn first_that_waits(lanes: &[Lane]) -> Option<usize>
     lanes.iter().position(|lane| lane.waits)
 }
 
-/// Serves the lane whose turn it is with a frame of this cost in time units of air: every debt becomes itself less that
-/// lane's, not below 0, and that lane's its scale times the cost. `false` where it is another's turn or nobody's, and
-/// then nothing changes. No product overflows.
+/// Serves the lane at a place, whose turn it is, with a frame of this cost in time units of air. Every debt becomes
+/// itself less that lane's, not below 0. That lane's own becomes its scale times the cost, which never overflows.
+/// `false` where it is another's turn or nobody's, and then nothing changes.
 pub fn served(lanes: &mut [Lane], place: usize, cost: u32) -> bool
     ensures turn { IsTrue result ↔ (chosen lanes.old ≡ Some place) }
     ensures after { OnTrue result (lanes.new ≡ after_turn lanes.old place cost) }
@@ -77,8 +77,8 @@ pub(crate) fn charge(lanes: &mut [Lane], place: usize, cost: u32)
     lane.debt = u64::from(lane.scale) * u64::from(cost);
 }
 
-/// Adds the time units of air that a lane used beyond what was reckoned: its debt grows by its scale times them. `false`
-/// where the debt would reach 2^64, or where there is no such lane, and then nothing changes.
+/// Adds the time units of air that a network used beyond what was reckoned: its debt grows by its scale times them.
+/// `false` where the debt would reach 2^64, or where there is no such lane, and then nothing changes.
 pub fn told(lanes: &mut [Lane], place: usize, more: u32) -> bool
     ensures fits { IsTrue result ↔ ((place < length lanes.old)
         × ((lane_at lanes.old place).debt + (lane_at lanes.old place).scale * more < 2 ^ 64)) }

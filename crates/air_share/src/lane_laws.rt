@@ -15,8 +15,8 @@ pub fn exact()
     ensures { IsExact }
 {}
 
-/// While something of a network waits, any other gets no more than its share and a turn, where no turn of either, with
-/// all that is told of it before the next, takes more than a limit of its own.
+/// While something of a network waits, any other gets no more than its share beside it, and a turn of each. No turn of
+/// either takes more than a limit of its own, with all that is told of it before the next.
 pub fn bounded()
     ensures { IsBounded }
 {}

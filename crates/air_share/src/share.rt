@@ -93,9 +93,9 @@ impl Share {
         Ok(())
     }
 
-    /// Takes out the first frame of the network whose turn it is: of those of which a frame waits the one that owes
-    /// least, and of several the one of lowest place. All are forgiven what it owed, and it owes the frame's cost.
-    /// `None` where nothing waits, and then nothing changes.
+    /// Takes out the first frame of the network whose turn it is. Of those of which a frame waits this is the one that
+    /// owes least, and of several the one of lowest place. All are forgiven what it owed, and it owes the frame's cost.
+    /// No sum overflows. `None` where nothing waits, and then nothing changes.
     pub fn next(&mut self) -> Option<Turn>
         ensures turn { result ≡ next_turn self.old }
         ensures after { self.new ≡ step self.old Send }

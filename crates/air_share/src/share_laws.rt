@@ -13,8 +13,8 @@ pub fn exactly_fair()
     ensures { IsExactlyFair }
 {}
 
-/// While something of a network waits, another gets no more air than its share beside that one, and a turn of each,
-/// where no turn of either, with all that is told of it before the next, takes more than a limit of its own.
+/// While something of a network waits, another gets no more air than its share beside it, and a turn of each. No turn of
+/// either takes more than a limit of its own, with all that is told of it before the next.
 pub fn fair()
     ensures { IsFair }
 {}
