@@ -57,6 +57,7 @@ mod flight;
 mod frames;
 mod gathering;
 mod hashing;
+mod lanes;
 mod log;
 mod meaning;
 #[cfg(test)]

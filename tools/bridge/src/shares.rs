@@ -5,7 +5,7 @@
 //! and of several the one of the lowest place. What that one owed is taken off every debt, as far as there is any. Its
 //! own debt becomes the cost of its frame over its weight. What the radio used beyond that cost is added when it is
 //! told. Within a network its receivers take turns by the same rule, all of one weight; of several that owe the same,
-//! the lowest goes.
+//! the lowest goes. Whose turn it is among networks is decided by a proved library (`lanes`); what waits is kept here.
 //!
 //! So for any order of calls:
 //!
@@ -22,107 +22,96 @@ use std::collections::{BTreeSet, HashMap, VecDeque};
 use std::hash::Hash;
 
 use crate::hashing::Keyed;
+use crate::lanes::Lanes;
+pub use crate::lanes::{Place, MOST_WEIGHT};
 
-/// The largest weight of a network; the least is 1.
-pub const MOST_WEIGHT: u8 = 16;
-/// A common multiple of all weights: over a weight it is what a unit of cost adds to a debt.
-const SCALE: u64 = 720_720;
 /// The most receivers of a network that are known for what they owe alone.
 const MOST_RESTING: usize = 4096;
-
-/// A network by its number, in the order of the configuration.
-pub type Place = usize;
 
 /// The frames that wait, of several networks to several receivers.
 #[derive(Debug)]
 pub struct Shares<R, T> {
-    networks: Vec<Network<R, T>>,
-}
-
-#[derive(Debug)]
-struct Network<R, T> {
-    /// What a unit of cost adds to the debt.
-    scale: u64,
-    debt: u64,
-    turns: Turns<R, T>,
+    lanes: Lanes,
+    networks: Vec<Turns<R, T>>,
 }
 
 impl<R: Copy + Ord + Hash, T> Shares<R, T> {
     /// Networks of these weights, from 1 to `MOST_WEIGHT`, with no debts and nothing that waits.
     pub fn new(weights: impl IntoIterator<Item = u8>) -> Shares<R, T> {
-        let scales = weights.into_iter().map(|weight| SCALE / u64::from(weight.clamp(1, MOST_WEIGHT)));
-        Shares { networks: scales.map(|scale| Network { scale, debt: 0, turns: Turns::new() }).collect() }
+        let weights: Vec<u8> = weights.into_iter().collect();
+        Shares { networks: weights.iter().map(|_| Turns::new()).collect(), lanes: Lanes::new(weights) }
+    }
+
+    /// Changes what waits for a receiver of a network.
+    fn change<A>(&mut self, place: Place, receiver: R, change: impl FnOnce(&mut Lane<T>) -> A) -> A {
+        let answer = self.networks[place].change(receiver, change);
+        self.lanes.set_waits(place, !self.networks[place].ready.is_empty());
+        answer
     }
 
     /// A frame of a network waits for a receiver, behind all that wait for it.
     pub fn push(&mut self, place: Place, receiver: R, frame: T) {
-        self.networks[place].turns.change(receiver, |lane| lane.waiting.push_back(frame));
+        self.change(place, receiver, |lane| lane.waiting.push_back(frame));
     }
 
     /// A frame is sent again: it waits before all others for its receiver.
     pub fn push_first(&mut self, place: Place, receiver: R, frame: T) {
-        self.networks[place].turns.change(receiver, |lane| lane.waiting.push_front(frame));
+        self.change(place, receiver, |lane| lane.waiting.push_front(frame));
     }
 
     /// Whose frame goes next, with the frame; `None` where none waits for a turn.
     pub fn first(&self) -> Option<(Place, R, &T)> {
-        let place = self.first_network()?;
-        let (receiver, frame) = self.networks[place].turns.first()?;
+        let place = self.lanes.choose()?;
+        let (receiver, frame) = self.networks[place].first()?;
         Some((place, receiver, frame))
     }
 
-    /// The one of least debt of those that have a frame waiting.
-    fn first_network(&self) -> Option<Place> {
-        let ready = self.networks.iter().enumerate().filter(|(_, network)| !network.turns.ready.is_empty());
-        ready.min_by_key(|(_, network)| network.debt).map(|(place, _)| place)
-    }
-
-    /// The frame that goes next goes, and is reckoned to cost so much.
-    pub fn serve(&mut self, cost: u64) -> Option<T> {
-        let place = self.first_network()?;
-        let least = self.networks[place].debt;
-        self.networks.iter_mut().for_each(|network| network.debt = network.debt.saturating_sub(least));
-        let served = &mut self.networks[place];
-        served.debt = served.scale.saturating_mul(cost);
-        served.turns.serve(cost)
+    /// The frame of a network that goes next goes, and is reckoned to cost so many microseconds; `None`, and nothing
+    /// changes, where it is another network's turn.
+    pub fn serve(&mut self, place: Place, cost: u32) -> Option<T> {
+        if !self.lanes.serve(place, cost) {
+            return None;
+        }
+        let frame = self.networks[place].serve(u64::from(cost));
+        self.lanes.set_waits(place, !self.networks[place].ready.is_empty());
+        frame
     }
 
     /// The first frame for a receiver is dropped.
     pub fn drop_first(&mut self, place: Place, receiver: R) -> Option<T> {
-        self.networks[place].turns.change(receiver, |lane| lane.waiting.pop_front())
+        self.change(place, receiver, |lane| lane.waiting.pop_front())
     }
 
-    /// A frame of a network for a receiver cost so much more than was reckoned.
-    pub fn told(&mut self, place: Place, receiver: R, more: u64) {
-        let network = &mut self.networks[place];
-        network.debt = network.debt.saturating_add(network.scale.saturating_mul(more));
-        network.turns.change(receiver, |lane| lane.start = lane.start.saturating_add(more));
+    /// A frame of a network for a receiver cost so many microseconds more than was reckoned.
+    pub fn told(&mut self, place: Place, receiver: R, more: u32) {
+        self.lanes.told(place, more);
+        self.change(place, receiver, |lane| lane.start = lane.start.saturating_add(u64::from(more)));
     }
 
     /// A receiver is held: none of its frames goes next until it is released.
     pub fn hold(&mut self, place: Place, receiver: R) {
-        self.networks[place].turns.change(receiver, |lane| lane.is_held = true);
+        self.change(place, receiver, |lane| lane.is_held = true);
     }
 
     /// A receiver is held no more.
     pub fn release(&mut self, place: Place, receiver: R) {
-        self.networks[place].turns.change(receiver, |lane| lane.is_held = false);
+        self.change(place, receiver, |lane| lane.is_held = false);
     }
 
     /// Whether a receiver is held.
     pub fn is_held(&self, place: Place, receiver: R) -> bool {
-        self.networks[place].turns.lanes.get(&receiver).map_or(false, |lane| lane.is_held)
+        self.networks[place].lanes.get(&receiver).map_or(false, |lane| lane.is_held)
     }
 
     /// How many frames of a network wait for a receiver.
     pub fn waiting(&self, place: Place, receiver: R) -> usize {
-        self.networks[place].turns.lanes.get(&receiver).map_or(0, |lane| lane.waiting.len())
+        self.networks[place].lanes.get(&receiver).map_or(0, |lane| lane.waiting.len())
     }
 
     /// Takes all frames out that wait for a receiver and of which this is true, in their order.
     pub fn take_all(&mut self, place: Place, receiver: R, mut is_meant: impl FnMut(&T) -> bool) -> Vec<T> {
         let (mut taken, mut kept) = (Vec::new(), VecDeque::new());
-        self.networks[place].turns.change(receiver, |lane| {
+        self.change(place, receiver, |lane| {
             for frame in lane.waiting.drain(..) {
                 if is_meant(&frame) {
                     taken.push(frame);
@@ -137,17 +126,17 @@ impl<R: Copy + Ord + Hash, T> Shares<R, T> {
 
     /// The receiver for which most frames of a network wait.
     pub fn longest(&self, place: Place) -> Option<R> {
-        self.networks[place].turns.lengths.iter().next_back().map(|(_, receiver)| *receiver)
+        self.networks[place].lengths.iter().next_back().map(|(_, receiver)| *receiver)
     }
 
     /// Whether a frame waits for a turn.
     pub fn has_ready(&self) -> bool {
-        self.networks.iter().any(|network| !network.turns.ready.is_empty())
+        self.lanes.any_waits()
     }
 
     /// Whether no frame waits, for a turn or held.
     pub fn is_empty(&self) -> bool {
-        self.networks.iter().all(|network| network.turns.lengths.is_empty())
+        self.networks.iter().all(|turns| turns.lengths.is_empty())
     }
 }
 
@@ -289,7 +278,7 @@ mod tests {
                 let receivers = 0..RECEIVERS as u8;
                 let receivers =
                     receivers.map(|name| ModelReceiver { name, debt: 0, is_held: false, waiting: Vec::new() });
-                let scale = u128::from(SCALE) / u128::from(*weight);
+                let scale = 720_720 / u128::from(*weight);
                 ModelNetwork { scale, debt: 0, receivers: receivers.collect() }
             });
             Model { networks: networks.collect() }
@@ -311,7 +300,7 @@ mod tests {
             Some((place, receiver.name, receiver.waiting[0]))
         }
 
-        fn serve(&mut self, cost: u64) -> Option<u32> {
+        fn serve(&mut self, cost: u32) -> Option<u32> {
             let (place, receiver, frame) = self.first()?;
             let least = self.networks[place].debt;
             self.networks.iter_mut().for_each(|network| network.debt = network.debt.saturating_sub(least));
@@ -323,7 +312,7 @@ mod tests {
             Some(frame)
         }
 
-        fn told(&mut self, place: Place, receiver: u8, more: u64) {
+        fn told(&mut self, place: Place, receiver: u8, more: u32) {
             self.networks[place].debt += self.networks[place].scale * u128::from(more);
             self.of(place, receiver).debt += u128::from(more);
         }
@@ -396,6 +385,12 @@ mod tests {
 
     const RECEIVERS: usize = 5;
 
+    /// The frame that goes next, which costs so much.
+    fn next<R: Copy + Ord + Hash, T>(shares: &mut Shares<R, T>, cost: u32) -> Option<T> {
+        let place = shares.first()?.0;
+        shares.serve(place, cost)
+    }
+
     /// A million calls in any order: the same frames in the same order as by the slow model, and what the sentences
     /// promise of shares and of newcomers.
     #[test]
@@ -412,20 +407,23 @@ mod tests {
                 let (place, receiver) = (seeded.below(number), seeded.below(RECEIVERS) as u8);
                 match seeded.below(8 + pushes) {
                     0..=3 => {
-                        let cost = 1 + seeded.below(1000) as u64;
+                        let cost = 1 + seeded.below(1000) as u32;
                         let first = model.first();
                         assert_eq!(shares.first().map(|(place, receiver, frame)| (place, receiver, *frame)), first);
-                        assert_eq!(shares.serve(cost), model.serve(cost));
+                        let not_next = (0..number).filter(|other| first.map_or(true, |(place, ..)| place != *other));
+                        not_next.for_each(|other| assert_eq!(shares.serve(other, cost), None));
+                        let next = first.map_or(0, |(place, ..)| place);
+                        assert_eq!(shares.serve(next, cost), model.serve(cost));
                         if let Some((place, _, _)) = first {
-                            watch.gets(place, cost, true);
+                            watch.gets(place, u64::from(cost), true);
                             (served, gone) = (served + 1, gone + 1);
                         }
                     }
                     4 => {
-                        let more = seeded.below(300) as u64;
+                        let more = seeded.below(300) as u32;
                         shares.told(place, receiver, more);
                         model.told(place, receiver, more);
-                        watch.gets(place, more, false);
+                        watch.gets(place, u64::from(more), false);
                     }
                     5 => {
                         shares.hold(place, receiver);
@@ -471,8 +469,8 @@ mod tests {
         for _ in 0..30_000 {
             (0..3).for_each(|place| shares.push(place, 0u8, place));
             let place = shares.first().unwrap().0;
-            got[place] += costs[place];
-            assert_eq!(shares.serve(costs[place]), Some(place));
+            got[place] += u64::from(costs[place]);
+            assert_eq!(shares.serve(place, costs[place]), Some(place));
         }
         let all: u64 = got.iter().sum();
         for (place, weight) in [1, 2, 3].into_iter().enumerate() {
@@ -487,7 +485,7 @@ mod tests {
         let mut turns = [0u64; 2];
         for _ in 0..10_000 {
             (0..2).for_each(|place| shares.push(place, 0u8, place));
-            let place = shares.serve(100).unwrap();
+            let place = next(&mut shares, 100).unwrap();
             turns[place] += 1;
             if place == 0 {
                 shares.told(0, 0, 300);
@@ -501,9 +499,9 @@ mod tests {
         let mut shares = Shares::new([1]);
         (0..9).for_each(|_| shares.push(0, 'a', 3));
         (0..9).for_each(|_| shares.push(0, 'b', 1));
-        let order: Vec<u64> = std::iter::from_fn(|| {
+        let order: Vec<u32> = std::iter::from_fn(|| {
             let cost = *shares.first()?.2;
-            shares.serve(cost)
+            next(&mut shares, cost)
         })
         .collect();
         assert_eq!(order[..9], [3, 1, 1, 1, 3, 1, 1, 1, 3]);
@@ -513,9 +511,9 @@ mod tests {
     fn idle_time_earns_nothing() {
         let mut shares = Shares::new([1, 1]);
         (0..50).for_each(|_| shares.push(0, 'a', 'a'));
-        (0..40).for_each(|_| assert_eq!(shares.serve(10), Some('a')));
+        (0..40).for_each(|_| assert_eq!(next(&mut shares, 10), Some('a')));
         (0..50).for_each(|_| shares.push(1, 'b', 'b'));
-        let order: String = std::iter::from_fn(|| shares.serve(10)).take(8).collect();
+        let order: String = std::iter::from_fn(|| next(&mut shares, 10)).take(8).collect();
         assert_eq!(order, "babababa");
     }
 
@@ -527,7 +525,7 @@ mod tests {
         assert_eq!((shares.first(), shares.has_ready(), shares.is_empty()), (None, false, false));
         shares.push_first(0, 'a', 0);
         shares.release(0, 'a');
-        assert_eq!([(); 4].map(|_| shares.serve(1)), [Some(0), Some(1), Some(2), None]);
+        assert_eq!([(); 4].map(|_| next(&mut shares, 1)), [Some(0), Some(1), Some(2), None]);
         assert!(shares.is_empty());
     }
 
@@ -537,7 +535,7 @@ mod tests {
         (0..6).for_each(|frame| shares.push(0, 'a', frame));
         assert_eq!(shares.longest(0), Some('a'));
         assert_eq!(shares.take_all(0, 'a', |frame| frame % 2 == 0), [0, 2, 4]);
-        assert_eq!([(); 4].map(|_| shares.serve(1)), [Some(1), Some(3), Some(5), None]);
+        assert_eq!([(); 4].map(|_| next(&mut shares, 1)), [Some(1), Some(3), Some(5), None]);
         assert_eq!((shares.take_all(0, 'b', |_| true), shares.longest(0)), (vec![], None));
     }
 
@@ -547,11 +545,11 @@ mod tests {
         let mut shares = Shares::new([1]);
         for receiver in 0..10_000u32 {
             shares.push(0, receiver, ());
-            shares.serve(5);
+            next(&mut shares, 5);
         }
-        assert_eq!(shares.networks[0].turns.lanes.len(), MOST_RESTING);
+        assert_eq!(shares.networks[0].lanes.len(), MOST_RESTING);
         (0..2).for_each(|_| shares.push(0, 7, ()));
-        (0..2).for_each(|_| assert_eq!(shares.serve(5), Some(())));
-        assert_eq!(shares.networks[0].turns.lanes.len(), 1);
+        (0..2).for_each(|_| assert_eq!(next(&mut shares, 5), Some(())));
+        assert_eq!(shares.networks[0].lanes.len(), 1);
     }
 }

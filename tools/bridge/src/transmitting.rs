@@ -36,6 +36,7 @@ const MOST_FOR_OTHERS: usize = 256;
 const MOST_OCTETS: usize = 2 << 20;
 /// How often the radio's socket is looked at, where the radio doesn't say what became of a frame.
 const LOOK_EVERY: Nanos = MILLISECOND;
+const MICROSECOND: Nanos = 1000;
 
 const PROBE_RESPONSE: u8 = 0x50;
 const AUTHENTICATION: u8 = 0xb0;
@@ -408,38 +409,36 @@ impl<P: Port> Transmitter<P> {
             } else {
                 let is_unit = matches!(frame.kind, Kind::Unit | Kind::Again);
                 let rate = self.stations.expected_rate(place, address, is_unit);
-                let is_acknowledged = !address.is_group();
-                let size = Size { octets: frame.octets.len(), rate, is_acknowledged };
+                let size = Size { octets: frame.octets.len(), rate, is_acknowledged: !address.is_group() };
+                let (octets, kind) = (Rc::clone(&frame.octets), frame.kind);
                 self.is_full = !self.is_ending && !self.flight.has_room(size.tries(1), now);
-                return !self.is_full && self.take(place, receiver, size, now);
+                return !self.is_full && self.take((place, receiver, address), kind, &octets, now);
             }
         }
         false
     }
 
-    /// Takes the frame that goes next, which is reckoned to have this size, and gives it to the radio.
-    fn take(&mut self, place: Place, receiver: Receiver, size: Size, now: Nanos) -> bool {
-        let (octets, address, kind) = match self.shares.first() {
-            Some((_, _, frame)) => (Rc::clone(&frame.octets), frame.address, frame.kind),
-            None => return false,
-        };
-        let (choice, waits) = self.choice(place, address, kind, &octets, now);
-        let size = Size { rate: choice.rate, ..size };
+    /// Takes the frame that goes next, and gives it to the radio.
+    fn take(&mut self, to: (Place, Receiver, Address), kind: Kind, octets: &Rc<Vec<u8>>, now: Nanos) -> bool {
+        let (place, receiver, address) = to;
+        let (choice, waits) = self.choice(place, address, kind, octets, now);
+        let size = Size { octets: octets.len(), rate: choice.rate, is_acknowledged: !address.is_group() };
         let cost = size.sending(1);
-        if let Some(frame) = self.shares.serve(cost) {
-            self.count_out(place, &frame);
+        match self.shares.serve(place, microseconds(cost)) {
+            Some(frame) => self.count_out(place, &frame),
+            None => return false,
         }
         if waits {
             self.shares.hold(place, receiver);
         }
         self.accounts[place].used += cost;
-        let number = Frame::of(&octets).and_then(|frame| frame.sequence_control());
+        let number = Frame::of(octets).and_then(|frame| frame.sequence_control());
         let name = Name { place, receiver: address, number };
         let is_own = matches!(kind, Kind::Own { .. });
         self.flight.give(name, Sent { size, receiver, is_own }, size.tries(1), now);
         let mut packet = Vec::with_capacity(SENDING_LEN + octets.len());
         packet.extend(sending_header(choice.rate, choice.retries));
-        packet.extend(&*octets);
+        packet.extend(&**octets);
         self.chosen.push_back((name, packet));
         true
     }
@@ -500,7 +499,7 @@ impl<P: Port> Transmitter<P> {
             let more = sent.size.sending(retries);
             self.is_full = false;
             self.accounts[place].used += more;
-            self.shares.told(place, sent.receiver, more);
+            self.shares.told(place, sent.receiver, microseconds(more));
         }
         let is_own = found.map_or_else(|| is_null_of_network(frame), |sent| sent.is_own);
         if address.is_group() || is_own {
@@ -551,6 +550,11 @@ impl<P: Port> Transmitter<P> {
         self.is_full &= gone.is_empty();
         gone.into_iter().for_each(|name| self.release(name.place, name.receiver));
     }
+}
+
+/// Whole microseconds, by which shares are reckoned, and no fewer than it takes.
+fn microseconds(time: Nanos) -> u32 {
+    u32::try_from((time + MICROSECOND - 1) / MICROSECOND).unwrap_or(u32::MAX)
 }
 
 /// An interface refused a frame: it is counted, and told the first time.
