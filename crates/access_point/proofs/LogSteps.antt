@@ -1,14 +1,15 @@
 -- A network without its history takes one event after another, and its frames are kept.
 use Rattle.std.proofs.Common.{◌≡◌, ℕ, ◌<◌, Bool, cond, List, [], ◌∷◌, ◌++◌, length, Result, Ok, Err, OnOk}
-use Rattle.std.proofs.Common.{sym, ap, ◌∙◌, append-nil}
+use Rattle.std.proofs.Common.{sym, ap, ◌∙◌, append-nil, append_assoc}
 use Rattle.std.proofs.lemmas.Bool.{lt-ltb}
 use Rattle.std.proofs.lemmas.List.{length_push}
 use Rattle.ap_config.specs.declared.setting.Setting.{Setting}
 use Rattle.events.specs.declared.event.Event.{Event}
 use Rattle.network.specs.Network.{Network, alone, step}
 use Rattle.network.specs.NetworkView.{NetworkState, took_event, unsent, sent_before}
-use Rattle.access_point.specs.Log.{log_of, taken_next}
+use Rattle.access_point.specs.Log.{log_of, sent_after, taken_next}
 use Rattle.access_point.specs.declared.logged_network.LoggedNetwork.{LoggedNetwork}
+use Rattle.access_point.specs.declared.sending_network.SendingNetwork.{SendingNetwork}
 
 -- a network and its frames, by what it is at a moment
 abbrev logged : Setting → ℕ → Network → LoggedNetwork
@@ -80,6 +81,19 @@ log-kept laws s es e old new n air wire was room took air_is wire_is is =
       wire = old.wire ++ fs;
     })
     wire_is)
+
+-- as its calls say it, where those on the air wait
+pub log-waits : (laws : Laws) (s : Setting) (es : List Event) (e : Event) (gone : List (List ℕ)) (old new : SendingNetwork)
+    (n : NetworkState) (air wire : List (List ℕ)) → sent_after gone old ≡ log_of s es → length es < s.network.max_events
+    → n ≡ took_event e old.network → air ≡ (step old.network.setting old.network.network e).air
+    → wire ≡ (step old.network.setting old.network.network e).wire → new.network ≡ n
+    → (new.waiting.items ≡ old.waiting.items ++ air) × (new.wire ≡ old.wire ++ wire)
+    → sent_after gone new ≡ log_of s (es ++ taken_next s es e)
+log-waits laws s es e gone old new n air wire was room took air_is wire_is same kept =
+    let waits : gone ++ new.waiting.items ≡ (gone ++ old.waiting.items) ++ air =
+    ap (λ (fs : List (List ℕ)). gone ++ fs) kept.0 ∙ sym (append_assoc gone old.waiting.items air) in
+    log-kept laws s es e (sent_after gone old) (sent_after gone new) n air wire was room took air_is wire_is
+    (λ k. record { network = same k; air = waits k; wire = kept.1 k })
 
 -- what follows of a fact that holds where a call went well
 pub on_ok : {T E P Q : Type 0} (r : Result T E) → (P → Q) → OnOk r P → OnOk r Q

@@ -1,10 +1,11 @@
 -- Networks that keep no history, with the frames that they sent (profile).
-use Rattle.std.specs.Prelude.{◌≡◌, nat_lt, List, [], ◌∷◌, ◌++◌, length, if◌then◌else◌}
+use Rattle.std.specs.Prelude.{ℕ, ◌≡◌, nat_lt, List, [], ◌∷◌, ◌++◌, length, if◌then◌else◌}
 use Rattle.ap_config.specs.declared.setting.Setting.{Setting}
 use Rattle.events.specs.declared.event.Event.{Event}
 use Rattle.network.specs.Network.{alone}
 use Rattle.network.specs.NetworkView.{unsent}
 use Rattle.access_point.specs.declared.logged_network.LoggedNetwork.{LoggedNetwork}
+use Rattle.access_point.specs.declared.sending_network.SendingNetwork.{SendingNetwork}
 
 -- the network that took these events and no other, and its frames beside it
 abbrev pub log_of : Setting → List Event → LoggedNetwork
@@ -21,3 +22,7 @@ taken_next s es e = if nat_lt (length es) s.network.max_events then e ∷ [] els
 -- a network took an event, unless its history would be full, whatever it took before
 abbrev pub Logs : Event → LoggedNetwork → LoggedNetwork → Type 0
 Logs e n next = (s : Setting) (es : List Event) → n ≡ log_of s es → next ≡ log_of s (es ++ taken_next s es e)
+
+-- a network with all frames that it sent, of which those that were handed on come before those that wait
+abbrev pub sent_after : List (List ℕ) → SendingNetwork → LoggedNetwork
+sent_after gone n = record { network = n.network; air = gone ++ n.waiting.items; wire = n.wire }

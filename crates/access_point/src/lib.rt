@@ -17,9 +17,11 @@ mod dispatch;
 mod frame_log;
 mod logged_network;
 mod networks;
+mod sending_network;
 
 pub use audience::Audience;
 pub use dispatch::{Addressed, Deliver};
 pub use frame_log::FrameLog;
 pub use logged_network::{KeepFrames, LoggedNetwork};
 pub use networks::AccessPoint;
+pub use sending_network::SendingNetwork;

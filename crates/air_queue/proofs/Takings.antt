@@ -9,8 +9,8 @@ use Rattle.std.proofs.lemmas.List.{append-nil, length-append}
 use Rattle.crossbeam_queue.specs.Fifo.{Merges}
 use Rattle.events.specs.Items.{items_of}
 use Rattle.events.specs.declared.air_item.AirItem.{AirItem}
-use Rattle.air_queue.specs.Passes.{TakenIn, NetPassView}
-use Rattle.air_queue.specs.Rule.{IsKept, IsNetworkAt, IsRadio, IsRadioWith, Accounts, AllTaken, pushed_by, networks_of, taken_in_of, taking_in, after_taking}
+use Rattle.air_queue.specs.Passes.{TakenIn, NetPassView, HasEach}
+use Rattle.air_queue.specs.Rule.{IsKept, IsNetworkAt, IsRadio, IsRadioWith, Accounts, AllTaken, left_of, pushed_by, networks_of, taken_in_of, taking_in, after_taking}
 use Rattle.air_queue.specs.declared.known.Known.{Known}
 use Rattle.air_queue.specs.declared.known.Known.TheVariants.{Network, Radio, Spent}
 use Rattle.air_queue.proofs.Counts.{same_count}
@@ -28,6 +28,11 @@ pub radio_is : (out : List AirItem) (v : Known) → IsRadioWith out v → v ≡ 
 radio_is out (Network place pushed) is = absurd is
 radio_is out (Radio left networks taken_in) is = ap (λ l. Radio l networks taken_in) is
 radio_is out Spent is = absurd is
+
+pub radio_with : (v : Known) → IsRadio v → IsRadioWith (left_of v) v
+radio_with (Network place pushed) is = absurd is
+radio_with (Radio left networks taken_in) is = refl
+radio_with Spent is = absurd is
 
 pub is_radio : (out : List AirItem) (v : Known) → IsRadioWith out v → IsRadio v
 is_radio out (Network place pushed) is = absurd is
@@ -124,6 +129,11 @@ pub all_in : (out : List AirItem) (v : Known) (passes : List NetPassView) → Is
 all_in out v passes is new placed =
     let e : v ≡ Radio out (networks_of v) finite.empty = radio_is out v is ∙ ap (Radio out (networks_of v)) new in
     subst (λ u. AllTaken (after_taking u passes)) (sym e) (taken_new out (networks_of v) passes placed)
+
+pub each_in : (out : List AirItem) (v : Known) (passes : List NetPassView) → IsRadioWith out v → taken_in_of v ≡ finite.empty → Placed 0 (networks_of v) passes → HasEach (taken_in_of (after_taking v passes)) passes
+each_in out v passes is new placed =
+    let e = ap (λ u. after_taking u passes) (radio_is out v is ∙ ap (Radio out (networks_of v)) new) ∙ after_taking-is out (networks_of v) finite.empty passes in
+    subst (λ u. HasEach (taken_in_of u) passes) (sym e) (taken-each 0 (networks_of v) passes finite.empty placed)
 
 pub left_in : (out : List AirItem) (v : Known) (passes : List NetPassView) → IsRadioWith out v → IsRadioWith out (after_taking v passes)
 left_in out v passes is =

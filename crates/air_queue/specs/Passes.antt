@@ -1,10 +1,11 @@
 -- What contracts see of the air queue and of the passes to it (profile).
-use Rattle.std.specs.Prelude.{ℕ, ◌≡◌, refl, List, [], map}
+use Rattle.std.specs.Prelude.{ℕ, ◌≡◌, ◌<◌, refl, All, List, [], Some, map}
 use Rattle.std.specs.List.{AllByRecursion, range_with_len}
 use Rattle.std.specs.Ordering.{nat_cmp}
 use Rattle.std.specs.FinMap as finite
 use Rattle.std.specs.Coded.{Coded, code_by, coded×, coded_ℕ, coded_list}
 use Rattle.atomic_table.specs.Seated.{TableId, table_id_coded}
+use Rattle.events.specs.Items.{items_of}
 use Rattle.events.specs.declared.air_item.AirItem.{AirItem}
 
 -- which queue it is: no two have one name
@@ -35,6 +36,20 @@ pub record RadioPassView : Type 0 where
   pub taken_in : TakenIn
   pub spare : ℕ
 
+-- the radio's pass whose frames are handed out: the same, but for the list
+pub record PopPassView : Type 0 where
+  pub name : QueueName
+  pub left : List AirItem
+  pub networks : ℕ
+  pub taken_in : TakenIn
+
+-- A queue to which nobody pushes any more: what left it, in order, how many networks were given a pass, and what these
+-- had pushed, by place.
+pub record ClosedView : Type 0 where
+  pub left : List AirItem
+  pub networks : ℕ
+  pub taken_in : TakenIn
+
 -- how proofs tell such passes apart: by their fields, one after the other
 abbrev pub item_code : Coded AirItem
 item_code =
@@ -52,6 +67,20 @@ radio_pass_code =
     (coded× table_id_coded (coded× (coded_list item_code) (coded× coded_ℕ (coded× taken_in_code coded_ℕ))))
     (λ p. (p.name, (p.left, (p.networks, (p.taken_in, p.spare)))))
     (λ p. record { name = p.0; left = p.1.0; networks = p.1.1.0; taken_in = p.1.1.1.0; spare = p.1.1.1.1 })
+    (λ _. refl)
+
+abbrev pub pop_pass_code : Coded PopPassView
+pop_pass_code =
+    code_by (QueueName × (List AirItem × (ℕ × TakenIn)))
+    (coded× table_id_coded (coded× (coded_list item_code) (coded× coded_ℕ taken_in_code)))
+    (λ p. (p.name, (p.left, (p.networks, p.taken_in))))
+    (λ p. record { name = p.0; left = p.1.0; networks = p.1.1.0; taken_in = p.1.1.1 })
+    (λ _. refl)
+
+abbrev pub closed_code : Coded ClosedView
+closed_code =
+    code_by (List AirItem × (ℕ × TakenIn)) (coded× (coded_list item_code) (coded× coded_ℕ taken_in_code))
+    (λ c. (c.left, (c.networks, c.taken_in))) (λ p. record { left = p.0; networks = p.1.0; taken_in = p.1.1 })
     (λ _. refl)
 
 -- ---- the passes of a new queue
@@ -79,3 +108,17 @@ fresh_radio name networks spare = record {
 pub record AllThere (name : QueueName) (networks : ℕ) (passes : List NetPassView) : Type 0 where
   pub named : AllByRecursion (λ pass. pass.name ≡ name) passes
   pub placed : map (λ pass. pass.place) passes ≡ range_with_len 0 networks
+
+-- ---- what was taken in
+
+-- of each of these passes it has what was pushed with it
+abbrev pub HasEach : TakenIn → List NetPassView → Type 0
+HasEach taken_in passes = AllByRecursion (λ pass. finite.get taken_in pass.place ≡ Some pass.pushed) passes
+
+-- what left of each network whose pass was taken in is what was pushed with it, in that order, and nothing else left
+pub record IsDrained (queue : ClosedView) : Type 0 where
+  pub whole :
+      (place : ℕ) (pushed : List (List ℕ))
+      → finite.get queue.taken_in place ≡ Some pushed
+      → items_of place queue.left ≡ pushed
+  pub nothing_else : All (λ item. item.place < queue.networks) queue.left

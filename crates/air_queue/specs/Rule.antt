@@ -70,6 +70,11 @@ pushed_by (Network place pushed) = pushed
 pushed_by (Radio left networks taken_in) = []
 pushed_by Spent = []
 
+abbrev pub left_of : Known → List AirItem
+left_of (Network place pushed) = []
+left_of (Radio left networks taken_in) = left
+left_of Spent = []
+
 abbrev pub networks_of : Known → ℕ
 networks_of (Network place pushed) = 0
 networks_of (Radio left networks taken_in) = networks

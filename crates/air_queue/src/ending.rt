@@ -78,7 +78,7 @@ impl AirQueue {
 }
 
 /// Takes the passes of the networks in.
-fn take_passes(queue: &RuledQueue, queue_pass: &mut QueuePass, nets: Vec<NetPass>)
+pub(crate) fn take_passes(queue: &RuledQueue, queue_pass: &mut QueuePass, nets: Vec<NetPass>)
     requires queue { IsPassOf queue.now queue_pass.old }
     requires radio { IsRadio (known_by queue_pass.old) }
     requires nets { AllByRecursion (λ pass. pass.name ≡ queue.now.table.shared.table_id) nets.items }

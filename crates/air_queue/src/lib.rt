@@ -13,6 +13,7 @@
 //! Which frames are pushed, and when, is left to the crates above.
 #![tactic(auto)]
 
+mod closing;
 mod ending;
 mod known;
 mod laws;
@@ -20,7 +21,8 @@ mod pass;
 mod queue;
 mod rule;
 
+pub use closing::ClosedQueue;
 pub use ending::{Left, TakeInFault};
 pub use laws::rule_is_kept;
-pub use pass::{NetPass, RadioPass};
+pub use pass::{NetPass, PopPass, RadioPass};
 pub use queue::AirQueue;

@@ -1,4 +1,4 @@
-//! The passes to a queue: by one a network pushes, by the other the radio pops (*profile*).
+//! The passes to a queue: by one a network pushes, by two others the radio pops (*profile*).
 
 ghost use Rattle.std.specs.Prelude.{◌≡◌, ◌≤◌, [], OnOk, OnErr};
 ghost use Rattle.crossbeam_queue.specs.Passes.{view as known_by};
@@ -109,10 +109,54 @@ impl RadioPass {
         self.left.capacity() - self.left.len()
     }
 
+    /// The same right, by which frames are handed out from now on (*profile*). The list of what left is gone.
+    pub fn into_pop_pass(self) -> PopPass
+        ensures { result ≡ record {
+          name = self.name;
+          left = self.left;
+          networks = self.networks;
+          taken_in = self.taken_in;
+        } }
+    {
+        let RadioPass {
+            left: _,
+            queue_pass,
+        } = self;
+        PopPass { queue_pass }
+    }
+
     /// The frames that left, the first of them first (*profile*). It takes no memory.
     pub fn left(&self) -> &[AirItem]
         ensures { result.now ≡ self.now.left }
     {
         self.left.as_slice()
     }
+}
+
+/// The radio's right to pop frames, each of which is handed to who pops it (*profile*). Contracts see which queue it
+/// is, what left, how many networks were given a pass, and what was taken in of them. It has no bytes: what left
+/// stands in proofs alone.
+#[derive(Drop)]
+pub struct PopPass {
+    pub(crate) queue_pass: QueuePass,
+}
+
+impl Model for PopPass {
+    ghost use Rattle.std.specs.Prelude.{◌≡◌, []};
+    ghost use Rattle.crossbeam_queue.specs.Passes.{view as known_by};
+    ghost use Rattle.air_queue.specs.Passes.{PopPassView, pop_pass_code};
+    ghost use Rattle.air_queue.specs.Rule.{IsRadio, left_of, networks_of, taken_in_of};
+
+    ghost Value = { PopPassView };
+
+    ghost coded = { pop_pass_code };
+
+    ghost view = { λ p. record {
+      name = p.queue_pass.table_id;
+      left = left_of (known_by p.queue_pass);
+      networks = networks_of (known_by p.queue_pass);
+      taken_in = taken_in_of (known_by p.queue_pass);
+    } };
+
+    ghost invariant = { λ p. (p.queue_pass.me.1 ≡ []) × IsRadio (known_by p.queue_pass) };
 }

@@ -1,15 +1,15 @@
 //! The queue: made with its passes, pushed to, popped from, and taken in (*profile*).
 
 ghost use Rattle.std.specs.Prelude.{◌≡◌, ◌+◌, ◌<◌, ◌≤◌, ◌++◌, [], ◌∷◌, vec_len, vec_capacity, IfOk, OnOk, IfErr};
-ghost use Rattle.std.specs.Prelude.{MatchBool};
+ghost use Rattle.std.specs.Prelude.{MatchBool, MatchOption};
 ghost use Rattle.std.specs.FinMap as finite;
 ghost use Rattle.crossbeam_queue.specs.Passes.{view as known_by, IsPassOf, IsSamePass};
 ghost use Rattle.events.specs.declared.air_item.AirItem.{AirItem};
 ghost use Rattle.air_queue.specs.Passes.{fresh_passes, fresh_radio};
-ghost use Rattle.air_queue.specs.Rule.{IsRadioWith, Accounts, networks_of, taken_in_of};
+ghost use Rattle.air_queue.specs.Rule.{IsRadio, IsRadioWith, Accounts, left_of, networks_of, taken_in_of};
 ghost use Rattle.air_queue.specs.declared.known.Known.TheVariants.{Radio};
 
-use crate::pass::{NetPass, RadioPass};
+use crate::pass::{NetPass, PopPass, RadioPass};
 use crate::rule::{Give, Leave, Push, QueuePass, RuledQueue};
 use ap_config::{MAX_NETWORKS, MAX_QUEUE};
 use events::AirItem;
@@ -89,6 +89,19 @@ impl AirQueue {
     {
         pop_into(rt, &self.queue, &mut pass.queue_pass, &mut pass.left)
     }
+
+    /// Takes the first frame of the queue, which is the last that left then, and hands it out (*profile*). After `None`
+    /// nothing has changed. That the queue was empty then is no clause. It may wait for other threads. It takes no
+    /// memory.
+    pub fn pop_item<R: Wait>(&self, rt: &R, pass: &mut PopPass) -> Option<AirItem>
+        requires queue { pass.old.name ≡ self.now.name }
+        ensures name { pass.new.name ≡ pass.old.name }
+        ensures networks { (pass.new.networks ≡ pass.old.networks) × (pass.new.taken_in ≡ pass.old.taken_in) }
+        ensures left { MatchOption result (pass.new ≡ pass.old)
+            (λ item. (item.place < pass.old.networks) × (pass.new.left ≡ pass.old.left ++ item ∷ [])) }
+    {
+        pop_from(rt, &self.queue, &mut pass.queue_pass)
+    }
 }
 
 /// Gives each network its pass, in order of place.
@@ -112,6 +125,26 @@ fn give_passes(
         nets.push_reserved(NetPass::new(place, theirs));
     }
     (nets, queue_pass)
+}
+
+/// Takes the first frame of the queue.
+pub(crate) fn pop_from<R: Wait>(
+    rt: &R,
+    queue: &RuledQueue,
+    queue_pass: &mut QueuePass,
+) -> Option<AirItem>
+    requires queue { IsPassOf queue.now queue_pass.old }
+    requires radio { IsRadio (known_by queue_pass.old) }
+    ensures queue { IsSamePass queue_pass.old queue_pass.new }
+    ensures radio { IsRadio (known_by queue_pass.new) }
+    ensures networks { (networks_of (known_by queue_pass.new) ≡ networks_of (known_by queue_pass.old))
+        × (taken_in_of (known_by queue_pass.new) ≡ taken_in_of (known_by queue_pass.old)) }
+    ensures left { MatchOption result
+        ((known_by queue_pass.new ≡ known_by queue_pass.old) × Accounts (known_by queue_pass.old) [])
+        (λ item. (item.place < networks_of (known_by queue_pass.old))
+        × (left_of (known_by queue_pass.new) ≡ left_of (known_by queue_pass.old) ++ item ∷ [])) }
+{
+    queue.pop_as::<Leave, R>(rt, queue_pass)
 }
 
 /// Takes the first frame of the queue into the list of what left.

@@ -150,6 +150,51 @@ fn a_full_queue_gives_the_frame_back(rt: HostRuntime) -> Result<(), Fail> {
     Ok(())
 }
 
+/// The frames that a queue hands out: one before it is closed with the passes of two networks, and then those that are
+/// left.
+fn handed_out<R: Wait>(
+    rt: &R,
+    alloc: Global,
+    queue: AirQueue,
+    first: NetPass,
+    second: NetPass,
+    radio: RadioPass,
+) -> Result<Vec<AirItem>, NoMemory>
+    requires first { (first.name ≡ queue.name) × (first.place ≡ 0) }
+    requires second { (second.name ≡ queue.name) × (second.place ≡ 1) }
+    requires radio { (radio.name ≡ queue.name) × (radio.networks ≡ 2) × (radio.taken_in ≡ finite.empty) }
+{
+    let mut pass = radio.into_pop_pass();
+    let mut items = Vec::new(alloc);
+    if let Some(item) = queue.pop_item(rt, &mut pass) {
+        items.push(item)?;
+    }
+    let mut nets = Vec::with_capacity(alloc, 2)?;
+    nets.push_reserved(first);
+    nets.push_reserved(second);
+    let mut closed = queue.close(pass, nets);
+    for _ in 0..TURNS {
+        let Some(item) = closed.pop(rt) else {
+            break;
+        };
+        items.push(item)?;
+    }
+    Ok(items)
+}
+
+/// Frames of two networks are queued at once, and each is handed out once and in its order.
+#[test]
+fn frames_of_two_networks_are_handed_out(rt: HostRuntime) -> Result<(), Fail> {
+    let alloc = rt.alloc();
+    let (queue, mut first, mut second, radio) = open_two(alloc, 3)?;
+    assert!(rt; push_both(&rt, alloc, &queue, &mut first, &mut second)?);
+    let third = frame(alloc, 0, lab::PROBE_RESPONSE)?;
+    assert!(rt; queue.push(&rt, &mut first, third).is_ok());
+    let items = handed_out(&rt, alloc, queue, first, second, radio)?;
+    assert!(rt; are_frames(alloc, items.as_slice(), &TAKEN)?);
+    Ok(())
+}
+
 #[test]
 fn an_empty_queue_gives_nothing(rt: HostRuntime) -> Result<(), Fail> {
     let (queue, _nets, mut radio) = AirQueue::open(rt.alloc(), 1, MAX_NETWORKS)?;

@@ -112,7 +112,7 @@ logs-from config sources from (l ∷ ls) all = λ k. all.0.alone k ∷ logs-from
 
 -- ---- a list of all frames of sections
 
-items_of-append : (place : ℕ) (xs ys : List AirItem) → items_of place (xs ++ ys) ≡ items_of place xs ++ items_of place ys
+pub items_of-append : (place : ℕ) (xs ys : List AirItem) → items_of place (xs ++ ys) ≡ items_of place xs ++ items_of place ys
 items_of-append place xs ys =
     ap (map (λ (item : AirItem). item.octets)) (filter-append (λ (item : AirItem). item.place == place) xs ys)
     ∙ map-append (λ (item : AirItem). item.octets) (filter (λ (item : AirItem). item.place == place) xs) (filter (λ (item : AirItem). item.place == place) ys)

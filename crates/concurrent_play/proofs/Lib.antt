@@ -3,3 +3,4 @@ pub mod Sources
 pub mod Steps
 pub mod Seats
 pub mod Chosen
+pub mod Leaves

@@ -1,3 +1,4 @@
 pub mod Lines
 pub mod Plays
 pub mod Ends
+pub mod Leaving

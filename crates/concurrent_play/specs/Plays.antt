@@ -3,6 +3,7 @@ use Rattle.std.specs.Prelude.{ℕ, ◌≡◌, ◌<◌, ◌≤◌, All, List, [],
 use Rattle.std.specs.List.{AllByRecursion, enumerate_from}
 use Rattle.access_point.specs.Log.{log_of}
 use Rattle.access_point.specs.declared.logged_network.LoggedNetwork.{LoggedNetwork}
+use Rattle.air_queue.specs.Passes.{QueueName}
 use Rattle.ap_config.specs.Places.{network_at, setting_at}
 use Rattle.ap_config.specs.declared.config.RadioConfig.{RadioConfig}
 use Rattle.events.specs.Lists.{IsPrefix}
@@ -37,3 +38,7 @@ pub record IsLoggedPlay (config : RadioConfig) (sources : List (List Line)) (log
 -- what names no configuration
 abbrev pub no_config : RadioConfig
 no_config = record { channel = 0; interval = 0; queue = 0; networks = [] }
+
+-- what names no air queue
+abbrev pub no_queue : QueueName
+no_queue = record { words = 0; slots = 0; views_name = 0; atom = 0; block = 0; offset = 0; slot_names = [] }

@@ -6,6 +6,10 @@
 //! beside them. Whatever thread has the lock, the network is the one that took events that the sources gave, each
 //! source the first of those that the network hears of its lines, in their order.
 //!
+//! Its frames leave by the air queue, in which those of all networks meet. Where it is full a frame waits with its network.
+//! What was pushed of a network, and then what waits, is all that it sent. The sources' threads let frames leave: who
+//! handed on enough does, and who finds the queue full does until none of its own wait.
+//!
 //! [`play_logged`] promises that once all lines are given each network, with the frames that it sent, is such a one, alone
 //! with its events: a [`LoggedNetwork`]. [`as_played`] says it as `play` of `workers` does. Which thread is served when,
 //! that a thread gets on, and time are promised by nothing here. Where the lines come from, and what a network's log says,
@@ -18,9 +22,12 @@ mod batch;
 mod laws;
 mod name;
 mod networks;
+mod outlet;
 mod playing;
+mod queued;
 mod seat;
 mod source;
+mod spares;
 mod threads;
 
 pub use laws::as_played;

@@ -1,90 +1,123 @@
 //! What stands under a network's lock.
 
-ghost use Rattle.std.specs.Prelude.{◌≡◌, ◌<◌, ◌++◌, List, [], OnOk, IfOk, IfErr, length, vec_len, slice_index_or, ℕ, true};
+ghost use Rattle.std.specs.Prelude.{◌≡◌, ◌<◌, ◌++◌, List, [], ℕ, OnOk, IfOk, IfErr, length, vec_len, slice_index_or, true};
 ghost use Rattle.ap_config.specs.Places.{setting_at};
 ghost use Rattle.ap_config.specs.declared.setting.Setting.{Setting};
 ghost use Rattle.events.specs.Lines.{taken_of};
 ghost use Rattle.events.specs.declared.event.Event.{Event};
-ghost use Rattle.access_point.specs.Log.{log_of};
-ghost use Rattle.play_result.specs.Faults.{IsLater};
-ghost use Rattle.concurrent_play.specs.Plays.{IsLogAt};
+ghost use Rattle.access_point.specs.Log.{log_of, sent_after};
+ghost use Rattle.play_result.specs.Faults.{IsPlayFault};
+ghost use Rattle.concurrent_play.specs.Leaving.{IsSentAt};
 
 use crate::batch::{Batch, ReadLine};
 use crate::name::PlayName;
-use access_point::LoggedNetwork;
+use crate::spares::Spares;
+use access_point::{LoggedNetwork, SendingNetwork};
+use air_queue::{AirQueue, NetPass};
+use events::AirItem;
 use line_log::LineLog;
 use mac_frame::NoMemory;
-use network::Spare;
 use play_result::{FinishFault, PlayFault};
 use std::alloc::Global;
 use std::marker::{Model, PhantomData};
+use std::sync::Wait;
 
-/// A network of the play N, and how far each source has come with it, as they stand under one lock. Unless memory ran
-/// out, the network is the one that the lines up to there made of it.
+/// What became of the frames of a network.
+#[derive(Clone, Copy, Debug)]
+pub(crate) struct Handing {
+    /// How many went to the air queue.
+    pub(crate) count: u32,
+    /// Whether some wait still, since the queue was full.
+    pub(crate) waits: bool,
+}
+
+/// A network of the play N with its pass to the air queue, and how far each source has come with it, as they stand under
+/// one lock. Unless memory ran out, the network is the one that the lines up to there made of it: what was pushed, and
+/// then what waits, is all that it sent.
 #[derive(Drop)]
 pub(crate) struct Seat<N: PlayName> {
-    /// The network's place in the configuration, from 0.
-    place: usize,
-    network: LoggedNetwork,
+    network: SendingNetwork,
+    pass: NetPass,
     /// For each source the number of the next line that it gives to this network.
     next: Vec<usize>,
     /// Memory ran out as the network took an event. It takes no other one.
     failed: bool,
-    spare: Spare,
     of: PhantomData<N>,
 }
 
 impl<N: PlayName> Model for Seat<N> {
     ghost use Rattle.std.specs.Prelude.{◌≡◌, ◌<◌, false, length, vec_len};
     ghost use Rattle.concurrent_play.specs.Lines.{first_lines};
-    ghost use Rattle.concurrent_play.specs.Plays.{IsLogAt};
+    ghost use Rattle.concurrent_play.specs.Leaving.{IsSentAt};
 
     ghost Value = { Unit {0} };
 
     ghost view = { λ _. tt };
 
     ghost invariant = { λ s.
-        (s.place < length N.config.networks)
+        (s.pass.name ≡ N.queue)
+        × (s.pass.place < length N.config.networks)
         × (vec_len s.next ≡ length N.sources)
         × (s.failed ≡ false
-        → IsLogAt N.config (first_lines s.next.items N.sources) s.place s.network) };
+        → IsSentAt N.config (first_lines s.next.items N.sources) s.pass.place s.pass.pushed s.network) };
 }
 
 impl<N: PlayName> Seat<N> {
-    /// The seat of the network at a place, which took no event, for this number of sources.
+    /// The seat of a network that took no event, with its pass, by which nothing was pushed, for this number of sources.
     pub(crate) fn new(
         alloc: Global,
-        place: usize,
         network: LoggedNetwork,
+        pass: NetPass,
         sources: usize,
     ) -> Result<Seat<N>, NoMemory>
-        requires place { place < length N.config.networks }
-        requires network { network ≡ log_of (setting_at N.config place) [] }
+        requires named { pass.name ≡ N.queue }
+        requires place { pass.place < length N.config.networks }
+        requires pushed { pass.pushed ≡ [] }
+        requires network { network ≡ log_of (setting_at N.config pass.place) [] }
         requires sources { sources ≡ length N.sources }
     {
         let next = vec![in alloc; 0; sources]?;
         Ok(Seat {
-            place,
-            network,
+            network: SendingNetwork::of(alloc, network),
+            pass,
             next,
             failed: false,
-            spare: Spare::new(alloc),
             of: PhantomData,
         })
     }
 
-    /// Has the network take what it hears of some lines, if these are the next of their source. `NoMemory` where memory
-    /// ran out.
-    pub(crate) fn take(&mut self, batch: &Batch<'_, N>) -> Result<(), NoMemory> {
+    /// Has the network take what it hears of some lines, if these are the next of their source, and hands on the frames
+    /// that it sends. `NoMemory` where memory ran out.
+    pub(crate) fn take<R: Wait>(
+        &mut self,
+        rt: &R,
+        queue: &AirQueue,
+        batch: &Batch<'_, N>,
+        spares: &mut Spares,
+    ) -> Result<Handing, NoMemory>
+        requires { queue.now.name ≡ N.queue }
+    {
+        let mut count = 0u32;
+        let mut waits = false;
         for place in 0..batch.lines.len() {
-            self.take_line(batch, place)?;
+            self.take_line(batch, place, spares)?;
+            if !waits {
+                let handing = self.hand_all(rt, queue);
+                count = count.saturating_add(handing.count);
+                waits = handing.waits;
+            }
         }
-        Ok(())
+        Ok(Handing { count, waits })
     }
 
     /// Has the network take the line at a place of a batch if it hears it, where the line is the next of its source.
     #[inline(always)]
-    fn take_line(&mut self, batch: &Batch<'_, N>, place: usize) -> Result<(), NoMemory>
+    fn take_line(
+        &mut self,
+        batch: &Batch<'_, N>,
+        place: usize,
+        spares: &mut Spares,
+    ) -> Result<(), NoMemory>
         requires { place < vec_len batch.now.lines }
     {
         let source = batch.source;
@@ -93,7 +126,7 @@ impl<N: PlayName> Seat<N> {
             return Ok(());
         }
         let line = &batch.lines[place];
-        match take_heard(&mut self.network, self.place, line, &mut self.spare) {
+        match take_heard(&mut self.network, self.pass.place(), line, spares) {
             Ok(()) => {
                 self.next[source] = number + 1;
                 Ok(())
@@ -105,49 +138,95 @@ impl<N: PlayName> Seat<N> {
         }
     }
 
-    /// The network, where it is that at this place and was given all lines of each source.
-    pub(crate) fn into_log(
+    /// Hands the frames that wait to the air queue, the first of them first, until none waits or the queue is full.
+    #[inline]
+    pub(crate) fn hand_all<R: Wait>(&mut self, rt: &R, queue: &AirQueue) -> Handing
+        requires { queue.now.name ≡ N.queue }
+    {
+        for count in 0..u32::MAX {
+            if self.network.waiting.is_empty() {
+                return Handing {
+                    count,
+                    waits: false,
+                };
+            }
+            if !self.hand(rt, queue) {
+                return Handing { count, waits: true };
+            }
+        }
+        Handing {
+            count: u32::MAX,
+            waits: true,
+        }
+    }
+
+    /// Hands the first frame that waits to the air queue, which goes on waiting where the queue is full. Whether it went
+    /// there.
+    #[inline(always)]
+    fn hand<R: Wait>(&mut self, rt: &R, queue: &AirQueue) -> bool
+        requires { queue.now.name ≡ N.queue }
+    {
+        let Some(octets) = self.network.waiting.pop_front() else {
+            return true;
+        };
+        let place = self.pass.place();
+        match queue.push(rt, &mut self.pass, AirItem { place, octets }) {
+            Ok(()) => true,
+            Err(AirItem { place: _, octets }) => {
+                self.network.waiting.push_front_reserved(octets);
+                false
+            }
+        }
+    }
+
+    /// The network and its pass, where they are those at a place and it was given all lines of each source.
+    pub(crate) fn into_parts(
         self,
         place: usize,
         sources: &[LineLog],
-    ) -> Result<LoggedNetwork, PlayFault>
+    ) -> Result<(SendingNetwork, NetPass), PlayFault>
         requires { sources.now ≡ N.sources }
-        ensures err { IfErr result IsLater }
-        ensures log { IfOk result (IsLogAt N.config N.sources place) }
+        ensures err { IfErr result IsPlayFault }
+        ensures pass { IfOk result (λ r. (r.1.name ≡ N.queue) × (r.1.place ≡ place)) }
+        ensures sent { IfOk result (λ r. IsSentAt N.config N.sources place r.1.pushed r.0) }
     {
         if self.failed {
             return Err(PlayFault::NoMemory);
         }
-        if self.place != place || !are_ends(self.next.as_slice(), sources) {
+        if self.pass.place() != place || !are_ends(self.next.as_slice(), sources) {
             return Err(PlayFault::Finish(FinishFault::Uncovered));
         }
         let Seat {
-            place: _,
             network,
+            pass,
             next: _,
             failed: _,
-            spare: _,
             of: _,
         } = self;
-        Ok(network)
+        Ok((network, pass))
     }
 }
 
-/// Has the network at a place take a line, if it hears it.
+/// Has the network at a place take a line, if it hears it. Where it sent a frame, memory for the next is made ready.
 #[inline(always)]
 fn take_heard(
-    network: &mut LoggedNetwork,
+    network: &mut SendingNetwork,
     place: usize,
     line: &ReadLine<'_>,
-    spare: &mut Spare,
+    spares: &mut Spares,
 ) -> Result<(), NoMemory>
-    ensures { (s : Setting) (es : List Event) → network.old ≡ log_of s es
-        → OnOk result (network.new ≡ log_of s (es ++ taken_of place s.network es line.now)) }
+    ensures { (s : Setting) (es : List Event) (gone : List (List ℕ)) → sent_after gone network.old ≡ log_of s es
+        → OnOk result (sent_after gone network.new ≡ log_of s (es ++ taken_of place s.network es line.now)) }
 {
     if !line.is_heard_by(place, network.network.setting().network.bssid) {
         return Ok(());
     }
-    network.take(line.event(), spare)
+    let waiting = network.waiting.len();
+    network.take(line.event(), &mut spares.next)?;
+    if network.waiting.len() > waiting {
+        spares.refill();
+    }
+    Ok(())
 }
 
 /// Whether the next line of each source is past its last.

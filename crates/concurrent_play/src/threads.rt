@@ -1,11 +1,11 @@
 //! The threads of several sources.
 
 ghost use Rattle.std.specs.Prelude.{◌≡◌, IfErr};
-ghost use Rattle.play_result.specs.Faults.{IsLater};
+ghost use Rattle.play_result.specs.Faults.{IsPlayFault};
 
 use crate::batch::Batch;
 use crate::name::PlayName;
-use crate::networks::Networks;
+use crate::networks::{Networks, Relief};
 use crate::source::{Source, sources_of};
 use line_log::LineLog;
 use mac_frame::NoMemory;
@@ -26,14 +26,14 @@ pub(crate) fn run_sources<N: PlayName + Send + Sync, R: Threads + Wait + Sync>(
     lines: &[LineLog],
 ) -> Result<(), PlayFault>
     requires { lines.now ≡ N.sources }
-    ensures { IfErr result IsLater }
+    ensures { IfErr result IsPlayFault }
 {
     let sources = sources_of::<N>(alloc, lines)?;
     thread::scope(
         thread::scope_env(),
         rt,
         move |scope| -> Result<(), PlayFault>
-            ensures { IfErr result IsLater }
+            ensures { IfErr result IsPlayFault }
         {
             let threads = start_sources(rt, alloc, scope, networks, sources)?;
             join_sources(rt, threads)
@@ -49,7 +49,7 @@ fn start_sources<'s, 'e: 's, 'a: 'e, N: PlayName + Send + Sync, R: Threads + Wai
     networks: &'e Networks<N>,
     sources: Vec<Source<'a, N>>,
 ) -> Result<Vec<JoinHandle<Result<(), NoMemory>>>, PlayFault>
-    ensures { IfErr result IsLater }
+    ensures { IfErr result IsPlayFault }
 {
     let mut threads = Vec::with_capacity(alloc, sources.len())?;
     for source in sources {
@@ -63,7 +63,7 @@ fn join_sources<R: Threads>(
     rt: &R,
     threads: Vec<JoinHandle<Result<(), NoMemory>>>,
 ) -> Result<(), PlayFault>
-    ensures { IfErr result IsLater }
+    ensures { IfErr result IsPlayFault }
 {
     for thread in threads {
         thread.join(rt)?;
@@ -78,11 +78,12 @@ fn play_source<N: PlayName, R: Wait>(
     networks: &Networks<N>,
     source: Source<'_, N>,
 ) -> Result<(), NoMemory> {
+    let mut relief = Relief::new(alloc);
     let mut first = 0;
     while first < source.lines.len() {
         let end = first.saturating_add(MOST_LINES).min(source.lines.len());
         let batch = Batch::read(alloc, &source, first, end)?;
-        networks.give(rt, alloc, &batch)?;
+        networks.give(rt, alloc, &batch, &mut relief)?;
         first = end;
     }
     Ok(())

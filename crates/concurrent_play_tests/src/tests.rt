@@ -1,5 +1,7 @@
 //! What the prover can't say of a play, on octets from outside.
 
+mod queue;
+
 use access_point::{FrameLog, LoggedNetwork};
 use ap_config::{ConfigFault, RadioConfig};
 use concurrent_play::play_logged;

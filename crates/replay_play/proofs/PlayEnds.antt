@@ -30,6 +30,8 @@ use Rattle.text_io.specs.declared.report_fault.ReportFault.TheVariants as report
 use Rattle.play_result.specs.Faults.{callers_fit}
 use Rattle.concurrent_play.specs.Ends.{logs_of}
 use Rattle.play_result.specs.Played.{IsPlayOf}
+use Rattle.play_result.specs.declared.finish_fault.FinishFault.{FinishFault}
+use Rattle.play_result.specs.declared.finish_fault.FinishFault.TheVariants.{Uncovered}
 use Rattle.play_result.specs.declared.finished.Finished.{Finished}
 use Rattle.play_result.specs.declared.play_fault.PlayFault.{PlayFault}
 use Rattle.play_result.specs.declared.play_fault.PlayFault.TheVariants as plays
@@ -100,15 +102,16 @@ traces_play Write c ct traces old read fit is = absurd is
 pub play_fails : (e : PlayFault) (c : RadioConfig) (ct : List ℕ) (traces : List (List ℕ)) (sources : List (List Line))
     (old : Option (List ℕ)) → ArePlayable ct traces c sources
     → ((fault : ConfigFault) → e ≡ plays.Config fault → ⊥) → (e ≡ plays.Sources → ⊥)
+    → ((fault : FinishFault) → e ≡ plays.Finish fault → fault ≡ Uncovered)
     → EndsPlay (Err (of_play e)) ct traces old old
-play_fails (plays.Config fault) c ct traces sources old able config count = absurd (config fault refl)
-play_fails plays.Sources c ct traces sources old able config count = absurd (count refl)
-play_fails plays.NoThread c ct traces sources old able config count =
+play_fails (plays.Config fault) c ct traces sources old able config count finish = absurd (config fault refl)
+play_fails plays.Sources c ct traces sources old able config count finish = absurd (count refl)
+play_fails plays.NoThread c ct traces sources old able config count finish =
     record { answer = Err NoThread; allowed = (c, sources, able); taken = (refl, Keeps-refl old) }
-play_fails plays.NoMemory c ct traces sources old able config count =
+play_fails plays.NoMemory c ct traces sources old able config count finish =
     record { answer = Err NoMemory; allowed = tt; taken = Keeps-refl old }
-play_fails (plays.Finish fault) c ct traces sources old able config count =
-    record { answer = Err (Finish fault); allowed = (c, sources, able); taken = (refl, Keeps-refl old) }
+play_fails (plays.Finish fault) c ct traces sources old able config count finish =
+    record { answer = Err (Finish fault); allowed = ((c, sources, able), finish fault refl); taken = (refl, Keeps-refl old) }
 
 -- the report was cut short
 pub report_plays : (e : ReportFault) (c : RadioConfig) (ct : List ℕ) (traces : List (List ℕ)) (sources : List (List Line))

@@ -12,6 +12,7 @@ use Rattle.trace.specs.declared.fault.TraceFault.{TraceFault}
 use Rattle.text_io.specs.declared.read_fault.ReadFault.{ReadFault}
 use Rattle.play_result.specs.Faults.{callers_fit}
 use Rattle.play_result.specs.Played.{IsPlayOf}
+use Rattle.play_result.specs.declared.finish_fault.FinishFault.TheVariants.{Uncovered}
 use Rattle.play_result.specs.declared.finished.Finished.{Finished}
 use Rattle.play_result.specs.declared.play_fault.PlayFault.{PlayFault}
 use Rattle.play_result.specs.declared.play_fault.PlayFault.TheVariants as plays
@@ -61,7 +62,8 @@ pub record IsReport (config_text : List ℕ) (traces : List (List ℕ)) (report 
 
 -- What may be answered to a configuration and traces. A fault of the configuration is the first of it; it comes before
 -- the number of traces, and that before a fault of a trace. A thread that could not be started, and an access point
--- that could not be finished, come where all that is sound. Memory may run out at any point.
+-- that could not be finished, come where all that is sound; of the latter there is one fault, that a network was not
+-- given all lines of each trace. Memory may run out at any point.
 abbrev pub MayBeAnswered : List ℕ → List (List ℕ) → Result (List ℕ) PlayTextFault → Type 0
 MayBeAnswered config_text traces (Ok report) = IsReport config_text traces report
 MayBeAnswered config_text traces (Err (Config fault)) = configuration_of config_text ≡ Err fault
@@ -71,7 +73,7 @@ MayBeAnswered config_text traces (Err (Trace source fault)) =
     (callers_fit (length traces) ≡ true)
     × ((c : RadioConfig) × (configuration_of config_text ≡ Ok c) × IsFirstFault c traces source fault)
 MayBeAnswered config_text traces (Err NoThread) = Playable config_text traces
-MayBeAnswered config_text traces (Err (Finish fault)) = Playable config_text traces
+MayBeAnswered config_text traces (Err (Finish fault)) = Playable config_text traces × (fault ≡ Uncovered)
 MayBeAnswered config_text traces (Err NoMemory) = Unit {0}
 MayBeAnswered config_text traces (Err Write) = ⊥
 

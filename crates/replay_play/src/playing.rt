@@ -26,9 +26,10 @@ use trace::{Sink, read_config};
 /// what some order of the traces' lines gives, in which each trace keeps its own; which order, the threads decide.
 ///
 /// A fault is the first one of the configuration, else `Sources`, else that of the first trace that has one; these come
-/// before anything is played. `NoThread` where a thread could not be started, `Finish` where the access point could not
-/// be finished; nothing is written before it was. `Write` comes exactly where a write of `out` failed, and `NoMemory`
-/// where memory ran out; what was written by then is nothing or a prefix of the report. It may wait for other threads.
+/// before anything is played. `NoThread` where a thread could not be started, `Finish`, with `Uncovered` alone, where a
+/// network was not given all lines of each trace; nothing is written before it was. `Write` comes exactly where a write
+/// of `out` failed, and `NoMemory` where memory ran out; what was written by then is nothing or a prefix of the report. It
+/// may wait for other threads.
 pub fn play_text<R: Threads + Wait + Sync, W: Sink>(
     rt: &R,
     alloc: Global,

@@ -1,14 +1,14 @@
-use Rattle.std.proofs.Common.{◌≡◌, ◌≤◌, [], drop, length, map, vec_len}
+use Rattle.std.proofs.Common.{◌≡◌, ◌+◌, length, vec_len}
+use Rattle.std.specs.List.{AllZip}
 use Rattle.std.specs.Vec.Iter.{into_iter_items}
-use Rattle.access_point.specs.Log.{log_of}
-use Rattle.ap_config.specs.Places.{setting_in}
+use Rattle.concurrent_play.proofs.Leaves.{IsReady}
 use Rattle.concurrent_play.proofs.networks.seat_networks.Given as goal
 
--- the networks that are to come are those from the next place on
+-- those that are to come can be seated, and with those that are they are all networks
 abbrev pub invariant-loop-network : goal.invariant-loop-network
 invariant-loop-network g l =
-    let config = g.N.PlayName.config in
+    let networks = into_iter_items l.network-iterator.a in
     record {
-      rest : into_iter_items l.network-iterator ≡ drop (vec_len l.seats) (map (λ n. log_of (setting_in config n) []) config.networks);
-      within : vec_len l.seats ≤ length config.networks;
+      ready : AllZip (IsReady g.N.PlayName.config g.N.PlayName.queue) networks (into_iter_items l.network-iterator.b);
+      count : vec_len l.seats + length networks ≡ length g.N.PlayName.config.networks;
     }

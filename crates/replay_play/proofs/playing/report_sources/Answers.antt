@@ -16,7 +16,8 @@ returns-in_err-logs-clause-ends g c text traces able =
     rw (p.1, p.2)
     (play_fails c.in_err-logs.field-0.0 c.args.config text traces sources _ able
     (λ fault is. none-some fault (sym c.requires.sound ∙ (c.in_err-logs.ensures.config fault).0 (ap Err is)))
-    (λ is. true≢false (sym able.fit ∙ ap callers_fit (sym count) ∙ (c.in_err-logs.ensures.sources.0 (ap Err is)).1)))
+    (λ is. true≢false (sym able.fit ∙ ap callers_fit (sym count) ∙ (c.in_err-logs.ensures.sources.0 (ap Err is)).1))
+    (λ fault is. c.in_err-logs.ensures.finish fault (ap Err is)))
 
 pub returns-in_err-write_by_threads-clause-ends : goal.returns-in_err-write_by_threads-clause-ends
 returns-in_err-write_by_threads-clause-ends g c text traces able =

@@ -1,5 +1,9 @@
-use Rattle.std.proofs.Common.{◌≡◌, ◌<◌, length, sym, ◌∙◌, arith}
+use Rattle.std.proofs.Common.{◌≡◌, ◌<◌, ℕ, List, ◌++◌, length, sym, subst, ◌∙◌, arith}
 use Rattle.std.proofs.lemmas.List.{get_or_default}
+use Rattle.access_point.specs.Log.{log_of, sent_after}
+use Rattle.ap_config.specs.declared.setting.Setting.{Setting}
+use Rattle.events.specs.Lines.{taken_of}
+use Rattle.events.specs.declared.event.Event.{Event}
 use Rattle.events.specs.declared.line.Line.TheVariants.{Tick}
 use Rattle.concurrent_play.proofs.Seats.{takes-next}
 use Rattle.concurrent_play.proofs.seat.Seat.take_line.Goals as goal
@@ -10,17 +14,27 @@ invariant_of-self g c =
     let sources = g.N.PlayName.sources in
     let batch = c.args.batch.now in
     let seat = c.self.inside in
-    let count = c.self.invariant.1 in
+    let pushed = seat.pass.pushed in
+    let old = sent_after pushed seat.network in
+    let new = sent_after pushed c.take_heard.new.network in
+    let line = c.index-line.result.now in
+    let count = c.self.invariant.2 in
     let known = batch.known in
     let long : length seat.next.items ≡ length sources = omega (arith, count, seat.next.ok.0) in
     let inside : batch.source < length seat.next.items = omega (arith, long, known) in
     let within : c.args.place < length batch.lines.items = omega (arith, c.requires, batch.lines.ok.0) in (
       c.self.invariant.0,
       c.self.invariant.1,
+      c.self.invariant.2,
       λ fine.
-          takes-next config sources seat.next.items seat.place batch.source batch.first c.args.place c.index-line.result.now
-          batch.lines.items seat.network c.take_heard.new.network long batch.known batch.stand within
+          takes-next config sources seat.next.items seat.pass.place batch.source batch.first c.args.place line
+          batch.lines.items old new long batch.known batch.stand within
           (get_or_default seat.next.items batch.source 0 c.index.result.now inside ∙ sym c.index.ensures ∙ c.if-index-number.false)
-          (c.index-line.ensures ∙ get_or_default batch.lines.items c.args.place c.index-line.result.now Tick within)
-          (c.self.invariant.2 fine) c.in-Ok.ensures,
+          (c.index-line.ensures ∙ get_or_default batch.lines.items c.args.place line Tick within)
+          (c.self.invariant.3 fine)
+          (subst
+          (λ (p : ℕ).
+          (s : Setting) (es : List Event) → old ≡ log_of s es
+          → new ≡ log_of s (es ++ taken_of p s.network es line))
+          c.place.ensures (λ s es was. c.in-Ok.ensures s es pushed was)),
     )

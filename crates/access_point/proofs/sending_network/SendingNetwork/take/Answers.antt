@@ -1,0 +1,25 @@
+use Rattle.std.proofs.Common.{◌<◌, length, ap, arith}
+use Rattle.std.specs.Prelude.{option_to_list}
+use Rattle.network.specs.ReadEvents.{event_read}
+use Rattle.ap_config.specs.declared.setting.Setting.{Setting}
+use Rattle.access_point.specs.declared.logged_network.LoggedNetwork.{LoggedNetwork}
+use Rattle.access_point.proofs.LogSteps.{log-waits, on_ok}
+use Rattle.access_point.proofs.sending_network.SendingNetwork.take.Goals as goal
+
+pub returns-in-Ok-clause-logs : goal.returns-in-Ok-clause-logs
+returns-in-Ok-clause-logs c s es gone h =
+    let sent = c.in-Ok.sent in
+    let room : length es < s.network.max_events =
+    omega (
+      arith,
+      c.if-events-from.false,
+      c.events.ensures,
+      c.from.ensures,
+      ap (λ (t : Setting). t.network.max_events) c.setting.ensures.setting,
+      ap (λ (n : LoggedNetwork). n.network.setting.network.max_events) h,
+      ap (λ (n : LoggedNetwork). n.network.events) h,
+    ) in
+    on_ok c.keep.result
+    (log-waits (record { next = c.one_step.ensures.next; appends = c.steps_append.ensures }) s es (event_read c.args.event.now) gone c.args.self.now c.keep.new.self c.take_read_in.new.self sent.air (option_to_list sent.wire)
+    h room c.in-Ok.ensures.after c.in-Ok.ensures.air c.in-Ok.ensures.wire c.keep.ensures.network)
+    c.keep.ensures.kept
