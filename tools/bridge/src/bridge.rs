@@ -29,7 +29,7 @@ use crate::waiting::{Source, Waiter, Waiting};
 const TO_BEACON: Nanos = SECOND;
 const TO_READY: Nanos = 20 * SECOND;
 const TO_END: Nanos = 20 * SECOND;
-/// After how many frames on the air the ones are read that the radio shows as acknowledged, where nothing waits for them.
+/// After how many frames on the air the ones are read that the radio shows as acknowledged, where no frame waits for them.
 const UNREAD_ACKNOWLEDGED: u64 = AT_A_TIME as u64;
 /// How many batches of one socket are read, and pieces of the program's output, before something else is looked at.
 const IN_A_ROW: usize = 4;
@@ -507,7 +507,8 @@ impl<P: Port, C: io::Read + std::os::unix::io::AsRawFd> Bridge<P, C> {
             Some(running) if self.phase == Phase::Running => running,
             _ => return Ok(()),
         };
-        if running.sender.sent_on_air() >= running.sent_before + UNREAD_ACKNOWLEDGED {
+        let unread = running.sender.sent_on_air() - running.sent_before;
+        if unread >= UNREAD_ACKNOWLEDGED || unread > 0 && running.sender.holds_back() {
             running.receive(Token::Acknowledged, &mut self.batch, self.time)?;
             self.send()?;
         }

@@ -268,6 +268,11 @@ impl<P: Port> Sender<P> {
         self.air.awaits_outcomes()
     }
 
+    /// Whether frames wait that may go once it is known what became of those that the radio has.
+    pub fn holds_back(&self) -> bool {
+        self.air.holds_back()
+    }
+
     /// How many frames were sent on the air.
     pub fn sent_on_air(&self) -> u64 {
         self.air.sent()

@@ -343,7 +343,12 @@ impl<P: Port> Transmitter<P> {
 
     /// Whether one waits for what the radio tells of frames that it has.
     pub fn awaits_outcomes(&self) -> bool {
-        self.flight.len() > 0 && !self.shares.is_empty() || self.stations.due().is_some()
+        self.holds_back() || self.stations.due().is_some()
+    }
+
+    /// Whether frames wait that may go once it is known what became of those that the radio has.
+    pub fn holds_back(&self) -> bool {
+        self.flight.len() > 0 && !self.shares.is_empty()
     }
 
     /// From now on the radio is given all that waits, however much it has.
