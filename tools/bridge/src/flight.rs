@@ -13,6 +13,8 @@ use crate::time::{Nanos, MILLISECOND};
 
 /// How long the radio takes at most for what it has at once, unless that is one frame.
 const MOST_AT_ONCE: Nanos = 8 * MILLISECOND;
+/// A radio that takes longer for what it has is busy.
+const BUSY: Nanos = 2 * MILLISECOND;
 /// A frame of which nothing was told for so long is one of which nothing will be.
 pub const MOST_OUT: Nanos = 200 * MILLISECOND;
 /// The weight of the last outcome in what is known of the radio's pace, as a part.
@@ -69,6 +71,11 @@ impl<W> Flight<W> {
             Some(oldest) if oldest.overdue.max(oldest.since + 2 * MOST_AT_ONCE) < now => false,
             Some(_) => self.by_clock(self.reckoned + reckoned) <= MOST_AT_ONCE,
         }
+    }
+
+    /// Whether the radio takes for what it has longer than for some short frames.
+    pub fn is_busy(&self) -> bool {
+        self.by_clock(self.reckoned) > BUSY
     }
 
     /// How long the radio takes for what is reckoned to take so long, by its pace.
@@ -180,6 +187,11 @@ mod tests {
         assert_eq!(fitting(at_pace(1)), 8);
         assert_eq!(fitting(at_pace(4)), 2);
         assert_eq!(fitting(at_pace(0)), 32);
+        let mut busy = flight();
+        busy.give(name(1), (), BUSY, 0);
+        assert!(!busy.is_busy());
+        busy.give(name(2), (), 1, 0);
+        assert!(busy.is_busy());
     }
 
     #[test]

@@ -29,8 +29,10 @@ const SAMPLE_RETRIES: u8 = 1;
 const GONE_RETRIES: u8 = 1;
 /// After so many units in a row without an acknowledgement a station seems to be gone.
 const GONE: u32 = 4;
-/// Where all rates were tried, a unit is a sample after so many others, or after this time.
+/// Where all rates were tried, a unit is a sample after so many others, or after this time. A sample keeps the units
+/// behind it waiting, and so costs turns where the radio is busy: there it comes less often.
 const UNITS_PER_SAMPLE: u32 = 16;
+const UNITS_PER_SAMPLE_BUSY: u32 = 64;
 const SAMPLE_EVERY: Nanos = 500 * MILLISECOND;
 
 /// How a unit is to be sent.
@@ -128,9 +130,9 @@ impl Rates {
         Some(Rates { rates, failures: 0, since_sample: 0, sampled: 0, turn: 0 })
     }
 
-    /// How the next unit is to be sent, at this time since any fixed moment.
-    pub fn next(&mut self, now: Nanos) -> Choice {
-        match self.sample(now) {
+    /// How the next unit is to be sent, at this time since any fixed moment, where the radio is busy or isn't.
+    pub fn next(&mut self, now: Nanos, is_busy: bool) -> Choice {
+        match self.sample(now, is_busy) {
             Some(place) => {
                 self.since_sample = 0;
                 self.sampled = now;
@@ -191,7 +193,7 @@ impl Rates {
     }
 
     /// The rate to be sampled, where it is time for it.
-    fn sample(&mut self, now: Nanos) -> Option<usize> {
+    fn sample(&mut self, now: Nanos, is_busy: bool) -> Option<usize> {
         if self.failures > 0 {
             return None;
         }
@@ -203,8 +205,9 @@ impl Rates {
             0 => {}
             number => return untried.nth(number / 2),
         }
-        let is_time = self.since_sample >= UNITS_PER_SAMPLE
-            || self.since_sample > 0 && now.saturating_sub(self.sampled) >= SAMPLE_EVERY;
+        let units = if is_busy { UNITS_PER_SAMPLE_BUSY } else { UNITS_PER_SAMPLE };
+        let is_time =
+            self.since_sample >= units || self.since_sample > 0 && now.saturating_sub(self.sampled) >= SAMPLE_EVERY;
         let next = candidates.clone().find(|place| *place > self.turn).or_else(|| candidates.clone().next());
         let next = next.filter(|_| is_time)?;
         self.turn = next;
@@ -248,7 +251,7 @@ mod tests {
     fn send(rates: &mut Rates, units: u64, from: u64, most: u8) -> Vec<Choice> {
         (from..from + units)
             .map(|unit| {
-                let choice = rates.next(millis(10 * unit));
+                let choice = rates.next(millis(10 * unit), false);
                 let is_heard = choice.rate <= most;
                 let tries = if is_heard { 1 } else { choice.retries + 1 };
                 rates.told(choice.rate, tries, is_heard, choice.is_sample);
@@ -318,7 +321,7 @@ mod tests {
         let mut samples = 0;
         for second in 1..=10 {
             for part in 0..2 {
-                let choice = rates.next(millis(1000 * second + 100 * part));
+                let choice = rates.next(millis(1000 * second + 100 * part), false);
                 samples += u32::from(choice.is_sample);
                 rates.told(choice.rate, 1, choice.rate <= 12, choice.is_sample);
             }
@@ -327,12 +330,26 @@ mod tests {
     }
 
     #[test]
+    fn a_busy_radio_is_given_samples_less_often() {
+        for (is_busy, wanted) in [(false, 1000 / 17), (true, 1000 / 65)] {
+            let mut rates = Rates::common(&ALL, &ALL).unwrap();
+            send(&mut rates, 50, 0, 12);
+            let samples = (0..1000).filter(|unit| {
+                let choice = rates.next(millis(500) + *unit, is_busy);
+                rates.told(choice.rate, 1, choice.rate <= 12, choice.is_sample);
+                choice.is_sample
+            });
+            assert!(samples.count().abs_diff(wanted) <= 2);
+        }
+    }
+
+    #[test]
     fn where_a_fifth_of_all_tries_is_lost_units_stay_at_fast_rates() {
         let mut rates = Rates::common(&ALL, &ALL).unwrap();
         let mut draw = 1u64;
         let mut fast = 0;
         for unit in 0..2000 {
-            let choice = rates.next(millis(10 * unit));
+            let choice = rates.next(millis(10 * unit), false);
             let tries = (1..=choice.retries + 1).find(|_| {
                 draw = draw.wrapping_mul(6_364_136_223_846_793_005).wrapping_add(1_442_695_040_888_963_407);
                 (draw >> 33) % 5 != 0

@@ -181,8 +181,16 @@ impl Stations {
         station.map_or_else(|| self.lowest(place), |station| station.rates.again().rate)
     }
 
-    /// How a frame is sent to a station now, and whether what comes next for it waits for what becomes of it.
-    pub fn choose(&mut self, place: Place, address: Address, frame: &Rc<Vec<u8>>, now: Nanos) -> (Choice, bool) {
+    /// How a frame is sent to a station now, where the radio is busy or isn't, and whether what comes next for it waits
+    /// for what becomes of it.
+    pub fn choose(
+        &mut self,
+        place: Place,
+        address: Address,
+        frame: &Rc<Vec<u8>>,
+        is_busy: bool,
+        now: Nanos,
+    ) -> (Choice, bool) {
         let plainly = Choice { rate: self.lowest(place), retries: MOST_RETRIES, is_sample: false };
         let is_told = self.is_told();
         self.turns += 1;
@@ -194,7 +202,7 @@ impl Stations {
         let was_again = station.last.as_ref().map_or(false, |last| last.was_again && Rc::ptr_eq(&last.frame, frame));
         let choice = match (was_again, is_unit(frame)) {
             (true, _) => station.rates.again(),
-            (false, true) => station.rates.next(now),
+            (false, true) => station.rates.next(now, is_busy),
             (false, false) => plainly,
         };
         let waits = was_again || choice.is_sample || station.rates.is_in_doubt();
@@ -382,7 +390,7 @@ mod tests {
         (0..=MOST_STATIONS).for_each(|number| {
             join(&mut stations, 0, made_up(number));
             let unit = Rc::new(frame(0x08, made_up(number), BSSID, &[]));
-            stations.choose(0, Address::of(made_up(number)), &unit, 0);
+            stations.choose(0, Address::of(made_up(number)), &unit, false, 0);
         });
         assert_eq!(stations.networks[0].stations.len(), MOST_STATIONS);
         assert!(!stations.knows(0, Address::of(made_up(0))) && stations.knows(0, Address::of(made_up(1))));

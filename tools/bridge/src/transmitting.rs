@@ -462,7 +462,7 @@ impl<P: Port> Transmitter<P> {
         let (choice, waits) = match kind {
             Kind::Own { retries } => (plainly(retries), false),
             _ if address.is_group() => (plainly(0), false),
-            _ => self.stations.choose(place, address, octets, now),
+            _ => self.stations.choose(place, address, octets, self.flight.is_busy(), now),
         };
         let choice = if kind == Kind::AnswerToAll { plainly(0) } else { choice };
         let size = Size { octets: octets.len(), rate: choice.rate, is_acknowledged: true };
