@@ -49,9 +49,15 @@ impl Size {
         self.sending(number) + (0..number).map(|try_number| DIFS + backoff(self.rate, try_number)).sum::<Nanos>()
     }
 
-    /// How many tries fit into a time, and `least` where fewer do.
-    pub fn tries_within(self, most: Nanos, least: u8) -> u8 {
-        (least..u8::MAX).take_while(|number| self.tries(u32::from(number + 1)) <= most).last().map_or(least, |n| n + 1)
+    /// How many tries fit into a time, of so many at most, and `least` where fewer do.
+    pub fn tries_within(self, time: Nanos, least: u8, most: u8) -> u8 {
+        let once = DIFS + self.sending(1);
+        let mut taken = 0;
+        let fitting = (0..u32::from(most)).take_while(|try_number| {
+            taken += once + backoff(self.rate, *try_number);
+            taken <= time
+        });
+        (fitting.count() as u8).max(least)
     }
 
     fn acknowledgement(self) -> Nanos {
@@ -126,10 +132,11 @@ mod tests {
     #[test]
     fn seven_tries_of_a_long_unit_fit_25_milliseconds_at_54_megabits_and_two_at_one() {
         let most = 25_200 * MICROSECOND;
-        assert_eq!(size(1436, 108).tries_within(most, 2), 7);
-        assert_eq!(size(1436, 2).tries_within(most, 2), 2);
-        assert_eq!(size(2400, 2).tries_within(most, 2), 2);
-        assert_eq!(size(80, 2).tries_within(most, 2), 5);
+        assert_eq!(size(1436, 108).tries_within(most, 2, 11), 7);
+        assert_eq!(size(1436, 2).tries_within(most, 2, 11), 2);
+        assert_eq!(size(2400, 2).tries_within(most, 2, 11), 2);
+        assert_eq!(size(80, 2).tries_within(most, 2, 11), 5);
+        assert_eq!(size(80, 2).tries_within(most, 2, 4), 4);
         assert!(size(1436, 108).tries(7) < 23 * MILLISECOND && size(1436, 2).tries(2) < 26 * MILLISECOND);
     }
 
@@ -138,7 +145,7 @@ mod tests {
         for rate in 0..=u8::MAX {
             for octets in [0, 10, 1500, 4096] {
                 assert!(size(octets, rate).tries(1) > DIFS);
-                assert!(size(octets, rate).tries_within(0, 2) == 2);
+                assert!(size(octets, rate).tries_within(0, 2, 11) == 2);
             }
         }
     }

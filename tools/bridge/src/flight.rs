@@ -19,6 +19,7 @@ const BUSY: Nanos = 2 * MILLISECOND;
 pub const MOST_OUT: Nanos = 200 * MILLISECOND;
 /// The weight of the last outcome in what is known of the radio's pace, as a part.
 const PACE_PARTS: u64 = 8;
+const PACE_UNIT: u64 = 1024;
 /// The radio isn't taken for faster than this many times what is reckoned: short preambles and slots are half of it.
 const FASTEST: u64 = 4;
 /// Nor for slower than one that takes so long for a frame: it was away, or the bridge was.
@@ -54,6 +55,8 @@ pub struct Flight<W> {
     /// The clock's time and the reckoned time of the last outcomes, the latest counting most.
     spent: Nanos,
     took: Nanos,
+    /// How many nanoseconds of the clock go by in so many reckoned ones as `PACE_UNIT` has.
+    pace: u64,
     last_told: Nanos,
 }
 
@@ -61,7 +64,7 @@ impl<W> Flight<W> {
     /// The radio has nothing, and is taken to be as fast as is reckoned.
     pub fn new() -> Flight<W> {
         let took = PACE_PARTS * MILLISECOND;
-        Flight { frames: VecDeque::new(), reckoned: 0, spent: took, took, last_told: 0 }
+        Flight { frames: VecDeque::new(), reckoned: 0, spent: took, took, pace: PACE_UNIT, last_told: 0 }
     }
 
     /// Whether a frame that is reckoned to take so long may be given to it now.
@@ -80,9 +83,7 @@ impl<W> Flight<W> {
 
     /// How long the radio takes for what is reckoned to take so long, by its pace.
     fn by_clock(&self, reckoned: Nanos) -> Nanos {
-        let fastest = reckoned / FASTEST;
-        let scaled = u128::from(reckoned) * u128::from(self.spent) / u128::from(self.took.max(1));
-        Nanos::try_from(scaled).unwrap_or(Nanos::MAX).max(fastest)
+        (reckoned / PACE_UNIT).saturating_mul(self.pace)
     }
 
     /// The radio is given a frame.
@@ -102,6 +103,7 @@ impl<W> Flight<W> {
         self.last_told = self.last_told.max(now);
         self.spent = self.spent - self.spent / PACE_PARTS + step;
         self.took = self.took - self.took / PACE_PARTS + took(&what);
+        self.pace = (self.spent * PACE_UNIT / self.took.max(1)).max(PACE_UNIT / FASTEST);
         Some(what)
     }
 
@@ -190,7 +192,7 @@ mod tests {
         let mut busy = flight();
         busy.give(name(1), (), BUSY, 0);
         assert!(!busy.is_busy());
-        busy.give(name(2), (), 1, 0);
+        busy.give(name(2), (), PACE_UNIT, 0);
         assert!(busy.is_busy());
     }
 
@@ -200,7 +202,7 @@ mod tests {
         let mut flight = flight();
         assert!(flight.has_room(Nanos::from(u32::MAX), 0));
         flight.give(name(1), (), 7 * MILLISECOND, 0);
-        assert!(flight.has_room(MILLISECOND, 0) && !flight.has_room(MILLISECOND + 1, 0));
+        assert!(flight.has_room(MILLISECOND, 0) && !flight.has_room(MILLISECOND + PACE_UNIT, 0));
     }
 
     #[test]

@@ -15,7 +15,7 @@
 //! 4. Frames for one receiver leave in the order in which they came; one that is sent again goes first.
 //! 5. Each frame that came waits, was served or was dropped: one of them, once.
 //! 6. The work of a call doesn't grow with the frames that wait. It grows with the number of networks, and with the
-//!    logarithm of the number of receivers.
+//!    logarithm of the number of receivers; `longest` looks at each receiver of its network.
 //!
 //! A receiver may be held: its next frame waits for what becomes of the one before. It isn't waiting for a turn then.
 use std::collections::{BTreeSet, HashMap, VecDeque};
@@ -25,8 +25,9 @@ use crate::hashing::Keyed;
 use crate::lanes::Lanes;
 pub use crate::lanes::{Place, MOST_WEIGHT};
 
-/// The most receivers of a network that are known for what they owe alone.
+/// The most receivers of a network that are known for what they owe alone, and so few that nobody looks.
 const MOST_RESTING: usize = 4096;
+const FEW: usize = 64;
 
 /// The frames that wait, of several networks to several receivers.
 #[derive(Debug)]
@@ -126,7 +127,8 @@ impl<R: Copy + Ord + Hash, T> Shares<R, T> {
 
     /// The receiver for which most frames of a network wait.
     pub fn longest(&self, place: Place) -> Option<R> {
-        self.networks[place].lengths.iter().next_back().map(|(_, receiver)| *receiver)
+        let lanes = self.networks[place].lanes.iter().filter(|(_, lane)| !lane.waiting.is_empty());
+        lanes.max_by_key(|(receiver, lane)| (lane.waiting.len(), **receiver)).map(|(receiver, _)| *receiver)
     }
 
     /// Whether a frame waits for a turn.
@@ -136,7 +138,7 @@ impl<R: Copy + Ord + Hash, T> Shares<R, T> {
 
     /// Whether no frame waits, for a turn or held.
     pub fn is_empty(&self) -> bool {
-        self.networks.iter().all(|turns| turns.lengths.is_empty())
+        self.networks.iter().all(|turns| turns.waiting == 0)
     }
 }
 
@@ -147,12 +149,12 @@ struct Turns<R, T> {
     lanes: HashMap<R, Lane<T>, Keyed>,
     /// Those that wait for a turn, by their starts.
     ready: BTreeSet<(u64, R)>,
-    /// Those for which nothing waits, and which may still owe something.
-    resting: BTreeSet<(u64, R)>,
-    /// Those for which something waits, by how much.
-    lengths: BTreeSet<(usize, R)>,
+    /// How many frames wait for all of them.
+    waiting: usize,
     /// The start of the one that was served last.
     begun: u64,
+    /// With how many receivers those are looked for next that owe nothing any more.
+    many: usize,
 }
 
 /// The frames that wait for one receiver.
@@ -163,33 +165,15 @@ struct Lane<T> {
     is_held: bool,
 }
 
-/// In which set of its network a receiver stands.
-#[derive(Debug, Clone, Copy, PartialEq, Eq)]
-enum Standing {
-    Ready,
-    Resting,
-    Held,
-}
-
 impl<T> Lane<T> {
-    fn standing(&self) -> Standing {
-        match (self.is_held, self.waiting.is_empty()) {
-            (true, _) => Standing::Held,
-            (false, true) => Standing::Resting,
-            (false, false) => Standing::Ready,
-        }
+    fn is_ready(&self) -> bool {
+        !self.is_held && !self.waiting.is_empty()
     }
 }
 
 impl<R: Copy + Ord + Hash, T> Turns<R, T> {
     fn new() -> Turns<R, T> {
-        Turns {
-            lanes: HashMap::default(),
-            ready: BTreeSet::new(),
-            resting: BTreeSet::new(),
-            lengths: BTreeSet::new(),
-            begun: 0,
-        }
+        Turns { lanes: HashMap::default(), ready: BTreeSet::new(), waiting: 0, begun: 0, many: FEW }
     }
 
     fn first(&self) -> Option<(R, &T)> {
@@ -204,7 +188,6 @@ impl<R: Copy + Ord + Hash, T> Turns<R, T> {
             lane.start = start.saturating_add(cost);
             lane.waiting.pop_front()
         });
-        self.forget_rested();
         frame
     }
 
@@ -213,39 +196,33 @@ impl<R: Copy + Ord + Hash, T> Turns<R, T> {
         let begun = self.begun;
         let unknown = || Lane { waiting: VecDeque::new(), start: begun, is_held: false };
         let lane = self.lanes.entry(receiver).or_insert_with(unknown);
-        let (before, standing, key) = (lane.waiting.len(), lane.standing(), (lane.start, receiver));
+        let (before, was_ready, start) = (lane.waiting.len(), lane.is_ready(), lane.start);
         lane.start = lane.start.max(begun);
         let answer = change(lane);
-        let (after, new_key) = (lane.waiting.len(), (lane.start, receiver));
-        match standing {
-            Standing::Ready => self.ready.remove(&key),
-            Standing::Resting => self.resting.remove(&key),
-            Standing::Held => false,
-        };
-        match lane.standing() {
-            Standing::Ready => self.ready.insert(new_key),
-            Standing::Resting => self.resting.insert(new_key),
-            Standing::Held => false,
-        };
-        if before != after {
-            self.lengths.remove(&(before, receiver));
-            if after > 0 {
-                self.lengths.insert((after, receiver));
-            }
+        let (is_ready, new_start) = (lane.is_ready(), lane.start);
+        self.waiting = self.waiting + lane.waiting.len() - before;
+        if was_ready && !(is_ready && start == new_start) {
+            self.ready.remove(&(start, receiver));
+        }
+        if is_ready && !(was_ready && start == new_start) {
+            self.ready.insert((new_start, receiver));
+        }
+        if self.lanes.len() > self.many {
+            self.forget_rested();
         }
         answer
     }
 
-    /// Receivers for which nothing waits, and which owe nothing any more, are forgotten, and those that owe least where
-    /// there are too many.
+    /// Receivers for which nothing waits, and which owe nothing any more, are forgotten; where that leaves too many, all
+    /// for which nothing waits.
     fn forget_rested(&mut self) {
-        while let Some(key) = self.resting.iter().next().copied() {
-            if key.0 > self.begun && self.resting.len() <= MOST_RESTING {
-                return;
-            }
-            self.resting.remove(&key);
-            self.lanes.remove(&key.1);
+        let begun = self.begun;
+        let is_kept = |lane: &Lane<T>| lane.is_held || !lane.waiting.is_empty();
+        self.lanes.retain(|_, lane| is_kept(lane) || lane.start > begun);
+        if self.lanes.len() > MOST_RESTING {
+            self.lanes.retain(|_, lane| is_kept(lane));
         }
+        self.many = 2 * self.lanes.len() + FEW;
     }
 }
 
@@ -543,13 +520,15 @@ mod tests {
     #[test]
     fn receivers_that_owe_nothing_are_forgotten() {
         let mut shares = Shares::new([1]);
-        for receiver in 0..10_000u32 {
+        for receiver in 0..30_000u32 {
             shares.push(0, receiver, ());
             next(&mut shares, 5);
         }
-        assert_eq!(shares.networks[0].lanes.len(), MOST_RESTING);
+        let most = 2 * MOST_RESTING + FEW + 1;
+        assert!((FEW..=most).contains(&shares.networks[0].lanes.len()), "{}", shares.networks[0].lanes.len());
         (0..2).for_each(|_| shares.push(0, 7, ()));
         (0..2).for_each(|_| assert_eq!(next(&mut shares, 5), Some(())));
+        shares.networks[0].forget_rested();
         assert_eq!(shares.networks[0].lanes.len(), 1);
     }
 }

@@ -465,9 +465,12 @@ impl<P: Port> Transmitter<P> {
             _ => self.stations.choose(place, address, octets, self.flight.is_busy(), now),
         };
         let choice = if kind == Kind::AnswerToAll { plainly(0) } else { choice };
+        if choice.retries == 0 {
+            return (choice, waits);
+        }
         let size = Size { octets: octets.len(), rate: choice.rate, is_acknowledged: true };
-        let most = size.tries_within(MOST_TRYING, LEAST_TRIES) - 1;
-        (Choice { retries: choice.retries.min(most), ..choice }, waits)
+        let tries = size.tries_within(MOST_TRYING, LEAST_TRIES, choice.retries + 1);
+        (Choice { retries: tries - 1, ..choice }, waits)
     }
 
     /// Hands the chosen frames to the radio's socket.
