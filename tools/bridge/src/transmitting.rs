@@ -510,13 +510,12 @@ impl<P: Port> Transmitter<P> {
             self.shares.told(place, sent.receiver, microseconds(more));
         }
         let is_own = found.map_or_else(|| is_null_of_network(frame), |sent| sent.is_own);
-        if address.is_group() || is_own {
-            return;
-        }
-        if let Next::Again(octets) = self.stations.told(place, address, frame, outcome, now) {
-            let again = Waiting { octets, address, kind: Kind::Again, since: now };
-            self.count_in(place, &again);
-            self.shares.push_first(place, Receiver::Station(address), again);
+        if !address.is_group() && !is_own {
+            if let Next::Again(octets) = self.stations.told(place, address, frame, outcome, now) {
+                let again = Waiting { octets, address, kind: Kind::Again, since: now };
+                self.count_in(place, &again);
+                self.shares.push_first(place, Receiver::Station(address), again);
+            }
         }
         self.release(place, address);
     }
@@ -980,6 +979,21 @@ mod tests {
         driver.told(0, &first[0], 6, false);
         let again = driver.flush();
         assert_eq!((again.len(), again[0].number(), again[0].is_again()), (1, 9, true));
+    }
+
+    /// What the bridge asks a station by itself keeps nothing back once it is known what became of it.
+    #[test]
+    fn behind_a_question_of_the_bridge_frames_go_once_it_is_told_of() {
+        let mut driver = driver([1, 1]);
+        driver.at_54();
+        driver.air.send_own(0, crate::own_frames::null(OURS, STATION, 2057), 3, driver.now);
+        let asked = driver.flush();
+        assert_eq!((asked.len(), asked[0].rate, asked[0].retries), (1, 2, 3));
+        driver.now += 20 * MILLISECOND;
+        driver.send(0, of_network(0xb0, OURS, STATION, 9, vec![0, 0, 2, 0, 0, 0]));
+        assert_eq!(driver.flush(), []);
+        driver.told(0, &asked[0], 0, true);
+        assert_eq!(numbers(&driver.flush()), [9]);
     }
 
     #[test]
