@@ -6,7 +6,7 @@ use Rattle.std.specs.Bool.{OnTrue}
 use Rattle.std.proofs.lemmas.List.Elements.{All-from_get_or, All-get_or}
 use Rattle.hex.specs.Hex.{IsBytes, decode_of, decode_pairs, decode_sized, is_hex_digit, pair_value}
 use Rattle.hex.specs.declared.error.FromHexError.{FromHexError}
-use Rattle.hex.proofs.HexLemmas.{decode_of-digits, decode_of-ok, decode_sized-twice}
+use Rattle.hex.proofs.HexLemmas.{decode_of-digits, decode_of-even, decode_of-ok, decode_sized-twice}
 use Rattle.digits.proofs.Blocks.{same_pair}
 use Rattle.digits.specs.Pairs.{AreDigits, PairReads, ReadsAt}
 
@@ -43,6 +43,12 @@ covered text old new true seen last n fits len whole over before back keeps =
           (before k (omega arith))
       | inr late ↦ back k late (omega arith)
     ])
+
+-- pairs of digits are what `decode` reads
+pub reads_all : (text octets : List ℕ) (n : ℕ) (ok : Bool) → length text ≡ 2 * n
+    → OnTrue ok (decode_pairs 0 text ≡ Ok octets) → OnTrue ok (decode_of text ≡ Ok octets)
+reads_all text octets n false len reads = tt
+reads_all text octets n true len reads = decode_of-even text (omega (arith, len)) ∙ reads
 
 -- a text that spells octets is of digits alone
 digits_at : (text octets : List ℕ) → decode_of text ≡ Ok octets → AreDigits text

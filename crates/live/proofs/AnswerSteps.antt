@@ -15,13 +15,13 @@ use Rattle.trace.specs.BufferLaws.{Puts-then, Puts-nothing, Puts-same}
 use Rattle.trace.specs.Texts.{ended}
 use Rattle.live_answers.specs.AnswerText.{fault_words}
 use Rattle.live_answers.specs.Asked.{Asked, HasFault, ForTables, Brings, Says}
-use Rattle.live_answers.specs.Answers.{Answer, MayAnswer, after_line_from, after_answer, Answers, Faulty, Replies, Unread}
+use Rattle.live_answers.specs.Answers.{Answer, MayAnswer, after_line_from, after_answer, Answers, Faulty, MayReplyFrom, Replies}
 use Rattle.live_answers.specs.Dispatch.{event_at}
 use Rattle.live_answers.specs.MoreAnswers.{MoreAnswers}
 use Rattle.live_answers.specs.Moments.{Moment, one_line_more, bssid_of, bssids_at, Reply, taken_if, after_if}
 use Rattle.live.specs.Networks.{IsMoment}
 use Rattle.live.specs.Output.{AreAnswered, through}
-use Rattle.live.specs.Readings.{IsReading, IsUnread}
+use Rattle.live.specs.Readings.{IsReading}
 use Rattle.live_output.specs.Written.{written_answer}
 use Rattle.live.specs.declared.reading.Reading.{Reading}
 use Rattle.live.specs.declared.reading.Reading.TheVariants as reading
@@ -156,11 +156,24 @@ answered-fault taken failed face lines number ns said fault old new count (inl i
 answered-fault taken failed face lines number ns said fault old new count (inr is) puts =
     answered-reading taken failed face lines number ns ns said (Says (Err fault)) (Faulty fault) old new count is refl refl puts
 
+-- a line or a record that the networks replied to
+pub answered-line : {W : Type 0} (taken : W → Option (List ℕ)) (failed : W → ℕ) (face : Face) (lines number : ℕ)
+    (ns next : List NetworkState) (said : Asked) (line : Line) (replies : List (Option Reply)) (old new : Buffered W)
+    → number ≡ lines + 1 → (said ≡ Brings line) ⊎ (said ≡ Says (Ok (Some line)))
+    → MayReplyFrom 0 ns line replies → next ≡ after_line_from 0 ns line replies
+    → Puts (watch taken failed) old new (written_answer face (map bssid_of ns) number (Replies replies))
+    → AreAnswered (through face (watch taken failed) old new) (at lines ns) (at number next) (said ∷ [])
+answered-line taken failed face lines number ns next said line replies old new count (inl is) may after puts =
+    answered-reading taken failed face lines number ns next said (Brings line) (Replies replies) old new count is may
+    (ap (λ (ms : List NetworkState). at (lines + 1) ms) after) puts
+answered-line taken failed face lines number ns next said line replies old new count (inr is) may after puts =
+    answered-reading taken failed face lines number ns next said (Says (Ok (Some line))) (Replies replies) old new count
+    is may (ap (λ (ms : List NetworkState). at (lines + 1) ms) after) puts
+
 -- something is said that was read so
 said-for : (reading : Reading) → (said : Asked) × IsReading reading said
 said-for reading.Nothing = (Says (Ok None), refl)
-said-for (reading.Line said) = (Says (Ok (Some said)), refl)
-said-for (reading.Record lent) = (Brings (line_of lent), refl)
+said-for (reading.Line lent) = (Brings (line_of lent), inl refl)
 said-for reading.Tables = (ForTables, refl)
 said-for (reading.Fault fault) = (HasFault fault, inl refl)
 
@@ -171,23 +184,6 @@ pub moment-reading : {W : Type 0} (taken : W → Option (List ℕ)) (failed : W 
 moment-reading taken failed face reading m next old new h all =
     let some = said-for reading in
     moment-answered taken failed face m next (some.0 ∷ []) old new h (all some.0 some.1)
-
--- it was not read
-unread-after : (m : Moment) (said : Result (Option Line) LineFault) → one_line_more m ≡ after_answer m (Says said) Unread
-unread-after m (Ok None) = refl
-unread-after m (Ok (Some line)) = refl
-unread-after m (Err fault) = refl
-
-pub answered-unread : {W : Type 0} (taken : W → Option (List ℕ)) (failed : W → ℕ) (lines : ℕ) (ns : List NetworkState)
-    (m : Moment) (said : Asked) (old new : Buffered W) → at lines ns ≡ m → IsUnread said
-    → Puts (watch taken failed) old new (ended (fault_words (codes "memory") (lines + 1)))
-    → AreAnswered (through Lines (watch taken failed) old new) m (at (lines + 1) ns) (said ∷ [])
-answered-unread taken failed lines ns m said old new view u puts =
-    subst
-    (λ (o : Moment). AreAnswered (through Lines (watch taken failed) old new) o (at (lines + 1) ns) (said ∷ []))
-    view
-    (answered-reading taken failed Lines lines (lines + 1) ns ns said (Says u.said) Unread old new refl u.is u.may
-    (unread-after (at lines ns) u.said) puts)
 
 -- a line more has ended, and no network has changed
 pub moment-line : (lines : ℕ) (ns : List NetworkState) → IsMoment (at lines ns) → IsMoment (at (lines + 1) ns)

@@ -2,7 +2,6 @@ pub mod MoreWritten
 pub mod Pieces
 pub mod Rows
 pub mod PartialSteps
-pub mod UnreadLines
 pub mod ReplySteps
 pub mod AnswerSteps
 pub mod FeedSteps

@@ -17,7 +17,7 @@ use Rattle.trace.specs.declared.fault.LineFault.TheVariants.{UnknownKind, Unknow
 use Rattle.live_answers.specs.TextLines.{Octets, TooLong, line_with, lines_of_text, partial_in, lines_in, partial_after, last_line}
 use Rattle.live_answers.specs.Moments.{Moment, first_moment, Sends, Refuses, is_past_clock, reply_of, taken_if, after_if}
 use Rattle.live_answers.specs.Asked.{HasFault, ForTables, Brings, Says, asked_by}
-use Rattle.live_answers.specs.Answers.{Answer, Faulty, Replies, Tables, Unread, MayAnswer, after_answer}
+use Rattle.live_answers.specs.Answers.{Answer, Faulty, Replies, Tables, MayAnswer, after_answer}
 use Rattle.live_answers.specs.AnswerText.{table_text}
 use Rattle.live_output.specs.AnswerOctets.{record_of, told}
 use Rattle.live_answers.specs.Records.{record_asks, record_len}
@@ -154,22 +154,6 @@ unfolding digits
 the_line_after_a_fault_is_read = refl
 
 -- ---- refusals
-
-pub a_string_may_not_be_read : MayAnswer start (Says (Ok (Some (line.Air [])))) Unread
-a_string_may_not_be_read = tt
-
-pub a_tick_is_always_read : MayAnswer start (Says (Ok (Some line.Tick))) Unread → ⊥
-a_tick_is_always_read h = h
-
-pub a_record_is_always_read : MayAnswer start (Brings (line.Air [])) Unread → ⊥
-a_record_is_always_read h = cc
-
-pub and_then_nothing_changes : after_answer start (Says (Ok (Some (line.Air [])))) Unread ≡ record start { lines = 1 }
-and_then_nothing_changes = refl
-
-pub it_is_told_so : written_answers Lines bssids 7 (Unread ∷ []) ≡ codes "fault memory line 7" ++ lf
-unfolding digits
-it_is_told_so = refl
 
 -- one network refuses, and the next takes the line
 abbrev refused : Answer

@@ -59,8 +59,8 @@ impl Live {
 
     /// Takes the next piece of the text, where it is short enough that fewer than 2^62 lines can have ended, and has
     /// the sink take the answers to the lines that end in it, of which the first may have begun before it. Nothing is
-    /// held back for a later call. It takes memory for what the lines say and for what the networks keep; where
-    /// memory ran out, the answer to the line says so. `Failed` comes exactly where a write of the sink failed,
+    /// held back for a later call. It takes memory for what the networks keep; where memory ran out, the answer to
+    /// the line says so, of each network that refused it. `Failed` comes exactly where a write of the sink failed,
     /// which has then taken a prefix of the answers; the networks hear all these lines even so.
     pub fn feed<W: Sink>(&mut self, piece: &[u8], out: &mut W) -> Result<(), Failed>
         requires countable { self.old.moment.lines + length piece.now < 2 ^ 62 }

@@ -1,6 +1,6 @@
 //! The networks of a configuration, which answer one line or record after another.
 
-ghost use Rattle.std.specs.Prelude.{◌≡◌, ◌+◌, ◌<◌, ◌^◌, ◌∷◌, [], ℕ, None, IfOk, option_map};
+ghost use Rattle.std.specs.Prelude.{◌≡◌, ◌+◌, ◌<◌, ◌^◌, ◌∷◌, [], None, IfOk, option_map};
 ghost use Rattle.std.specs.List.{AllByRecursion};
 ghost use Rattle.ap_config.specs.Configuration.{fault_of};
 ghost use Rattle.trace.specs.Buffers.{CanWrite, Puts, watch};
@@ -8,7 +8,7 @@ ghost use Rattle.live_answers.specs.Asked.{Asked, asked_in};
 ghost use Rattle.live_answers.specs.Moments.{bssids_at, first_moment};
 ghost use Rattle.live.specs.Output.{AreAnswered, through};
 ghost use Rattle.live.specs.PartialLine.{line_in};
-ghost use Rattle.live.specs.Readings.{IsReading, IsUnread};
+ghost use Rattle.live.specs.Readings.{IsReading};
 ghost use Rattle.live_answers.specs.Records.{IsRecord, records_ask};
 ghost use Rattle.live_output.specs.Written.{written_tables};
 ghost use Rattle.live_output.specs.declared.face.Face.TheVariants as faces;
@@ -17,18 +17,18 @@ use crate::reading::{Reading, read_line, read_record};
 use crate::reply::reply_all;
 use access_point::AccessPoint;
 use ap_config::RadioConfig;
-use live_output::{Face, put_fault, put_tables, put_unread};
+use live_output::{Face, put_fault, put_tables};
 use mac_frame::NoMemory;
 use network::Network;
 use std::alloc::Global;
 use std::marker::Model;
-use trace::{Buffered, Sink};
+use trace::{Buffered, LineBuffer, Sink};
 
 /// The networks of a configuration, between two lines. Contracts see the moment.
 #[derive(Drop)]
 pub struct Networks {
-    alloc: Global,
     access_point: AccessPoint<Network>,
+    buffer: LineBuffer,
     lines: u64,
 }
 
@@ -50,8 +50,8 @@ impl Networks {
         ensures { IfOk result (λ networks. networks ≡ first_moment config) }
     {
         Ok(Networks {
-            alloc,
             access_point: AccessPoint::open(alloc, config)?,
+            buffer: LineBuffer::new(alloc)?,
             lines: 0,
         })
     }
@@ -71,25 +71,17 @@ impl Networks {
         ensures { AreAnswered (through faces.Lines (watch W.taken W.failed) out.old out.new)
             self.old self.new (asked_in self.old (line_in (option_map (λ octets. octets.now) line.entry) ∷ [])) }
     {
-        match read_line(self.alloc, self.access_point.bssids(), line) {
-            Ok(reading) => self.answer(Face::Lines, reading, out),
-            Err(NoMemory) => self.answer_unread(out),
-        }
+        let reading = read_line(&mut self.buffer, self.access_point.bssids(), line);
+        answer_reading(
+            Face::Lines,
+            &mut self.access_point,
+            &mut self.lines,
+            reading,
+            out,
+        );
     }
 
-    /// Answers that the next line could not be read since memory ran out. Fewer than 2^62 ended before it.
-    fn answer_unread<W: Sink>(&mut self, out: &mut Buffered<'_, W>)
-        requires countable { self.old.lines < 2 ^ 62 }
-        requires can_write { CanWrite W.failed out.old }
-        ensures { (said : Asked) → IsUnread said
-            → AreAnswered (through faces.Lines (watch W.taken W.failed) out.old out.new) self.old self.new (said ∷ []) }
-    {
-        let number = self.lines + 1;
-        put_unread(out, number);
-        self.lines = number;
-    }
-
-    /// Answers the next record, whose reading takes no memory. Fewer than 2^62 ended before it.
+    /// Answers the next record. Fewer than 2^62 ended before it.
     pub fn answer_record<W: Sink>(&mut self, octets: &[u8], out: &mut Buffered<'_, W>)
         requires record { IsRecord octets.now }
         requires countable { self.old.lines < 2 ^ 62 }
@@ -108,9 +100,7 @@ impl Networks {
         ensures { (said : Asked) → IsReading reading.entry said
             → AreAnswered (through face (watch W.taken W.failed) out.old out.new) self.old self.new (said ∷ []) }
     {
-        self.lines += 1;
-        let number = self.lines;
-        answer_reading(face, &mut self.access_point, reading, number, out);
+        answer_reading(face, &mut self.access_point, &mut self.lines, reading, out);
     }
 
     /// Puts the table of each network, in order of place.
@@ -122,25 +112,29 @@ impl Networks {
     }
 }
 
-/// Answers what was read of the line or record of a number.
+/// Answers what was read of the line or record after so many.
+#[inline(always)]
 fn answer_reading<W: Sink>(
     face: Face,
     access_point: &mut AccessPoint<Network>,
+    lines: &mut u64,
     reading: Reading<'_>,
-    number: u64,
     out: &mut Buffered<'_, W>,
 )
     requires countable { AllByRecursion (λ n. n.events < 2 ^ 62) access_point.old }
+    requires fits { lines.old < 2 ^ 62 }
     requires can_write { CanWrite W.failed out.old }
-    ensures { (lines : ℕ) (said : Asked) → number ≡ lines + 1 → IsReading reading.entry said
+    ensures { (said : Asked) → IsReading reading.entry said
         → AreAnswered (through face (watch W.taken W.failed) out.old out.new)
-        (record { lines = lines; networks = access_point.old }) (record { lines = number; networks = access_point.new })
+        (record { lines = lines.old; networks = access_point.old })
+        (record { lines = lines.new; networks = access_point.new })
         (said ∷ []) }
 {
+    *lines += 1;
+    let number = *lines;
     match reading {
         Reading::Nothing => {}
-        Reading::Line(line) => reply_all(face, access_point, line.lend(), number, out),
-        Reading::Record(line) => reply_all(face, access_point, line, number, out),
+        Reading::Line(line) => reply_all(face, access_point, line, number, out),
         Reading::Tables => put_tables(face, out, access_point.networks()),
         Reading::Fault(fault) => put_fault(face, out, fault, number),
     }

@@ -4,14 +4,13 @@ ghost use Rattle.std.specs.Prelude.{◌≡◌, ◌&&◌, ◌==◌, Some, codes, 
 ghost use Rattle.std.specs.Str.{bytes_eq};
 ghost use Rattle.live_answers.specs.Asked.{asked_by};
 ghost use Rattle.live.specs.PartialLine.{line_in};
-ghost use Rattle.live.specs.Readings.{IsLineReading, IsReading};
+ghost use Rattle.live.specs.Readings.{IsReading};
 ghost use Rattle.live_answers.specs.Records.{IsRecord, air_record, kind_asks, nobody, record_asks, wire_record};
 
 use crate::record::HEADER_LEN;
-use events::{LentLine, Line};
-use mac_frame::{MacAddr, NoMemory, address_at};
-use std::alloc::Global;
-use trace::{LineFault, ReadFault, place_with, read_content, without_spaces_at_end};
+use events::LentLine;
+use mac_frame::{MacAddr, address_at};
+use trace::{LineBuffer, LineFault, place_with, read_content, without_spaces_at_end};
 
 /// What a line says that asks for tables.
 const TABLES: &[u8] = b"I";
@@ -24,44 +23,41 @@ const MAX_OCTETS: usize = 4096;
 pub enum Reading<'a> {
     /// A line that is skipped.
     Nothing,
-    /// Something happened, as a line says.
-    Line(Line),
-    /// Something happened, as a record says, whose octets stay where they are.
-    Record(LentLine<'a>),
+    /// Something happened, whose octets stay where they are.
+    Line(LentLine<'a>),
     /// The tables are asked for.
     Tables,
     /// It has this fault.
     Fault(LineFault),
 }
 
-/// What a line says to networks with these addresses, taken without what ends it; `None` is one that is too long.
-/// `NoMemory` where memory ran out, which only a line of a string or of a frame takes.
-pub fn read_line(
-    alloc: Global,
+/// What a line says to networks with these addresses, taken without what ends it; `None` is one that is too long. It
+/// takes no memory: what the line says stands in the buffer.
+pub fn read_line<'a>(
+    buffer: &'a mut LineBuffer,
     bssids: &[MacAddr],
     line: Option<&[u8]>,
-) -> Result<Reading<'static>, NoMemory>
-    ensures { IsLineReading result (asked_by bssids.now (line_in (option_map (λ octets. octets.now) line.entry))) }
+) -> Reading<'a>
+    ensures { IsReading result (asked_by bssids.now (line_in (option_map (λ octets. octets.now) line.entry))) }
 {
     match line {
-        Some(octets) => read_octets(alloc, bssids, octets),
-        None => Ok(Reading::Fault(LineFault::TooMany)),
+        Some(octets) => read_octets(buffer, bssids, octets),
+        None => Reading::Fault(LineFault::TooMany),
     }
 }
 
 /// What a line says that is not too long.
-fn read_octets(alloc: Global, bssids: &[MacAddr], line: &[u8]) -> Result<Reading<'static>, NoMemory>
-    ensures { IsLineReading result (asked_by bssids.now (line_in (Some line.now))) }
+fn read_octets<'a>(buffer: &'a mut LineBuffer, bssids: &[MacAddr], line: &[u8]) -> Reading<'a>
+    ensures { IsReading result (asked_by bssids.now (line_in (Some line.now))) }
 {
     let content = without_spaces_at_end(line);
     if asks_for_tables(content) {
-        return Ok(Reading::Tables);
+        return Reading::Tables;
     }
-    match read_content(alloc, bssids, content) {
-        Ok(None) => Ok(Reading::Nothing),
-        Ok(Some(said)) => Ok(Reading::Line(said)),
-        Err(ReadFault::At(fault)) => Ok(Reading::Fault(fault)),
-        Err(ReadFault::NoMemory) => Err(NoMemory),
+    match read_content(buffer, bssids, content) {
+        Ok(None) => Reading::Nothing,
+        Ok(Some(said)) => Reading::Line(said),
+        Err(fault) => Reading::Fault(fault),
     }
 }
 
@@ -90,7 +86,7 @@ fn read_kind<'a>(bssids: &[MacAddr], kind: u8, bssid: MacAddr, octets: &'a [u8])
     match kind {
         b'A' => read_air(bssid, octets),
         b'W' => read_wire(place_with(bssid, bssids), octets),
-        b'T' if is_bare(bssid, octets) => Reading::Record(LentLine::Tick),
+        b'T' if is_bare(bssid, octets) => Reading::Line(LentLine::Tick),
         b'I' if is_bare(bssid, octets) => Reading::Tables,
         _ => Reading::Fault(LineFault::UnknownKind),
     }
@@ -106,7 +102,7 @@ fn read_air(bssid: MacAddr, octets: &[u8]) -> Reading<'_>
     if octets.len() > MAX_OCTETS {
         return Reading::Fault(LineFault::TooMany);
     }
-    Reading::Record(LentLine::Air(octets))
+    Reading::Line(LentLine::Air(octets))
 }
 
 /// What a record says of a frame that came over the wire to the network at a place, if there is one.
@@ -119,7 +115,7 @@ fn read_wire(place: Option<usize>, octets: &[u8]) -> Reading<'_>
     if octets.len() > MAX_OCTETS {
         return Reading::Fault(LineFault::TooMany);
     }
-    Reading::Record(LentLine::Wire { place, octets })
+    Reading::Line(LentLine::Wire { place, octets })
 }
 
 /// Whether a record says no more than its kind.

@@ -9,7 +9,7 @@ use Rattle.network.specs.declared.network.NetworkRefusal.TheVariants.{NoMemory, 
 use Rattle.live_answers.specs.Dispatch.{event_at}
 use Rattle.live_answers.specs.Moments.{Moment, Reply, Sends, Refuses, is_past_clock, reply_of, MayReply, reply_if, MayReplyIf}
 use Rattle.live_answers.specs.Asked.{Asked, HasFault, ForTables, Brings, Says}
-use Rattle.live_answers.specs.Answers.{Answer, Replies, Unread, replies_from, MayReplyFrom, answer_of, MayAnswer, after_answer, Answers, answers_of, HasMemory, IsUnrefused, AreUnrefused}
+use Rattle.live_answers.specs.Answers.{Answer, Replies, replies_from, MayReplyFrom, answer_of, MayAnswer, after_answer, Answers, answers_of, HasMemory, IsUnrefused, AreUnrefused}
 
 -- ---- what must be
 
@@ -40,7 +40,6 @@ answer-only m (Brings line) (Replies rs) h k =
     ap (λ (r : List (Option Reply)). Replies r) (line-only 0 m.networks line rs h k)
 answer-only m (Says (Ok (Some line))) (Replies rs) h k =
     ap (λ (r : List (Option Reply)). Replies r) (line-only 0 m.networks line rs h k)
-answer-only m asked Unread h k = absurd k
 answer-only m asked answer h k = h
 
 pub answers-only : (m : Moment) (said : List Asked) (answers : List Answer) (next : Moment)

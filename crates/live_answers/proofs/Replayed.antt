@@ -31,7 +31,7 @@ use Rattle.trace.specs.declared.fault.LineFault.{LineFault}
 use Rattle.trace.specs.declared.fault.LineFault.TheVariants.{UnknownKind, TooMany}
 use Rattle.trace.specs.declared.fault.TraceFault.{TraceFault}
 use Rattle.live_answers.specs.Asked.{Asked, HasFault, ForTables, Brings, Says, asks_for_tables, asked_by, asked_by_all, asked_in}
-use Rattle.live_answers.specs.Answers.{Answer, Nothing, Replies, Tables, Faulty, Unread, MayAnswer, after_answer, Answers, HasMemory, IsUnrefused, AreUnrefused}
+use Rattle.live_answers.specs.Answers.{Answer, Nothing, Replies, Tables, Faulty, MayAnswer, after_answer, Answers, HasMemory, IsUnrefused, AreUnrefused}
 use Rattle.live_answers.specs.Moments.{Moment, first_moment, bssid_of, Reply, Sends, Refuses, is_past_clock, sending, MayReplyIf, taken_if}
 use Rattle.live_answers.specs.Own.{event_in, reply_in, events_taken, events_at, alone_after, course, line_said, AreLines, IsTrace, IsLikeTrace, IsShown, IsAlone}
 use Rattle.live_answers.specs.TextLines.{max_line, line_with, lines_of_text}
@@ -168,7 +168,6 @@ reply-said place m n line (Replies rs) h k e = (at-place 0 place place m.network
 reply-said place m n line Nothing h k e = absurd (cc)
 reply-said place m n line (Tables ns) h k e = absurd (cc)
 reply-said place m n line (Faulty f) h k e = absurd (cc)
-reply-said place m n line Unread h k e = absurd k
 
 reply-read : (place : ℕ) (m : Moment) (n : NetworkState) (asked : Asked) (said : Option Line) (answer : Answer)
     → line_said asked ≡ Some said → MayAnswer m asked answer → IsUnrefused answer → slice_get m.networks place ≡ Some n
@@ -184,7 +183,6 @@ reply-read place m n (Says (Ok (Some line))) said (Replies rs) is h k e =
 reply-read place m n (Says (Ok (Some line))) said Nothing is h k e = absurd (cc)
 reply-read place m n (Says (Ok (Some line))) said (Tables ns) is h k e = absurd (cc)
 reply-read place m n (Says (Ok (Some line))) said (Faulty f) is h k e = absurd (cc)
-reply-read place m n (Says (Ok (Some line))) said Unread is h k e = absurd k
 
 event-line : (place : ℕ) (bssid : List ℕ) (line : Line)
     → option_to_list (event_for place bssid line) ≡ heard place bssid (option_to_list (Some line))

@@ -21,9 +21,9 @@ use Rattle.trace.specs.Texts.{ended, is_line_feed}
 use Rattle.trace.specs.TraceText.{max_octets, is_space, without_spaces_at_end, without_spaces_at_start, first_word, after_first_word, digits_of, octets_of, within_limit, place_with, place_named}
 use Rattle.trace.specs.declared.fault.LineFault.{LineFault}
 use Rattle.trace.specs.declared.fault.LineFault.TheVariants.{UnknownNetwork, NoAddress}
-use Rattle.live_answers.specs.Answers.{Answer, Nothing, Replies, Tables, Faulty, Unread, MayAnswer, after_answer, Answers}
+use Rattle.live_answers.specs.Answers.{Answer, Nothing, Replies, Tables, Faulty, MayAnswer, after_answer, Answers}
 use Rattle.live_answers.specs.Asked.{Asked, HasFault, ForTables, Brings, Says, asked_by, asked_by_all}
-use Rattle.live_answers.specs.BothFaces.{Input, Heard, Wired, Interval, Question, IsInput, then_word, line_for, text_for, record_with, record_for, octets_for, SaySame, AllSaySame, IsRead}
+use Rattle.live_answers.specs.BothFaces.{Input, Heard, Wired, Interval, Question, IsInput, then_word, line_for, text_for, record_with, record_for, octets_for, SaySame, AllSaySame}
 use Rattle.live_answers.specs.Moments.{Moment}
 use Rattle.live_answers.specs.Records.{IsRecord, AreRecords, record_asks, records_ask, wire_record}
 use Rattle.live_answers.specs.TextLines.{TextLine, Octets, line_with, lines_of_text, max_line}
@@ -425,7 +425,6 @@ line-both m line Nothing h = absurd (cc)
 line-both m line (Replies rs) h = record { may = h; after = refl }
 line-both m line (Tables ns) h = absurd (cc)
 line-both m line (Faulty f) h = absurd (cc)
-line-both m line Unread h = absurd (cc)
 
 to-line : (m : Moment) (brought said : Asked) (answer : Answer) → SaySame brought said → MayAnswer m brought answer
     → MayBoth m said answer (after_answer m brought answer)
@@ -452,13 +451,12 @@ to-lines m (brought ∷ records) (said ∷ lines) (answer ∷ answers) next same
           (to-lines (after_answer m brought answer) records lines answers next same.1 h.1),
     )
 
-fault-back : (m : Moment) (fault : LineFault) (answer : Answer) → IsRead answer → MayAnswer m (Says (Err fault)) answer
+fault-back : (m : Moment) (fault : LineFault) (answer : Answer) → MayAnswer m (Says (Err fault)) answer
     → answer ≡ Faulty fault
-fault-back m fault Nothing r h = h
-fault-back m fault (Replies rs) r h = h
-fault-back m fault (Tables ns) r h = h
-fault-back m fault (Faulty f) r h = h
-fault-back m fault Unread r h = absurd r
+fault-back m fault Nothing h = h
+fault-back m fault (Replies rs) h = h
+fault-back m fault (Tables ns) h = h
+fault-back m fault (Faulty f) h = h
 
 fault-read : (m : Moment) (fault : LineFault) (answer : Answer) → answer ≡ Faulty fault
     → MayBoth m (HasFault fault) answer (after_answer m (Says (Err fault)) answer)
@@ -467,39 +465,37 @@ fault-read m fault answer is =
     (λ (a : Answer). MayBoth m (HasFault fault) a (after_answer m (Says (Err fault)) a))
     (sym is) (record { may = refl; after = refl })
 
-line-read : (m : Moment) (line : Line) (answer : Answer) → IsRead answer → MayAnswer m (Says (Ok (Some line))) answer
+line-read : (m : Moment) (line : Line) (answer : Answer) → MayAnswer m (Says (Ok (Some line))) answer
     → MayBoth m (Brings line) answer (after_answer m (Says (Ok (Some line))) answer)
-line-read m line Nothing r h = absurd (cc)
-line-read m line (Replies rs) r h = record { may = h; after = refl }
-line-read m line (Tables ns) r h = absurd (cc)
-line-read m line (Faulty f) r h = absurd (cc)
-line-read m line Unread r h = absurd r
+line-read m line Nothing h = absurd (cc)
+line-read m line (Replies rs) h = record { may = h; after = refl }
+line-read m line (Tables ns) h = absurd (cc)
+line-read m line (Faulty f) h = absurd (cc)
 
-to-record : (m : Moment) (brought said : Asked) (answer : Answer) → SaySame brought said → IsRead answer
+to-record : (m : Moment) (brought said : Asked) (answer : Answer) → SaySame brought said
     → MayAnswer m said answer → MayBoth m brought answer (after_answer m said answer)
-to-record m (HasFault fault) said answer is r h =
+to-record m (HasFault fault) said answer is h =
     subst (λ (s : Asked). MayBoth m (HasFault fault) answer (after_answer m s answer)) (sym is)
-    (fault-read m fault answer (fault-back m fault answer r (subst (λ (s : Asked). MayAnswer m s answer) is h)))
-to-record m ForTables said answer is r h =
+    (fault-read m fault answer (fault-back m fault answer (subst (λ (s : Asked). MayAnswer m s answer) is h)))
+to-record m ForTables said answer is h =
     subst (λ (s : Asked). MayBoth m ForTables answer (after_answer m s answer)) (sym is)
     (record { may = subst (λ (s : Asked). MayAnswer m s answer) is h; after = refl })
-to-record m (Brings line) said answer is r h =
+to-record m (Brings line) said answer is h =
     subst (λ (s : Asked). MayBoth m (Brings line) answer (after_answer m s answer)) (sym is)
-    (line-read m line answer r (subst (λ (s : Asked). MayAnswer m s answer) is h))
-to-record m (Says result) said answer is r h = absurd is
+    (line-read m line answer (subst (λ (s : Asked). MayAnswer m s answer) is h))
+to-record m (Says result) said answer is h = absurd is
 
 pub to-records : (m : Moment) (records lines : List Asked) (answers : List Answer) (next : Moment)
-    → AllSaySame records lines → AllByRecursion IsRead answers → Answers m lines answers next
-    → Answers m records answers next
-to-records m [] [] answers next same r h = h
-to-records m [] (said ∷ lines) answers next same r h = absurd (cc)
-to-records m (brought ∷ records) [] answers next same r h = absurd same
-to-records m (brought ∷ records) (said ∷ lines) [] next same r h = absurd h
-to-records m (brought ∷ records) (said ∷ lines) (answer ∷ answers) next same r h =
-    let one = to-record m brought said answer same.0 r.0 h.0 in (
+    → AllSaySame records lines → Answers m lines answers next → Answers m records answers next
+to-records m [] [] answers next same h = h
+to-records m [] (said ∷ lines) answers next same h = absurd (cc)
+to-records m (brought ∷ records) [] answers next same h = absurd same
+to-records m (brought ∷ records) (said ∷ lines) [] next same h = absurd h
+to-records m (brought ∷ records) (said ∷ lines) (answer ∷ answers) next same h =
+    let one = to-record m brought said answer same.0 h.0 in (
       one.may,
       subst
           (λ (o : Moment). Answers o records answers next)
           (sym one.after)
-          (to-records (after_answer m said answer) records lines answers next same.1 r.1 h.1),
+          (to-records (after_answer m said answer) records lines answers next same.1 h.1),
     )

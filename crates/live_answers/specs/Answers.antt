@@ -4,10 +4,8 @@ use Rattle.std.specs.Prelude.{IfSome}
 use Rattle.std.specs.List.{AllByRecursion}
 use Rattle.network.specs.NetworkView.{NetworkState}
 use Rattle.events.specs.declared.line.Line.{Line}
-use Rattle.events.specs.declared.line.Line.TheVariants as line
 use Rattle.network.specs.declared.network.NetworkRefusal.TheVariants.{NoMemory, Clock}
 use Rattle.trace.specs.declared.fault.LineFault.{LineFault}
-use Rattle.trace.specs.declared.fault.LineFault.TheVariants.{UnknownKind}
 use Rattle.live_answers.specs.Asked.{Asked, HasFault, ForTables, Brings, Says}
 use Rattle.live_answers.specs.Dispatch.{event_at}
 use Rattle.live_answers.specs.Moments.{Moment, one_line_more, Reply, Sends, Refuses, reply_if, MayReplyIf, taken_if}
@@ -16,13 +14,12 @@ use Rattle.live_answers.specs.Moments.{after_if}
 -- ---- what is answered
 
 -- Nothing, to a line that is skipped; by place, the reply of each network to which the line is an event; the networks
--- of the moment; a fault; or that the line could not be read since memory ran out.
+-- of the moment; or a fault.
 pub data Answer : Type 0 where
   Nothing : Answer
   Replies : List (Option Reply) → Answer
   Tables : List NetworkState → Answer
   Faulty : LineFault → Answer
-  Unread : Answer
 
 -- ---- the networks from a place on
 
@@ -55,18 +52,9 @@ answer_of m (Says (Ok None)) = Nothing
 answer_of m (Says (Ok (Some line))) = Replies (replies_from 0 m.networks line)
 answer_of m (Says (Err fault)) = Faulty fault
 
--- Only a line of a string or of a frame takes memory: one that is skipped, a tick, and one of another word never do.
-abbrev pub MayBeUnread : Result (Option Line) LineFault → Type 0
-MayBeUnread (Ok None) = ⊥
-MayBeUnread (Ok (Some line.Tick)) = ⊥
-MayBeUnread (Err UnknownKind) = ⊥
-MayBeUnread said = Unit {0}
-
--- Such a line may stay unread where memory runs out; and where a line is read, each network may refuse it so. Records,
--- tables and faults that are found without memory take none: a record is never unread.
+-- Reading takes no memory, so that nothing stays unread. Each network may refuse a line where memory runs out.
 abbrev pub MayAnswer : Moment → Asked → Answer → Type 0
 MayAnswer m (Brings line) (Replies replies) = MayReplyFrom 0 m.networks line replies
-MayAnswer m (Says said) Unread = MayBeUnread said
 MayAnswer m (Says (Ok (Some line))) (Replies replies) = MayReplyFrom 0 m.networks line replies
 MayAnswer m asked answer = answer ≡ answer_of m asked
 
@@ -109,7 +97,6 @@ IsUnrefused Nothing = Unit {0}
 IsUnrefused (Replies replies) = AllByRecursion (λ reply. IfSome reply HasMemory) replies
 IsUnrefused (Tables networks) = Unit {0}
 IsUnrefused (Faulty fault) = Unit {0}
-IsUnrefused Unread = ⊥
 
 -- nothing was refused for memory in any of them
 abbrev pub AreUnrefused : List Answer → Type 0

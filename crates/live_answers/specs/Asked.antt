@@ -8,9 +8,8 @@ use Rattle.trace.specs.declared.fault.LineFault.TheVariants.{TooMany}
 use Rattle.live_answers.specs.Moments.{Moment, bssids_at}
 use Rattle.live_answers.specs.TextLines.{TextLine, Octets, TooLong}
 
--- A fault that is found without memory; a question for what the report says of each network but for its frames; what a
--- record brings, whose octets stay where they are, so that reading it takes no memory; or what a line of a trace says,
--- with its first fault.
+-- A fault of a record or of a line that is too long; a question for what the report says of each network but for its
+-- frames; what a record brings; or what a line of a trace says, with its first fault.
 pub data Asked : Type 0 where
   HasFault : LineFault → Asked
   ForTables : Asked

@@ -4,7 +4,6 @@ use Rattle.hex.specs.Hex.{IsBytes, encode_lower}
 use Rattle.mac_frame.specs.Address.{IsAddress, address_text}
 use Rattle.trace.specs.Texts.{ended}
 use Rattle.trace.specs.TraceText.{max_octets}
-use Rattle.live_answers.specs.Answers.{Answer, Unread}
 use Rattle.live_answers.specs.Asked.{Asked, HasFault, ForTables, Brings, Says}
 use Rattle.live_answers.specs.Records.{nobody, all_octets}
 
@@ -72,8 +71,3 @@ abbrev pub AllSaySame : List Asked → List Asked → Type 0
 AllSaySame [] said = said ≡ []
 AllSaySame (brought ∷ records) [] = ⊥
 AllSaySame (brought ∷ records) (said ∷ lines) = SaySame brought said × AllSaySame records lines
-
--- it was read, which a line may not be where memory runs out
-abbrev pub IsRead : Answer → Type 0
-IsRead Unread = ⊥
-IsRead answer = Unit {0}

@@ -14,7 +14,7 @@ ghost use Rattle.trace.specs.Texts.{ended};
 ghost use Rattle.live_answers.specs.AnswerText.{table_text};
 ghost use Rattle.live_answers.specs.Answers.{Answer, Answers, answers_of, AreUnrefused};
 ghost use Rattle.live_answers.specs.Asked.{Asked, asked_by_all, asked_in};
-ghost use Rattle.live_answers.specs.BothFaces.{AllSaySame, Input, IsInput, IsRead, line_for, octets_for, record_for};
+ghost use Rattle.live_answers.specs.BothFaces.{AllSaySame, Input, IsInput, line_for, octets_for, record_for};
 ghost use Rattle.live_answers.specs.BothFaces.{text_for};
 ghost use Rattle.live_answers.specs.Moments.{Moment, first_moment};
 ghost use Rattle.live_answers.specs.Own.{IsAlone, AreAlike, AreLines, IsLikeTrace, IsShown, IsTrace, air_at, wire_at};
@@ -118,8 +118,7 @@ pub fn as_replayed()
 /// tables, has a line and a record, and both say the same. The lines of a text of such lines are these, and the records
 /// of octets of such records.
 ///
-/// Each list of answers to the records is one to the lines; and each to the lines of which none was left unread, for
-/// memory that reading a record doesn't take, is one to the records.
+/// Each list of answers to the records is one to the lines, and each to the lines is one to the records.
 pub fn either_face()
     ensures text { (inputs : List Input) → AllByRecursion IsInput inputs
         → lines_of_text (text_for inputs) ≡ map (λ input. Octets (line_for input)) inputs }
@@ -131,8 +130,7 @@ pub fn either_face()
     ensures to_lines { (m : Moment) (records lines : List Asked) (answers : List Answer) (next : Moment)
         → AllSaySame records lines → Answers m records answers next → Answers m lines answers next }
     ensures to_records { (m : Moment) (records lines : List Asked) (answers : List Answer) (next : Moment)
-        → AllSaySame records lines → AllByRecursion IsRead answers → Answers m lines answers next
-        → Answers m records answers next }
+        → AllSaySame records lines → Answers m lines answers next → Answers m records answers next }
 {
     address_comes_back();
 }

@@ -6,7 +6,7 @@ use Rattle.trace.specs.Texts.{ended}
 use Rattle.trace.specs.TraceText.{code_of}
 use Rattle.live_output.specs.AnswerOctets.{count_record, record_fault, reply_octets, tables_octets, told}
 use Rattle.live_answers.specs.AnswerText.{fault_words, reply_text, tables_text}
-use Rattle.live_answers.specs.Answers.{Answer, Nothing, Replies, Tables, Faulty, Unread, answers_of}
+use Rattle.live_answers.specs.Answers.{Answer, Nothing, Replies, Tables, Faulty, answers_of}
 use Rattle.live_answers.specs.Asked.{asked_in}
 use Rattle.live_answers.specs.Moments.{Moment, bssids_at, Reply}
 use Rattle.live_answers.specs.TextLines.{TextLine}
@@ -56,7 +56,6 @@ written_answer face bssids number Nothing = []
 written_answer face bssids number (Replies replies) = written_replies face number bssids replies
 written_answer face bssids number (Tables networks) = written_tables face networks
 written_answer face bssids number (Faulty fault) = written_fault face (codes "L" ++ decimal (code_of fault)) number
-written_answer face bssids number Unread = written_fault face (codes "memory") number
 
 -- the answers to those from this number on
 abbrev pub written_answers : Face → List (List ℕ) → ℕ → List Answer → List ℕ

@@ -14,5 +14,4 @@ mod tables;
 mod written;
 
 pub use face::Face;
-pub use output::put_unread;
 pub use written::{put_fault, put_refusal, put_sent, put_tables};

@@ -70,16 +70,6 @@ pub fn put_line_fault<W: Sink>(out: &mut Buffered<'_, W>, fault: LineFault, numb
     out.put(b"\n");
 }
 
-/// Puts that the line of a number could not be read since memory ran out.
-pub fn put_unread<W: Sink>(out: &mut Buffered<'_, W>, number: u64)
-    requires { CanWrite W.failed out.old }
-    ensures { Puts (watch W.taken W.failed) out.old out.new
-        (ended (fault_words (codes "memory") number)) }
-{
-    put_fault_words(out, b"memory", number);
-    out.put(b"\n");
-}
-
 /// Puts that a network refused the line of a number.
 pub fn put_refusal<W: Sink>(
     out: &mut Buffered<'_, W>,

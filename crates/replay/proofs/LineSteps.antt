@@ -8,7 +8,7 @@ use Rattle.bss_core.specs.RadioView.{RadioView, view_at}
 use Rattle.events.specs.Lines.{event_for, taken_of}
 use Rattle.events.specs.declared.event.Event.{Event}
 use Rattle.events.specs.declared.line.Line.{Line}
-use Rattle.replay.specs.Replay.{IsUnheardFrom, TakesAt, TakesLine, TakesOf}
+use Rattle.replay.specs.Replay.{TakesAt, TakesLine, TakesOf}
 
 -- ---- what a network takes of a line
 
@@ -97,25 +97,10 @@ takes-next place line r0 r1 r2 b t = record {
         ≡ (view_at r0 place).history ++ taken_of place (network_at r0.config place) (view_at r0 place).history line
     here = t.there ∙ (λ i. was i ++ taken_of place (network_at (b.config i) place) (was i) line)
 
--- the last network that hears it took it too
-pub takes-all : (last : ℕ) (line : Line) (r0 r1 r2 : RadioView) → TakesBelow last line r0 r1 → TakesOf last line r1 r2
-    → IsUnheardFrom r0 (last + 1) line → TakesLine line r0 r2
-takes-all last line r0 r1 r2 b t unheard = record {
-  config = all.config;
-  each = λ k there. elim (cases_lt k (last + 1)) [
-    | inl low ↦ all.below k low
-    | inr high ↦
-        all.rest k high
-        ∙ taken-none k (network_at r0.config k) (view_at r0 k).history line (unheard k high there)
-  ];
-}
-  where
-    all : TakesBelow (last + 1) line r0 r2
-    all = takes-next last line r0 r1 r2 b t
-
--- none hears it
-pub takes-unheard : (line : Line) (r : RadioView) → IsUnheardFrom r 0 line → TakesLine line r r
-takes-unheard line r unheard = record {
-  config = refl;
-  each = λ k there. taken-none k (network_at r.config k) (view_at r k).history line (unheard k (omega arith) there);
+-- all of them did
+pub takes-all : (count : ℕ) (line : Line) (old new : RadioView) → TakesBelow count line old new
+    → length old.config.networks ≤ count → TakesLine line old new
+takes-all count line old new b all = record {
+  config = b.config;
+  each = λ k there. b.below k (omega (arith, there, all));
 }

@@ -21,7 +21,8 @@ use Rattle.text_io.specs.declared.report_fault.ReportFault.{ReportFault}
 use Rattle.text_io.specs.declared.report_fault.ReportFault.TheVariants as reports
 use Rattle.trace.specs.EndingLaws.{part_written, whole_written}
 use Rattle.replay.specs.Answer.{answer_of}
-use Rattle.replay.specs.Stream.{AreSectionsOf, AreTaken, ReadsToEnd, RunsStream, IsStreamFault, StopsIn}
+use Rattle.trace.specs.Pieces.{AreTaken}
+use Rattle.replay.specs.Stream.{AreSectionsOf, ReadsToEnd, RunsStream, IsStreamFault, StopsIn}
 use Rattle.replay.specs.Stream.{max_reads, stream_ending}
 use Rattle.replay.specs.declared.fault.StreamFault.{StreamFault}
 use Rattle.replay.specs.declared.fault.StreamFault.TheVariants.{Config, Trace, NoMemory, Read, Write}

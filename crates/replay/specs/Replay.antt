@@ -87,11 +87,6 @@ pub record TakesLine (line : Line) (old new : RadioView) : Type 0 where
 abbrev pub event_at : RadioView → ℕ → Line → Option Event
 event_at r place line = event_for place (network_at r.config place).bssid line
 
--- no network from a place on hears it
-abbrev pub IsUnheardFrom : RadioView → ℕ → Line → Type 0
-IsUnheardFrom r first line =
-    (place : ℕ) → first ≤ place → place < length r.config.networks → event_at r place line ≡ None
-
 -- the section of each network with what it took and the frames that left
 abbrev pub sections_at : RadioView → List Section
 sections_at r = sections_of r.config (λ place. (view_at r place).history)

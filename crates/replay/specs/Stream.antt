@@ -9,7 +9,7 @@ use Rattle.events.specs.declared.section.Section.{Section}
 use Rattle.trace.specs.ConfigurationText.{configuration_of}
 use Rattle.trace.specs.Endings.{Ending, Refused, ReadFailed, WriteFailed, OutOfMemory, AppendsPrefix, ending_of}
 use Rattle.trace.specs.Endings.{failures_of}
-use Rattle.trace.specs.Pieces.{ReaderView, HasRead, whole_lines}
+use Rattle.trace.specs.Pieces.{whole_lines}
 use Rattle.trace.specs.Streams.{SourceChange, SourceView, Streams, Reads, changed}
 use Rattle.trace.specs.TraceText.{bssids_of, lines_from, lines_of}
 use Rattle.replay.specs.Answer.{answer_of}
@@ -19,15 +19,6 @@ use Rattle.replay.specs.declared.fault.TextFault.{TextFault}
 use Rattle.replay.specs.declared.fault.TextFault.TheVariants as texts
 
 -- ---- a trace that is being read
-
--- Of what was read of a trace the lines that have ended were taken, and the reader holds the octets of the line that
--- has not.
-abbrev pub HasReplayed : RadioConfig → List ℕ → ReaderView → (List Line → Type 0) → Type 0
-HasReplayed c text lines taken = (said : List Line) × HasRead c text said lines × taken said
-
--- the lines of a whole trace were taken
-abbrev pub AreTaken : RadioConfig → List ℕ → (List Line → Type 0) → Type 0
-AreTaken c text taken = (lines : List Line) × (lines_of c text ≡ Ok lines) × taken lines
 
 -- the most reads of one trace
 abbrev pub max_reads : ℕ

@@ -1,18 +1,17 @@
 //! A radio whose frames all leave before the next line.
 
-ghost use Rattle.std.specs.Prelude.{◌≡◌, ◌<◌, ◌+◌, [], None, Some, IfSome, IfNone, IfOk, OnOk, length, option_map};
+ghost use Rattle.std.specs.Prelude.{◌≡◌, ◌<◌, [], None, IfOk, OnOk, length, option_map};
 ghost use Rattle.ap_config.specs.Configuration.{fault_of};
 ghost use Rattle.bss_core.specs.RadioView.{fresh_radio, view_at};
 ghost use Rattle.events.specs.LentEvents.{event_of, line_of};
-ghost use Rattle.events.specs.Lines.{event_of_line};
 ghost use Rattle.replay.specs.Frames.{sends_more};
-ghost use Rattle.replay.specs.Replay.{IsDrained, TakesAt, TakesOf, TakesLine, sections_at, event_at, IsUnheardFrom};
+ghost use Rattle.replay.specs.Replay.{IsDrained, TakesAt, TakesOf, TakesLine, sections_at, event_at};
 ghost use Rattle.replay.specs.Replay.{SendsFirst, emptied};
 
 use crate::sent_frames::SentFrames;
 use ap_config::RadioConfig;
 use bss_core::Radio;
-use events::{Event, Handed, LentEvent, LentLine, Line, Section};
+use events::{Event, Handed, LentEvent, LentLine, Section};
 use mac_frame::{List, NoMemory};
 use network::{Refusal, sent_frames};
 use std::alloc::Global;
@@ -38,20 +37,16 @@ impl DrainedRadio {
     }
 
     /// Takes a line in each network that hears it, in order of place, and lets their frames leave. Its octets are
-    /// copied for each of them but the last, into which they move.
-    pub fn take_line(&mut self, line: Line) -> Result<(), NoMemory>
+    /// copied for each of them.
+    pub fn take_line(&mut self, line: LentLine<'_>) -> Result<(), NoMemory>
         requires { IsDrained self.old.radio self.old.sent }
         ensures { OnOk result (IsDrained self.new.radio self.new.sent
-            × TakesLine line self.old.radio self.new.radio) }
+            × TakesLine (line_of line.entry) self.old.radio self.new.radio) }
     {
-        let lent = line.lend();
-        let Some(last) = self.last_hearer(lent) else {
-            return Ok(());
-        };
-        for place in 0..last {
-            self.take_copy(place, lent)?;
+        for place in 0..self.radio.networks() {
+            self.take_copy(place, line)?;
         }
-        self.take_event(last, line.into_event())
+        Ok(())
     }
 
     /// Takes a copy of a line in the network at a place, if that network hears it, and lets its frames leave.
@@ -74,23 +69,6 @@ impl DrainedRadio {
         ensures { option_map event_of result ≡ event_at self.now.radio place (line_of line.entry) }
     {
         line.event_for(place, self.radio.bss(place).config().bssid)
-    }
-
-    /// The last network in order of place that hears a line, if one does.
-    fn last_hearer(&self, line: LentLine<'_>) -> Option<usize>
-        ensures last { IfSome result (λ last. (last < length self.now.radio.config.networks)
-            × (event_at self.now.radio last (line_of line.entry) ≡ Some (event_of_line (line_of line.entry)))
-            × IsUnheardFrom self.now.radio (last + 1) (line_of line.entry)) }
-        ensures none { IfNone result (IsUnheardFrom self.now.radio 0 (line_of line.entry)) }
-    {
-        let mut after = self.radio.networks();
-        while after > 0 {
-            after -= 1;
-            if self.event_at(after, line).is_some() {
-                return Some(after);
-            }
-        }
-        None
     }
 
     /// Lets the network at a place take an event, and its frames leave. A full history takes no more.

@@ -20,7 +20,6 @@ mod logged_networks;
 mod radio_replay;
 mod sent_frames;
 mod stream;
-mod take_lines;
 mod text;
 
 pub use check::check_text;

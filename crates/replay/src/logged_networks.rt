@@ -6,14 +6,13 @@ ghost use Rattle.trace.specs.Endings.{Ends, failures_of, ending_of};
 ghost use Rattle.trace.specs.Sinks.{MayFail, report_ending};
 ghost use Rattle.log_report.specs.Log.{logs_of_lines, log_text};
 
-use crate::take_lines::TakeLines;
 use access_point::{AccessPoint, KeepFrames, LoggedNetwork};
 use ap_config::RadioConfig;
-use events::Line;
+use events::LentLine;
 use log_report::write_logs;
 use mac_frame::NoMemory;
 use std::alloc::Global;
-use trace::{ReportFault, Sink};
+use trace::{ReportFault, Sink, TakeLines};
 
 /// The networks of a configuration, in order of place, which take one line after another. They keep the frames that
 /// they send, and no history.
@@ -25,8 +24,8 @@ pub struct LoggedNetworks {
 impl TakeLines for LoggedNetworks {
     ghost has_taken = { λ c said logs. logs.access_point ≡ logs_of_lines c said };
 
-    fn take_line(&mut self, line: Line) -> Result<(), NoMemory> {
-        self.access_point.take(&KeepFrames, line.lend(), &mut ())
+    fn take_line(&mut self, line: LentLine<'_>) -> Result<(), NoMemory> {
+        self.access_point.take(&KeepFrames, line, &mut ())
     }
 }
 

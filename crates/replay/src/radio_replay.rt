@@ -3,15 +3,16 @@
 ghost use Rattle.std.specs.Prelude.{◌≡◌, None, Some, IfOk, OnOk, OnErr, IsSomeAnd};
 ghost use Rattle.ap_config.specs.Configuration.{fault_of};
 ghost use Rattle.bss_core.specs.RadioView.{fresh_radio};
+ghost use Rattle.events.specs.LentEvents.{line_of};
 ghost use Rattle.replay.specs.Replay.{HasTaken, TakesLine, sections_at};
 
 use crate::drained_radio::DrainedRadio;
-use crate::take_lines::TakeLines;
 use ap_config::RadioConfig;
-use events::{Line, Section};
+use events::{LentLine, Section};
 use mac_frame::NoMemory;
 use std::alloc::Global;
 use std::marker::Model;
+use trace::TakeLines;
 
 /// The networks of a configuration, which take one line after another. Between two lines no frame waits: of each
 /// network all that it sent has left.
@@ -39,7 +40,7 @@ impl Model for Replay {
 impl TakeLines for Replay {
     ghost has_taken = { λ c said replay. IsSomeAnd replay (HasTaken c said) };
 
-    fn take_line(&mut self, line: Line) -> Result<(), NoMemory> {
+    fn take_line(&mut self, line: LentLine<'_>) -> Result<(), NoMemory> {
         self.take(line)
     }
 }
@@ -58,8 +59,8 @@ impl Replay {
     /// Lets each network take what it hears of a line, in order of place, and their frames leave. A network whose
     /// history is full takes no more. `NoMemory` where memory ran out, now or for an earlier line; what the networks
     /// took is given up then.
-    pub fn take(&mut self, line: Line) -> Result<(), NoMemory>
-        ensures taken { OnOk result (IsSomeAnd self.old (λ old. IsSomeAnd self.new (λ new. TakesLine line old new))) }
+    pub fn take(&mut self, line: LentLine<'_>) -> Result<(), NoMemory>
+        ensures taken { OnOk result (IsSomeAnd self.old (λ old. IsSomeAnd self.new (λ new. TakesLine (line_of line.entry) old new))) }
         ensures err { OnErr result (self.new ≡ None) }
     {
         let taken = match &mut self.radio {

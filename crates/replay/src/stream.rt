@@ -1,30 +1,25 @@
 //! A trace that is read as it comes, and the report of it.
 
-ghost use Rattle.std.specs.Prelude.{◌≡◌, ◌++◌, List, [], ℕ, None, Ok, IfOk, MatchResult};
+ghost use Rattle.std.specs.Prelude.{◌≡◌, [], None, Ok, IfOk};
 ghost use Rattle.ap_config.specs.Configuration.{fault_of};
 ghost use Rattle.ap_config.specs.declared.config.RadioConfig.{RadioConfig};
 ghost use Rattle.trace.specs.ConfigurationText.{configuration_of};
-ghost use Rattle.trace.specs.Endings.{IsFaultOf, outcome_of};
-ghost use Rattle.trace.specs.Faults.{read_ending};
+ghost use Rattle.trace.specs.Endings.{outcome_of};
+ghost use Rattle.trace.specs.Pieces.{AreTaken, AreTakenSoFar};
 ghost use Rattle.trace.specs.Sinks.{MayFail};
 ghost use Rattle.trace.specs.Streams.{changed};
-ghost use Rattle.trace.specs.Texts.{LacksLineFeed, ended};
-ghost use Rattle.trace.specs.TraceText.{lines_of};
 ghost use Rattle.log_report.specs.Log.{logs_of_lines};
-ghost use Rattle.replay.specs.Stream.{HasReplayed, AreTaken, AreSectionsOf, ReadsToEnd, RunsStream};
+ghost use Rattle.replay.specs.Stream.{AreSectionsOf, ReadsToEnd, RunsStream};
 ghost use Rattle.replay.specs.Stream.{seen, streams};
 
 use crate::fault::StreamFault;
 use crate::logged_networks::LoggedNetworks;
 use crate::radio_replay::Replay;
-use crate::take_lines::{TakeLines, take_all, take_last};
 use ap_config::RadioConfig;
 use events::Section;
 use log_report::as_sections;
 use std::alloc::Global;
-use trace::{
-    LineReader, Sink, Source, TraceTextFault, piece_by_piece, place_of, read_config, write_report,
-};
+use trace::{LineReader, Sink, Source, TakeLines, piece_by_piece, read_config, write_report};
 
 /// How many octets are read at a time.
 const PIECE_LEN: usize = 4096;
@@ -132,13 +127,13 @@ fn take_whole<R: Source, T: TakeLines>(
     source: &mut R,
 ) -> Result<(), StreamFault>
     requires { MayFail (R.failed source.old) }
-    ensures { (c : RadioConfig) → HasReplayed c [] lines (λ said. T.has_taken c said networks.old)
+    ensures { (c : RadioConfig) → AreTakenSoFar c [] lines (λ said. T.has_taken c said networks.old)
         → ReadsToEnd (λ _ text. AreTaken c text (λ said. T.has_taken c said networks.new)) result c
         (changed (seen (R.left source.old) (R.failed source.old) (R.reads source.old))
         (seen (R.left source.new) (R.failed source.new) (R.reads source.new))) }
 {
     take_stream(&mut lines, networks, source)?;
-    end_lines(lines, networks)?;
+    lines.take_end(networks)?;
     Ok(())
 }
 
@@ -149,8 +144,8 @@ fn take_stream<R: Source, T: TakeLines>(
     source: &mut R,
 ) -> Result<(), StreamFault>
     requires { MayFail (R.failed source.old) }
-    ensures { (c : RadioConfig) → HasReplayed c [] lines.old (λ said. T.has_taken c said networks.old)
-        → ReadsToEnd (λ _ text. HasReplayed c text lines.new (λ said. T.has_taken c said networks.new)) result c
+    ensures { (c : RadioConfig) → AreTakenSoFar c [] lines.old (λ said. T.has_taken c said networks.old)
+        → ReadsToEnd (λ _ text. AreTakenSoFar c text lines.new (λ said. T.has_taken c said networks.new)) result c
         (changed (seen (R.left source.old) (R.failed source.old) (R.reads source.old))
         (seen (R.left source.new) (R.failed source.new) (R.reads source.new))) }
 {
@@ -162,74 +157,7 @@ fn take_stream<R: Source, T: TakeLines>(
         if count == 0 {
             return Ok(());
         }
-        take_piece(lines, networks, &buffer[..count])?;
+        lines.take_piece(&buffer[..count], networks)?;
     }
     Err(StreamFault::Read)
-}
-
-/// Lets the networks take the lines that end in a piece.
-fn take_piece<T: TakeLines>(
-    lines: &mut LineReader,
-    networks: &mut T,
-    piece: &[u8],
-) -> Result<(), TraceTextFault>
-    ensures { (c : RadioConfig) (text : List ℕ)
-        → HasReplayed c text lines.old (λ said. T.has_taken c said networks.old) → MatchResult result
-        (λ _. HasReplayed c (text ++ piece.now) lines.new (λ said. T.has_taken c said networks.new))
-        (λ fault. IsFaultOf (lines_of c (text ++ piece.now)) (read_ending fault)) }
-{
-    let mut rest = piece;
-    while let Some(end) = place_of(b'\n', rest) {
-        take_line(lines, networks, &rest[..end])?;
-        rest = &rest[end + 1..];
-    }
-    take_rest(lines, networks, rest)
-}
-
-/// Lets the networks take the line that ends with these octets and an LF.
-fn take_line<T: TakeLines>(
-    lines: &mut LineReader,
-    networks: &mut T,
-    octets: &[u8],
-) -> Result<(), TraceTextFault>
-    requires { LacksLineFeed octets.now }
-    ensures { (c : RadioConfig) (text later : List ℕ)
-        → HasReplayed c text lines.old (λ said. T.has_taken c said networks.old) → MatchResult result
-        (λ _. HasReplayed c (text ++ ended octets.now) lines.new (λ said. T.has_taken c said networks.new))
-        (λ fault. IsFaultOf (lines_of c (text ++ ended octets.now ++ later)) (read_ending fault)) }
-{
-    piece_by_piece();
-    let said = lines.end_line(octets)?;
-    take_last(networks, said)?;
-    Ok(())
-}
-
-/// Lets the networks take the lines that end in a piece. The reader gives them as a list.
-fn take_rest<T: TakeLines>(
-    lines: &mut LineReader,
-    networks: &mut T,
-    piece: &[u8],
-) -> Result<(), TraceTextFault>
-    ensures { (c : RadioConfig) (text : List ℕ)
-        → HasReplayed c text lines.old (λ said. T.has_taken c said networks.old) → MatchResult result
-        (λ _. HasReplayed c (text ++ piece.now) lines.new (λ said. T.has_taken c said networks.new))
-        (λ fault. IsFaultOf (lines_of c (text ++ piece.now)) (read_ending fault)) }
-{
-    piece_by_piece();
-    let said = lines.feed(piece)?;
-    take_all(networks, said)?;
-    Ok(())
-}
-
-/// Lets the networks take the last line.
-fn end_lines<T: TakeLines>(mut lines: LineReader, networks: &mut T) -> Result<(), TraceTextFault>
-    ensures { (c : RadioConfig) (text : List ℕ)
-        → HasReplayed c text lines (λ said. T.has_taken c said networks.old) → MatchResult result
-        (λ _. AreTaken c text (λ said. T.has_taken c said networks.new))
-        (λ fault. IsFaultOf (lines_of c text) (read_ending fault)) }
-{
-    piece_by_piece();
-    let last = lines.end()?;
-    take_last(networks, last)?;
-    Ok(())
 }

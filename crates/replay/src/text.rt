@@ -10,17 +10,17 @@ ghost use Rattle.trace.specs.Sinks.{MayFail};
 ghost use Rattle.trace.specs.TraceText.{lines_of};
 ghost use Rattle.replay.specs.Answer.{answer_of, text_ending};
 ghost use Rattle.log_report.specs.Log.{logs_of_lines};
-ghost use Rattle.replay.specs.Stream.{AreSectionsOf, AreTaken};
+ghost use Rattle.replay.specs.Stream.{AreSectionsOf};
+ghost use Rattle.trace.specs.Pieces.{AreTaken};
 
 use crate::fault::TextFault;
 use crate::logged_networks::LoggedNetworks;
 use crate::radio_replay::Replay;
-use crate::take_lines::take_all;
 use ap_config::RadioConfig;
 use events::Section;
 use log_report::as_sections;
 use std::alloc::Global;
-use trace::{Sink, TraceTextFault, read_config, read_trace, write_report};
+use trace::{LineReader, Sink, TraceTextFault, read_config, write_report};
 
 /// Reads a configuration and a trace; lets each network take what it hears of the trace's lines, in order, and keep the
 /// frames that it sends, but no history; then appends the report of all networks to what `out` has taken.
@@ -76,14 +76,13 @@ fn replay_text(
         (λ sections. AreSectionsOf config trace.now sections.items)
         (λ fault. IsFaultOf (lines_of config trace.now) (read_ending fault)) }
 {
-    let lines = read_trace(alloc, &config, trace)?;
+    let lines = LineReader::new(alloc, &config)?;
     let mut replay = Replay::new(alloc, config)?;
-    take_all(&mut replay, lines)?;
+    lines.take_text(trace, &mut replay)?;
     Ok(replay.into_sections()?)
 }
 
-/// The networks without their histories, which took what they hear of the lines of a trace. All lines are read before
-/// any network takes one, so that a trace with a fault is refused before anything is done about it.
+/// The networks without their histories, which took what they hear of the lines of a trace.
 fn log_text(
     alloc: Global,
     config: RadioConfig,
@@ -94,8 +93,8 @@ fn log_text(
         (λ logs. AreTaken config trace.now (λ said. logs.access_point ≡ logs_of_lines config said))
         (λ fault. IsFaultOf (lines_of config trace.now) (read_ending fault)) }
 {
-    let lines = read_trace(alloc, &config, trace)?;
+    let lines = LineReader::new(alloc, &config)?;
     let mut logs = LoggedNetworks::new(alloc, config)?;
-    take_all(&mut logs, lines)?;
+    lines.take_text(trace, &mut logs)?;
     Ok(logs)
 }

@@ -1,8 +1,7 @@
 //! Networks that take one line after another.
 
-use events::{Line, Section};
+use events::{LentLine, Section};
 use fixtures::lab_and_guest;
-use mac_frame::Octets;
 use replay::Replay;
 use std::alloc::Global;
 use std::test::Fail;
@@ -19,10 +18,12 @@ fn sections(alloc: Global) -> Result<Vec<Section>, Fail> {
     let lines = read_trace(alloc, &config, LINES).map_err(|_| "a fault of the lines")?;
     let mut replay = Replay::new(alloc, config)?;
     for line in lines {
-        replay.take(line)?;
+        replay.take(line.lend())?;
     }
-    let octets = Octets::new(alloc);
-    replay.take(Line::Wire { place: 2, octets })?;
+    replay.take(LentLine::Wire {
+        place: 2,
+        octets: &[],
+    })?;
     Ok(replay.into_sections()?)
 }
 

@@ -17,7 +17,7 @@ use Rattle.trace.specs.LineLaws.{HasFirst, slice_split-has_first, last_part}
 
 -- ---- what lines say, and then others
 
-said_after-none : (answer : Result (List Line) TraceFault) → said_after [] answer ≡ answer
+pub said_after-none : (answer : Result (List Line) TraceFault) → said_after [] answer ≡ answer
 said_after-none (Ok said) = refl
 said_after-none (Err met) = refl
 

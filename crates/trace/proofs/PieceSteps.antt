@@ -1,18 +1,22 @@
 -- What the steps of reading a piece rest on.
-use Rattle.std.proofs.Common.{◌≡◌, ℕ, ◌+◌, Bool, true, false, List, [], ◌∷◌, ◌++◌, length, take, drop, Option, Some, Result, Ok, Err, refl, ap, sym, ◌∙◌, append_assoc, append-nil, arith}
+use Rattle.std.proofs.Common.{◌≡◌, ℕ, ◌+◌, Bool, true, false, List, [], ◌∷◌, ◌++◌, length, take, drop, Option, Some, Result, Ok, Err, None, IsOkAnd, MatchOption, MatchResult, OnOk, length-append, refl, ap, sym, subst, ◌∙◌, append_assoc, append-nil, arith}
 use Rattle.std.specs.Prelude.{nat_lt, ◌&&◌}
 use Rattle.std.specs.List.{position}
 use Rattle.std.specs.Option.{option_to_list}
 use Rattle.std.specs.Str.Lines.{strip_carriage_return}
 use Rattle.ap_config.specs.declared.config.RadioConfig.{RadioConfig}
 use Rattle.events.specs.declared.line.Line.{Line}
-use Rattle.text_io.specs.Faults.{◌>>=◌}
+use Rattle.text_io.specs.Faults.{◌>>=◌, read_ending}
 use Rattle.text_io.specs.Texts.{is_line_feed, LacksLineFeed, ended}
 use Rattle.trace.specs.TraceText.{max_lines, bssids_of, line_of, lines_from, lines_of}
-use Rattle.trace.specs.Pieces.{ReaderView, new_reader, whole_lines, unfinished_line, before_line, said_in, said_after, answer_to, answer_to_end, answer_to_all, after_piece, past}
+use Rattle.trace.specs.Pieces.{ReaderView, HasRead, Takes, TakesMore, AreTaken, AreTakenSoFar, after_line, as_list, new_reader, whole_lines, unfinished_line, before_line, said_in, said_after, answer_to, answer_to_end, after_piece, past}
+use Rattle.text_io.specs.Endings.{Gives, IsFaultOf}
+use Rattle.text_io.specs.EndingLaws.{same_fault}
+use Rattle.text_io.specs.declared.read_fault.ReadFault.{ReadFault}
 use Rattle.trace.specs.declared.fault.TraceFault.{TraceFault}
-use Rattle.trace.specs.LineLaws.{first_line, whole_lines_line, unfinished_line_line, whole_lines_none, unfinished_line_none}
-use Rattle.trace.proofs.PieceLaws.{all-read, limited, lines_from-append}
+use Rattle.trace.specs.LineLaws.{first_line, lacks_both, whole_lines_line, unfinished_line_line, whole_lines_none, unfinished_line_none}
+use Rattle.trace.proofs.PieceLaws.{limited, lines_from-append, read-end, read-fault, read-more, read-nothing, said_after-none}
+use Rattle.ap_config.specs.Samples.{radio}
 
 -- nothing before a text
 pub begins_nothing : (octets text : List ℕ) → length octets ≡ 0 → octets ++ text ≡ text
@@ -40,22 +44,6 @@ held_past r text lacks =
     ∙ ap
     (λ (u : List ℕ). record r { ended_lines = r.ended_lines + length (whole_lines text); unfinished = u })
     (sym (unfinished_line_none text lacks))
-
--- ---- a piece in which some do
-
-pieces : (r : ReaderView) (text : List ℕ) (n : ℕ) → position is_line_feed text ≡ Some n
-    → r.unfinished ++ text ≡ r.unfinished ++ ended (take n text) ++ drop (n + 1) text
-pieces r text n e =
-    ap (λ (t : List ℕ). r.unfinished ++ t) (first_line text n e).0
-    ∙ sym (append_assoc r.unfinished (ended (take n text)) (drop (n + 1) text))
-
-pub piece_says : (r : ReaderView) (text : List ℕ) (n : ℕ) → position is_line_feed text ≡ Some n
-    → said_in r (r.unfinished ++ text) ≡ said_in r (r.unfinished ++ ended (take n text) ++ drop (n + 1) text)
-piece_says r text n e = ap (said_in r) (pieces r text n e)
-
-pub piece_past : (r : ReaderView) (text : List ℕ) (n : ℕ) → position is_line_feed text ≡ Some n
-    → past r (r.unfinished ++ text) ≡ past r (r.unfinished ++ ended (take n text) ++ drop (n + 1) text)
-piece_past r text n e = ap (past r) (pieces r text n e)
 
 -- ---- lines, one after another
 
@@ -90,26 +78,6 @@ pub lines_from-one : (bssids : List (List ℕ)) (number : ℕ) (line : List ℕ)
     → line_of bssids number line ≡ Ok said → lines_from bssids number (line ∷ []) ≡ Ok (option_to_list said)
 lines_from-one bssids number line said e =
     lines_from-said bssids number line [] said e ∙ ap (λ (all : List Line). Ok all) (append-nil (option_to_list said))
-
-pub said_after-assoc : (before more : List Line) (later : Result (List Line) TraceFault)
-    → said_after before (said_after more later) ≡ said_after (before ++ more) later
-said_after-assoc before more (Ok ls) = ap (λ (all : List Line). Ok all) (sym (append_assoc before more ls))
-said_after-assoc before more (Err met) = refl
-
--- ---- the unfinished line after them
-
-limited-on : (over : Bool) (number : ℕ) (said : List Line) → limited over number [] ≡ Ok []
-    → limited over number said ≡ Ok said
-limited-on true number said e = cc
-limited-on false number said e = refl
-
-limited-fault : (over : Bool) (number : ℕ) (said : List Line) (met : TraceFault) → limited over number [] ≡ Err met
-    → limited over number said ≡ Err met
-limited-fault true number said met e = e
-limited-fault false number said met e = cc
-
-abbrev is_over : ℕ → List ℕ → Bool
-is_over number octets = nat_lt max_lines number && nat_lt 0 (length octets)
 
 -- what the lines of a text say that come next, and before the line after them
 abbrev pub then_more : ReaderView → List ℕ → Result (List Line) TraceFault → Result (List Line) TraceFault
@@ -174,21 +142,6 @@ next-says r end text first all before after h =
     ∙ ap (λ (one : Result (List Line) TraceFault). then_more r text (then_text r text one)) h.0
     ∙ ap (then_more r text) h.1
 
--- an octet too many comes after them, or not
-pub more-fault : (r : ReaderView) (text : List ℕ) (all : List Line) (count : ℕ) (met : TraceFault)
-    → count ≡ r.ended_lines + 1 + length (whole_lines text)
-    → before_line (count + 1) (unfinished_line text) [] ≡ Err met → then_more r text (Ok all) ≡ Err met
-more-fault r text all count met same e =
-    ap (λ n. before_line (n + 1) (unfinished_line text) all) (sym same)
-    ∙ limited-fault (is_over (count + 1) (unfinished_line text)) (count + 1) all met e
-
-pub more-said : (r : ReaderView) (text : List ℕ) (all : List Line) (count : ℕ)
-    → count ≡ r.ended_lines + 1 + length (whole_lines text)
-    → before_line (count + 1) (unfinished_line text) [] ≡ Ok [] → then_more r text (Ok all) ≡ Ok all
-more-said r text all count same e =
-    ap (λ n. before_line (n + 1) (unfinished_line text) all) (sym same)
-    ∙ limited-on (is_over (count + 1) (unfinished_line text)) (count + 1) all e
-
 pub next-past : (r : ReaderView) (end text : List ℕ) (count : ℕ) → LacksLineFeed r.unfinished → LacksLineFeed end
     → count ≡ r.ended_lines + 1 + length (whole_lines text)
     → record r { ended_lines = count; unfinished = unfinished_line text }
@@ -202,78 +155,252 @@ next-past r end text count before after same =
     (λ (u : List ℕ). record r { ended_lines = r.ended_lines + length (whole_lines on); unfinished = u })
     (sym (unfinished_line_line r.unfinished end text before after))
 
--- ---- a piece that is the end of one line, with the LF that ends it
+-- ---- a piece, line after line
 
-alone : (r : ReaderView) (end : List ℕ) → r.unfinished ++ ended end ≡ r.unfinished ++ ended end ++ []
-alone r end = sym (append-nil (r.unfinished ++ ended end))
+said_after-assoc : (before more : List Line) (later : Result (List Line) TraceFault)
+    → said_after before (said_after more later) ≡ said_after (before ++ more) later
+said_after-assoc before more (Ok ls) = ap (λ (all : List Line). Ok all) (sym (append_assoc before more ls))
+said_after-assoc before more (Err met) = refl
 
--- no octet of the next line is one too many
-never_over : (over : Bool) (number : ℕ) (said : List Line) → limited (over && false) number said ≡ Ok said
-never_over true number said = refl
-never_over false number said = refl
+-- what was said before stands before what comes, whether a line may begin there or not
+limit_after : (over : Bool) (number : ℕ) (first more : List Line)
+    → limited over number (first ++ more) ≡ said_after first (limited over number more)
+limit_after true number first more = refl
+limit_after false number first more = refl
 
-pub line_says : (r : ReaderView) (end : List ℕ) (said : Option Line) → LacksLineFeed r.unfinished → LacksLineFeed end
+before_after : (number : ℕ) (octets : List ℕ) (first : List Line) (read : Result (List Line) TraceFault)
+    → (said_after first read >>= λ all. before_line number octets all)
+    ≡ said_after first (read >>= λ more. before_line number octets more)
+before_after number octets first (Ok more) =
+    limit_after (nat_lt max_lines number && nat_lt 0 (length octets)) number first more
+before_after number octets first (Err met) = refl
+
+-- the unfinished line ends and says this, and a text comes after it
+pub line_then : (r : ReaderView) (end text : List ℕ) (said : Option Line) → LacksLineFeed r.unfinished → LacksLineFeed end
     → line_of r.bssids (r.ended_lines + 1) (strip_carriage_return (r.unfinished ++ end)) ≡ Ok said
-    → said_in r (r.unfinished ++ ended end) ≡ Ok (option_to_list said)
-line_says r end said before after e =
-    ap (said_in r) (alone r end)
-    ∙ next-says r end [] (option_to_list said) (Ok (option_to_list said)) before after (
-      lines_from-one r.bssids (r.ended_lines + 1) (strip_carriage_return (r.unfinished ++ end)) said e,
-      ap (λ (all : List Line). Ok all) (append-nil (option_to_list said)),
-    )
-    ∙ never_over (nat_lt max_lines (r.ended_lines + 1 + 0 + 1)) (r.ended_lines + 1 + 0 + 1) (option_to_list said)
+    → said_in r (r.unfinished ++ ended end ++ text) ≡ said_after (option_to_list said) (said_in (after_line r) text)
+line_then r end text said before after e =
+    next-says r end text (option_to_list said)
+    (said_after (option_to_list said) (lines_from r.bssids (r.ended_lines + 1 + 1) (whole_lines text)))
+    before after
+    (lines_from-one r.bssids (r.ended_lines + 1) (strip_carriage_return (r.unfinished ++ end)) said e, refl)
+    ∙ before_after (r.ended_lines + 1 + length (whole_lines text) + 1) (unfinished_line text) (option_to_list said)
+    (lines_from r.bssids (r.ended_lines + 1 + 1) (whole_lines text))
 
-pub line_has_fault : (r : ReaderView) (end : List ℕ) (met : TraceFault) → LacksLineFeed r.unfinished → LacksLineFeed end
+-- it ends and has a fault
+pub line_refused : (r : ReaderView) (end text : List ℕ) (met : TraceFault) → LacksLineFeed r.unfinished → LacksLineFeed end
     → line_of r.bssids (r.ended_lines + 1) (strip_carriage_return (r.unfinished ++ end)) ≡ Err met
-    → said_in r (r.unfinished ++ ended end) ≡ Err met
-line_has_fault r end met before after e =
-    ap (said_in r) (alone r end)
-    ∙ next-first_fault r end [] met before after
+    → said_in r (r.unfinished ++ ended end ++ text) ≡ Err met
+line_refused r end text met before after e =
+    next-first_fault r end text met before after
     (lines_from-fault r.bssids (r.ended_lines + 1) (strip_carriage_return (r.unfinished ++ end)) [] met e)
 
-pub line_past : (r : ReaderView) (end : List ℕ) → LacksLineFeed r.unfinished → LacksLineFeed end
-    → record r { ended_lines = r.ended_lines + 1; unfinished = [] } ≡ past r (r.unfinished ++ ended end)
-line_past r end before after =
-    next-past r end [] (r.ended_lines + 1) before after (omega arith) ∙ ap (past r) (sym (alone r end))
+-- the reader then
+pub line_past : (r : ReaderView) (end text : List ℕ) → LacksLineFeed r.unfinished → LacksLineFeed end
+    → past (after_line r) text ≡ past r (r.unfinished ++ ended end ++ text)
+line_past r end text before after =
+    next-past r end text (r.ended_lines + 1 + length (whole_lines text)) before after refl
 
--- ---- a text that comes whole
+-- A reader took, of a piece, what came before the rest, and these lines were taken.
+pub record Remains (first : ReaderView) (piece : List ℕ) (now : ReaderView) (rest : List ℕ)
+    (was is : RadioConfig → List Line → Type 0) : Type 0 where
+  pub said : List Line
+  pub says : said_in first (first.unfinished ++ piece) ≡ said_after said (said_in now (now.unfinished ++ rest))
+  pub goes : past now (now.unfinished ++ rest) ≡ past first (first.unfinished ++ piece)
+  pub took : TakesMore said was is
+  pub same : now ≡ record first { ended_lines = now.ended_lines; unfinished = now.unfinished }
+  pub lacks : LacksLineFeed now.unfinished
 
-one_piece : (config : RadioConfig) (text : List ℕ)
-    → lines_of config text ≡ answer_to_all (new_reader (bssids_of config)) (text ∷ [])
-one_piece config text = ap (lines_of config) (sym (append-nil text)) ∙ sym (all-read config (text ∷ []))
+-- an answer, where there is one
+answer_is : (answer : Result (List Line) TraceFault) (P : List Line → Type 0) → IsOkAnd answer P
+    → (said : List Line) × (answer ≡ Ok said) × P said
+answer_is (Ok said) P h = (said, refl, h)
+answer_is (Err met) P h = absurd h
 
-pub whole-fault : (config : RadioConfig) (text : List ℕ) (met : TraceFault)
-    → answer_to (new_reader (bssids_of config)) text ≡ Err met → lines_of config text ≡ Err met
-whole-fault config text met e =
-    one_piece config text
+line_is : (answer : Result (Option Line) TraceFault) (P : List Line → Type 0) → IsOkAnd (as_list answer) P
+    → (said : Option Line) × (answer ≡ Ok said) × P (option_to_list said)
+line_is (Ok said) P h = (said, refl, h)
+line_is (Err met) P h = absurd h
+
+line_fault : (answer : Result (Option Line) TraceFault) (met : TraceFault) → as_list answer ≡ Err met → answer ≡ Err met
+line_fault (Ok said) met e = cc
+line_fault (Err other) met e = cc
+
+-- what is read is the same
+pub takes_as : (result : Result Unit (ReadFault TraceFault)) (read other : Result (List Line) TraceFault)
+    (was is : RadioConfig → List Line → Type 0) → read ≡ other → Takes result read was is → Takes result other was is
+takes_as result read other was is e h = subst (λ (r : Result (List Line) TraceFault). Takes result r was is) e h
+
+pub remains_none : (r : ReaderView) (piece : List ℕ) (was : RadioConfig → List Line → Type 0) → LacksLineFeed r.unfinished
+    → Remains r piece r piece was was
+remains_none r piece was lacks = record {
+  said = [];
+  says = sym (said_after-none (said_in r (r.unfinished ++ piece)));
+  goes = refl;
+  took = λ c said h. subst (λ (all : List Line). was c all) (sym (append-nil said)) h;
+  same = refl;
+  lacks = lacks;
+}
+
+-- the first line of the rest, and what stands after it
+parted : (u rest : List ℕ) (n : ℕ) → position is_line_feed rest ≡ Some n
+    → u ++ rest ≡ u ++ ended (take n rest) ++ drop (n + 1) rest
+parted u rest n e =
+    ap (λ (t : List ℕ). u ++ t) (first_line rest n e).0 ∙ sym (append_assoc u (ended (take n rest)) (drop (n + 1) rest))
+
+pub remains_more : (first : ReaderView) (piece : List ℕ) (now : ReaderView) (rest : List ℕ) (n : ℕ) (next : ReaderView)
+    (was is is' : RadioConfig → List Line → Type 0) → Remains first piece now rest was is
+    → position is_line_feed rest ≡ Some n
+    → IsOkAnd (as_list (line_of now.bssids (now.ended_lines + 1) (strip_carriage_return (now.unfinished ++ take n rest))))
+    (λ more. TakesMore more is is')
+    → next ≡ after_line now → Remains first piece next (drop (n + 1) rest) was is'
+remains_more first piece now rest n next was is is' s found takes same =
+    let lacks = (first_line rest n found).1 in
+    let a = line_is (line_of now.bssids (now.ended_lines + 1) (strip_carriage_return (now.unfinished ++ take n rest))) (λ more. TakesMore more is is') takes in
+    subst
+    (λ (r : ReaderView). Remains first piece r (drop (n + 1) rest) was is')
+    (sym same)
+    (record {
+      said = s.said ++ option_to_list a.0;
+      says =
+          s.says
+          ∙ ap
+          (said_after s.said)
+          (ap (said_in now) (parted now.unfinished rest n found)
+          ∙ line_then now (take n rest) (drop (n + 1) rest) a.0 s.lacks lacks a.1)
+          ∙ said_after-assoc s.said (option_to_list a.0) (said_in (after_line now) (drop (n + 1) rest));
+      goes =
+          line_past now (take n rest) (drop (n + 1) rest) s.lacks lacks
+          ∙ ap (past now) (sym (parted now.unfinished rest n found))
+          ∙ s.goes;
+      took = λ c said h.
+          subst
+          (λ (all : List Line). is' c all)
+          (append_assoc said s.said (option_to_list a.0))
+          (a.2 c (said ++ s.said) (s.took c said h));
+      same = ap (λ (r : ReaderView). record r { ended_lines = now.ended_lines + 1; unfinished = [] }) s.same;
+      lacks = λ k d low e. absurd (omega (arith, low));
+    })
+
+pub remains_fault : (first : ReaderView) (piece : List ℕ) (now : ReaderView) (rest : List ℕ) (n : ℕ)
+    (was is : RadioConfig → List Line → Type 0) (fault : ReadFault TraceFault) → Remains first piece now rest was is
+    → position is_line_feed rest ≡ Some n
+    → IsFaultOf (as_list (line_of now.bssids (now.ended_lines + 1) (strip_carriage_return (now.unfinished ++ take n rest)))) (read_ending fault)
+    → IsFaultOf (said_in first (first.unfinished ++ piece)) (read_ending fault)
+remains_fault first piece now rest n was is fault s found h =
+    let line : Result (Option Line) TraceFault =
+    line_of now.bssids (now.ended_lines + 1) (strip_carriage_return (now.unfinished ++ take n rest)) in
+    same_fault (as_list line) (said_in first (first.unfinished ++ piece)) fault h
+    (λ met e.
+    s.says
     ∙ ap
-    (λ (a : Result (List Line) TraceFault).
-    a >>= λ ls. answer_to_all (after_piece (new_reader (bssids_of config)) text) [] >>= λ more. Ok (ls ++ more))
-    e
+    (said_after s.said)
+    (ap (said_in now) (parted now.unfinished rest n found)
+    ∙ line_refused now (take n rest) (drop (n + 1) rest) met s.lacks (first_line rest n found).1 (line_fault line met e)))
 
--- the answer to the end, after the one to the text
-whole-ended : (config : RadioConfig) (text : List ℕ) (said : List Line) (answer : Result (Option Line) TraceFault)
-    → answer_to (new_reader (bssids_of config)) text ≡ Ok said
-    → answer_to_end (after_piece (new_reader (bssids_of config)) text) ≡ answer
-    → lines_of config text ≡ ((answer >>= λ o. Ok (option_to_list o)) >>= λ more. Ok (said ++ more))
-whole-ended config text said answer e f =
-    one_piece config text
+-- no line ends in the rest
+pub remains_end : (first : ReaderView) (piece : List ℕ) (now : ReaderView) (rest : List ℕ)
+    (was is : RadioConfig → List Line → Type 0) (result : Result Unit (ReadFault TraceFault))
+    → Remains first piece now rest was is → position is_line_feed rest ≡ None
+    → Gives (λ _. []) read_ending result (before_line (now.ended_lines + 1) (now.unfinished ++ rest) [])
+    → Takes result (said_in first (first.unfinished ++ piece)) was is
+remains_end first piece now rest was is (Ok u) s none gives =
+    let held = held_says now (now.unfinished ++ rest) (lacks_both now.unfinished rest s.lacks none) in
+    let all : said_in first (first.unfinished ++ piece) ≡ Ok s.said =
+    s.says ∙ ap (said_after s.said) (held ∙ gives) ∙ ap (λ (ls : List Line). Ok ls) (append-nil s.said) in
+    subst
+    (λ (read : Result (List Line) TraceFault). IsOkAnd read (λ more. TakesMore more was is))
+    (sym all)
+    s.took
+remains_end first piece now rest was is (Err fault) s none gives =
+    let held = held_says now (now.unfinished ++ rest) (lacks_both now.unfinished rest s.lacks none) in
+    same_fault (before_line (now.ended_lines + 1) (now.unfinished ++ rest) []) (said_in first (first.unfinished ++ piece))
+    fault gives
+    (λ met e. s.says ∙ ap (said_after s.said) (held ∙ e))
+
+pub remains_past : (first : ReaderView) (piece : List ℕ) (now : ReaderView) (rest : List ℕ) (next : ReaderView)
+    (was is : RadioConfig → List Line → Type 0) (result : Result Unit (ReadFault TraceFault))
+    → Remains first piece now rest was is → position is_line_feed rest ≡ None
+    → OnOk result (next ≡ record now { unfinished = now.unfinished ++ rest })
+    → OnOk result (next ≡ past first (first.unfinished ++ piece))
+remains_past first piece now rest next was is (Ok u) s none is_next =
+    is_next ∙ held_past now (now.unfinished ++ rest) (lacks_both now.unfinished rest s.lacks none) ∙ s.goes
+remains_past first piece now rest next was is (Err fault) s none is_next = tt
+
+-- ---- lines that are kept
+
+-- all that was taken is kept, where nothing was before
+pub owned_all : (read : Result (List Line) TraceFault) (old new : List Line) → old ≡ []
+    → IsOkAnd read (λ more. TakesMore more (λ _ said. old ≡ said) (λ _ said. new ≡ said)) → read ≡ Ok new
+owned_all read old new none takes =
+    let a = answer_is read (λ more. TakesMore more (λ _ said. old ≡ said) (λ _ said. new ≡ said)) takes in
+    a.1 ∙ ap (λ (all : List Line). Ok all) (sym (a.2 radio [] none))
+
+-- the last of no more than one is that one
+last_is : (said last : Option Line) (rest : List Line) (count left : ℕ) → option_to_list said ≡ rest ++ option_to_list last
+    → count ≡ length (option_to_list said) → MatchOption last ((count ≡ 0) × (left ≡ 0)) (λ _. left + 1 ≡ count)
+    → said ≡ last
+last_is None None rest count left parts is cases = refl
+last_is None (Some y) rest count left parts is cases = absurd (omega (arith, is, cases))
+last_is (Some x) None rest count left parts is cases = absurd (omega (arith, is, cases.0))
+last_is (Some x) (Some y) [] count left parts is cases = cc parts
+last_is (Some x) (Some y) (r ∷ rest) count left parts is cases =
+    absurd (omega (arith, ap length parts, length-append rest (y ∷ [])))
+
+pub owned_last : (read : Result (Option Line) TraceFault) (old new rest : List Line) (last : Option Line) (count left : ℕ)
+    → old ≡ [] → IsOkAnd (as_list read) (λ more. TakesMore more (λ _ said. old ≡ said) (λ _ said. new ≡ said))
+    → new ≡ rest ++ option_to_list last → count ≡ length new
+    → MatchOption last ((count ≡ 0) × (left ≡ 0)) (λ _. left + 1 ≡ count) → read ≡ Ok last
+owned_last read old new rest last count left none takes parts is cases =
+    let a = line_is read (λ more. TakesMore more (λ _ said. old ≡ said) (λ _ said. new ≡ said)) takes in
+    let all : new ≡ option_to_list a.0 = a.2 radio [] none in
+    a.1
     ∙ ap
-    (λ (a : Result (List Line) TraceFault).
-    a >>= λ ls. answer_to_all (after_piece (new_reader (bssids_of config)) text) [] >>= λ more. Ok (ls ++ more))
-    e
-    ∙ ap
-    (λ (a : Result (Option Line) TraceFault). (a >>= λ o. Ok (option_to_list o)) >>= λ more. Ok (said ++ more))
-    f
+    (λ (o : Option Line). Ok o)
+    (last_is a.0 last rest count left (sym all ∙ parts) (is ∙ ap length all) cases)
 
-pub whole-end_fault : (config : RadioConfig) (text : List ℕ) (said : List Line) (met : TraceFault)
-    → answer_to (new_reader (bssids_of config)) text ≡ Ok said
-    → answer_to_end (after_piece (new_reader (bssids_of config)) text) ≡ Err met
-    → lines_of config text ≡ Err met
-whole-end_fault config text said met e f = whole-ended config text said (Err met) e f
+-- ---- what was taken of a text
 
-pub whole-said : (config : RadioConfig) (text : List ℕ) (said : List Line) (last : Option Line)
-    → answer_to (new_reader (bssids_of config)) text ≡ Ok said
-    → answer_to_end (after_piece (new_reader (bssids_of config)) text) ≡ Ok last
-    → lines_of config text ≡ Ok (said ++ option_to_list last)
-whole-said config text said last e f = whole-ended config text said (Ok last) e f
+pub taken_on : (c : RadioConfig) (text piece : List ℕ) (r r' : ReaderView) (was is : RadioConfig → List Line → Type 0)
+    (result : Result Unit (ReadFault TraceFault)) → Takes result (answer_to r piece) was is
+    → OnOk result (r' ≡ after_piece r piece) → AreTakenSoFar c text r (was c)
+    → MatchResult result (λ _. AreTakenSoFar c (text ++ piece) r' (is c))
+    (λ fault. IsFaultOf (lines_of c (text ++ piece)) (read_ending fault))
+taken_on c text piece r r' was is (Ok u) takes after h =
+    let a = answer_is (answer_to r piece) (λ more. TakesMore more was is) takes in (
+      h.0 ++ a.0,
+      subst (λ (s : ReaderView). HasRead c (text ++ piece) (h.0 ++ a.0) s) (sym after)
+          (read-more c text piece h.0 a.0 r h.1 a.1),
+      a.2 c h.0 h.2,
+    )
+taken_on c text piece r r' was is (Err fault) takes after h =
+    same_fault (answer_to r piece) (lines_of c (text ++ piece)) fault takes
+    (λ met e.
+    ap (lines_of c) (sym (append-nil (text ++ piece)))
+    ∙ read-fault c text piece [] h.0 r met h.1 e)
+
+as_list_is : (last : Result (Option Line) TraceFault) → (last >>= λ said. Ok (option_to_list said)) ≡ as_list last
+as_list_is (Ok said) = refl
+as_list_is (Err met) = refl
+
+-- what a text says whose lines that ended were taken
+ends_so : (c : RadioConfig) (text : List ℕ) (said : List Line) (r : ReaderView) (last : Result (List Line) TraceFault)
+    → HasRead c text said r → as_list (answer_to_end r) ≡ last → lines_of c text ≡ said_after said last
+ends_so c text said r last h is =
+    read-end c text said r h ∙ ap (said_after said) (as_list_is (answer_to_end r) ∙ is)
+
+pub taken_at_end : (c : RadioConfig) (text : List ℕ) (r : ReaderView) (was is : RadioConfig → List Line → Type 0)
+    (result : Result Unit (ReadFault TraceFault)) → Takes result (as_list (answer_to_end r)) was is
+    → AreTakenSoFar c text r (was c)
+    → MatchResult result (λ _. AreTaken c text (is c)) (λ fault. IsFaultOf (lines_of c text) (read_ending fault))
+taken_at_end c text r was is (Ok u) takes h =
+    let a = answer_is (as_list (answer_to_end r)) (λ more. TakesMore more was is) takes in
+    (h.0 ++ a.0, ends_so c text h.0 r (Ok a.0) h.1 a.1, a.2 c h.0 h.2)
+taken_at_end c text r was is (Err fault) takes h =
+    same_fault (as_list (answer_to_end r)) (lines_of c text) fault takes (λ met e. ends_so c text h.0 r (Err met) h.1 e)
+
+-- before the first piece
+pub taken_first : (c : RadioConfig) (r : ReaderView) (taken : List Line → Type 0) → r ≡ new_reader (bssids_of c)
+    → taken [] → AreTakenSoFar c [] r taken
+taken_first c r taken new none =
+    ([], subst (λ (s : ReaderView). HasRead c [] [] s) (sym new) (read-nothing c), none)

@@ -1,13 +1,14 @@
 -- A trace text that comes in pieces, cut anywhere: what a reader of its lines answers to each piece, and to the end.
 use Rattle.std.specs.Prelude.{ℕ, ◌+◌, ◌≡◌, ◌&&◌, nat_lt, List, [], ◌∷◌, ◌++◌, length, map, Option, Some, None, Result}
-use Rattle.std.specs.Prelude.{Ok, Err, if◌then◌else◌}
+use Rattle.std.specs.Prelude.{Ok, Err, IsOkAnd, if◌then◌else◌}
 use Rattle.std.specs.Option.{option_to_list}
 use Rattle.std.specs.Str.Lines.{strip_carriage_return}
 use Rattle.ap_config.specs.declared.config.RadioConfig.{RadioConfig}
 use Rattle.events.specs.declared.line.Line.{Line}
-use Rattle.text_io.specs.Faults.{◌>>=◌}
+use Rattle.text_io.specs.Endings.{IsFaultOf}
+use Rattle.text_io.specs.Faults.{◌>>=◌, read_ending}
 use Rattle.text_io.specs.Texts.{cut}
-use Rattle.trace.specs.TraceText.{max_lines, fault_in, bssids_of, line_of, lines_from}
+use Rattle.trace.specs.TraceText.{max_lines, fault_in, bssids_of, line_of, lines_from, lines_of}
 use Rattle.trace.specs.declared.fault.TraceFault.{TraceFault}
 use Rattle.trace.specs.declared.fault.LineFault.TheVariants.{TooMany}
 use Rattle.text_io.specs.declared.read_fault.ReadFault.{ReadFault}
@@ -74,6 +75,11 @@ abbrev pub unless_met : {A : Type 0} → Option TraceFault → Result A TraceFau
 unless_met (Some met) answer = Err met
 unless_met None answer = answer
 
+-- as a list
+abbrev pub as_list : Result (Option Line) TraceFault → Result (List Line) TraceFault
+as_list (Ok said) = Ok (option_to_list said)
+as_list (Err fault) = Err fault
+
 -- the answer to a piece: the lines that end in it, the first of which may have begun before it
 abbrev pub answer_to : ReaderView → List ℕ → Result (List Line) TraceFault
 answer_to r piece = unless_met r.fault (said_in r (r.unfinished ++ piece))
@@ -88,6 +94,10 @@ answer_to_end r = unless_met r.fault (said_last r.bssids (r.ended_lines + 1) r.u
 abbrev pub after_answer : {A : Type 0} → Result A TraceFault → ReaderView → ReaderView → ReaderView
 after_answer (Ok said) old next = next
 after_answer (Err met) old next = with_fault met old
+
+-- the unfinished line has ended with an LF
+abbrev pub after_line : ReaderView → ReaderView
+after_line r = record r { ended_lines = r.ended_lines + 1; unfinished = [] }
 
 -- the whole lines of a text have ended, which begins with the line that was unfinished
 abbrev pub past : ReaderView → List ℕ → ReaderView
@@ -120,6 +130,22 @@ keeping (Ok said) r = r
 keeping (Err (At met)) r = with_fault met r
 keeping (Err NoMemory) r = r
 
+-- ---- what becomes of the lines
+
+-- more lines were taken after those that were
+abbrev pub TakesMore : List Line → (RadioConfig → List Line → Type 0) → (RadioConfig → List Line → Type 0) → Type 0
+TakesMore more was is = (c : RadioConfig) (said : List Line) → was c said → is c (said ++ more)
+
+-- A call took, after the lines that were taken, all that was read; or it answers the fault of that, or memory ran out.
+abbrev pub Takes :
+    Result Unit (ReadFault TraceFault)
+    → Result (List Line) TraceFault
+    → (RadioConfig → List Line → Type 0)
+    → (RadioConfig → List Line → Type 0)
+    → Type 0
+Takes (Ok u) read was is = IsOkAnd read (λ more. TakesMore more was is)
+Takes (Err fault) read was is = IsFaultOf read (read_ending fault)
+
 -- ---- a text, however it is cut
 
 -- what earlier lines said, and then what later ones say
@@ -150,3 +176,12 @@ reader_after addresses text = record {
 pub record HasRead (config : RadioConfig) (text : List ℕ) (said : List Line) (r : ReaderView) : Type 0 where
   pub state : r ≡ reader_after (bssids_of config) text
   pub answered : lines_from (bssids_of config) 1 (whole_lines text) ≡ Ok said
+
+-- Of what was read of a text the lines that have ended were taken, and the reader holds the octets of the line that has
+-- not.
+abbrev pub AreTakenSoFar : RadioConfig → List ℕ → ReaderView → (List Line → Type 0) → Type 0
+AreTakenSoFar c text r taken = (said : List Line) × HasRead c text said r × taken said
+
+-- the lines of a whole text were taken
+abbrev pub AreTaken : RadioConfig → List ℕ → (List Line → Type 0) → Type 0
+AreTaken c text taken = (lines : List Line) × (lines_of c text ≡ Ok lines) × taken lines

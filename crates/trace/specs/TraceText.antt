@@ -7,7 +7,6 @@ use Rattle.std.specs.Str.{bytes_eq}
 use Rattle.std.specs.Str.Lines.{lines}
 use Rattle.hex.specs.Hex.{decode_of}
 use Rattle.hex.specs.declared.error.FromHexError.{FromHexError}
-use Rattle.hex.specs.declared.error.FromHexError.TheVariants.{OutOfMemory}
 use Rattle.mac_frame.specs.Address.{address_of}
 use Rattle.ap_config.specs.declared.config.RadioConfig.{RadioConfig}
 use Rattle.events.specs.declared.line.Line.{Line}
@@ -17,8 +16,6 @@ use Rattle.trace.specs.declared.fault.TraceFault.{TraceFault}
 use Rattle.trace.specs.declared.fault.LineFault.{LineFault}
 use Rattle.trace.specs.declared.fault.LineFault.TheVariants.{UnknownKind, NotHexadecimal, NoAddress, UnknownNetwork}
 use Rattle.trace.specs.declared.fault.LineFault.TheVariants.{TooMany}
-use Rattle.text_io.specs.declared.read_fault.ReadFault.{ReadFault}
-use Rattle.text_io.specs.declared.read_fault.ReadFault.TheVariants.{At, NoMemory}
 
 -- ---- the limits
 
@@ -130,14 +127,6 @@ content_of bssids line =
     if is_skipped line then Ok None
     else (line_with bssids (first_word line) (after_first_word line) >>= λ said. Ok (Some said))
 
--- A string that was heard, or a frame that came over the wire, follows this word.
-abbrev pub has_octets : List ℕ → Bool
-has_octets word = bytes_eq word (codes "A") || bytes_eq word (codes "W")
-
--- Only such a line takes memory: one that is skipped, a tick, and one of another word never do.
-abbrev pub takes_memory : List ℕ → Bool
-takes_memory line = not (is_skipped line) && has_octets (first_word line)
-
 -- what a line without its LF and a CR before that says, whatever its number
 abbrev pub said_by : List (List ℕ) → List ℕ → Result (Option Line) LineFault
 said_by bssids line = content_of bssids (without_spaces_at_end line)
@@ -166,15 +155,3 @@ lines_from bssids number (line ∷ rest) = do
 -- directly before it, and what follows the last LF, if anything does.
 abbrev pub lines_of : RadioConfig → List ℕ → Result (List Line) TraceFault
 lines_of config text = lines_from (bssids_of config) 1 (lines text)
-
--- ---- why a text is not read
-
--- the line of this number is not read
-abbrev pub text_fault : ℕ → ReadFault LineFault → ReadFault TraceFault
-text_fault number (At fault) = At (fault_in number fault)
-text_fault number NoMemory = NoMemory
-
--- the digits of a line are not read
-abbrev pub hexadecimal_fault : FromHexError → ReadFault LineFault
-hexadecimal_fault OutOfMemory = NoMemory
-hexadecimal_fault _ = At NotHexadecimal

@@ -1,9 +1,8 @@
 //! Why a text is no trace.
 
 ghost use Rattle.std.specs.Prelude.{◌≡◌};
-ghost use Rattle.trace.specs.TraceText.{code_of, fault_in, text_fault, hexadecimal_fault};
+ghost use Rattle.trace.specs.TraceText.{code_of, fault_in};
 
-use hex::FromHexError;
 use std::fmt;
 use text_io::ReadFault;
 
@@ -64,25 +63,5 @@ impl LineFault {
             code: self.code(),
             line,
         }
-    }
-}
-
-/// Why the text is not read whose line of this number is not read.
-pub fn in_text(fault: ReadFault<LineFault>, line: u32) -> TraceTextFault
-    ensures { result ≡ text_fault line fault }
-{
-    match fault {
-        ReadFault::At(fault) => ReadFault::At(fault.at(line)),
-        ReadFault::NoMemory => ReadFault::NoMemory,
-    }
-}
-
-/// Why a line is not read whose digits are not.
-pub fn in_digits(fault: FromHexError) -> ReadFault<LineFault>
-    ensures { result ≡ hexadecimal_fault fault }
-{
-    match fault {
-        FromHexError::OutOfMemory => ReadFault::NoMemory,
-        _ => ReadFault::At(LineFault::NotHexadecimal),
     }
 }

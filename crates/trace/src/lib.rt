@@ -12,13 +12,16 @@
 mod fault;
 mod laws;
 mod line;
+mod line_buffer;
 mod line_reader;
 mod read;
+mod take_lines;
 
 pub use config_text::{ConfigTextFault, read_config};
 pub use fault::{LineFault, TraceFault, TraceTextFault};
 pub use laws::{cut_anywhere, piece_by_piece};
 pub use line::{place_with, read_content, read_line, without_spaces_at_end};
+pub use line_buffer::LineBuffer;
 pub use line_reader::LineReader;
 pub use read::read_trace;
 pub use report::{
@@ -27,6 +30,7 @@ pub use report::{
     put_network_line_in, put_section_in, put_station_line, put_station_line_in, write_count,
     write_report,
 };
+pub use take_lines::TakeLines;
 pub use text_io::{
     Buffered, Counted, Failed, PutItem, ReadFault, ReportFault, Sink, Source, place_of,
     without_carriage_return, write_all, write_each,

@@ -1,30 +1,22 @@
 //! One line of a trace text.
 
-ghost use Rattle.std.specs.Prelude.{◌≡◌, ◌≢◌, false, Ok, Err, IfOk, IsErr, position};
-ghost use Rattle.text_io.specs.Endings.{Gives};
-ghost use Rattle.text_io.specs.Faults.{read_ending};
+ghost use Rattle.std.specs.Prelude.{◌≡◌, position, option_map};
+ghost use Rattle.text_io.specs.Endings.{Gives, Refused};
 ghost use Rattle.mac_frame.specs.Address.{address_of};
+ghost use Rattle.events.specs.LentEvents.{line_of};
 ghost use Rattle.trace.specs.TraceText.{is_skipped, is_space, first_word, without_spaces_at_end};
-ghost use Rattle.trace.specs.TraceText.{without_spaces_at_start, after_first_word, digits_of, octets_of, within_limit};
+ghost use Rattle.trace.specs.TraceText.{without_spaces_at_start, after_first_word};
 ghost use Rattle.trace.specs.TraceText.{place_with, place_named, wired_line, line_with, content_of, said_by};
-ghost use Rattle.trace.specs.TraceText.{has_octets, takes_memory};
-ghost use Rattle.hex.specs.Hex.{decode_of};
 
-use crate::fault::{LineFault, in_digits};
-use events::Line;
-use mac_frame::{MacAddr, Octets};
-use std::alloc::{AllocError, Global};
+use crate::fault::LineFault;
+use crate::line_buffer::LineBuffer;
+use events::LentLine;
+use mac_frame::MacAddr;
 use std::str;
-use text_io::{ReadFault, place_of};
-
-/// The most octets of a string.
-const MAX_OCTETS: usize = 4096;
-
-/// How many characters of a text are its start, in which a space is looked for first.
-const START: usize = 64;
 
 /// What a line says to the networks that have these addresses, in order of place: nothing where it is skipped. It is
-/// taken without its LF, and without a CR directly before that.
+/// taken without its LF, and without a CR directly before that. What it says is lent: its octets stand in the buffer
+/// until the next line is read there, and no memory is taken.
 ///
 /// The spaces at its end are dropped; a line that is then empty, or that begins with `#`, is skipped. Only spaces part
 /// words. The word `A` stands before a string that was heard on the air; `W` before the address of a network and a
@@ -33,71 +25,71 @@ const START: usize = 64;
 ///
 /// A line with a fault gives the first, in this order: a first word that is none of these, also an empty one, or
 /// something after `T` (`L1`); a second word of `W` that is missing or no address (`L3`), or an address that no network
-/// has (`L4`); an odd number of digits, or another character (`L2`); more than 4096 octets (`L5`). `NoMemory` where
-/// memory ran out, which only a line of the words `A` and `W` takes.
-pub fn read_line(
-    alloc: Global,
+/// has (`L4`); an odd number of digits, or another character (`L2`); more than 4096 octets (`L5`).
+pub fn read_line<'a>(
+    buffer: &'a mut LineBuffer,
     bssids: &[MacAddr],
     line: &[u8],
-) -> Result<Option<Line>, ReadFault<LineFault>>
-    ensures exact { Gives (λ said. said) read_ending result (said_by bssids.now line.now) }
-    ensures memory { takes_memory (without_spaces_at_end line.now) ≡ false → result ≢ Err ReadFault.NoMemory }
+) -> Result<Option<LentLine<'a>>, LineFault>
+    ensures { Gives (option_map line_of) Refused result (said_by bssids.now line.now) }
 {
-    read_content(alloc, bssids, without_spaces_at_end(line))
+    read_content(buffer, bssids, without_spaces_at_end(line))
 }
 
 /// What a line less the spaces at its end says, as [`read_line`] tells it of the whole line.
 #[inline]
-pub fn read_content(
-    alloc: Global,
+pub fn read_content<'a>(
+    buffer: &'a mut LineBuffer,
     bssids: &[MacAddr],
     line: &[u8],
-) -> Result<Option<Line>, ReadFault<LineFault>>
-    ensures exact { Gives (λ said. said) read_ending result (content_of bssids.now line.now) }
-    ensures memory { takes_memory line.now ≡ false → result ≢ Err ReadFault.NoMemory }
+) -> Result<Option<LentLine<'a>>, LineFault>
+    ensures { Gives (option_map line_of) Refused result (content_of bssids.now line.now) }
 {
     if is_skipped(line) {
         return Ok(None);
     }
     let (word, text) = split_word(line);
-    Ok(Some(line_with(alloc, bssids, word, text)?))
+    Ok(Some(line_with(buffer, bssids, word, text)?))
 }
 
 /// The line of a first word and the text after it.
 #[inline(always)]
-fn line_with(
-    alloc: Global,
+fn line_with<'a>(
+    buffer: &'a mut LineBuffer,
     bssids: &[MacAddr],
     word: &[u8],
     text: &[u8],
-) -> Result<Line, ReadFault<LineFault>>
-    ensures exact { Gives (λ line. line) read_ending result (line_with bssids.now word.now text.now) }
-    ensures memory { has_octets word.now ≡ false → result ≢ Err ReadFault.NoMemory }
+) -> Result<LentLine<'a>, LineFault>
+    ensures { Gives line_of Refused result (line_with bssids.now word.now text.now) }
 {
     match word {
-        b"A" => Ok(Line::Air(read_octets(alloc, text)?)),
-        b"W" => wired_line(alloc, bssids, without_spaces_at_start(text)),
-        b"T" if text.is_empty() => Ok(Line::Tick),
-        _ => Err(ReadFault::At(LineFault::UnknownKind)),
+        b"A" => Ok(LentLine::Air(buffer.read(text)?)),
+        b"W" => wired_line(buffer, bssids, without_spaces_at_start(text)),
+        b"T" if text.is_empty() => Ok(LentLine::Tick),
+        _ => Err(LineFault::UnknownKind),
     }
 }
 
 /// The line of an address and a frame that came over the wire to its network.
-fn wired_line(alloc: Global, bssids: &[MacAddr], text: &[u8]) -> Result<Line, ReadFault<LineFault>>
-    ensures { Gives (λ line. line) read_ending result (wired_line bssids.now text.now) }
+fn wired_line<'a>(
+    buffer: &'a mut LineBuffer,
+    bssids: &[MacAddr],
+    text: &[u8],
+) -> Result<LentLine<'a>, LineFault>
+    ensures { Gives line_of Refused result (wired_line bssids.now text.now) }
 {
     let (address, frame) = split_word(text);
     let place = place_named(bssids, address)?;
-    let octets = read_octets(alloc, frame)?;
-    Ok(Line::Wire { place, octets })
+    let octets = buffer.read(frame)?;
+    Ok(LentLine::Wire { place, octets })
 }
 
 /// The place of the network whose address a word spells.
-fn place_named(bssids: &[MacAddr], word: &[u8]) -> Result<usize, ReadFault<LineFault>>
-    ensures { Gives (λ place. place) read_ending result (place_named bssids.now word.now) }
+fn place_named(bssids: &[MacAddr], word: &[u8]) -> Result<usize, LineFault>
+    ensures { result ≡ place_named bssids.now word.now }
 {
-    let address = address_of(word).ok_or(ReadFault::At(LineFault::NoAddress))?;
-    place_with(address, bssids).ok_or(ReadFault::At(LineFault::UnknownNetwork))
+    let address = address_of(word).ok_or(LineFault::NoAddress)?;
+    place_with(address, bssids).ok_or(LineFault::UnknownNetwork)
 }
 
 /// The address that a word spells.
@@ -171,69 +163,4 @@ fn first_space(line: &[u8]) -> Option<usize>
     ensures { result ≡ position is_space line.now }
 {
     line.iter().position(|character| *character == b' ')
-}
-
-/// The octets that a text spells in hexadecimal digits with spaces among them. A text has its first space near the
-/// start, if it has any; so only one of which the start has none, and which is not of digits alone, is looked at whole.
-#[inline(always)]
-fn read_octets(alloc: Global, text: &[u8]) -> Result<Octets, ReadFault<LineFault>>
-    ensures { Gives (λ octets. octets) read_ending result (octets_of text.now) }
-{
-    let (start, _) = text.split_at(text.len().min(START));
-    if place_of(b' ', start).is_some() {
-        return read_spaced(alloc, text);
-    }
-    match digits::decode_if_digits(alloc, text)? {
-        Some(octets) => within_limit(octets),
-        None => read_if_spaced(alloc, text),
-    }
-}
-
-/// The octets that a text spells which is not of digits alone.
-#[tactic(auto, using(crate::proofs::DigitTexts::refused_digits))]
-fn read_if_spaced(alloc: Global, text: &[u8]) -> Result<Octets, ReadFault<LineFault>>
-    requires { IsErr (decode_of text.now) }
-    ensures { Gives (λ octets. octets) read_ending result (octets_of text.now) }
-{
-    if place_of(b' ', text).is_none() {
-        return Err(ReadFault::At(LineFault::NotHexadecimal));
-    }
-    read_spaced(alloc, text)
-}
-
-/// The octets that a text spells in hexadecimal digits with spaces among them, which are taken out first.
-fn read_spaced(alloc: Global, text: &[u8]) -> Result<Octets, ReadFault<LineFault>>
-    ensures { Gives (λ octets. octets) read_ending result (octets_of text.now) }
-{
-    let digits = without_spaces(alloc, text)?;
-    read_digits(alloc, digits.as_slice())
-}
-
-/// The characters of a text that are no spaces.
-fn without_spaces(alloc: Global, text: &[u8]) -> Result<Vec<u8>, AllocError>
-    ensures { IfOk result (λ digits. digits.items ≡ digits_of text.now) }
-{
-    let mut digits = Vec::from_slice(alloc, text)?;
-    digits.retain(|character| *character != b' ');
-    Ok(digits)
-}
-
-/// The octets that hexadecimal digits spell.
-fn read_digits(alloc: Global, digits: &[u8]) -> Result<Octets, ReadFault<LineFault>>
-    ensures { Gives (λ octets. octets) read_ending result (within_limit (decode_of digits.now)) }
-{
-    match digits::decode(alloc, digits) {
-        Ok(octets) => within_limit(octets),
-        Err(fault) => Err(in_digits(fault)),
-    }
-}
-
-/// The octets of a line, if they aren't too many.
-fn within_limit(octets: Vec<u8>) -> Result<Octets, ReadFault<LineFault>>
-    ensures { Gives (λ octets. octets) read_ending result (within_limit (Ok octets.items)) }
-{
-    if octets.len() > MAX_OCTETS {
-        return Err(ReadFault::At(LineFault::TooMany));
-    }
-    Ok(Octets::from_vec(octets))
 }

@@ -7,7 +7,8 @@ ghost use Rattle.text_io.specs.Faults.{read_ending};
 ghost use Rattle.trace.specs.TraceText.{lines_of};
 
 use crate::fault::TraceTextFault;
-use crate::line_reader::{LineReader, add};
+use crate::line_reader::LineReader;
+use crate::take_lines::OwnedLines;
 use ap_config::RadioConfig;
 use events::Line;
 use std::alloc::Global;
@@ -25,8 +26,8 @@ pub fn read_trace(
 ) -> Result<Vec<Line>, TraceTextFault>
     ensures exact { Gives (λ read. read.items) read_ending result (lines_of config.now text.now) }
 {
-    let mut reader = LineReader::new(alloc, config)?;
-    let mut lines = reader.feed(text)?;
-    add(&mut lines, reader.end()?)?;
-    Ok(lines)
+    let reader = LineReader::new(alloc, config)?;
+    let mut owned = OwnedLines::new(alloc);
+    reader.take_text(text, &mut owned)?;
+    Ok(owned.lines)
 }

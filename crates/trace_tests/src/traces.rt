@@ -1,10 +1,13 @@
 use ap_config::RadioConfig;
-use events::Line;
+use events::{LentLine, Line};
 use mac_frame::MacAddr;
 use std::alloc::Global;
 use std::process::Abort;
 use std::test::Fail;
-use trace::{LineReader, TraceFault, TraceTextFault, read_config, read_line, read_trace};
+use trace::{
+    LineBuffer, LineFault, LineReader, TraceFault, TraceTextFault, read_config, read_line,
+    read_trace,
+};
 
 /// A configuration of two networks, in whose addresses is a letter. No two values of a network are the same.
 const CONFIGURATION: &[u8] = b"version = 2\nchannel = 6\ninterval = 100\nqueue = 64\n\
@@ -362,9 +365,47 @@ fn one_line_is_read_alone(rt: HostRuntime) -> Result<(), Fail> {
         MacAddr::new([2, 0, 0, 0, 0, 1]),
         MacAddr::new([2, 0, 0, 0, 0, 2]),
     ];
-    let said = read_line(rt.alloc(), bssids.as_slice(), b"W 02:00:00:00:00:02 0800  ")?;
-    assert!(rt; matches!(said, Some(Line::Wire { place: 1, .. })));
-    let none = read_line(rt.alloc(), bssids.as_slice(), b"# T")?;
-    assert!(rt; none.is_none());
+    let mut buffer = LineBuffer::new(rt.alloc())?;
+    let said = read_line(
+        &mut buffer,
+        bssids.as_slice(),
+        b"W 02:00:00:00:00:02 0800  ",
+    );
+    assert!(rt;
+        matches!(
+            said,
+            Ok(Some(LentLine::Wire {
+                place: 1,
+                octets: b"\x08\x00"
+            }))
+        )
+    );
+    let none = read_line(&mut buffer, bssids.as_slice(), b"# T");
+    assert!(rt; matches!(none, Ok(None)));
+    Ok(())
+}
+
+/// A string of as many octets as a line may have, with a space before each digit that is not the first of a pair, and
+/// with one octet more; and each with another character at its end, which is the fault that comes first.
+#[test]
+fn digits_with_spaces_are_read_up_to_the_most(rt: HostRuntime) -> Result<(), Fail> {
+    let mut buffer = LineBuffer::new(rt.alloc())?;
+    let mut line = Vec::from_slice(rt.alloc(), b"A")?;
+    for _ in 0..4096 {
+        line.extend_from_slice(b" a 5")?;
+    }
+    match read_line(&mut buffer, &[], line.as_slice()) {
+        Ok(Some(LentLine::Air(octets))) => assert_eq!(rt; octets, [0xa5; 4096].as_slice()),
+        _ => panic!(rt; "4,096 octets are no string that was heard"),
+    }
+    line.extend_from_slice(b" f")?;
+    let half = read_line(&mut buffer, &[], line.as_slice());
+    assert!(rt; matches!(half, Err(LineFault::NotHexadecimal)));
+    line.extend_from_slice(b"F")?;
+    let longer = read_line(&mut buffer, &[], line.as_slice());
+    assert!(rt; matches!(longer, Err(LineFault::TooMany)));
+    line.extend_from_slice(b" 0x")?;
+    let other = read_line(&mut buffer, &[], line.as_slice());
+    assert!(rt; matches!(other, Err(LineFault::NotHexadecimal)));
     Ok(())
 }

@@ -1,8 +1,7 @@
 use Rattle.std.proofs.Common.{◌≡◌, [], sym, subst}
 use Rattle.std.proofs.lemmas.Result.{err_from_is_err_and}
-use Rattle.trace.specs.Pieces.{ReaderView, HasRead}
+use Rattle.trace.specs.Pieces.{ReaderView, HasRead, AreTakenSoFar}
 use Rattle.log_report.specs.Log.{logs_of_lines}
-use Rattle.replay.specs.Stream.{HasReplayed}
 use Rattle.replay.proofs.StreamEnds.{unread}
 use Rattle.replay.proofs.stream.log_stream.Goals as goal
 
@@ -20,7 +19,7 @@ pub returns-in_err-take_whole : goal.returns-in_err-take_whole
 returns-in_err-take_whole g c =
     let p =
     err_from_is_err_and c.from_residual-in_err-take_whole.result c.from_residual-in_err-take_whole.ensures.1 in
-    let started : HasReplayed c.args.config [] c.in_ok-lines.lines
+    let started : AreTakenSoFar c.args.config [] c.in_ok-lines.lines
     (λ said. c.in_ok-logs.logs.access_point ≡ logs_of_lines c.args.config said) = (
       [],
       subst (λ (r : ReaderView). HasRead c.args.config [] [] r) (sym c.in_ok-lines.ensures)
@@ -32,7 +31,7 @@ returns-in_err-take_whole g c =
 
 pub returns : goal.returns
 returns g c =
-    let started : HasReplayed c.args.config [] c.in_ok-lines.lines
+    let started : AreTakenSoFar c.args.config [] c.in_ok-lines.lines
     (λ said. c.in_ok-logs.logs.access_point ≡ logs_of_lines c.args.config said) = (
       [],
       subst (λ (r : ReaderView). HasRead c.args.config [] [] r) (sym c.in_ok-lines.ensures)

@@ -1,10 +1,9 @@
 use Rattle.std.proofs.Common.{[], Ok, sym, subst, refl}
 use Rattle.std.specs.Option.{IsSomeAnd}
 use Rattle.std.proofs.lemmas.Result.{err_from_is_err_and}
-use Rattle.trace.specs.Pieces.{ReaderView, HasRead}
+use Rattle.trace.specs.Pieces.{ReaderView, HasRead, AreTakenSoFar}
 use Rattle.text_io.specs.declared.read_fault.ReadFault.TheVariants as reads
 use Rattle.replay.specs.Replay.{HasTaken}
-use Rattle.replay.specs.Stream.{HasReplayed}
 use Rattle.replay.proofs.SectionSteps.{replay-none, replay-sections}
 use Rattle.replay.proofs.StreamEnds.{reads-then, unread}
 use Rattle.replay.proofs.stream.replay_stream.Goals as goal
@@ -23,7 +22,7 @@ pub returns-in_err-take_whole : goal.returns-in_err-take_whole
 returns-in_err-take_whole g c =
     let p =
     err_from_is_err_and c.from_residual-in_err-take_whole.result c.from_residual-in_err-take_whole.ensures.1 in
-    let started : HasReplayed c.args.config [] c.in_ok-lines.lines
+    let started : AreTakenSoFar c.args.config [] c.in_ok-lines.lines
     (λ said. IsSomeAnd c.in_ok-replay.replay (HasTaken c.args.config said)) = (
       [],
       subst (λ (r : ReaderView). HasRead c.args.config [] [] r) (sym c.in_ok-lines.ensures)
@@ -37,7 +36,7 @@ pub returns-in_err-into_sections : goal.returns-in_err-into_sections
 returns-in_err-into_sections g c =
     let p =
     err_from_is_err_and c.from_residual-in_err-into_sections.result c.from_residual-in_err-into_sections.ensures.1 in
-    let started : HasReplayed c.args.config [] c.in_ok-lines.lines
+    let started : AreTakenSoFar c.args.config [] c.in_ok-lines.lines
     (λ said. IsSomeAnd c.in_ok-replay.replay (HasTaken c.args.config said)) = (
       [],
       subst (λ (r : ReaderView). HasRead c.args.config [] [] r) (sym c.in_ok-lines.ensures)
@@ -49,7 +48,7 @@ returns-in_err-into_sections g c =
 
 pub returns : goal.returns
 returns g c =
-    let started : HasReplayed c.args.config [] c.in_ok-lines.lines
+    let started : AreTakenSoFar c.args.config [] c.in_ok-lines.lines
     (λ said. IsSomeAnd c.in_ok-replay.replay (HasTaken c.args.config said)) = (
       [],
       subst (λ (r : ReaderView). HasRead c.args.config [] [] r) (sym c.in_ok-lines.ensures)

@@ -24,8 +24,8 @@ loop-preserved g c =
       so_far = λ config h.
           let s = c.loop.invariant.so_far config h in
           so_far-more config _ _ _ c.loop.counter piece c.loop.lines
-          (λ said. g.T.TakeLines.has_taken config said c.loop.networks) c.take_piece.new.lines
-          (λ said. g.T.TakeLines.has_taken config said c.take_piece.new.networks) s c.in-Ok.ensures.prefix.1
+          (λ said. g.T.TakeLines.has_taken config said c.loop.networks) c.take_piece.new.self
+          (λ said. g.T.TakeLines.has_taken config said c.take_piece.new.lines) s c.in-Ok.ensures.prefix.1
           c.in-Ok.ensures.reads kept
           (c.in_ok-take_piece.ensures config s.text s.replayed);
       none_failed = kept ∙ c.loop.invariant.none_failed;

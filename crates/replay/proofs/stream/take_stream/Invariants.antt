@@ -1,6 +1,7 @@
 use Rattle.std.proofs.Common.{◌≡◌, [], length}
 use Rattle.ap_config.specs.declared.config.RadioConfig.{RadioConfig}
-use Rattle.replay.specs.Stream.{HasReplayed, seen}
+use Rattle.trace.specs.Pieces.{AreTakenSoFar}
+use Rattle.replay.specs.Stream.{seen}
 use Rattle.replay.proofs.StreamSteps.{SoFar}
 use Rattle.replay.proofs.stream.take_stream.Given as goal
 
@@ -8,7 +9,7 @@ abbrev pub invariant-loop : goal.invariant-loop
 invariant-loop g l = record {
   so_far :
       (c : RadioConfig)
-      → HasReplayed c [] l.initial.lines (λ said. g.T.TakeLines.has_taken c said l.initial.networks)
+      → AreTakenSoFar c [] l.initial.lines (λ said. g.T.TakeLines.has_taken c said l.initial.networks)
       → SoFar c
       (seen (g.R.Source.left l.initial.source) (g.R.Source.failed l.initial.source) (g.R.Source.reads l.initial.source))
       (seen (g.R.Source.left l.source) (g.R.Source.failed l.source) (g.R.Source.reads l.source))

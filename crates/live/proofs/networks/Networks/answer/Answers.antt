@@ -14,13 +14,13 @@ answer_reading-requires-clause-countable g c =
 pub invariant_of-self : goal.invariant_of-self
 invariant_of-self g c =
     moment-reading _ _ c.args.face c.args.reading (at c.self.inside.lines c.self.inside.access_point)
-    (at (c.self.inside.lines + 1) c.answer_reading.new.access_point) _ _ c.self.invariant
-    (λ said is. c.answer_reading.ensures c.self.inside.lines said refl is)
+    (at c.answer_reading.new.lines c.answer_reading.new.access_point) _ _ c.self.invariant
+    (λ said is. c.answer_reading.ensures said is)
 
 pub returns : goal.returns
 returns g c said is =
     subst
     (λ (m : Moment).
-    AreAnswered (through c.args.face (watch g.W.Sink.taken g.W.Sink.failed) c.args.out.now c.answer_reading.new.out) m (at (c.self.inside.lines + 1) c.answer_reading.new.access_point) (said ∷ []))
+    AreAnswered (through c.args.face (watch g.W.Sink.taken g.W.Sink.failed) c.args.out.now c.answer_reading.new.out) m (at c.answer_reading.new.lines c.answer_reading.new.access_point) (said ∷ []))
     c.self.view_is
-    (c.answer_reading.ensures c.self.inside.lines said refl is)
+    (c.answer_reading.ensures said is)
