@@ -1,1 +1,3 @@
+pub mod FileLemmas
 pub mod InputLemmas
+pub mod PlayedLemmas

@@ -1,3 +1,5 @@
 -- All that stands here is the profile's.
 pub mod Faults
+pub mod Files
 pub mod Input
+pub mod PlayedFiles

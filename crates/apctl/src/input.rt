@@ -9,10 +9,12 @@ ghost use Rattle.apctl.specs.Faults.{IsOfFile, run_ending};
 ghost use Rattle.apctl.specs.Input.{EndsInput, AreOfInput};
 
 use crate::fault::Fault;
+use crate::file_system::Unread;
+use crate::files::fault_of;
 use events::Section;
 use replay::{report_texts, split_joined};
 use std::alloc::Global;
-use std::io::{ErrorKind, Read};
+use std::io::Read;
 use trace::Sink;
 
 /// The name of standard input in the line of a fault.
@@ -45,10 +47,20 @@ pub fn read_all<R: Read>(alloc: Global, reader: &mut R, name: &str) -> Result<Ve
     ensures ok { IfOk result (λ input. IfSome (R.remaining reader.old) (λ octets. input.items ≡ octets)) }
     ensures err { IfErr result (IsOfFile name.now) }
 {
+    match read_to_end(alloc, reader) {
+        Ok(input) => Ok(input),
+        Err(why) => Err(fault_of(alloc, why, name)),
+    }
+}
+
+/// All that a reader gives. An interrupted read is tried again. `Failed` where the reader failed, and `NoMemory` where
+/// memory ran out.
+pub fn read_to_end<R: Read>(alloc: Global, reader: &mut R) -> Result<Vec<u8>, Unread>
+    ensures { IfOk result (λ input. IfSome (R.remaining reader.old) (λ octets. input.items ≡ octets)) }
+{
     let mut input = Vec::new(alloc);
     match reader.read_to_end(&mut input) {
         Ok(_) => Ok(input),
-        Err(error) if error.kind() == ErrorKind::OutOfMemory => Err(Fault::Memory),
-        Err(_) => Err(Fault::of_file(alloc, name)),
+        Err(error) => Err(Unread::by(&error)),
     }
 }

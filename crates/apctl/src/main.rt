@@ -2,16 +2,19 @@
 //! `live`.
 //!
 //! It promises, on [`input::run_input`], of one text that is read and cut in two what [`replay::run_text`] promises of
-//! the two; and on [`fault::show_fault`] the exit status of a fault, and that `fault memory` is written without taking
-//! any.
+//! the two; on [`play::play_files`], of files what [`replay_play::play_owned`] promises of what they hold, and that the
+//! first that can't be read is told; and on [`fault::show_fault`] the exit status of a fault, and that `fault memory` is
+//! written without taking any.
 //!
-//! It promises nothing of words, of the process's streams, or of the lines of other faults. Those are shown by what the
+//! It promises nothing of words, of the process's streams and files, or of the lines of other faults. Those are shown by what the
 //! built program does (`tests/`), and so it has no tests of its own: a crate with tests is proved twice.
 #![tactic(auto)]
 
 mod fault;
+mod file_system;
 mod files;
 mod input;
+mod play;
 mod tasks;
 
 use fault::{Fault, show_fault};

@@ -2,10 +2,12 @@
 //! and a configuration is read whole before anything is done with it.
 
 use crate::fault::Fault;
-use crate::files::{open_file, read_file, read_traces};
+use crate::file_system::HostFiles;
+use crate::files::{open_file, read_file};
 use crate::input::{STANDARD_INPUT, run_input};
+use crate::play::play_files;
+use mac_frame::Octets;
 use replay::{check_text, run_stream};
-use replay_play::play_owned;
 use std::mem;
 use std::sync::Wait;
 use std::thread::Threads;
@@ -21,7 +23,7 @@ pub(crate) fn run_joined(rt: &HostRuntime) -> Result<(), Fault> {
 /// Reads the configuration of a file.
 pub(crate) fn check_config(rt: &HostRuntime, config: &str) -> Result<(), Fault> {
     let mut out = Counted::new(rt.stdout());
-    let config = read_file(rt, config)?;
+    let config = read_config(rt, config)?;
     Ok(check_text(rt.alloc(), config.as_slice(), &mut out)?)
 }
 
@@ -29,8 +31,8 @@ pub(crate) fn check_config(rt: &HostRuntime, config: &str) -> Result<(), Fault> 
 pub(crate) fn run_trace(rt: &HostRuntime, config: &str, trace: &str) -> Result<(), Fault> {
     let alloc = rt.alloc();
     let mut out = Counted::new(rt.stdout());
-    let config = read_file(rt, config)?;
-    let mut source = Counted::new(open_file(rt, trace)?);
+    let config = read_config(rt, config)?;
+    let mut source = Counted::new(open_file(&mut HostFiles::new(rt), alloc, trace)?);
     let reported = run_stream(alloc, config.as_slice(), &mut source, &mut out);
     reported.map_err(|fault| Fault::of_stream(alloc, fault, trace))
 }
@@ -43,16 +45,21 @@ pub(crate) fn play_traces<T: Threads + Wait + Sync>(
     traces: &[&str],
 ) -> Result<(), Fault> {
     let mut out = Counted::new(rt.stdout());
-    let config = read_file(rt, config)?;
-    let traces = read_traces(rt, threads, traces)?;
-    Ok(play_owned(threads, rt.alloc(), config.as_slice(), traces, &mut out)?)
+    play_files(
+        &mut HostFiles::new(rt),
+        threads,
+        rt.alloc(),
+        config,
+        traces,
+        &mut out,
+    )
 }
 
 /// Answers the lines of standard input as they come, on the configuration of a file.
 pub(crate) fn answer_lines(rt: &HostRuntime, config: &str) -> Result<(), Fault> {
     let alloc = rt.alloc();
     let mut out = Counted::new(rt.stdout());
-    let config = read_file(rt, config)?;
+    let config = read_config(rt, config)?;
     let mut source = Counted::new(rt.stdin());
     let answered = live::live(alloc, config.as_slice(), &mut source, &mut out);
     answered.map_err(|fault| Fault::of_live(alloc, fault, STANDARD_INPUT))
@@ -62,10 +69,15 @@ pub(crate) fn answer_lines(rt: &HostRuntime, config: &str) -> Result<(), Fault> 
 pub(crate) fn answer_records(rt: &HostRuntime, config: &str) -> Result<(), Fault> {
     let alloc = rt.alloc();
     let mut out = Counted::new(rt.stdout());
-    let config = read_file(rt, config)?;
+    let config = read_config(rt, config)?;
     let mut source = Counted::new(rt.stdin());
     let answered = live::live_octets(alloc, config.as_slice(), &mut source, &mut out);
     answered.map_err(|fault| Fault::of_live(alloc, fault, STANDARD_INPUT))
+}
+
+/// All that the file of this name holds, a configuration.
+fn read_config(rt: &HostRuntime, name: &str) -> Result<Octets, Fault> {
+    read_file(&mut HostFiles::new(rt), rt.alloc(), name)
 }
 
 /// Ends with what was reported: the process ends now, and its memory goes back as a whole.

@@ -19,7 +19,7 @@ use Rattle.events.specs.Items.{items_of}
 use Rattle.events.specs.declared.air_item.AirItem.{AirItem}
 use Rattle.events.specs.declared.line.Line.{Line}
 use Rattle.network.specs.Network.{alone}
-use Rattle.concurrent_play.specs.Leaving.{HaveLeft, HavePushed, IsSentAt, AreSentFrom}
+use Rattle.concurrent_play.specs.Leaving.{HaveLeft, HavePushed, IsAllPushedAt, AreSentFrom}
 use Rattle.concurrent_play.proofs.Chosen.{items_of-append}
 
 -- ---- one network
@@ -144,16 +144,16 @@ all-pushed count taken_in logs passes long placed each have =
 pub sent-push : (config : RadioConfig) (sources : List (List Line)) (from : ℕ) (ns : List SendingNetwork)
     (ps : List NetPassView) (n : SendingNetwork) (p : NetPassView)
     → AreSentFrom config sources from ns (map (λ pass. pass.pushed) ps)
-    → IsSentAt config sources (from + length ps) p.pushed n
+    → IsAllPushedAt config sources (from + length ps) p.pushed n
     → AreSentFrom config sources from (ns ++ n ∷ []) (map (λ pass. pass.pushed) (ps ++ p ∷ []))
 sent-push config sources from [] [] n p all one =
-    (subst (λ place. IsSentAt config sources place p.pushed n) (omega arith) one, tt)
+    (subst (λ place. IsAllPushedAt config sources place p.pushed n) (omega arith) one, tt)
 sent-push config sources from [] (q ∷ qs) n p all one = absurd all
 sent-push config sources from (m ∷ ms) [] n p all one = absurd all
 sent-push config sources from (m ∷ ms) (q ∷ qs) n p all one = (
   all.0,
   sent-push config sources (from + 1) ms qs n p all.1
-      (subst (λ place. IsSentAt config sources place p.pushed n) (omega arith) one),
+      (subst (λ place. IsAllPushedAt config sources place p.pushed n) (omega arith) one),
 )
 
 pub named-push : (queue : QueueName) (ps : List NetPassView) (p : NetPassView)

@@ -24,10 +24,16 @@ HavePushed taken_in logs =
 abbrev pub IsSentAt : RadioConfig → List (List Line) → ℕ → List (List ℕ) → SendingNetwork → Type 0
 IsSentAt config sources place pushed network = IsLogAt config sources place (sent_after pushed network)
 
+-- All that it sent on the air was pushed: none of its frames waits.
+pub record IsAllPushedAt (config : RadioConfig) (sources : List (List Line)) (place : ℕ) (pushed : List (List ℕ))
+    (network : SendingNetwork) : Type 0 where
+  pub none : network.waiting.items ≡ []
+  pub sent : IsSentAt config sources place pushed network
+
 -- each network with its pass, in order of place
 abbrev pub AreSentFrom : RadioConfig → List (List Line) → ℕ → List SendingNetwork → List (List (List ℕ)) → Type 0
 AreSentFrom config sources place [] [] = Unit {0}
 AreSentFrom config sources place [] (log ∷ logs) = ⊥
 AreSentFrom config sources place (network ∷ networks) [] = ⊥
 AreSentFrom config sources place (network ∷ networks) (log ∷ logs) =
-    IsSentAt config sources place log network × AreSentFrom config sources (place + 1) networks logs
+    IsAllPushedAt config sources place log network × AreSentFrom config sources (place + 1) networks logs

@@ -30,8 +30,8 @@ use std::thread::Threads;
 ///
 /// `Config` with the first fault exactly where the configuration has one, else `Sources` exactly where there are not 1
 /// to 64 of them; else `NoThread` where a thread could not be started, and `NoMemory` where memory ran out. `Finish`, with
-/// `Uncovered` and no other, would tell that a network was not given all lines of each source: no clause excludes it, and
-/// no test has met it. It may wait for other threads.
+/// `Uncovered` and no other, would tell that a network was not given all lines of each source, or that a frame of it
+/// still waits: no clause excludes it, and no test has met it. It may wait for other threads.
 pub fn play_logged<R: Threads + Wait + Sync>(
     rt: &R,
     alloc: Global,
@@ -45,7 +45,7 @@ pub fn play_logged<R: Threads + Wait + Sync>(
     // That memory ran out is never told as a fault of finishing.
     ensures memory { result ≢ Err (PlayFault.Finish ends.NoMemory) }
 
-    // The one fault of finishing is that a network was not given all lines of each source.
+    // The one fault of finishing is that a network was not given all lines of each source, or that a frame of it waits.
     ensures finish { (fault : FinishFault) → result ≡ Err (PlayFault.Finish fault) → fault ≡ ends.Uncovered }
 
     // Each network is the one alone that took what the sources gave it: of each source the first of the events that the

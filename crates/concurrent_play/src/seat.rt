@@ -7,7 +7,7 @@ ghost use Rattle.events.specs.Lines.{taken_of};
 ghost use Rattle.events.specs.declared.event.Event.{Event};
 ghost use Rattle.access_point.specs.Log.{log_of, sent_after};
 ghost use Rattle.play_result.specs.Faults.{IsPlayFault};
-ghost use Rattle.concurrent_play.specs.Leaving.{IsSentAt};
+ghost use Rattle.concurrent_play.specs.Leaving.{IsAllPushedAt};
 
 use crate::batch::{Batch, ReadLine};
 use crate::name::PlayName;
@@ -179,7 +179,8 @@ impl<N: PlayName> Seat<N> {
         }
     }
 
-    /// The network and its pass, where they are those at a place and it was given all lines of each source.
+    /// The network and its pass, where they are those at a place, it was given all lines of each source, and none of its
+    /// frames waits.
     pub(crate) fn into_parts(
         self,
         place: usize,
@@ -188,10 +189,13 @@ impl<N: PlayName> Seat<N> {
         requires { sources.now ≡ N.sources }
         ensures err { IfErr result IsPlayFault }
         ensures pass { IfOk result (λ r. (r.1.name ≡ N.queue) × (r.1.place ≡ place)) }
-        ensures sent { IfOk result (λ r. IsSentAt N.config N.sources place r.1.pushed r.0) }
+        ensures sent { IfOk result (λ r. IsAllPushedAt N.config N.sources place r.1.pushed r.0) }
     {
         if self.failed {
             return Err(PlayFault::NoMemory);
+        }
+        if !self.network.waiting.is_empty() {
+            return Err(PlayFault::Finish(FinishFault::Uncovered));
         }
         if self.pass.place() != place || !are_ends(self.next.as_slice(), sources) {
             return Err(PlayFault::Finish(FinishFault::Uncovered));

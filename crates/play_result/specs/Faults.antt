@@ -28,8 +28,8 @@ IsLater (faults.Finish ends.NoMemory) = ⊥
 IsLater (faults.Finish fault) = ⊤
 
 -- A fault that a play may still end with whose every source gives all its lines: of those of finishing it, only that a
--- network was not given all of them. Nobody knows what stands under a lock once the threads have ended, so it is looked
--- at; no test has met it.
+-- network was not given all of them, or that a frame of it still waits. Nobody knows what stands under a lock once the
+-- threads have ended, so it is looked at; no test has met it.
 abbrev pub IsPlayFault : PlayFault → Type 0
 IsPlayFault faults.NoThread = ⊤
 IsPlayFault faults.NoMemory = ⊤

@@ -27,7 +27,7 @@ loop-network-preserved g c =
     let more : vec_len c.push.new.self ≡ vec_len c.loop-network.logs + 1 = c.in_ok-push.ensures.len in
     let here : vec_len c.loop-network.logs ≡ 0 + length logs = omega (arith, c.loop-network.logs.ok.0) in
     let one : IsLogAt config sources (vec_len c.loop-network.logs) log =
-    subst (λ (l : LoggedNetwork). IsLogAt config sources (vec_len c.loop-network.logs) l) (sym c.in_ok-into_log.ensures) all.0 in
+    subst (λ (l : LoggedNetwork). IsLogAt config sources (vec_len c.loop-network.logs) l) (sym c.in_ok-into_log.ensures) all.0.sent in
     let count = i.count in
     let fewer = ap length b in
     record {

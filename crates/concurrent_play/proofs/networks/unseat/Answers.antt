@@ -2,7 +2,7 @@ use Rattle.std.proofs.Common.{◌≡◌, ◌+◌, ◌++◌, ◌∷◌, [], ℕ, 
 use Rattle.std.specs.List.{AllByRecursion, range_with_len}
 use Rattle.access_point.specs.declared.sending_network.SendingNetwork.{SendingNetwork}
 use Rattle.air_queue.specs.Passes.{NetPassView}
-use Rattle.concurrent_play.specs.Leaving.{AreSentFrom, IsSentAt}
+use Rattle.concurrent_play.specs.Leaving.{AreSentFrom, IsAllPushedAt}
 use Rattle.concurrent_play.proofs.Leaves.{sent-push, named-push, placed-push}
 use Rattle.concurrent_play.proofs.networks.unseat.Goals as goal
 
@@ -26,7 +26,7 @@ loop-seat-preserved g c =
           (λ (x : List SendingNetwork × List NetPassView). AreSentFrom config sources 0 x.0 (map (λ pass. pass.pushed) x.1))
           (λ k. (sym networks k, sym nets k))
           (sent-push config sources 0 c.loop-seat.networks.items c.loop-seat.nets.items n p i.sent
-          (subst (λ (k : ℕ). IsSentAt config sources k p.pushed n) here c.in_ok-network.ensures.sent));
+          (subst (λ (k : ℕ). IsAllPushedAt config sources k p.pushed n) here c.in_ok-network.ensures.sent));
       named = subst (λ (ps : List NetPassView). AllByRecursion (λ pass. pass.name ≡ queue) ps) (sym nets)
           (named-push queue c.loop-seat.nets.items p i.named c.in_ok-network.ensures.pass.0);
       placed = ap (map (λ (pass : NetPassView). pass.place)) nets

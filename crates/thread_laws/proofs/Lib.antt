@@ -1,0 +1,4 @@
+pub mod Lists
+pub mod Taking
+pub mod Leaving
+pub mod Runs

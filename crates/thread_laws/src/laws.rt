@@ -1,0 +1,26 @@
+//! A run with threads as a run of steps.
+
+ghost use Rattle.std.specs.Prelude.{◌≡◌, List, None, length};
+ghost use Rattle.ap_config.specs.Configuration.{fault_of};
+ghost use Rattle.ap_config.specs.declared.config.RadioConfig.{RadioConfig};
+ghost use Rattle.events.specs.declared.line.Line.{Line};
+ghost use Rattle.play_result.specs.Played.{IsPlayOf};
+ghost use Rattle.play_result.specs.Sections.{ArePlaced, AreSections, HaveLeft};
+ghost use Rattle.play_result.specs.declared.finished.Finished.{Finished};
+ghost use Rattle.thread_laws.specs.Steps.{AreGivenBy, steps_of};
+
+/// What an access point of threads ends with, of a configuration without a fault, is what some steps of a radio give: each
+/// network takes its events, and then each frame that left is handed to the air queue and leaves, in the same order
+/// (*profile*). No frame is queued after them.
+///
+/// The conditions of `ended` are what `Ap::finish` and `play` of `workers` ensure where they end well. Those of `played`
+/// are what `play` ensures; by `as_played` of `concurrent_play` what `play_logged` answers are the networks of such an end.
+pub fn as_steps()
+    ensures ended { (config : RadioConfig) (end : Finished) → fault_of config ≡ None
+        → length end.sections ≡ length config.networks → AreSections config end.sections
+        → HaveLeft end.sections end.left → ArePlaced config end.left
+        → AreGivenBy config (steps_of end.sections end.left) end.sections end.left }
+    ensures played { (config : RadioConfig) (sources : List (List Line)) (end : Finished) → fault_of config ≡ None
+        → IsPlayOf config sources end
+        → AreGivenBy config (steps_of end.sections end.left) end.sections end.left }
+{}
