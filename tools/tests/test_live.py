@@ -5,9 +5,11 @@ import contextlib
 import io
 import json
 import os
+import pwd
 import shutil
 import signal
 import socket
+import stat
 import struct
 import subprocess
 import tempfile
@@ -15,10 +17,11 @@ import threading
 import time
 import unittest
 from contextlib import ExitStack
+from dataclasses import replace
 from unittest import mock
 
 from frames import BROADCAST, address_of
-from live import asking, changes, checks, machine, radiotap, serving, setting_up, telling
+from live import asking, changes, checks, machine, radiotap, record, rights, serving, setting_up, telling, wires
 from live.bridge import Bridge, Signals
 from live.changes import Change, Changes
 from live.checks import (Plan, Wanted, check_abilities, check_bridge, check_config, check_left, check_names, check_port,
@@ -26,6 +29,8 @@ from live.checks import (Plan, Wanted, check_abilities, check_bridge, check_conf
 from live.faults import Fault
 from live.machine import Interface
 from live.phys import read_phy
+from live.record import make_record
+from live.rights import Rights
 from live.service import Service
 from live.settings import Network, Settings, read_settings
 
@@ -391,6 +396,108 @@ class KilledBefore(OnMachine):
                 Changes("phy9", self.folder)
 
 
+class WiresThatGo(OnMachine):
+    """Wires that are missing, and come back; of the kernel's files about interfaces there are some of the test."""
+
+    def setUp(self):
+        super().setUp()
+        self.interfaces = os.path.join(self.folder, "interfaces")
+        self.opened = []
+        for where, name, value in (
+                (machine, "INTERFACES", self.interfaces), (wires, "open_wire", self.open),
+                (machine, "read_file", self.read_file)):
+            patch = mock.patch.object(where, name, value)
+            patch.start()
+            self.addCleanup(patch.stop)
+        self.setting_up = setting_up.SettingUp(self.WANTED, self.made, ExitStack())
+        self.wires = wires.Wires(self.setting_up)
+        self.plan = Plan(self.SETTINGS, ((OTHER, "nowire1"),), "octets")
+        os.makedirs(self.interfaces)
+
+    def read_file(self, *path):
+        """A file of an interface of the test; no other."""
+        path = os.path.join(*path)
+        if not path.startswith(self.interfaces) or not os.path.exists(path):
+            return None
+        with open(path, encoding="ascii") as file:
+            return file.read().strip()
+
+    def have(self, index, is_up=False):
+        """There is the interface with this number."""
+        folder = os.path.join(self.interfaces, "nowire1")
+        os.makedirs(folder, exist_ok=True)
+        for name, text in (("ifindex", str(index)), ("iflink", str(index)), ("type", "1"),
+                           ("flags", "0x1003" if is_up else "0x1002")):
+            with open(os.path.join(folder, name), "w", encoding="ascii") as file:
+                file.write(text)
+
+    def open(self, name):
+        """Opens nothing, and keeps the name."""
+        self.opened.append(name)
+        return self.opened[-1]
+
+    def look(self):
+        """What is opened, and told."""
+        with contextlib.redirect_stderr(io.StringIO()) as told:
+            return self.wires.look(), told.getvalue()
+
+    def follow(self):
+        """All is set up that is there."""
+        with contextlib.redirect_stderr(io.StringIO()) as told:
+            self.setting_up.follow(self.plan, checks.missing_wires(self.plan))
+            return self.wires.open(self.plan), told.getvalue()
+
+    def test_missing_at_the_start(self):
+        """It is told once, and taken once it is there; what isn't fit for a wire is told too."""
+        opened, told = self.follow()
+        self.assertEqual(opened, {})
+        self.assertIn("the network 02:00:00:00:01:02 has no wire until nowire1 serves it: nowire1: there is no such", told)
+        self.assertEqual(self.look(), ({}, ""))
+        self.have(7)
+        with mock.patch.object(Interface, "users", ["br0"]):
+            self.assertIn("serves br0", self.look()[1])
+            self.assertEqual(self.look(), ({}, ""))
+        before = len(self.commands)
+        self.assertEqual(self.look()[0], {1: "nowire1"})
+        self.assertIn("ip link set nowire1 up", self.commands[before:])
+        self.assertFalse(self.wires.are_missing)
+        self.assertEqual(self.look(), ({}, ""))
+
+    def test_set_down_by_somebody(self):
+        """It is taken again once whoever did so sets it up; nothing is set up anew."""
+        self.have(7, True)
+        self.assertEqual(self.follow()[0], {1: "nowire1"})
+        made, before = list(self.made.made), len(self.commands)
+        self.wires.went_down(1)
+        self.have(7)
+        opened, told = self.look()
+        self.assertEqual(opened, {})
+        self.assertIn("it is down", told)
+        self.assertEqual(self.look(), ({}, ""))
+        self.have(7, True)
+        self.assertEqual(self.look(), ({1: "nowire1"}, ""))
+        self.assertEqual((self.made.made, self.commands[before:]), (made, []))
+
+    def test_another_index(self):
+        """An interface of its name that is another one is set up anew, and of the one that is gone nothing is taken
+        back."""
+        self.have(7)
+        self.follow()
+        first = list(self.made.made)
+        self.wires.went_down(1)
+        self.have(8)
+        before = len(self.commands)
+        self.assertEqual(self.look()[0], {1: "nowire1"})
+        again = self.commands[before:]
+        self.assertIn("ethtool -K nowire1 gro off", again)
+        self.assertFalse([words for words in again if words.endswith(("down", "gro on"))])
+        self.assertEqual(sorted(map(str, self.made.made)), sorted(map(str, first)))
+        before = len(self.commands)
+        with contextlib.redirect_stderr(io.StringIO()):
+            self.setting_up.take_down()
+        self.assertEqual(self.commands[before:].count("ip link set nowire1 down"), 1)
+
+
 class WithFiles(unittest.TestCase):
     """A test with a folder of its own, and a configuration in it."""
 
@@ -407,6 +514,10 @@ class WithFiles(unittest.TestCase):
             file.write(text)
         os.chmod(path, mode)
         return path
+
+    def path(self, name):
+        """A file of the test's folder, there or not."""
+        return os.path.join(self.folder, name)
 
     def wanted(self, program, wires=()):
         """Words."""
@@ -445,6 +556,33 @@ class FilesAndPrograms(WithFiles):
             check_record(wanted, read_settings(longest))
         self.assertEqual(told.getvalue(), "")
 
+    def test_record_is_for_its_owner_alone(self):
+        """Also where the mask would let others read it; where its name is there, whatever stands behind it, it is left
+        alone, and the next number is taken."""
+        path, before = self.path("today"), os.umask(0)
+        self.addCleanup(os.umask, before)
+        secret, folder = self.write("secret", "s"), self.path("folder")
+        os.mkdir(folder)
+        found = []
+        for what in (None, lambda: os.symlink(secret, f"{path}.1"), lambda: os.symlink("nowhere", f"{path}.2"),
+                     lambda: os.symlink(folder, f"{path}.3"), lambda: os.mkdir(f"{path}.4")):
+            if what is not None:
+                what()
+            descriptor, name = make_record(path)
+            self.addCleanup(os.close, descriptor)
+            self.assertEqual(stat.S_IMODE(os.lstat(name).st_mode), 0o600)
+            self.assertFalse(os.get_inheritable(descriptor))
+            found.append(name)
+            if name != path:
+                os.unlink(name)
+        self.assertEqual(found, [path, f"{path}.2", f"{path}.3", f"{path}.4", f"{path}.5"])
+        self.assertEqual(os.listdir(folder), [])
+        self.assertEqual(os.stat(secret).st_size, 1)
+        with self.assertRaisesRegex(Fault, "^--record .*none/x: No such file or directory$"):
+            make_record(self.path("none/x"))
+        with mock.patch.object(record, "MOST_RECORDS", 1), self.assertRaisesRegex(Fault, "1 files of this name"):
+            make_record(path)
+
     def test_wires_of_a_file(self):
         """A line each; what stands behind `#` is skipped, and what is no wire is told."""
         path = self.write("wires", "# wires\n\n02:00:00:00:01:01=eth1 # lab\n 02:00:00:00:01:02=eth2\n")
@@ -468,11 +606,15 @@ class FilesAndPrograms(WithFiles):
     def test_faults_of_wires(self):
         """A BSSID that isn't there, a network or an interface given twice, an interface that isn't one for this."""
         settings = read_settings(self.config)
-        for wires, says in (([(OTHER, "lo")], "no network"), ([(OURS, "lo"), (OURS, "eth9")], "two interfaces"),
-                            ([(OURS, "nothing0")], "no such interface"), ([(OURS, "../lo")], "no such interface"),
+        for given, says in (([(OTHER, "lo")], "no network"), ([(OURS, "lo"), (OURS, "eth9")], "two interfaces"),
+                            ([(OURS, "a" * 16)], "no interface has such a name"),
+                            ([(OURS, "../lo")], "no interface has such a name"),
                             ([(OURS, "lo")], "no interface of Ethernet")):
             with self.assertRaisesRegex(Fault, says):
-                check_wires(self.wanted(""), settings, tuple(wires))
+                check_wires(self.wanted(""), settings, tuple(given))
+        check_wires(self.wanted(""), settings, ((OURS, "later0"),))
+        with self.assertRaisesRegex(Fault, "no such interface"):
+            checks.check_wire(Interface("later0"))
 
     def test_words(self):
         """--help says what it is; wrong words are told, and a fault is one line and status 1."""
@@ -524,8 +666,7 @@ class Asked(WithFiles):
 
     def answer(self, phy, text):
         """Answers one question, and gives what was asked."""
-        with mock.patch.object(asking.os, "chown", mock.Mock()):
-            listening = asking.listen(phy, self.stack)
+        listening = asking.listen(phy, os.getegid(), self.stack)
         asked = []
 
         def take():
@@ -553,15 +694,97 @@ class Asked(WithFiles):
             asking.ask(None, "status")
 
     def test_none_runs(self):
-        """It is told; a socket that was left is made anew, and only root and the page's group may ask."""
+        """It is told; a socket that was left is made anew, and only root and the group that was given may ask."""
         with self.assertRaisesRegex(Fault, "no bridge runs"):
             asking.ask(None, "status")
         self.write("phy0.sock", "left")
         self.answer("phy0", "{}\n")
-        self.assertEqual(os.stat(asking.socket_path("phy0")).st_mode & 0o777, 0o660)
+        found = os.stat(asking.socket_path("phy0"))
+        self.assertEqual((found.st_mode & 0o777, found.st_gid), (0o660, os.getegid()))
+        if os.geteuid() == 0:
+            asking.listen("phy9", 12345, self.stack)
+            self.assertEqual((os.stat(asking.socket_path("phy9")).st_gid, os.getegid()), (12345, 0))
         self.assertEqual(asking.ask("phy0", "status"), {})
         self.stack.close()
         self.assertEqual(os.listdir(self.folder), ["radio.toml"])
+
+
+class RightsOfParts(WithFiles):
+    """As whom the bridge and the program run, and what is told where the machine can't."""
+
+    def rights(self, users=(), begins=True, landlock=True, **more):
+        """The rights on such a machine, and what was told."""
+        wanted = replace(self.wanted("apctl"), **more)
+        nobody = pwd.getpwnam("nobody")
+
+        def find(name):
+            if name not in users:
+                raise KeyError(name)
+            return nobody
+        with (mock.patch.object(rights.pwd, "getpwnam", find), mock.patch.object(rights, "begins", lambda *_: begins),
+              mock.patch.object(rights, "has_landlock", lambda: landlock),
+              contextlib.redirect_stderr(io.StringIO()) as told):
+            return rights.rights_of(wanted), told.getvalue(), nobody
+
+    def test_user(self):
+        """Where the user is there nothing is told; the words of the command name it, and no group beside."""
+        found, told, nobody = self.rights(["waltigon"])
+        self.assertEqual((found, told), (Rights(nobody, True), ""))
+        words = found.words()
+        self.assertEqual(words[:4], ["setpriv", f"--reuid={nobody.pw_uid}", f"--regid={nobody.pw_gid}", "--clear-groups"])
+        self.assertEqual(words[-2:], ["--no-new-privs", "--"])
+
+    def test_what_the_machine_lacks_is_told_once(self):
+        """No user, one who can't run the programs, and no Landlock: with what to do; `--as-root` says that it is wanted."""
+        for machine_has, says in (({}, "there is no user waltigon, .*`useradd --system"),
+                                  ({"users": ["waltigon"], "begins": False}, "can't run `bridge`: `chmod"),
+                                  ({"users": ["waltigon"], "landlock": False}, "no Landlock")):
+            found, told, _ = self.rights(**machine_has)
+            self.assertRegex(told, f"^live: .*{says}.*--as-root says that it is wanted so\n$")
+            self.assertEqual((found.user is None, found.has_bounds), ("landlock" not in machine_has, True))
+        found, told, _ = self.rights(landlock=False, as_root=True)
+        self.assertEqual((found, told, found.words()), (Rights(None, False), "", []))
+
+    def test_user_of_the_page(self):
+        """Where there is none the page is nobody's, which is told where one is wanted; without a page there is nothing."""
+        nobody = pwd.getpwnam("nobody")
+        for users, port, as_root, found, says in (
+                ({"waltigon-status": "root"}, 9617, False, pwd.getpwnam("root"), "^$"), ({}, None, False, None, "^$"),
+                ({}, 9617, False, nobody, "^live: there is no user waltigon-status, .*useradd.*wanted so\n$"),
+                ({}, 9617, True, nobody, "^$")):
+            real = pwd.getpwnam
+
+            def find(name):
+                if name.startswith("waltigon"):
+                    name = users[name]
+                return real(name)
+            with (mock.patch.object(rights.pwd, "getpwnam", find), contextlib.redirect_stderr(io.StringIO()) as told):
+                wanted = replace(self.wanted("apctl"), status=port, as_root=as_root)
+                self.assertEqual(rights.page_user_of(wanted), found)
+            self.assertRegex(told.getvalue(), says)
+
+    def test_ended_as_its_user(self):
+        """Where root may send no signals to others, it is sent as that user."""
+        process, user, acted = mock.Mock(), pwd.getpwnam("nobody"), []
+        process.send_signal.side_effect = [PermissionError, None]
+        with mock.patch.object(rights.os, "seteuid", acted.append):
+            rights.end(process, user, signal.SIGKILL)
+        self.assertEqual((acted, process.send_signal.call_args.args), ([user.pw_uid, 0], (signal.SIGKILL,)))
+        process.send_signal.side_effect = PermissionError
+        with self.assertRaises(PermissionError):
+            rights.end(process, None, signal.SIGKILL)
+
+    def test_who_can_run_what(self):
+        """It is tried as this user."""
+        nobody = pwd.getpwnam("nobody")
+        if os.geteuid() != 0:
+            self.skipTest("only root can try as another user")
+        self.assertTrue(rights.begins(["/bin/true", "x"], nobody))
+        self.assertFalse(rights.begins(["/bin/false", "x"], nobody))
+        refused = self.write("refused", "#!/bin/sh\nexit 2\n", 0o755)
+        self.assertFalse(rights.begins([refused], nobody))
+        os.chmod(self.folder, 0o755)
+        self.assertTrue(rights.begins([refused], nobody))
 
 
 class Told(WithFiles):
@@ -646,13 +869,16 @@ class Running(WithFiles):
         is only kept."""
         path = self.write("bridge", BRIDGE.format(folder=self.folder, does=does, status=status, after=after), 0o755)
         wires = ((OURS, "wire1"),)
-        wanted = Wanted(self.config, "apctl", path, "phy0", "mon0", wires, "a.trace", tables, status=port)
+        wanted = Wanted(self.config, "apctl", path, "phy0", "mon0", wires, self.path("a.trace"), tables,
+                        status=port)
         self.followed = []
-        setting_up = mock.Mock(follow=self.followed.append)
+        setting_up = mock.Mock(follow=lambda plan, missing: self.followed.append(plan))
         with ExitStack() as stack:
             for where, name, value in (
-                    (changes, "RUN", self.folder), (asking.os, "chown", mock.Mock()),
+                    (changes, "RUN", self.folder), (serving, "page_user_of", lambda _: None),
                     (serving, "check_rights", mock.Mock()), (serving, "SettingUp", lambda *_: setting_up),
+                    (serving, "rights_of", lambda _: Rights()), (serving, "open_radio", lambda _: []),
+                    (serving, "Wires", lambda _: mock.Mock(are_missing=False, open=lambda plan: {})),
                     (serving, "check", lambda *_: Plan(read_settings(self.config), wires, "octets")),
                     (serving, "check_again", lambda _, before: self.check_again(before))):
                 stack.enter_context(mock.patch.object(where, name, value))
@@ -672,6 +898,13 @@ class Running(WithFiles):
         with open(os.path.join(self.folder, name), encoding="utf-8") as file:
             return file.read()
 
+    def end_once_told(self, text):
+        """Ends it once this was told, or after some seconds."""
+        until = time.monotonic() + 20
+        while text not in self.told.getvalue() and time.monotonic() < until:
+            time.sleep(0.05)
+        self.end()
+
     def end(self):
         """Ends it as a person does."""
         os.kill(os.getpid(), signal.SIGINT)
@@ -685,7 +918,7 @@ class Running(WithFiles):
         self.run_bridge(later)
         self.assertRegex(self.read("words"),
                          "^--face octets --phy phy0 --channel 6 --monitor mon0 --interval 100 --idle 300 --socket [0-9]+ "
-                         f"--record a.trace --network 02:00:00:00:01:01/82840b16/16/wire1 apctl {self.config}\n$")
+                         f"--record [0-9]+:{self.path('a.trace')} --bounds [0-9]+ --network 02:00:00:00:01:01/82840b16/16/1/wire1 apctl {self.config}\n$")
         self.assertEqual(self.read("asked"), "open\ntables\n")
         self.assertRegex(self.told.getvalue(), "^live: 1 networks are on channel 6; Ctrl-C ends it, .*\nlive: the program "
                                                "ended with status 0; taking down what was set up\n$")
@@ -739,7 +972,7 @@ class Running(WithFiles):
         self.write("page", "#!/bin/sh\nexit 3\n", 0o755)
         does = SENDS + "; [ $request = open ] && (sleep 0.3; echo alive)"
         with mock.patch.object(serving, "STATUS_PROGRAM", page):
-            self.run_bridge(self.end, does=does, port=9617)
+            self.run_bridge(lambda: self.end_once_told("the page ended"), does=does, port=9617)
         self.assertIn("--status 9617: the page ended with status 3", self.told.getvalue())
         with mock.patch.object(serving, "STATUS_PROGRAM", f"{page}-is-nowhere"):
             with self.assertRaisesRegex(Fault, "page-is-nowhere: .*No such file"):

@@ -24,8 +24,6 @@ const SPREAD: [u8; 4] = [2, 4, 11, 22];
 const MANDATORY: [u8; 3] = [12, 24, 48];
 const LEAST_WINDOW: [u64; 2] = [15, 31];
 const MOST_WINDOW: u64 = 1023;
-/// After so many doublings no window is below the most.
-const DOUBLINGS: u32 = 6;
 
 /// A frame as the air sees it.
 #[derive(Debug, Clone, Copy, PartialEq, Eq)]
@@ -39,25 +37,10 @@ pub struct Size {
 }
 
 impl Size {
-    /// How long it is sent in so many tries.
-    pub fn sending(self, tries: u32) -> Nanos {
-        Nanos::from(tries) * (airtime(self.rate, self.octets) + self.acknowledgement())
-    }
-
-    /// How long so many tries take in all, on the average of what is drawn.
-    pub fn tries(self, number: u32) -> Nanos {
-        self.sending(number) + (0..number).map(|try_number| DIFS + backoff(self.rate, try_number)).sum::<Nanos>()
-    }
-
-    /// How many tries fit into a time, of so many at most, and `least` where fewer do.
-    pub fn tries_within(self, time: Nanos, least: u8, most: u8) -> u8 {
-        let once = DIFS + self.sending(1);
-        let mut taken = 0;
-        let fitting = (0..u32::from(most)).take_while(|try_number| {
-            taken += once + backoff(self.rate, *try_number);
-            taken <= time
-        });
-        (fitting.count() as u8).max(least)
+    /// What it takes of the air, reckoned once for all that is asked of it.
+    pub fn cost(self) -> Cost {
+        let once = airtime(self.rate, self.octets) + self.acknowledgement();
+        Cost { once, window: LEAST_WINDOW[usize::from(is_spread(self.rate))] }
     }
 
     fn acknowledgement(self) -> Nanos {
@@ -68,6 +51,56 @@ impl Size {
         let rate = mandatory.iter().copied().filter(|rate| *rate <= self.rate).max().unwrap_or(self.rate);
         SIFS + airtime(rate, ACK_LEN - FCS_LEN)
     }
+}
+
+/// What a frame takes of the air.
+#[derive(Debug, Clone, Copy, PartialEq, Eq)]
+pub struct Cost {
+    /// How long one try is sent.
+    once: Nanos,
+    /// The contention window of the first try.
+    window: u64,
+}
+
+impl Cost {
+    /// How long it is sent in so many tries.
+    pub fn sending(self, tries: u32) -> Nanos {
+        Nanos::from(tries) * self.once
+    }
+
+    /// How long so many tries take in all, on the average of what is drawn.
+    pub fn tries(self, number: u32) -> Nanos {
+        let (mut time, mut window) = (self.sending(number), self.window);
+        for _ in 0..number {
+            time += wait(window);
+            window = wider(window);
+        }
+        time
+    }
+
+    /// How many tries fit into a time, of so many at most, and `least` where fewer do.
+    pub fn tries_within(self, time: Nanos, least: u8, most: u8) -> u8 {
+        let (mut number, mut taken, mut window) = (0, 0, self.window);
+        while number < most {
+            taken += self.once + wait(window);
+            if taken > time {
+                break;
+            }
+            number += 1;
+            window = wider(window);
+        }
+        number.max(least)
+    }
+}
+
+/// How long is waited before a try, on the average: DIFS, and half of its contention window.
+fn wait(window: u64) -> Nanos {
+    DIFS + window * SLOT / 2
+}
+
+/// The contention window of the try after one of this window.
+fn wider(window: u64) -> u64 {
+    (2 * window + 1).min(MOST_WINDOW)
 }
 
 /// How long a frame is on the air.
@@ -82,13 +115,6 @@ fn airtime(rate: u8, octets: usize) -> Nanos {
     OFDM_PREAMBLE + OFDM_SYMBOL * symbols + SIGNAL_EXTENSION
 }
 
-/// How long is waited before a try, the first being 0: half of the window.
-fn backoff(rate: u8, try_number: u32) -> Nanos {
-    let least = LEAST_WINDOW[usize::from(is_spread(rate))];
-    let window = ((least + 1) << try_number.min(DOUBLINGS)).min(MOST_WINDOW + 1) - 1;
-    window * SLOT / 2
-}
-
 fn is_spread(rate: u8) -> bool {
     SPREAD.contains(&rate)
 }
@@ -100,6 +126,10 @@ mod tests {
 
     fn size(octets: usize, rate: u8) -> Size {
         Size { octets, rate, is_acknowledged: true }
+    }
+
+    fn cost(octets: usize, rate: u8) -> Cost {
+        size(octets, rate).cost()
     }
 
     #[test]
@@ -124,28 +154,31 @@ mod tests {
     #[test]
     fn a_try_takes_its_backoff_and_its_acknowledgement_too() {
         // At 54 Mb/s: DIFS, 7.5 slots, 26 microseconds and 54 symbols, SIFS and the acknowledgement.
-        assert_eq!(size(1436, 108).tries(1), 50_000 + 150_000 + 242_000 + 44_000);
-        assert_eq!(Size { is_acknowledged: false, ..size(1436, 2) }.tries(1), 50_000 + 310_000 + 192_000 + 11_520_000);
-        assert_eq!((size(1436, 108).tries(0), size(1436, 108).sending(3)), (0, 3 * 286_000));
+        assert_eq!(cost(1436, 108).tries(1), 50_000 + 150_000 + 242_000 + 44_000);
+        assert_eq!(
+            Size { is_acknowledged: false, ..size(1436, 2) }.cost().tries(1),
+            50_000 + 310_000 + 192_000 + 11_520_000
+        );
+        assert_eq!((cost(1436, 108).tries(0), cost(1436, 108).sending(3)), (0, 3 * 286_000));
     }
 
     #[test]
     fn seven_tries_of_a_long_unit_fit_25_milliseconds_at_54_megabits_and_two_at_one() {
         let most = 25_200 * MICROSECOND;
-        assert_eq!(size(1436, 108).tries_within(most, 2, 11), 7);
-        assert_eq!(size(1436, 2).tries_within(most, 2, 11), 2);
-        assert_eq!(size(2400, 2).tries_within(most, 2, 11), 2);
-        assert_eq!(size(80, 2).tries_within(most, 2, 11), 5);
-        assert_eq!(size(80, 2).tries_within(most, 2, 4), 4);
-        assert!(size(1436, 108).tries(7) < 23 * MILLISECOND && size(1436, 2).tries(2) < 26 * MILLISECOND);
+        assert_eq!(cost(1436, 108).tries_within(most, 2, 11), 7);
+        assert_eq!(cost(1436, 2).tries_within(most, 2, 11), 2);
+        assert_eq!(cost(2400, 2).tries_within(most, 2, 11), 2);
+        assert_eq!(cost(80, 2).tries_within(most, 2, 11), 5);
+        assert_eq!(cost(80, 2).tries_within(most, 2, 4), 4);
+        assert!(cost(1436, 108).tries(7) < 23 * MILLISECOND && cost(1436, 2).tries(2) < 26 * MILLISECOND);
     }
 
     #[test]
     fn each_rate_and_length_takes_a_time() {
         for rate in 0..=u8::MAX {
             for octets in [0, 10, 1500, 4096] {
-                assert!(size(octets, rate).tries(1) > DIFS);
-                assert!(size(octets, rate).tries_within(0, 2, 11) == 2);
+                assert!(cost(octets, rate).tries(1) > DIFS);
+                assert!(cost(octets, rate).tries_within(0, 2, 11) == 2);
             }
         }
     }

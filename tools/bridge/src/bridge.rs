@@ -1,12 +1,11 @@
 //! The bridge while it runs: one thread that waits for what comes first, and does it.
 use std::collections::BTreeMap;
-use std::io;
 use std::ops::Range;
 use std::thread::sleep;
 use std::time::Duration;
 
-use crate::clients::{Clients, Question};
-use crate::control::{say, Notice, Request, Requests};
+use crate::clients::{Clients, Line, Question};
+use crate::control::{say, Handed, Notice, Request, Requests};
 use crate::faces::{Answer, Event};
 use crate::faults::{reason, tell, Fault};
 use crate::filter::{acknowledged_filter, monitor_filter, nothing_filter, Shown};
@@ -20,7 +19,7 @@ use crate::radiotap::reception;
 use crate::receiving::{judge_wired, Air, Judged, LeftOut};
 use crate::sending::{Network, Sender, BEACON};
 use crate::silence;
-use crate::sockets::{Batch, Packet, Port, AT_A_TIME};
+use crate::sockets::{Batch, OfSocket, Packet, Port, AT_A_TIME};
 use crate::status::{error, Faults, Named, Status};
 use crate::tables::{Asker, Tables};
 use crate::time::{now, wall_now, Lateness, Nanos, Ticks, MILLISECOND, SECOND};
@@ -81,11 +80,12 @@ enum Way {
     Wire(usize),
 }
 
-/// A wire whose interface went down, or away.
+/// A wire whose interface went down or away, or wasn't there yet.
 #[derive(Debug)]
 struct Ended {
-    since: Nanos,
-    /// How many frames of its network were lost since.
+    /// Since when, where it isn't back.
+    since: Option<Nanos>,
+    /// How many frames of its network were lost while it was down.
     lost: u64,
 }
 
@@ -121,7 +121,7 @@ struct Running<P> {
     given: Given,
     left_out: BTreeMap<(Way, LeftOut), u64>,
     has_told_drops: bool,
-    /// The wires that ended, by the places of their networks.
+    /// The wires that have ended once, by the places of their networks.
     ended: BTreeMap<usize, Ended>,
     /// How often the bridge was woken, and in which waking the air and each wire were read last.
     wakings: u64,
@@ -133,10 +133,10 @@ struct Running<P> {
 }
 
 /// The program, `tools/live`, and once the interfaces are there, these.
-pub struct Bridge<P, C> {
+pub struct Bridge<P> {
     program: Program,
     feeder: Feeder,
-    requests: Requests<C>,
+    requests: Requests,
     clients: Option<Clients>,
     poller: Poller,
     manner: Manner,
@@ -150,18 +150,19 @@ pub struct Bridge<P, C> {
     phase: Phase,
     running: Option<Running<P>>,
     batch: Batch,
-    opening_asked: bool,
+    /// The sockets of the interfaces, until they are served.
+    handed: Option<Handed>,
     tables_asked: bool,
     dismissing: bool,
     waits_for_room: bool,
 }
 
-impl<P: Port, C: io::Read + std::os::unix::io::AsRawFd> Bridge<P, C> {
+impl<P: OfSocket> Bridge<P> {
     /// With this program, whose networks aren't open yet, requests of `tools/live`, and a socket by which others ask.
     pub fn new(
         program: Program,
         feeder: Feeder,
-        requests: Requests<C>,
+        requests: Requests,
         clients: Option<Clients>,
         manner: Manner,
     ) -> Result<Self, Fault> {
@@ -185,15 +186,15 @@ impl<P: Port, C: io::Read + std::os::unix::io::AsRawFd> Bridge<P, C> {
             phase,
             running: None,
             batch: Batch::new(),
-            opening_asked: false,
+            handed: None,
             tables_asked: false,
             dismissing: false,
             waits_for_room: false,
         })
     }
 
-    /// Runs until `tools/live` ends it, or until a fault; `open` opens the interfaces once they are there.
-    pub fn serve(&mut self, mut open: impl FnMut() -> Result<Sender<P>, Fault>) -> Result<(), Fault> {
+    /// Runs until `tools/live` ends it, or until a fault; `open` takes the interfaces once they are there.
+    pub fn serve(&mut self, mut open: impl FnMut(Handed) -> Result<Sender<P>, Fault>) -> Result<(), Fault> {
         let mut outcome = Ok(());
         while outcome.is_ok() && self.phase != Phase::Ending {
             outcome = self.step(&mut open);
@@ -216,7 +217,7 @@ impl<P: Port, C: io::Read + std::os::unix::io::AsRawFd> Bridge<P, C> {
     }
 
     /// Waits for what comes first, and does what is to be done then.
-    fn step(&mut self, open: &mut impl FnMut() -> Result<Sender<P>, Fault>) -> Result<(), Fault> {
+    fn step(&mut self, open: &mut impl FnMut(Handed) -> Result<Sender<P>, Fault>) -> Result<(), Fault> {
         self.gather();
         self.poller.set_due(self.due())?;
         self.wait(self.most_wait())?;
@@ -232,7 +233,11 @@ impl<P: Port, C: io::Read + std::os::unix::io::AsRawFd> Bridge<P, C> {
         }
         match self.phase {
             Phase::Ending => return Ok(()),
-            Phase::SettingUp if self.opening_asked => self.begin(open()?)?,
+            Phase::SettingUp => {
+                if let Some(handed) = self.handed.take() {
+                    self.begin(open(handed)?)?;
+                }
+            }
             _ => {}
         }
         self.take_time()?;
@@ -266,6 +271,10 @@ impl<P: Port, C: io::Read + std::os::unix::io::AsRawFd> Bridge<P, C> {
     /// Waits for what comes first, or for so many milliseconds at most.
     fn wait(&mut self, most: Option<u16>) -> Result<(), Fault> {
         self.poller.wait(most, &mut self.ready)?;
+        // What became of frames is learned before others go.
+        if let Some(place) = self.ready.iter().position(|ready| ready.token == Token::Monitor) {
+            self.ready[..=place].rotate_right(1);
+        }
         self.time = now();
         self.running.iter_mut().for_each(|running| running.wakings += 1);
         Ok(())
@@ -287,16 +296,24 @@ impl<P: Port, C: io::Read + std::os::unix::io::AsRawFd> Bridge<P, C> {
         }
     }
 
-    /// How many milliseconds to wait at most: the program doesn't say when it has read something.
+    /// How many milliseconds to wait at most: the program doesn't say when it has read something, and a client whose
+    /// answer is written may have asked more before.
     fn most_wait(&self) -> Option<u16> {
         let waits = self.running.as_ref().map_or(false, |running| !running.waiting.is_empty());
-        (waits && !self.waits_for_room).then_some(1)
+        let asks = self.clients.as_ref().map_or(false, Clients::has_questions);
+        (waits && !self.waits_for_room || asks).then_some(1)
     }
 
     fn take_requests(&mut self) -> Result<(), Fault> {
-        while let Some(request) = self.requests.next() {
+        while let Some(request) = self.requests.next()? {
             match (request, self.phase) {
-                (Request::Open, _) => self.opening_asked = true,
+                (Request::Open(handed), _) => self.handed = Some(handed),
+                (Request::Wire(place, socket), Phase::Running) => {
+                    if let Some(running) = &mut self.running {
+                        let port = P::of(&running.wire_of(place)?, socket);
+                        running.take_wire(place, port, &self.poller)?;
+                    }
+                }
                 (Request::Tables, Phase::Running) => self.tables_asked = true,
                 (Request::Dismiss, Phase::Running) => {
                     self.dismissing = true;
@@ -317,9 +334,14 @@ impl<P: Port, C: io::Read + std::os::unix::io::AsRawFd> Bridge<P, C> {
     fn begin(&mut self, mut sender: Sender<P>) -> Result<(), Fault> {
         let networks = sender.networks().to_vec();
         self.poller.add(sender.monitor().port.descriptor(), Token::Monitor, true, false)?;
-        for place in 0..networks.len() {
-            if let Some(wire) = sender.wire(place) {
-                self.poller.add(wire.port.descriptor(), Token::Wire(place), true, false)?;
+        let mut ended = BTreeMap::new();
+        for (place, network) in networks.iter().enumerate() {
+            match sender.wire(place) {
+                Some(wire) => self.poller.add(wire.port.descriptor(), Token::Wire(place), true, false)?,
+                None if network.wire.is_some() => {
+                    ended.insert(place, Ended { since: Some(self.time), lost: 0 });
+                }
+                None => {}
             }
         }
         if let Some(port) = sender.acknowledged() {
@@ -328,7 +350,7 @@ impl<P: Port, C: io::Read + std::os::unix::io::AsRawFd> Bridge<P, C> {
         if let Some(clients) = &self.clients {
             self.poller.add(clients.descriptor(), Token::Listener, true, false)?;
         }
-        self.running = Some(Running::new(sender, networks, &self.manner));
+        self.running = Some(Running { ended, ..Running::new(sender, networks, &self.manner) });
         self.set_filter(Shown::All)?;
         self.phase = Phase::Running;
         Ok(())
@@ -443,21 +465,22 @@ impl<P: Port, C: io::Read + std::os::unix::io::AsRawFd> Bridge<P, C> {
         };
         while let Some((place, question)) = clients.next() {
             match running.answer(question, clients.is_root(place), time) {
-                Some(answer) => clients.answer(place, &answer),
+                Some(answer) => clients.answer(place, Line::of(answer), time),
                 None => clients.wait(place, time),
             }
         }
         let waiting = clients.waiting();
         if !waiting.is_empty() && running.tables.are_wanted(time) {
-            self.feeder.say(Event::Tables)?;
+            self.feeder.say(Event::Tables);
             running.tables.ask(Asker::Status, time);
             running.given.tables += 1;
         }
-        for (place, since) in waiting {
-            if running.tables.are_new(time) || running.tables.is_late(since, time) {
-                let line = running.status(&self.manner, self.began, &self.faults, time).line();
-                clients.answer(place, &line);
-            }
+        let is_told = |since| running.tables.are_new(time) || running.tables.is_late(since, time);
+        let told: Vec<usize> =
+            waiting.into_iter().filter(|(_, since)| is_told(*since)).map(|(place, _)| place).collect();
+        if !told.is_empty() {
+            let line = Line::of(running.status(&self.manner, self.began, &self.faults, &self.feeder, time).line());
+            told.into_iter().for_each(|place| clients.answer(place, line.clone(), time));
         }
         clients.flush(&self.poller, time)
     }
@@ -477,6 +500,7 @@ impl<P: Port, C: io::Read + std::os::unix::io::AsRawFd> Bridge<P, C> {
             match (outcome, ready.token) {
                 (Err(fault), Token::Wire(place)) => {
                     running.end_wire(place, &fault, &mut self.batch, &self.poller, self.time)?;
+                    say(&Notice::Down(place));
                 }
                 (outcome, _) => outcome?,
             }
@@ -508,8 +532,10 @@ impl<P: Port, C: io::Read + std::os::unix::io::AsRawFd> Bridge<P, C> {
             _ => return Ok(()),
         };
         let unread = running.sender.sent_on_air() - running.sent_before;
-        if unread >= UNREAD_ACKNOWLEDGED || unread > 0 && running.sender.holds_back() {
+        let waits_for_them = running.sender.holds_back() || running.sender.is_unsettled();
+        if unread >= UNREAD_ACKNOWLEDGED || unread > 0 && waits_for_them {
             running.receive(Token::Acknowledged, &mut self.batch, self.time)?;
+            running.sender.looked();
             self.send()?;
         }
         if let Some(running) = &mut self.running {
@@ -535,8 +561,8 @@ impl<P: Port, C: io::Read + std::os::unix::io::AsRawFd> Bridge<P, C> {
             }
             (Phase::Running, Some(running)) => {
                 if time >= running.ticks.due() && self.feeder.has_read_tick() && running.ticks.begins(time) {
-                    self.feeder.say(Event::Tick)?;
-                    self.feeder.flush_record()?;
+                    self.feeder.say(Event::Tick);
+                    self.feeder.flush_record();
                     running.is_answered = false;
                     running.said_tick = time;
                     running.beacons_awaited = running.networks.len();
@@ -544,9 +570,9 @@ impl<P: Port, C: io::Read + std::os::unix::io::AsRawFd> Bridge<P, C> {
                     running.receive(Token::Acknowledged, &mut self.batch, time)?;
                 }
                 running.sender.expire(time);
-                if self.tables_asked {
+                if self.tables_asked && running.tables.may_be_asked() {
                     self.tables_asked = false;
-                    self.feeder.say(Event::Tables)?;
+                    self.feeder.say(Event::Tables);
                     running.tables.ask(Asker::People, time);
                     running.given.tables += 1;
                 }
@@ -579,7 +605,7 @@ impl<P: Port, C: io::Read + std::os::unix::io::AsRawFd> Bridge<P, C> {
                 match running.waiting.pop(time) {
                     None => break,
                     Some((source, waiter)) => {
-                        running.say(source, &waiter, &mut self.feeder, time)?;
+                        running.say(source, &waiter, &mut self.feeder, time);
                         said += 1;
                     }
                 }
@@ -651,7 +677,8 @@ impl<P: Port, C: io::Read + std::os::unix::io::AsRawFd> Bridge<P, C> {
             self.send()?;
         }
         self.feeder.close();
-        self.feeder.flush_record()
+        self.feeder.flush_record();
+        Ok(())
     }
 }
 
@@ -698,12 +725,40 @@ impl<P: Port> Running<P> {
     /// A network sends a frame on its wire. Where that has ended the frame is lost, and counted.
     fn send_on_wire(&mut self, bssid: Address, octets: Vec<u8>, time: Nanos) -> Result<(), Fault> {
         match self.air.place_of(&bssid).and_then(|place| self.ended.get_mut(&place)) {
-            Some(ended) => {
+            Some(ended) if ended.since.is_some() => {
                 ended.lost += 1;
                 Ok(())
             }
-            None => self.sender.send_on_wire(bssid, octets, time),
+            _ => self.sender.send_on_wire(bssid, octets, time),
         }
+    }
+
+    /// Whether the wire of the network of this place has ended, and isn't back.
+    fn is_down(&self, place: usize) -> bool {
+        self.ended.get(&place).map_or(false, |ended| ended.since.is_some())
+    }
+
+    /// The wire of the network of this place is there, or there again.
+    fn take_wire(&mut self, place: usize, port: P, poller: &Poller) -> Result<(), Fault> {
+        let is_down = self.is_down(place);
+        if let Some(wire) = self.sender.wire(place).filter(|_| !is_down) {
+            poller.remove(wire.port.descriptor())?;
+            wire.port.close();
+        }
+        poller.add(port.descriptor(), Token::Wire(place), true, false)?;
+        self.ended.entry(place).or_insert(Ended { since: None, lost: 0 }).since = None;
+        log::write_event(
+            Level::Notice,
+            format_args!("{}: there, the wire of {} from now on", port.interface(), self.networks[place].bssid),
+        );
+        self.sender.set_wire(place, port);
+        Ok(())
+    }
+
+    /// The interface of the wire of the network of this place.
+    fn wire_of(&self, place: usize) -> Result<String, Fault> {
+        let wire = self.networks.get(place).and_then(|network| network.wire.clone());
+        wire.ok_or_else(|| Fault::new("tools/live handed over the wire of no network"))
     }
 
     /// A beacon came of the program. Behind the last one that is due stations are looked at that are silent.
@@ -785,7 +840,14 @@ impl<P: Port> Running<P> {
     }
 
     /// What is going on.
-    fn status<'a>(&'a mut self, manner: &'a Manner, began: Nanos, faults: &'a Faults, now: Nanos) -> Status<'a> {
+    fn status<'a>(
+        &'a mut self,
+        manner: &'a Manner,
+        began: Nanos,
+        faults: &'a Faults,
+        feeder: &'a Feeder,
+        now: Nanos,
+    ) -> Status<'a> {
         self.beacons.missed = self.ticks.missed();
         let (drops, left_out) = (self.drops(), self.left_out());
         Status {
@@ -793,11 +855,12 @@ impl<P: Port> Running<P> {
             channel: manner.channel,
             began,
             faults,
+            record: feeder.record(),
             beacons: &self.beacons,
             drops,
             left_out,
             networks: &self.networks,
-            wires_down: (0..self.networks.len()).map(|place| Some(self.ended.get(&place)?.since)).collect(),
+            wires_down: (0..self.networks.len()).map(|place| self.ended.get(&place)?.since).collect(),
             accounts: self.sender.accounts(),
             roster: self.operating.roster(),
             tables: &self.tables,
@@ -848,7 +911,7 @@ impl<P: Port> Running<P> {
 
     /// Reads what waits at an interface, some batches of it at most.
     fn receive(&mut self, token: Token, batch: &mut Batch, time: Nanos) -> Result<(), Fault> {
-        batch.ask_for(self.to_ask_for(token));
+        batch.ask_for(self.most_to_ask_for(token));
         for _ in 0..IN_A_ROW {
             let port = match token {
                 Token::Wire(place) => match self.sender.wire(place) {
@@ -898,7 +961,8 @@ impl<P: Port> Running<P> {
         log::write_event(
             Level::Warning,
             format_args!(
-                "{fault} The wire of {bssid} has ended: what that network sends there is lost. All else goes on"
+                "{fault} The wire of {bssid} has ended: what that network sends there is lost until it is back. All \
+                 else goes on"
             ),
         );
         let hears_no_more = match self.sender.wire(place) {
@@ -914,13 +978,13 @@ impl<P: Port> Running<P> {
             wire.unblock();
             wire.set_waited_for(false);
         }
-        self.ended.insert(place, Ended { since: time, lost: 0 });
+        self.ended.entry(place).or_insert(Ended { since: None, lost: 0 }).since = Some(time);
         Ok(())
     }
 
     /// How many packets are asked for at a time: one where an interface had nothing at the last waking, since a question
     /// for one more that isn't there costs as much as reading one.
-    fn to_ask_for(&mut self, token: Token) -> usize {
+    fn most_to_ask_for(&mut self, token: Token) -> usize {
         let way = match token {
             Token::Monitor => 0,
             Token::Wire(place) => 1 + place,
@@ -977,7 +1041,7 @@ impl<P: Port> Running<P> {
     }
 
     /// Says a frame to the program.
-    fn say(&mut self, source: Source, waiter: &Waiter, feeder: &mut Feeder, time: Nanos) -> Result<(), Fault> {
+    fn say(&mut self, source: Source, waiter: &Waiter, feeder: &mut Feeder, time: Nanos) {
         match source {
             Source::AirForAll | Source::Air(_) => {
                 self.given.air += 1;
@@ -1018,11 +1082,13 @@ impl<P: Port> Running<P> {
         if while_it_is.contains(&time) {
             self.sender.flush(time, while_it_is.end);
         }
-        let networks = self.networks.iter().enumerate();
-        let wires = networks.filter(|(_, network)| network.wire.is_some()).map(|(place, _)| Token::Wire(place));
         let mut changed = Vec::new();
-        for (token, gate) in std::iter::once(Token::Monitor).chain(wires).zip(self.sender.gates()) {
-            if !gate.is_settled() {
+        for token in std::iter::once(Token::Monitor).chain((0..self.networks.len()).map(Token::Wire)) {
+            let gate = match token {
+                Token::Wire(place) => self.sender.wire(place),
+                _ => Some(self.sender.monitor()),
+            };
+            if let Some(gate) = gate.filter(|gate| !gate.is_settled()) {
                 gate.set_waited_for(gate.is_blocked());
                 changed.push((token, gate.port.descriptor(), gate.is_blocked()));
             }
@@ -1036,7 +1102,7 @@ impl<P: Port> Running<P> {
         if let Some(port) = self.sender.acknowledged() {
             poller.change(port.descriptor(), Token::Acknowledged, false, false)?;
         }
-        for place in (0..self.networks.len()).filter(|place| !self.ended.contains_key(place)) {
+        for place in (0..self.networks.len()).filter(|place| !self.is_down(*place)).collect::<Vec<_>>() {
             if let Some(wire) = self.sender.wire(place) {
                 poller.change(wire.port.descriptor(), Token::Wire(place), false, false)?;
             }
@@ -1078,7 +1144,7 @@ impl<P: Port> Running<P> {
 
     /// Says once that more comes than goes through.
     fn tell_of_drops(&mut self) {
-        if !self.has_told_drops && self.waiting.dropped().next().is_some() {
+        if !self.has_told_drops && self.waiting.has_dropped() {
             self.has_told_drops = true;
             tell("more comes than goes through: frames are dropped, and counted");
         }
@@ -1124,11 +1190,12 @@ mod tests {
     use crate::program::Record;
     use crate::radiotap::sending_header;
     use crate::samples::{data, network, radiotap, Unit, OTHER, OURS, STATION};
+    use crate::sockets::hand;
     use libc::sock_filter;
     use std::fs::{self, Permissions};
-    use std::io::{BufRead, BufReader, Write};
+    use std::io::{self, BufRead, BufReader, Write};
     use std::os::unix::fs::{MetadataExt, PermissionsExt};
-    use std::os::unix::io::{AsRawFd, RawFd};
+    use std::os::unix::io::{AsRawFd, OwnedFd, RawFd};
     use std::os::unix::net::{UnixDatagram, UnixListener, UnixStream};
     use std::path::PathBuf;
     use std::sync::atomic::{AtomicBool, Ordering};
@@ -1205,6 +1272,10 @@ end
 done
 "#;
 
+    fn nothing() -> OwnedFd {
+        fs::File::open("/dev/null").unwrap().into()
+    }
+
     /// A port in place of a packet socket. A radio's shows the frames that are sent by it, where `shows` says so.
     struct FakePort {
         interface: &'static str,
@@ -1228,6 +1299,16 @@ done
             let port = FakePort { interface, near, far, sent, shows: false, takes, goes_down, is_closed: false };
             let sent = Arc::clone(&port.sent);
             (port, other_end, sent)
+        }
+    }
+
+    impl OfSocket for FakePort {
+        /// One whose other end gets what is sent by it.
+        fn of(interface: &str, socket: OwnedFd) -> FakePort {
+            let near = UnixDatagram::from(socket);
+            let far = near.try_clone().unwrap();
+            let interface = Box::leak(interface.to_owned().into_boxed_str());
+            FakePort { near, far, shows: true, interface, ..FakePort::new("wire").0 }
         }
     }
 
@@ -1327,11 +1408,23 @@ done
         max_known: u16,
         /// How many networks there are: one or two.
         networks: usize,
+        /// The file of the record, where it isn't one of the stage.
+        record: Option<&'static str>,
+        /// Whether the second network's wire is there at the start.
+        has_other_wire: bool,
     }
 
     impl Default for Surroundings {
         fn default() -> Surroundings {
-            Surroundings { shows: true, takes: Duration::ZERO, interval: 100, max_known: 100, networks: 1 }
+            Surroundings {
+                shows: true,
+                takes: Duration::ZERO,
+                interval: 100,
+                max_known: 100,
+                networks: 1,
+                record: None,
+                has_other_wire: true,
+            }
         }
     }
 
@@ -1373,10 +1466,11 @@ done
         let ports = (monitor, vec![Some(wire), Some(other)]);
         let clients = Clients::new(UnixListener::bind(stage.folder.join("socket")).unwrap()).unwrap();
         let outcome = thread::scope(|scope| {
-            let record = Record::create(stage.folder.join("record").to_str().unwrap()).unwrap();
+            let name = surroundings.record.map_or_else(|| stage.folder.join("record"), PathBuf::from);
+            let record = Record::new("record", fs::File::create(name).unwrap());
             scope.spawn(|| {
                 // A bridge whose program has ended at once reads it no more.
-                let _ = stage.requests.write_all(b"open\n");
+                let _ = hand(&stage.requests, b"open\n", &[nothing(), nothing(), nothing()]);
                 thread::sleep(Duration::from_millis(400));
                 later(&mut stage);
             });
@@ -1398,12 +1492,15 @@ done
         let mut networks = vec![of(OURS, "wire1"), of(OTHER, "wire2")];
         networks.truncate(surroundings.networks);
         wires.truncate(surroundings.networks);
-        let (program, feeder) = Program::start(path, "radio.toml", face, Some(record))?;
+        if !surroundings.has_other_wire {
+            wires[1] = None;
+        }
+        let (program, feeder) = Program::start(path, "radio.toml", face, None, Some(record))?;
         let manner =
             Manner { phy: "phy0".into(), channel: 6, interval, most_silence: Some(300 * SECOND), tells_alive: false };
-        let mut bridge = Bridge::new(program, feeder, Requests::new(asked)?, Some(clients), manner)?;
+        let mut bridge = Bridge::new(program, feeder, Requests::new(asked), Some(clients), manner)?;
         let mut ports = Some((monitor, wires));
-        bridge.serve(|| {
+        bridge.serve(|_| {
             let (monitor, wires) = ports.take().unwrap();
             let beacons = monitor.beside();
             Ok(Sender::new(networks.clone(), monitor, beacons, wires))
@@ -1471,6 +1568,43 @@ done
         assert!(stage.sent.lock().unwrap().contains(&told));
     }
 
+    /// While one client writes newlines and never reads, another one is answered and beacons go.
+    #[test]
+    fn a_client_that_floods_keeps_nobody() {
+        let (mut written, mut answer) = (0, String::new());
+        let (outcome, stage) = run(Face::Text, &KNOWING.replace("ANSWER", ANSWER), true, |stage| {
+            let mut flooding = UnixStream::connect(stage.folder.join("socket")).unwrap();
+            flooding.set_nonblocking(true).unwrap();
+            let until = now() + SECOND;
+            while now() < until {
+                written += flooding.write(&[b'\n'; 4096]).unwrap_or(0);
+            }
+            answer = ask(stage, "status");
+            end(stage);
+        });
+        assert_eq!(outcome, Ok(()));
+        assert!(written < 1 << 20 && answer.contains(r#""phy":"phy0""#), "{written} {answer}");
+        assert!(stage.record().iter().filter(|line| *line == "T").count() >= 8);
+    }
+
+    /// A record whose disk is full stops by itself, and the status says so; frames and beacons go on.
+    #[test]
+    fn a_full_disk_ends_the_recording_alone() {
+        let mut status = String::new();
+        let surroundings = Surroundings { record: Some("/dev/full"), ..Surroundings::default() };
+        let (outcome, stage) = run_with(Face::Text, LINES, surroundings, |stage| {
+            stage.hear(&data());
+            thread::sleep(Duration::from_millis(400));
+            status = ask(stage, "status");
+            end(stage);
+        });
+        assert_eq!(outcome, Ok(()));
+        let wanted = r#""record":{"octets":0,"fault":"No space left on device"}"#;
+        assert!(status.contains(wanted), "{status}");
+        assert_eq!(*stage.sent_on_wire.lock().unwrap(), [data()]);
+        assert!(stage.sent.lock().unwrap().len() >= 6);
+    }
+
     /// Also where beacons are rare.
     #[test]
     fn who_does_not_associate_is_given_up_within_five_seconds_where_the_network_is_nearly_full() {
@@ -1532,6 +1666,63 @@ done
         assert!(!status.contains(r#""wire":"wire2","wire_down":null"#), "{status}");
     }
 
+    /// The same socket or another one is handed over. What was lost meanwhile is still counted, and what comes later goes
+    /// by it both ways.
+    #[test]
+    fn a_wire_that_is_back_is_taken_again() {
+        let two = Surroundings { networks: 2, ..Surroundings::default() };
+        let to_other = |sequence| Unit { receiver: OTHER, sequence, ..Unit::default() }.octets();
+        let ((near, far), mut status) = (UnixDatagram::pair().unwrap(), String::new());
+        let mut came = vec![0; 4096];
+        let (outcome, stage) = run_with(Face::Text, TWO, two, |stage| {
+            stage.other_goes_down.store(true, Ordering::SeqCst);
+            stage.other_wire.send(&[7; 20]).unwrap();
+            wait_until(|| ask(stage, "status").contains(r#""wire":"wire2","wire_down":0"#));
+            stage.hear(&to_other(0x10));
+            wait_until(|| ask(stage, "status").contains(r#""lost, since wire2 is down":1"#));
+            hand(&stage.requests, b"wire 1\n", &[near.into()]).unwrap();
+            wait_until(|| ask(stage, "status").contains(r#""wire":"wire2","wire_down":null"#));
+            stage.hear(&to_other(0x20));
+            far.set_read_timeout(Some(Duration::from_secs(5))).unwrap();
+            let length = far.recv(&mut came).unwrap();
+            came.truncate(length);
+            far.send(&[9; 20]).unwrap();
+            thread::sleep(Duration::from_millis(300));
+            status = ask(stage, "status");
+            end(stage);
+        });
+        assert_eq!(outcome, Ok(()));
+        assert_eq!(came, to_other(0x20));
+        assert!(stage.record().contains(&format!("W 02:00:00:00:01:02 {}", hex::encode([9; 20]))));
+        assert!(status.contains(r#""lost, since wire2 is down":1"#), "{status}");
+    }
+
+    /// All else goes on without it, and it is taken once it is there.
+    #[test]
+    fn a_wire_that_is_missing_at_the_start_is_taken_later() {
+        let missing = Surroundings { networks: 2, has_other_wire: false, ..Surroundings::default() };
+        let to_other = |sequence| Unit { receiver: OTHER, sequence, ..Unit::default() }.octets();
+        let (near, far) = UnixDatagram::pair().unwrap();
+        let (mut before, mut came) = (String::new(), vec![0; 4096]);
+        let (outcome, stage) = run_with(Face::Text, TWO, missing, |stage| {
+            stage.hear(&data());
+            stage.hear(&to_other(0x10));
+            wait_until(|| ask(stage, "status").contains(r#""lost, since wire2 is down":1"#));
+            before = ask(stage, "status");
+            hand(&stage.requests, b"wire 1\n", &[near.into()]).unwrap();
+            wait_until(|| ask(stage, "status").contains(r#""wire":"wire2","wire_down":null"#));
+            stage.hear(&to_other(0x20));
+            far.set_read_timeout(Some(Duration::from_secs(5))).unwrap();
+            let length = far.recv(&mut came).unwrap();
+            came.truncate(length);
+            end(stage);
+        });
+        assert_eq!(outcome, Ok(()));
+        assert_eq!((came, stage.sent_on_wire.lock().unwrap().clone()), (to_other(0x20), vec![data()]));
+        assert!(before.contains(r#""wire":"wire2","wire_down":"#), "{before}");
+        assert!(!before.contains(r#""wire":"wire2","wire_down":null"#), "{before}");
+    }
+
     #[test]
     fn a_monitor_interface_that_goes_down_ends_all() {
         let (outcome, _) =
@@ -1550,7 +1741,9 @@ done
     #[test]
     fn a_program_that_ends_by_itself_is_told() {
         for (face, program) in [(Face::Text, LINES), (Face::Octets, RECORDS)] {
-            let (outcome, _) = run(face, program, true, |stage| drop(stage.wire.send(&[0; 14]).unwrap()));
+            let (outcome, _) = run(face, program, true, |stage| {
+                stage.wire.send(&[0; 14]).unwrap();
+            });
             assert_eq!(outcome, Err(Fault::new("the program ended by itself")));
         }
     }

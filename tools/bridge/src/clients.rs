@@ -1,18 +1,35 @@
 //! Whoever asks the bridge by its socket: a line is a question, and a line of JSON its answer. Nobody keeps frames from
-//! going: all is read and written as far as it goes, what a client may write is bounded, and so are the clients.
+//! going, and nobody takes memory without bound:
+//!
+//! - There are `MOST_CLIENTS` clients at most, and so many connect at most before something else is looked at.
+//! - A client is read from only while it has no question here and no answer waits for it: so `MOST_INPUT` octets of what
+//!   it writes are kept at most. The rest waits in its socket, and then it waits itself.
+//! - An answer has `MOST_ANSWER` octets at most, and one that goes to many clients is kept once.
+//! - Who writes no question for `MOST_SILENCE`, or takes nothing of its answer for `MOST_UNTAKEN`, is closed.
 use std::io::{ErrorKind, Read, Write};
 use std::os::unix::io::{AsRawFd, RawFd};
 use std::os::unix::net::{UnixListener, UnixStream};
+use std::rc::Rc;
 
 use crate::faults::Fault;
 use crate::frames::Address;
+use crate::log::{self, Level};
 use crate::poller::{Poller, Token, MOST_CLIENTS};
 use crate::sockets::user_of;
+use crate::status::error;
 use crate::time::{Nanos, SECOND};
 
 /// A client that wrote nothing for so long is closed.
 const MOST_SILENCE: Nanos = 30 * SECOND;
+/// A client that took nothing of its answer for so long is closed, and told of.
+const MOST_UNTAKEN: Nanos = 10 * SECOND;
 const MOST_LINE: usize = 128;
+/// How many octets of a client's lines are kept at most.
+const MOST_INPUT: usize = 4 * MOST_LINE;
+/// The longest answer: the status of 16 networks with as many stations as it lists has some 6 million octets.
+const MOST_ANSWER: usize = 8 << 20;
+/// How much of an answer is written before something else is looked at.
+const MOST_AT_A_TIME: usize = 1 << 18;
 const ROOT: u32 = 0;
 
 /// A question.
@@ -41,18 +58,45 @@ impl Question {
     }
 }
 
+/// An answer: a line with its end.
+#[derive(Debug, Clone)]
+pub struct Line(Rc<str>);
+
+impl Line {
+    /// Of this text. Where it is too long, the answer says that.
+    pub fn of(text: String) -> Line {
+        let mut text = text;
+        if text.len() >= MOST_ANSWER {
+            text = error(&format!("the answer would have more than {MOST_ANSWER} octets"));
+        }
+        text.push('\n');
+        Line(text.into())
+    }
+}
+
+/// What is waited for of a client.
+#[derive(Debug, Clone, Copy, PartialEq, Eq)]
+struct Awaited {
+    reads: bool,
+    writes: bool,
+}
+
 /// One that is connected.
 #[derive(Debug)]
 struct Client {
     stream: UnixStream,
-    is_root: bool,
+    user: u32,
     input: Vec<u8>,
-    output: Vec<u8>,
+    /// The answer that it hasn't taken whole, and how much of it it has.
+    answer: Option<(Line, usize)>,
     /// When it wrote last.
     wrote: Nanos,
+    /// When it took something of its answer last, or the answer was there.
+    took: Nanos,
     /// Since when it waits for an answer that isn't ready.
     waits_since: Option<Nanos>,
     is_blocked: bool,
+    awaited: Awaited,
 }
 
 /// All that are connected, each at a place of its own.
@@ -74,19 +118,22 @@ impl Clients {
         self.listener.as_raw_fd()
     }
 
-    /// Takes those who want to connect; where all places are taken, the one that wrote longest ago goes.
+    /// Takes those who want to connect, as many at most as there are places; where all are taken, the one that wrote
+    /// longest ago goes.
     pub fn accept(&mut self, poller: &Poller, now: Nanos) -> Result<(), Fault> {
-        while let Ok((stream, _)) = self.listener.accept() {
-            let descriptor = stream.as_raw_fd();
-            let is_root = user_of(descriptor).map_or(false, |user| user == ROOT);
+        for _ in 0..MOST_CLIENTS {
+            let stream = match self.listener.accept() {
+                Ok((stream, _)) => stream,
+                Err(_) => break,
+            };
             if stream.set_nonblocking(true).is_err() {
                 continue;
             }
             let place = self.place_for_one();
-            let (input, output) = (Vec::new(), Vec::new());
-            let client = Client { stream, is_root, input, output, wrote: now, waits_since: None, is_blocked: false };
+            let client = Client::new(stream, now);
+            let Awaited { reads, writes } = client.awaited;
+            poller.add(client.stream.as_raw_fd(), Token::Client(place), reads, writes)?;
             self.clients[place] = Some(client);
-            poller.add(descriptor, Token::Client(place), true, false)?;
         }
         Ok(())
     }
@@ -101,23 +148,29 @@ impl Clients {
     pub fn take(&mut self, place: usize, can_read: bool, can_write: bool, now: Nanos) {
         if let Some(client) = self.clients.get_mut(place).and_then(Option::as_mut) {
             client.is_blocked &= !can_write;
-            if can_read && !client.read(now) {
+            // Who isn't read from wakes the bridge only once nobody is there any more.
+            let is_there = !can_read || client.awaited.reads && client.read(now);
+            if !is_there {
                 self.clients[place] = None;
             }
         }
     }
 
-    /// The next question, with the place of who asks; of one client the next comes once the one before was answered.
+    /// The next question, with the place of who asks; of one client the next comes once it took the answer before.
     pub fn next(&mut self) -> Option<(usize, Question)> {
         let asking = self.clients.iter_mut().enumerate().filter_map(|(place, client)| Some((place, client.as_mut()?)));
-        let waiting = asking.filter(|(_, client)| client.waits_since.is_none());
-        let mut lines = waiting.filter_map(|(place, client)| Some((place, client.next_line()?)));
+        let mut lines = asking.filter_map(|(place, client)| Some((place, client.next_line()?)));
         lines.next().map(|(place, line)| (place, Question::of(&line)))
+    }
+
+    /// Whether a question was read that nobody has looked at.
+    pub fn has_questions(&self) -> bool {
+        self.clients.iter().flatten().any(|client| client.is_free() && client.has_line())
     }
 
     /// Whether a client is root's.
     pub fn is_root(&self, place: usize) -> bool {
-        self.clients[place].as_ref().map_or(false, |client| client.is_root)
+        self.clients[place].as_ref().map_or(false, |client| client.user == ROOT)
     }
 
     /// A client waits for its answer.
@@ -134,23 +187,29 @@ impl Clients {
     }
 
     /// Answers a client by a line.
-    pub fn answer(&mut self, place: usize, line: &str) {
+    pub fn answer(&mut self, place: usize, line: Line, now: Nanos) {
         if let Some(client) = &mut self.clients[place] {
             client.waits_since = None;
-            client.output.extend(line.as_bytes());
-            client.output.push(b'\n');
+            client.took = now;
+            client.answer = Some((line, 0));
         }
     }
 
-    /// Writes what clients take, and closes those that are gone or silent.
+    /// Writes what clients take, and closes those that are gone, silent, or take nothing.
     pub fn flush(&mut self, poller: &Poller, now: Nanos) -> Result<(), Fault> {
         for (place, slot) in self.clients.iter_mut().enumerate() {
             if let Some(client) = slot {
-                let was_blocked = client.is_blocked;
-                if !client.write() || now >= client.wrote + MOST_SILENCE {
+                if !client.write(now) || client.is_silent(now) {
                     *slot = None;
-                } else if client.is_blocked != was_blocked {
-                    poller.change(client.stream.as_raw_fd(), Token::Client(place), true, client.is_blocked)?;
+                } else if client.takes_nothing(now) {
+                    let (user, seconds) = (client.user, MOST_UNTAKEN / SECOND);
+                    let text = format!(
+                        "a client of user {user} took nothing of its answer for {seconds} seconds: it was closed"
+                    );
+                    log::write_event(Level::Notice, text);
+                    *slot = None;
+                } else {
+                    client.wait_for(poller, place)?;
                 }
             }
         }
@@ -159,40 +218,90 @@ impl Clients {
 }
 
 impl Client {
-    /// Reads what waits; false where it is gone, or writes more than a client may.
+    fn new(stream: UnixStream, now: Nanos) -> Client {
+        Client {
+            user: user_of(stream.as_raw_fd()).unwrap_or(u32::MAX),
+            stream,
+            input: Vec::new(),
+            answer: None,
+            wrote: now,
+            took: now,
+            waits_since: None,
+            is_blocked: false,
+            awaited: Awaited { reads: true, writes: false },
+        }
+    }
+
+    /// Whether it has no question that was looked at, and no answer waits for it.
+    fn is_free(&self) -> bool {
+        self.answer.is_none() && self.waits_since.is_none()
+    }
+
+    fn has_line(&self) -> bool {
+        self.input.contains(&b'\n')
+    }
+
+    fn is_silent(&self, now: Nanos) -> bool {
+        self.is_free() && now >= self.wrote.max(self.took) + MOST_SILENCE
+    }
+
+    fn takes_nothing(&self, now: Nanos) -> bool {
+        self.answer.is_some() && now >= self.took + MOST_UNTAKEN
+    }
+
+    /// Reads what waits and may be kept; false where it is gone, or writes more than a client may.
     fn read(&mut self, now: Nanos) -> bool {
-        let mut piece = [0; 4 * MOST_LINE];
-        match self.stream.read(&mut piece) {
+        let mut piece = [0; MOST_INPUT];
+        let room = MOST_INPUT - self.input.len();
+        match self.stream.read(&mut piece[..room]) {
             Ok(0) => false,
             Ok(length) => {
                 self.wrote = now;
                 self.input.extend(&piece[..length]);
-                self.input.len() <= piece.len()
+                self.input.len() < MOST_INPUT || self.has_line()
             }
             Err(fault) => matches!(fault.kind(), ErrorKind::WouldBlock | ErrorKind::Interrupted),
         }
     }
 
+    /// The next line, where it may ask.
     fn next_line(&mut self) -> Option<Vec<u8>> {
-        let place = self.input.iter().position(|octet| *octet == b'\n')?;
+        let place = self.input.iter().position(|octet| *octet == b'\n').filter(|_| self.is_free())?;
         let mut line: Vec<u8> = self.input.drain(..=place).collect();
         line.truncate(place.min(MOST_LINE));
         Some(line)
     }
 
     /// Writes what it takes; false where it is gone.
-    fn write(&mut self) -> bool {
-        let mut written = 0;
-        while written < self.output.len() && !self.is_blocked {
-            match self.stream.write(&self.output[written..]) {
-                Ok(length) => written += length,
+    fn write(&mut self, now: Nanos) -> bool {
+        let (line, mut taken) = match self.answer.take() {
+            Some((Line(line), taken)) => (line, taken),
+            None => return true,
+        };
+        let end = line.len().min(taken + MOST_AT_A_TIME);
+        while taken < end && !self.is_blocked {
+            match self.stream.write(&line.as_bytes()[taken..end]) {
+                Ok(length) => {
+                    taken += length;
+                    self.took = now;
+                }
                 Err(fault) if fault.kind() == ErrorKind::WouldBlock => self.is_blocked = true,
                 Err(fault) if fault.kind() == ErrorKind::Interrupted => {}
                 Err(_) => return false,
             }
         }
-        self.output.drain(..written);
+        self.answer = (taken < line.len()).then(|| (Line(line), taken));
         true
+    }
+
+    /// Waits for what it may do next.
+    fn wait_for(&mut self, poller: &Poller, place: usize) -> Result<(), Fault> {
+        let awaited = Awaited { reads: self.is_free() && !self.has_line(), writes: self.answer.is_some() };
+        if awaited != self.awaited {
+            self.awaited = awaited;
+            poller.change(self.stream.as_raw_fd(), Token::Client(place), awaited.reads, awaited.writes)?;
+        }
+        Ok(())
     }
 }
 
@@ -221,6 +330,18 @@ mod tests {
             let stream = UnixStream::connect(&self.path).unwrap();
             self.clients.accept(&self.poller, now).unwrap();
             stream
+        }
+
+        fn answer(&mut self, place: usize, text: &str) {
+            self.clients.answer(place, Line::of(text.to_owned()), 0);
+        }
+
+        fn flush(&mut self, now: Nanos) {
+            self.clients.flush(&self.poller, now).unwrap();
+        }
+
+        fn is_read_from(&self, place: usize) -> bool {
+            self.clients.clients[place].as_ref().map_or(false, |client| client.awaited.reads)
         }
     }
 
@@ -255,35 +376,134 @@ mod tests {
         assert_eq!(stage.clients.next(), Some((0, Question::Status)));
         stage.clients.wait(0, 5);
         assert_eq!((stage.clients.next(), stage.clients.waiting()), (None, vec![(0, 5)]));
-        stage.clients.answer(0, "{}");
+        stage.answer(0, "{}");
+        assert_eq!((stage.clients.next(), stage.clients.has_questions()), (None, false));
+        stage.flush(6);
+        assert!(stage.clients.has_questions());
         assert_eq!(stage.clients.next(), Some((0, Question::Unknown)));
-        stage.clients.answer(0, "[]");
+        stage.answer(0, "[]");
+        stage.flush(7);
         assert_eq!((stage.clients.next(), stage.clients.waiting()), (None, vec![]));
-        stage.clients.flush(&stage.poller, 1).unwrap();
         let lines: Vec<String> = BufReader::new(stream).lines().take(2).map(Result::unwrap).collect();
         assert_eq!(lines, ["{}", "[]"]);
     }
 
+    /// One that reads nothing keeps nobody, and is closed: its answer is kept for ten seconds.
     #[test]
-    fn one_that_reads_nothing_keeps_nobody() {
+    fn who_takes_nothing_is_closed() {
         let mut stage = Stage::new("slow");
-        let stream = stage.connect(0);
-        stage.clients.answer(0, &"x".repeat(4 << 20));
-        stage.clients.flush(&stage.poller, 1).unwrap();
-        assert!(stage.clients.clients[0].as_ref().unwrap().is_blocked);
-        drop(stream);
-        stage.clients.take(0, true, true, 2);
+        let mut stream = stage.connect(0);
+        stage.answer(0, &"x".repeat(4 << 20));
+        stage.flush(1);
+        let client = stage.clients.clients[0].as_ref().unwrap();
+        assert!(client.is_blocked && client.awaited == Awaited { reads: false, writes: true });
+        stage.flush(MOST_UNTAKEN);
+        assert!(stage.clients.clients[0].is_some());
+        stage.flush(MOST_UNTAKEN + 1);
         assert!(stage.clients.clients[0].is_none());
+        let mut rest = Vec::new();
+        stream.read_to_end(&mut rest).unwrap();
+        assert!(rest.len() < 4 << 20);
+    }
+
+    #[test]
+    fn who_takes_slowly_is_not_closed_and_gets_all() {
+        let mut stage = Stage::new("slowly");
+        let mut stream = stage.connect(0);
+        stage.answer(0, &"x".repeat(4 << 20));
+        let (mut found, mut piece) = (0, vec![0; 1 << 16]);
+        for turn in 1.. {
+            stage.flush(turn * (MOST_UNTAKEN - SECOND));
+            found += stream.read(&mut piece).unwrap();
+            stage.clients.take(0, false, true, turn);
+            if found > 4 << 20 {
+                break;
+            }
+        }
+        assert_eq!(found, (4 << 20) + 1);
+    }
+
+    /// What a client writes that takes nothing stays in its socket, and in the end the client waits.
+    #[test]
+    fn who_floods_and_takes_nothing_takes_no_memory() {
+        let mut stage = Stage::new("flood");
+        let mut stream = stage.connect(0);
+        stream.set_nonblocking(true).unwrap();
+        let mut written = 0;
+        for turn in 0..10_000 {
+            written += stream.write(&[b'\n'; 4096]).unwrap_or(0);
+            if stage.is_read_from(0) {
+                stage.clients.take(0, true, true, turn);
+            }
+            while let Some((place, question)) = stage.clients.next() {
+                assert_eq!(question, Question::Unknown);
+                stage.answer(place, "{\"error\":\"no such question\"}");
+            }
+            stage.flush(turn);
+            let client = stage.clients.clients[0].as_ref().unwrap();
+            assert!(client.input.len() <= MOST_INPUT && client.input.capacity() <= 2 * MOST_INPUT);
+        }
+        assert!(stream.write(b"\n").is_err() && written < 1 << 20, "{written}");
+        let client = stage.clients.clients[0].as_ref().unwrap();
+        assert!(client.answer.is_some() && !client.awaited.reads);
+    }
+
+    #[test]
+    fn who_is_gone_while_its_answer_waits_is_closed() {
+        let mut stage = Stage::new("gone");
+        let stream = stage.connect(0);
+        stage.answer(0, &"x".repeat(4 << 20));
+        stage.flush(1);
+        drop(stream);
+        let mut found = Vec::new();
+        stage.poller.wait(Some(1000), &mut found).unwrap();
+        stage.clients.take(0, found[0].can_read, found[0].can_write, 2);
+        stage.flush(2);
+        assert!(stage.clients.clients[0].is_none());
+    }
+
+    #[test]
+    fn an_answer_is_bounded_and_kept_once() {
+        let line = Line::of("x".repeat(MOST_ANSWER));
+        assert!(line.0.starts_with("{\"error\":\"the answer would have more than") && line.0.ends_with("}\n"));
+        assert_eq!(Line::of("x".repeat(MOST_ANSWER - 1)).0.len(), MOST_ANSWER);
+        let mut stage = Stage::new("once");
+        let streams = [stage.connect(0), stage.connect(0)];
+        (0..2).for_each(|place| stage.clients.answer(place, line.clone(), 0));
+        assert_eq!(Rc::strong_count(&line.0), 3);
+        drop(streams);
+    }
+
+    /// At each turn as many as there are places; who connected last is answered.
+    #[test]
+    fn a_thousand_that_connect_keep_nobody() {
+        let mut stage = Stage::new("thousand");
+        let mut streams = Vec::new();
+        while streams.len() < 1000 {
+            // As many as may wait to be taken.
+            streams.extend((0..100).map(|_| UnixStream::connect(&stage.path).unwrap()));
+            stage.clients.accept(&stage.poller, streams.len() as u64).unwrap();
+            assert!(stage.clients.listener.accept().is_ok(), "more than are taken at a turn");
+            (1..7).for_each(|_| stage.clients.accept(&stage.poller, streams.len() as u64).unwrap());
+        }
+        assert_eq!(stage.clients.clients.iter().flatten().count(), MOST_CLIENTS);
+        streams[999].write_all(b"hello\n").unwrap();
+        (0..MOST_CLIENTS).for_each(|place| stage.clients.take(place, true, false, 2000));
+        let (place, _) = stage.clients.next().unwrap();
+        stage.answer(place, "{}");
+        stage.flush(2000);
+        let mut line = String::new();
+        BufReader::new(&streams[999]).read_line(&mut line).unwrap();
+        assert_eq!(line, "{}\n");
     }
 
     #[test]
     fn who_is_silent_or_writes_too_much_is_closed() {
         let mut stage = Stage::new("silent");
         let (_silent, mut much) = (stage.connect(0), stage.connect(20 * SECOND));
-        stage.clients.flush(&stage.poller, MOST_SILENCE).unwrap();
+        stage.flush(MOST_SILENCE);
         assert!(stage.clients.clients[0].is_none() && stage.clients.clients[1].is_some());
         much.write_all(&[b'x'; 2000]).unwrap();
-        stage.clients.take(1, true, false, 1);
         stage.clients.take(1, true, false, 1);
         assert!(stage.clients.clients[1].is_none());
     }

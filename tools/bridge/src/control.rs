@@ -1,16 +1,36 @@
-//! What is said between the bridge and `tools/live`, which started it: lines of its standard input and output.
-use std::io::{self, ErrorKind, Read, Write};
-use std::os::unix::io::{AsRawFd, RawFd};
-
-use nix::fcntl::{fcntl, FcntlArg, OFlag};
+//! What is said between the bridge and `tools/live`, which started it: lines of a Unix socket, which is the bridge's
+//! standard input and output. Beside its lines `tools/live` hands over descriptors (unix(7), SCM_RIGHTS): the sockets of
+//! the interfaces, which the bridge may not open itself.
+use std::collections::VecDeque;
+use std::io::{self, ErrorKind, Write};
+use std::os::unix::io::{AsRawFd, OwnedFd, RawFd};
+use std::os::unix::net::UnixStream;
 
 use crate::faults::Fault;
+use crate::sockets::receive_handed;
+
+/// How many octets of a line are kept at most, and how many descriptors that no line has named.
+const MOST_OCTETS: usize = 1024;
+const MOST_DESCRIPTORS: usize = 64;
+/// The sockets of the radio: what it hears, its beacons, and what it shows as acknowledged.
+const OF_RADIO: usize = 3;
+
+/// The sockets of the interfaces.
+#[derive(Debug)]
+pub struct Handed {
+    /// Those of the radio, in order, and then one of each wire that is there.
+    pub sockets: Vec<OwnedFd>,
+    /// The places of the networks with these wires, in the order of their sockets.
+    pub wires: Vec<usize>,
+}
 
 /// What `tools/live` asks for.
-#[derive(Debug, Clone, Copy, PartialEq, Eq)]
+#[derive(Debug)]
 pub enum Request {
     /// The interfaces are there: from now on frames go.
-    Open,
+    Open(Handed),
+    /// The wire of the network of this place is there, or there again.
+    Wire(usize, OwnedFd),
     /// The tables are to be shown.
     Tables,
     /// All stations are to be told that they have to join again.
@@ -24,6 +44,8 @@ pub enum Request {
 pub enum Notice {
     /// The networks are open.
     Ready,
+    /// The wire of the network of this place has ended.
+    Down(usize),
     /// The first beacon was seen as sent.
     Sending,
     /// The program has answered the last beginning of a beacon interval; told once a second at most.
@@ -40,6 +62,7 @@ pub enum Notice {
 pub fn say(notice: &Notice) {
     let line = match notice {
         Notice::Ready => "ready\n".to_owned(),
+        Notice::Down(place) => format!("down {place}\n"),
         Notice::Sending => "sending\n".to_owned(),
         Notice::Alive => "alive\n".to_owned(),
         Notice::Dismissed => "dismissed\n".to_owned(),
@@ -52,18 +75,17 @@ pub fn say(notice: &Notice) {
 
 /// Reads requests as they come.
 #[derive(Debug)]
-pub struct Requests<R> {
-    input: R,
+pub struct Requests {
+    input: UnixStream,
     octets: Vec<u8>,
+    descriptors: VecDeque<OwnedFd>,
     has_ended: bool,
 }
 
-impl<R: Read + AsRawFd> Requests<R> {
-    /// Of this input, which blocks nobody from now on.
-    pub fn new(input: R) -> Result<Requests<R>, Fault> {
-        let flags = OFlag::from_bits_truncate(fcntl(input.as_raw_fd(), FcntlArg::F_GETFL)?);
-        fcntl(input.as_raw_fd(), FcntlArg::F_SETFL(flags | OFlag::O_NONBLOCK))?;
-        Ok(Requests { input, octets: Vec::new(), has_ended: false })
+impl Requests {
+    /// Of this socket, by which nobody is kept waiting.
+    pub fn new(input: UnixStream) -> Requests {
+        Requests { input, octets: Vec::new(), descriptors: VecDeque::new(), has_ended: false }
     }
 
     /// By which one waits for it.
@@ -72,50 +94,102 @@ impl<R: Read + AsRawFd> Requests<R> {
     }
 
     /// The next request, or `None` where none waits. Other lines are none.
-    pub fn next(&mut self) -> Option<Request> {
+    pub fn next(&mut self) -> Result<Option<Request>, Fault> {
         loop {
             if let Some(place) = self.octets.iter().position(|octet| *octet == b'\n') {
                 let line: Vec<u8> = self.octets.drain(..=place).collect();
-                match &line[..place] {
-                    b"open" => return Some(Request::Open),
-                    b"tables" => return Some(Request::Tables),
-                    b"dismiss" => return Some(Request::Dismiss),
-                    _ => continue,
+                match self.read(&String::from_utf8_lossy(&line[..place]))? {
+                    None => continue,
+                    request => return Ok(request),
                 }
             }
             if self.has_ended {
-                return Some(Request::End);
+                return Ok(Some(Request::End));
             }
-            let mut piece = [0; 256];
-            match self.input.read(&mut piece) {
+            if self.octets.len() > MOST_OCTETS || self.descriptors.len() > MOST_DESCRIPTORS {
+                return Err(Fault::new("tools/live asks what isn't known"));
+            }
+            match receive_handed(&self.input, &mut self.octets, &mut self.descriptors) {
                 Ok(0) => self.has_ended = true,
-                Ok(length) => self.octets.extend(&piece[..length]),
-                Err(fault) if fault.kind() == ErrorKind::WouldBlock => return None,
+                Ok(_) => {}
+                Err(fault) if fault.kind() == ErrorKind::WouldBlock => return Ok(None),
                 Err(fault) if fault.kind() == ErrorKind::Interrupted => {}
                 Err(_) => self.has_ended = true,
             }
         }
+    }
+
+    /// The request of a line, with what was handed over beside it.
+    fn read(&mut self, line: &str) -> Result<Option<Request>, Fault> {
+        let (word, rest) = line.split_once(' ').unwrap_or((line, ""));
+        let places: Result<Vec<usize>, _> = rest.split_ascii_whitespace().map(str::parse).collect();
+        let places = places.map_err(|_| Fault::new(format!("tools/live asks what isn't known: {line}")))?;
+        Ok(match (word, &places[..]) {
+            ("open", _) => Some(Request::Open(Handed { sockets: self.take(OF_RADIO + places.len())?, wires: places })),
+            ("wire", [place]) => self.take(1)?.pop().map(|socket| Request::Wire(*place, socket)),
+            ("tables", []) => Some(Request::Tables),
+            ("dismiss", []) => Some(Request::Dismiss),
+            _ => None,
+        })
+    }
+
+    /// The first so many descriptors that were handed over.
+    fn take(&mut self, number: usize) -> Result<Vec<OwnedFd>, Fault> {
+        if self.descriptors.len() < number {
+            return Err(Fault::new("tools/live handed over too few descriptors"));
+        }
+        Ok(self.descriptors.drain(..number).collect())
     }
 }
 
 #[cfg(test)]
 mod tests {
     use super::*;
-    use std::os::unix::net::UnixStream;
+    use crate::sockets::hand;
+    use std::fs::File;
+
+    fn nothing() -> OwnedFd {
+        File::open("/dev/null").unwrap().into()
+    }
 
     #[test]
     fn requests_are_read_as_they_come() {
         let (input, mut other) = UnixStream::pair().unwrap();
-        let mut requests = Requests::new(input).unwrap();
-        assert_eq!(requests.next(), None);
-        other.write_all(b"open\nhello\ntab").unwrap();
-        assert_eq!(requests.next(), Some(Request::Open));
-        assert_eq!(requests.next(), None);
-        other.write_all(b"les\ndismiss\n").unwrap();
-        assert_eq!(requests.next(), Some(Request::Tables));
-        assert_eq!(requests.next(), Some(Request::Dismiss));
+        let mut requests = Requests::new(input);
+        assert!(requests.next().unwrap().is_none());
+        other.write_all(b"tables\nhello\ndis").unwrap();
+        assert!(matches!(requests.next(), Ok(Some(Request::Tables))));
+        assert!(matches!(requests.next(), Ok(None)));
+        other.write_all(b"miss\ntables\n").unwrap();
+        assert!(matches!(requests.next(), Ok(Some(Request::Dismiss))));
+        assert!(matches!(requests.next(), Ok(Some(Request::Tables))));
         drop(other);
-        assert_eq!(requests.next(), Some(Request::End));
-        assert_eq!(requests.next(), Some(Request::End));
+        assert!(matches!(requests.next(), Ok(Some(Request::End))));
+        assert!(matches!(requests.next(), Ok(Some(Request::End))));
+    }
+
+    #[test]
+    fn descriptors_come_beside_lines() {
+        let (input, other) = UnixStream::pair().unwrap();
+        let mut requests = Requests::new(input);
+        let all: Vec<OwnedFd> = (0..5).map(|_| nothing()).collect();
+        hand(&other, b"open 0 2\n", &all).unwrap();
+        hand(&other, b"wire 1\n", &[nothing()]).unwrap();
+        match requests.next() {
+            Ok(Some(Request::Open(handed))) => assert_eq!((handed.sockets.len(), &handed.wires[..]), (5, &[0, 2][..])),
+            found => panic!("{found:?}"),
+        }
+        assert!(matches!(requests.next(), Ok(Some(Request::Wire(1, _)))));
+        assert!(matches!(requests.next(), Ok(None)));
+    }
+
+    #[test]
+    fn what_lacks_its_descriptors_or_has_no_end_is_told() {
+        for line in [&b"open 0\n"[..], b"wire 1\n", b"wire x\n", &[b'x'; 3000]] {
+            let (input, mut other) = UnixStream::pair().unwrap();
+            let mut requests = Requests::new(input);
+            other.write_all(line).unwrap();
+            assert!(requests.next().is_err(), "{:?}", String::from_utf8_lossy(line));
+        }
     }
 }

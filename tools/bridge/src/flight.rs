@@ -36,15 +36,35 @@ pub struct Name {
     pub number: Option<u16>,
 }
 
-/// A frame that the radio has.
+/// A frame that the radio was given, and of which it hasn't told yet.
 #[derive(Debug)]
 struct Given<W> {
     name: Name,
     what: W,
+    /// What of the radio's time it is reckoned to take from now on.
     reckoned: Nanos,
     since: Nanos,
     /// When it has been out for twice the time that was reckoned for it and for all before it.
     overdue: Nanos,
+    state: State,
+}
+
+/// Whether the radio still has a frame.
+#[derive(Debug, Clone, Copy, PartialEq, Eq)]
+enum State {
+    /// As far as one knows.
+    Out,
+    /// It doesn't, by what its socket says; what became of the frame wasn't looked at since.
+    Done,
+    /// It was looked at since, and the frame wasn't among those that the radio told of.
+    Missing,
+}
+
+impl<W> Given<W> {
+    /// Whether the radio has it for so long that it must have let newer ones go before it.
+    fn was_overtaken(&self, now: Nanos) -> bool {
+        self.state != State::Done && self.overdue.max(self.since + 2 * MOST_AT_ONCE) < now
+    }
 }
 
 /// The frames that the radio has, in the order in which it got them, and how fast it is.
@@ -71,7 +91,7 @@ impl<W> Flight<W> {
     pub fn has_room(&self, reckoned: Nanos, now: Nanos) -> bool {
         match self.frames.front() {
             None => true,
-            Some(oldest) if oldest.overdue.max(oldest.since + 2 * MOST_AT_ONCE) < now => false,
+            Some(oldest) if oldest.was_overtaken(now) => false,
             Some(_) => self.by_clock(self.reckoned + reckoned) <= MOST_AT_ONCE,
         }
     }
@@ -90,7 +110,7 @@ impl<W> Flight<W> {
     pub fn give(&mut self, name: Name, what: W, reckoned: Nanos, now: Nanos) {
         self.reckoned += reckoned;
         let overdue = now.saturating_add(2 * self.by_clock(self.reckoned).max(self.reckoned));
-        self.frames.push_back(Given { name, what, reckoned, since: now, overdue });
+        self.frames.push_back(Given { name, what, reckoned, since: now, overdue, state: State::Out });
     }
 
     /// The radio told of a frame at this time, which has taken as long as `took` says of it; answers what was given.
@@ -116,8 +136,32 @@ impl<W> Flight<W> {
 
     /// Whether the radio has a frame for this receiver that is out for more than twice its reckoned time.
     pub fn is_overdue(&self, place: Place, receiver: Address, now: Nanos) -> bool {
-        let of_it = |given: &&Given<W>| given.name.place == place && given.name.receiver == receiver;
+        let of_it = |given: &&Given<W>| {
+            given.name.receiver == receiver && given.name.place == place && given.state != State::Done
+        };
         self.frames.iter().find(of_it).map_or(false, |given| given.overdue < now)
+    }
+
+    /// Whether `settle` has something to do at this time.
+    pub fn is_doubtful(&self, now: Nanos) -> bool {
+        self.frames.front().map_or(false, |given| given.state == State::Out && given.overdue < now)
+    }
+
+    /// The radio's socket says that the radio has sent all that it had: what became of that is still to be looked at.
+    pub fn settle(&mut self) {
+        self.reckoned = 0;
+        for given in &mut self.frames {
+            given.reckoned = 0;
+            if given.state == State::Out {
+                given.state = State::Done;
+            }
+        }
+    }
+
+    /// What the radio told was looked at since `settle`: a frame that wasn't in it may be out after all.
+    pub fn looked(&mut self) {
+        let done = self.frames.iter_mut().filter(|given| given.state == State::Done);
+        done.for_each(|given| given.state = State::Missing);
     }
 
     /// Takes out the frames of which nothing will be told any more at this time.

@@ -18,13 +18,18 @@ const TYPE_AT: usize = 12;
 const VLAN_TYPES: [[u8; 2]; 3] = [[0x81, 0x00], [0x88, 0xa8], [0x91, 0x00]];
 
 /// An address of 48 bits.
-#[derive(Debug, Clone, Copy, PartialEq, Eq, PartialOrd, Ord)]
+#[derive(Debug, Clone, Copy, Eq, PartialOrd, Ord)]
 pub struct Address([u8; 6]);
+
+impl PartialEq for Address {
+    fn eq(&self, other: &Address) -> bool {
+        self.0 == other.0
+    }
+}
 
 impl Hash for Address {
     fn hash<H: Hasher>(&self, to: &mut H) {
-        let [a, b, c, d, e, f] = self.0;
-        to.write_u64(u64::from_be_bytes([0, 0, a, b, c, d, e, f]));
+        to.write_u64(self.number());
     }
 }
 
@@ -46,6 +51,12 @@ impl Address {
     /// Its octets.
     pub fn octets(&self) -> &[u8; 6] {
         &self.0
+    }
+
+    /// Its octets as one number of 48 bits.
+    pub fn number(&self) -> u64 {
+        let [a, b, c, d, e, f] = self.0;
+        u64::from_be_bytes([0, 0, a, b, c, d, e, f])
     }
 
     /// Whether it is a group's.

@@ -27,45 +27,50 @@ extern "C" {
 
 /// The networks of a radio, what they owe, and which of them have a frame waiting for a turn.
 #[derive(Debug)]
-pub struct Lanes(Vec<Lane>);
+pub struct Lanes {
+    lanes: Vec<Lane>,
+    /// How many of them have a frame waiting.
+    waiting: usize,
+}
 
 impl Lanes {
     /// Networks of these weights, from 1 to `MOST_WEIGHT`, which owe nothing and have nothing waiting.
     pub fn new(weights: impl IntoIterator<Item = u8>) -> Lanes {
         let scales = weights.into_iter().map(|weight| SCALE / u32::from(weight.clamp(1, MOST_WEIGHT)));
-        Lanes(scales.map(|scale| Lane { debt: 0, scale, waits: false }).collect())
+        Lanes { lanes: scales.map(|scale| Lane { debt: 0, scale, waits: false }).collect(), waiting: 0 }
     }
 
     /// Whether a network has a frame waiting for a turn, from now on.
     pub fn set_waits(&mut self, place: Place, waits: bool) {
-        self.0[place].waits = waits;
+        let before = std::mem::replace(&mut self.lanes[place].waits, waits);
+        self.waiting = self.waiting + usize::from(waits) - usize::from(before);
     }
 
     /// Whether any has.
     pub fn any_waits(&self) -> bool {
-        self.0.iter().any(|lane| lane.waits)
+        self.waiting > 0
     }
 
     /// Whose turn it is: of those that have a frame waiting the one that owes least, and of several the one of the
     /// lowest place. `None` where none has.
     pub fn choose(&self) -> Option<Place> {
         // SAFETY: the lanes are as many as is said, of the library's layout, and are only read.
-        let place = unsafe { air_share_choose(self.0.as_ptr(), self.0.len()) };
-        (place < self.0.len()).then_some(place)
+        let place = unsafe { air_share_choose(self.lanes.as_ptr(), self.lanes.len()) };
+        (place < self.lanes.len()).then_some(place)
     }
 
     /// The network whose turn it is sends a frame that is reckoned to take so many microseconds; false, and nothing
     /// changes, where it is another's turn.
     pub fn serve(&mut self, place: Place, cost: u32) -> bool {
         // SAFETY: the lanes are as many as is said, of the library's layout, and nobody else reads or writes them.
-        unsafe { air_share_served(self.0.as_mut_ptr(), self.0.len(), place, cost) }
+        unsafe { air_share_served(self.lanes.as_mut_ptr(), self.lanes.len(), place, cost) }
     }
 
     /// A network's frame took so many microseconds more than was reckoned. A debt that would be too large for its number
     /// stays as it is.
     pub fn told(&mut self, place: Place, more: u32) {
         // SAFETY: the lanes are as many as is said, of the library's layout, and nobody else reads or writes them.
-        unsafe { air_share_told(self.0.as_mut_ptr(), self.0.len(), place, more) };
+        unsafe { air_share_told(self.lanes.as_mut_ptr(), self.lanes.len(), place, more) };
     }
 }
 
@@ -77,7 +82,7 @@ mod tests {
     fn the_library_tests_its_arguments_itself() {
         let mut lanes = Lanes::new([1, 0, 200]);
         assert_eq!((lanes.choose(), lanes.any_waits()), (None, false));
-        assert_eq!(lanes.0.iter().map(|lane| lane.scale).collect::<Vec<_>>(), [SCALE, SCALE, SCALE / 16]);
+        assert_eq!(lanes.lanes.iter().map(|lane| lane.scale).collect::<Vec<_>>(), [SCALE, SCALE, SCALE / 16]);
         lanes.set_waits(1, true);
         assert_eq!(lanes.choose(), Some(1));
         assert!(!lanes.serve(0, 5) && !lanes.serve(3, 5) && !lanes.serve(usize::MAX, 5));
@@ -86,7 +91,7 @@ mod tests {
         lanes.told(usize::MAX, 5);
         lanes.told(2, u32::MAX);
         assert_eq!(
-            lanes.0.iter().map(|lane| lane.debt).collect::<Vec<_>>(),
+            lanes.lanes.iter().map(|lane| lane.debt).collect::<Vec<_>>(),
             [0, 5 * 720_720, 45_045 * u64::from(u32::MAX)]
         );
         assert_eq!(Lanes::new([]).choose(), None);
@@ -96,7 +101,7 @@ mod tests {
     fn a_debt_never_turns() {
         let mut lanes = Lanes::new([1]);
         (0..10_000).for_each(|_| lanes.told(0, u32::MAX));
-        let most = lanes.0[0].debt;
+        let most = lanes.lanes[0].debt;
         assert!(most > u64::MAX - SCALE as u64 * u64::from(u32::MAX));
     }
 }

@@ -3,6 +3,7 @@
 use std::fmt;
 use std::io::{self, Write};
 use std::os::unix::fs::MetadataExt;
+use std::sync::atomic::{AtomicU8, Ordering};
 
 use crate::time::{wall_now, Nanos, SECOND};
 
@@ -12,6 +13,12 @@ const MOST_OF_NETWORK: u64 = 50;
 /// four, each has an equal part of these. So no other network's lines keep those of one out.
 const MOST_A_SECOND: u64 = 200;
 const SECONDS_A_DAY: u64 = 86_400;
+
+/// What standard error is.
+static STREAM: AtomicU8 = AtomicU8::new(UNKNOWN);
+const UNKNOWN: u8 = 0;
+const JOURNAL: u8 = 1;
+const OTHER: u8 = 2;
 
 /// How much a line matters.
 #[derive(Debug, Clone, Copy, PartialEq, Eq)]
@@ -56,8 +63,25 @@ fn write_line(line: &str) {
     let _ = io::stderr().write_all(line.as_bytes());
 }
 
-/// Whether standard error is the journal's: then the variable names its device and inode.
+/// Whether standard error is the journal's. It is looked at once, before the bridge may look at no file any more.
 fn is_journal() -> bool {
+    match STREAM.load(Ordering::Relaxed) {
+        UNKNOWN => {
+            let found = looks_like_journal();
+            STREAM.store(if found { JOURNAL } else { OTHER }, Ordering::Relaxed);
+            found
+        }
+        stream => stream == JOURNAL,
+    }
+}
+
+/// Learns what standard error is.
+pub fn begin() {
+    is_journal();
+}
+
+/// Whether the variable names the device and inode of standard error.
+fn looks_like_journal() -> bool {
     let stream = std::env::var("JOURNAL_STREAM").ok();
     stream
         .zip(std::fs::metadata("/proc/self/fd/2").ok())

@@ -34,11 +34,12 @@
 //! of standard error and the record, and where many frames come for a millisecond at most, in which some gather
 //! (`gathering`).
 //!
-//! It leaves every decision on a frame to the program, and leaves to `tools/live` all that is done once. It speaks
-//! with that by lines: it reads `open`, once the interfaces are there, `tables`, and `dismiss`, by which all stations
-//! are told to join again; the end of its input ends it. It writes `ready`, once the networks are open, `sending`,
-//! once the first beacon was seen as sent, `alive` while the program answers, `dismissed`, `status N` with the status
-//! of the program, and `fault TEXT`, after which it ends with status 1.
+//! It leaves every decision on a frame to the program, and leaves to `tools/live` all that takes rights: it has none of
+//! its own (`rights`). It speaks with that by lines of a Unix socket: it reads `open PLACE...`, once the interfaces are
+//! there, with their sockets, `wire PLACE`, with the socket of a wire that is there again, `tables`, and `dismiss`, by
+//! which all stations are told to join again; the end of its input ends it. It writes `ready`, once the networks are open,
+//! `sending`, once the first beacon was seen as sent, `alive` while the program answers, `down PLACE` where a wire ended,
+//! `dismissed`, `status N` with the status of the program, and `fault TEXT`, after which it ends with status 1.
 //!
 //! By itself (`operating`) it watches which stations there are, tells what happens to them, and asks those that have
 //! fallen silent whether they are there; for one that isn't, or that doesn't associate where a network is nearly full,
@@ -69,6 +70,7 @@ mod program;
 mod radiotap;
 mod rates;
 mod receiving;
+mod rights;
 mod roster;
 #[cfg(test)]
 mod samples;
@@ -84,23 +86,20 @@ mod transmitting;
 mod waiting;
 mod words;
 
-use std::os::unix::io::RawFd;
+use std::os::unix::io::{AsFd, RawFd};
 use std::process::ExitCode;
 
 use bridge::{Bridge, Manner};
 use clients::Clients;
-use control::{say, Notice, Requests};
+use control::{say, Handed, Notice, Requests};
 use faults::Fault;
-use filter::nothing_filter;
 use program::{Program, Record};
+use rights::Bounds;
 use sending::Sender;
-use sockets::{inherited_listener, PacketSocket};
+use sockets::{inherited, inherited_listener, OfSocket, PacketSocket};
 use time::{Nanos, SECOND};
 use words::Words;
 
-/// How many octets wait in the kernel at most to be sent by an interface: so what is sent next never waits long.
-const AIR_ROOM: i32 = 32 << 10;
-const WIRE_ROOM: i32 = 256 << 10;
 const WRONG_WORDS: u8 = 2;
 
 fn main() -> ExitCode {
@@ -119,15 +118,16 @@ fn main() -> ExitCode {
     }
 }
 
-/// Runs the bridge until it is ended, or until a fault.
+/// Runs the bridge until it is ended, or until a fault. It serves once it has given up what it doesn't need then.
 fn run(words: &Words) -> Result<(), Fault> {
-    let requests = Requests::new(std::io::stdin())?;
-    let record = words.record.as_deref().map(Record::create).transpose()?;
-    if let Some(record) = record.as_ref().filter(|record| Some(record.path()) != words.record.as_deref()) {
-        faults::tell(format!("the record is {}", record.path()));
-    }
-    let (program, feeder) = Program::start(&words.program, &words.config, words.face, record)?;
+    log::begin();
+    rights::give_up_capabilities()?;
+    let requests =
+        std::io::stdin().as_fd().try_clone_to_owned().map_err(|fault| Fault::of("standard input", &fault))?;
+    let record = words.record.as_ref().map(|(descriptor, name)| record(*descriptor, name)).transpose()?;
     let clients = words.socket.map(listen).transpose()?;
+    let bounds = words.bounds.map(|memory| Bounds::of(&words.program, &words.config, memory)).transpose()?;
+    let (program, feeder) = Program::start(&words.program, &words.config, words.face, bounds, record)?;
     let manner = Manner {
         phy: words.phy.clone(),
         channel: words.channel,
@@ -135,7 +135,15 @@ fn run(words: &Words) -> Result<(), Fault> {
         most_silence: Some(Nanos::from(words.idle) * SECOND).filter(|silence| *silence > 0),
         tells_alive: words.tells_alive,
     };
-    Bridge::new(program, feeder, requests, clients, manner)?.serve(|| open(words))
+    let mut bridge = Bridge::new(program, feeder, Requests::new(requests.into()), clients, manner)?;
+    rights::keep_to_calls()?;
+    bridge.serve(|handed| open(words, handed))
+}
+
+/// The file of the record, which `tools/live` has made.
+fn record(descriptor: RawFd, name: &str) -> Result<Record, Fault> {
+    let file = inherited(descriptor).map_err(|fault| Fault::of(format!("--record {name}"), &fault))?;
+    Ok(Record::new(name, file.into()))
 }
 
 /// The socket by which whoever wants asks the bridge.
@@ -143,32 +151,19 @@ fn listen(descriptor: RawFd) -> Result<Clients, Fault> {
     Clients::new(inherited_listener(descriptor).map_err(|fault| Fault::of("--socket", &fault))?)
 }
 
-/// Opens a socket on the monitor interface and on each wire.
-fn open(words: &Words) -> Result<Sender<PacketSocket>, Fault> {
-    let wires = words.networks.iter().map(|network| network.wire.as_deref().map(open_wire).transpose());
-    let wires = wires.collect::<Result<_, Fault>>()?;
-    let monitor = open_port(&words.monitor, AIR_ROOM)?;
-    let beacons = open_quiet(&words.monitor)?;
-    let acknowledged = open_quiet(&words.monitor)?;
+/// The sockets of the monitor interface and of each wire, as `tools/live` opened them.
+fn open(words: &Words, handed: Handed) -> Result<Sender<PacketSocket>, Fault> {
+    let mut sockets = handed.sockets.into_iter();
+    let mut next = |interface: &str| match sockets.next() {
+        Some(socket) => Ok(PacketSocket::of(interface, socket)),
+        None => Err(Fault::new(format!("{interface}: no socket was handed over"))),
+    };
+    let (monitor, beacons, acknowledged) = (next(&words.monitor)?, next(&words.monitor)?, next(&words.monitor)?);
+    let mut wires: Vec<Option<PacketSocket>> = words.networks.iter().map(|_| None).collect();
+    for place in handed.wires {
+        let wire = words.networks.get(place).and_then(|network| network.wire.as_deref());
+        let wire = wire.ok_or_else(|| Fault::new(format!("the network of the place {place} has no wire")))?;
+        wires[place] = Some(next(wire)?);
+    }
     Ok(Sender::new(words.networks.clone(), monitor, beacons, wires).with_acknowledged(acknowledged))
-}
-
-/// A wire is heard whole: frames for any receiver.
-fn open_wire(name: &str) -> Result<PacketSocket, Fault> {
-    let wire = open_port(name, WIRE_ROOM)?;
-    wire.hear_all().map_err(|fault| Fault::of(name, &fault))?;
-    Ok(wire)
-}
-
-/// A socket that hears nothing yet.
-fn open_quiet(name: &str) -> Result<PacketSocket, Fault> {
-    PacketSocket::open(name, AIR_ROOM, Some(&nothing_filter())).map_err(no_socket(name))
-}
-
-fn open_port(name: &str, room: i32) -> Result<PacketSocket, Fault> {
-    PacketSocket::open(name, room, None).map_err(no_socket(name))
-}
-
-fn no_socket(name: &str) -> impl Fn(std::io::Error) -> Fault + '_ {
-    move |fault| Fault::of(format!("{name}: no packet socket"), &fault)
 }

@@ -61,7 +61,9 @@ fn mutated(seeded: &mut Seeded, good: &[Vec<u8>]) -> Vec<u8> {
             0 => octets.truncate(place),
             1 => octets.insert(place, seeded.number() as u8),
             2 => octets.extend(good[seeded.below(good.len())].clone()),
-            3 if !octets.is_empty() => drop(octets.remove(place)),
+            3 if !octets.is_empty() => {
+                octets.remove(place);
+            }
             4 if !octets.is_empty() => octets[place] ^= 1 << seeded.below(8),
             _ if !octets.is_empty() => octets[place] = [0, 1, 0x7f, 0x80, 0xff, b'\n', b' '][seeded.below(7)],
             _ => {}
@@ -173,7 +175,11 @@ fn the_way_to_the_air() {
         let place = seeded.below(2);
         time += seeded.below(1 << 21) as u64;
         match seeded.below(4) {
-            0 => drop(Frame::of(&octets).map(|frame| air.heard(place, frame))),
+            0 => {
+                if let Some(frame) = Frame::of(&octets) {
+                    air.heard(place, frame);
+                }
+            }
             1 => {
                 octets.truncate(MOST);
                 let is_beacon = octets.first() == Some(&BEACON);
@@ -189,6 +195,10 @@ fn the_way_to_the_air() {
         if seeded.below(50) == 0 {
             air.expire(time);
         }
+        if seeded.below(10) == 0 {
+            air.looked();
+        }
+        air.gate().port.unsent = [0, 100][seeded.below(2)];
         air.flush_beacons(&mut counts);
         air.flush(time, u64::MAX, &mut counts);
         let sent = &mut air.gate().port.sent;
@@ -196,6 +206,7 @@ fn the_way_to_the_air() {
             sent.drain(..).filter(|packet| packet.get(SENDING_LEN + 1).map_or(false, |f| f & 0x08 != 0)).count() as u64;
     }
     air.end();
+    air.gate().port.unsent = 0;
     while let Some(due) = air.due() {
         air.expire(due);
         air.flush(due, u64::MAX, &mut counts);

@@ -1,7 +1,7 @@
 //! The program while it is live: what is said to it goes into a pipe, and its answers come by another.
 use std::collections::VecDeque;
-use std::fs::{File, OpenOptions};
-use std::io::{self, BufWriter, ErrorKind, Read, Write};
+use std::fs::File;
+use std::io::{self, ErrorKind, Read, Write};
 use std::os::unix::io::{AsRawFd, RawFd};
 use std::os::unix::process::ExitStatusExt;
 use std::process::{Child, ChildStdin, ChildStdout, Command, Stdio};
@@ -11,7 +11,9 @@ use std::time::Duration;
 use nix::fcntl::{fcntl, FcntlArg, OFlag};
 
 use crate::faces::{say_line, Answer, Answers, Event, Face};
-use crate::faults::Fault;
+use crate::faults::{reason, Fault};
+use crate::log::{self, Level};
+use crate::rights::Bounds;
 use crate::sockets::octets_in_pipe;
 use crate::time::{now, Nanos};
 
@@ -21,8 +23,6 @@ const PIECE_LEN: usize = 1 << 16;
 /// take, a beacon interval above all.
 const MOST_UNREAD: usize = 32;
 const EVERY: Duration = Duration::from_millis(5);
-/// The most files that records of one name have.
-const MOST_RECORDS: u32 = 10_000;
 
 /// `PROGRAM live CONFIG` or `PROGRAM live --octets CONFIG`.
 #[derive(Debug)]
@@ -37,14 +37,23 @@ pub struct Program {
 }
 
 impl Program {
-    /// Starts it; what is said to it is recorded, where there is a record.
-    pub fn start(path: &str, config: &str, face: Face, record: Option<Record>) -> Result<(Program, Feeder), Fault> {
+    /// Starts it, within bounds where there are such; what is said to it is recorded, where there is a record.
+    pub fn start(
+        path: &str,
+        config: &str,
+        face: Face,
+        bounds: Option<Bounds>,
+        record: Option<Record>,
+    ) -> Result<(Program, Feeder), Fault> {
         let mut command = Command::new(path);
         command.arg("live");
         if face == Face::Octets {
             command.arg("--octets");
         }
         command.arg(config).stdin(Stdio::piped()).stdout(Stdio::piped());
+        if let Some(bounds) = bounds {
+            bounds.hold(&mut command);
+        }
         let mut child = command.spawn().map_err(|fault| Fault::of(path, &fault))?;
         match (child.stdin.take(), child.stdout.take()) {
             (Some(input), Some(output)) => {
@@ -170,9 +179,9 @@ impl Feeder {
     }
 
     /// Says an event; it is written by the next `flush`.
-    pub fn say(&mut self, event: Event<'_>) -> Result<(), Fault> {
+    pub fn say(&mut self, event: Event<'_>) {
         if let Some(record) = &mut self.record {
-            record.write(event)?;
+            record.write(event);
         }
         if self.input.is_some() {
             let before = self.pending.len();
@@ -183,7 +192,6 @@ impl Feeder {
                 self.tick_end = self.said;
             }
         }
-        Ok(())
     }
 
     /// Writes what the pipe takes, and answers whether that was all. What is said to a program that has ended is lost.
@@ -209,69 +217,150 @@ impl Feeder {
     }
 
     /// Lets the file of the record have what was recorded.
-    pub fn flush_record(&mut self) -> Result<(), Fault> {
-        self.record.as_mut().map_or(Ok(()), Record::flush)
+    pub fn flush_record(&mut self) {
+        self.record.iter_mut().for_each(Record::flush);
+    }
+
+    /// The record, where there is one.
+    pub fn record(&self) -> Option<&Record> {
+        self.record.as_ref()
     }
 }
 
-/// The lines that the program is given, as `run` reads them; a question for the tables stands there as a comment.
+/// The lines that the program is given, as `run` reads them; a question for the tables stands there as a comment. Where
+/// nothing more can be written, as on a full disk, the recording stops: it is told once, the file keeps whole lines
+/// alone, and all else goes on.
 #[derive(Debug)]
 pub struct Record {
     path: String,
-    file: BufWriter<File>,
-    line: Vec<u8>,
+    /// `None` once the recording has stopped.
+    file: Option<File>,
+    /// Whole lines that weren't written yet.
+    pending: Vec<u8>,
+    written: u64,
+    fault: Option<String>,
 }
 
 impl Record {
-    /// A new file: of this name, or where that is there already with the first number behind it that isn't.
-    pub fn create(path: &str) -> Result<Record, Fault> {
-        for number in 0..MOST_RECORDS {
-            let name = if number == 0 { path.to_owned() } else { format!("{path}.{number}") };
-            match OpenOptions::new().write(true).create_new(true).open(&name) {
-                Ok(file) => {
-                    let file = BufWriter::with_capacity(PIECE_LEN, file);
-                    return Ok(Record { path: name, file, line: Vec::new() });
-                }
-                Err(fault) if fault.kind() == ErrorKind::AlreadyExists => {}
-                Err(fault) => return Err(Fault::of(format!("--record {name}"), &fault)),
+    /// Into a file that is open for writing and empty; its name is for people.
+    pub fn new(path: &str, file: File) -> Record {
+        Record { path: path.to_owned(), file: Some(file), pending: Vec::new(), written: 0, fault: None }
+    }
+
+    /// How many octets were written.
+    pub fn written(&self) -> u64 {
+        self.written
+    }
+
+    /// Why the recording has stopped, if it has.
+    pub fn fault(&self) -> Option<&str> {
+        self.fault.as_deref()
+    }
+
+    fn write(&mut self, event: Event<'_>) {
+        if self.file.is_none() {
+            return;
+        }
+        if event == Event::Tables {
+            self.pending.extend(b"# ");
+        }
+        say_line(event, &mut self.pending);
+        if self.pending.len() >= PIECE_LEN {
+            self.flush();
+        }
+    }
+
+    /// Writes the lines that wait.
+    fn flush(&mut self) {
+        let mut done = 0;
+        while let Some(file) = self.file.as_mut().filter(|_| done < self.pending.len()) {
+            match file.write(&self.pending[done..]) {
+                Ok(0) => self.stop(done, &io::Error::from(ErrorKind::WriteZero)),
+                Ok(length) => done += length,
+                Err(fault) if fault.kind() == ErrorKind::Interrupted => {}
+                Err(fault) => self.stop(done, &fault),
             }
         }
-        Err(Fault::new(format!("--record {path}: {MOST_RECORDS} files of this name are there: take old ones away")))
-    }
-
-    /// The file's name.
-    pub fn path(&self) -> &str {
-        &self.path
-    }
-
-    fn write(&mut self, event: Event<'_>) -> Result<(), Fault> {
-        self.line.clear();
-        if event == Event::Tables {
-            self.line.extend(b"# ");
+        if self.file.is_some() {
+            self.written += done as u64;
         }
-        say_line(event, &mut self.line);
-        self.file.write_all(&self.line).map_err(|fault| Fault::of(format!("--record {}", self.path), &fault))
+        self.pending.clear();
     }
 
-    fn flush(&mut self) -> Result<(), Fault> {
-        self.file.flush().map_err(|fault| Fault::of(format!("--record {}", self.path), &fault))
+    /// Stops the recording: of the lines that wait so many octets were written, of which the last line is cut off where
+    /// it isn't whole.
+    fn stop(&mut self, done: usize, fault: &io::Error) {
+        let whole = self.pending[..done].iter().rposition(|octet| *octet == b'\n').map_or(0, |place| place + 1);
+        self.written += whole as u64;
+        if let Some(file) = self.file.take() {
+            // What is no file, as a pipe, has no length to set.
+            let _ = file.set_len(self.written);
+        }
+        let text = reason(fault);
+        log::write_event(
+            Level::Warning,
+            format_args!("--record {}: {text}: nothing more is recorded. All else goes on", self.path),
+        );
+        self.fault = Some(text);
     }
 }
 
 #[cfg(test)]
 mod tests {
     use super::*;
+    use std::fs::OpenOptions;
+    use std::os::unix::net::UnixStream;
+
+    fn file_of(name: &str) -> (std::path::PathBuf, File) {
+        let path = std::env::temp_dir().join(format!("record-{}-{name}", std::process::id()));
+        let file = File::create(&path).unwrap();
+        (path, file)
+    }
 
     #[test]
-    fn a_record_that_is_there_is_continued_by_a_number() {
-        let folder = std::env::temp_dir().join(format!("records-{}", std::process::id()));
-        std::fs::create_dir_all(&folder).unwrap();
-        let path = folder.join("today").to_str().unwrap().to_owned();
-        let names: Vec<String> = (0..3).map(|_| Record::create(&path).unwrap().path().to_owned()).collect();
-        assert_eq!(names, [path.clone(), format!("{path}.1"), format!("{path}.2")]);
-        std::fs::remove_file(&names[1]).unwrap();
-        assert_eq!(Record::create(&path).unwrap().path(), names[1]);
-        std::fs::remove_dir_all(&folder).unwrap();
-        assert!(Record::create(&path).unwrap_err().to_string().contains("No such file or directory"));
+    fn events_are_recorded_as_lines() {
+        let (path, file) = file_of("lines");
+        let mut record = Record::new("today", file);
+        for event in [Event::Tick, Event::Tables, Event::Air(&[1, 2])] {
+            record.write(event);
+        }
+        assert_eq!(std::fs::read_to_string(&path).unwrap(), "");
+        record.flush();
+        assert_eq!(std::fs::read_to_string(&path).unwrap(), "T\n# I\nA 0102\n");
+        assert_eq!((record.written(), record.fault()), (13, None));
+        std::fs::remove_file(path).unwrap();
+    }
+
+    #[test]
+    fn where_the_disk_is_full_the_recording_stops() {
+        let mut record = Record::new("today", OpenOptions::new().write(true).open("/dev/full").unwrap());
+        record.write(Event::Tick);
+        record.flush();
+        assert_eq!((record.written(), record.fault()), (0, Some("No space left on device")));
+        (0..1_000_000).for_each(|_| record.write(Event::Tick));
+        record.flush();
+        assert!(record.pending.is_empty() && record.file.is_none());
+    }
+
+    /// A file keeps whole lines alone.
+    #[test]
+    fn a_line_that_was_cut_is_taken_back() {
+        let (path, mut file) = file_of("cut");
+        file.write_all(b"T\nA 0102\nA 03").unwrap();
+        let mut record = Record { pending: b"A 0102\nA 0304\n".to_vec(), written: 2, ..Record::new("today", file) };
+        record.stop(11, &io::Error::from_raw_os_error(libc::ENOSPC));
+        assert_eq!(std::fs::read_to_string(&path).unwrap(), "T\nA 0102\n");
+        assert_eq!(record.written(), 9);
+        std::fs::remove_file(path).unwrap();
+    }
+
+    #[test]
+    fn what_takes_nothing_stops_the_recording() {
+        let (near, far) = UnixStream::pair().unwrap();
+        drop(far);
+        let mut record = Record::new("pipe", File::from(std::os::unix::io::OwnedFd::from(near)));
+        record.write(Event::Tick);
+        record.flush();
+        assert_eq!(record.fault(), Some("Broken pipe"));
     }
 }

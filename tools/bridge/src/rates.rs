@@ -110,6 +110,8 @@ fn most_throughput(rate: u8) -> f64 {
 #[derive(Debug, Clone)]
 pub struct Rates {
     rates: Vec<Rate>,
+    /// The one that brings the most through; the slowest where none brings anything.
+    best: usize,
     /// Units in a row that nobody acknowledged, samples not counted.
     failures: u32,
     /// Units since the last sample, and when that was.
@@ -127,7 +129,7 @@ impl Rates {
         let common = BAND.iter().copied().filter(|rate| has(station, *rate) && has(network, *rate));
         let mut rates: Vec<Rate> = common.map(Rate::untried).collect();
         rates.first_mut()?.known = Known::Share(1.0);
-        Some(Rates { rates, failures: 0, since_sample: 0, sampled: 0, turn: 0 })
+        Some(Rates { rates, best: 0, failures: 0, since_sample: 0, sampled: 0, turn: 0 })
     }
 
     /// How the next unit is to be sent, at this time since any fixed moment, where the radio is busy or isn't.
@@ -147,7 +149,7 @@ impl Rates {
 
     /// How a unit is to be sent that has to come through: one that nobody acknowledged, too.
     pub fn again(&self) -> Choice {
-        let place = if self.failures == 0 { self.best() } else { 0 };
+        let place = if self.failures == 0 { self.best } else { 0 };
         let retries = if self.failures < GONE { MOST_RETRIES } else { GONE_RETRIES };
         Choice { rate: self.rates[place].rate, retries, is_sample: false }
     }
@@ -178,10 +180,13 @@ impl Rates {
                 self.forget_above(place);
             }
         }
+        if self.rates[place].known != before || !is_acknowledged {
+            self.best = self.find_best();
+        }
     }
 
     /// The rate that brings the most through; the slowest where none brings anything.
-    fn best(&self) -> usize {
+    fn find_best(&self) -> usize {
         let (mut best, mut most) = (0, 0.0);
         for (place, rate) in self.rates.iter().enumerate() {
             let throughput = rate.throughput();
@@ -197,7 +202,7 @@ impl Rates {
         if self.failures > 0 {
             return None;
         }
-        let best = self.best();
+        let best = self.best;
         let throughput = self.rates[best].throughput();
         let candidates = (best + 1..self.rates.len()).filter(|place| self.rates[*place].most > throughput);
         let mut untried = candidates.clone().filter(|place| self.rates[*place].known == Known::Untried);

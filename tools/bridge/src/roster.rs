@@ -199,7 +199,9 @@ impl Roster {
                 }
                 self.told_of[member.0].remove(&aid);
             }
-            (Said::Poll, State::Associated(aid)) => drop(self.told_of[member.0].remove(&aid)),
+            (Said::Poll, State::Associated(aid)) => {
+                self.told_of[member.0].remove(&aid);
+            }
             _ => {}
         }
     }
@@ -245,7 +247,9 @@ impl Roster {
     pub fn agree(&mut self, place: usize, known: &HashMap<Address, State>, now: Nanos) {
         let here = self.stations[place].keys();
         let gone: Vec<Address> = here.filter(|address| !known.contains_key(address)).copied().collect();
-        gone.into_iter().for_each(|address| self.take_out((place, address)));
+        for address in gone {
+            self.take_out((place, address));
+        }
         for (address, state) in known {
             if !self.stations[place].contains_key(address) {
                 self.authenticate((place, *address), now);
@@ -365,8 +369,12 @@ impl Roster {
             station.since = now;
             station.dozes = false;
             match state {
-                State::Associated(aid) => drop(self.associated.insert((member.0, aid), member.1)),
-                State::Authenticated => drop(self.unassociated[member.0].insert((now, member.1))),
+                State::Associated(aid) => {
+                    self.associated.insert((member.0, aid), member.1);
+                }
+                State::Authenticated => {
+                    self.unassociated[member.0].insert((now, member.1));
+                }
             }
         }
     }
@@ -380,7 +388,9 @@ impl Roster {
                     self.associated.remove(&(member.0, aid));
                 }
             }
-            Some((State::Authenticated, since)) => drop(self.unassociated[member.0].remove(&(since, member.1))),
+            Some((State::Authenticated, since)) => {
+                self.unassociated[member.0].remove(&(since, member.1));
+            }
             None => {}
         }
     }

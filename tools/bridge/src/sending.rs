@@ -49,7 +49,9 @@ pub type Counts = BTreeMap<String, u64>;
 pub fn count(counts: &mut Counts, what: &str, number: u64) {
     match counts.get_mut(what) {
         Some(found) => *found += number,
-        None => drop(counts.insert(what.to_owned(), number)),
+        None => {
+            counts.insert(what.to_owned(), number);
+        }
     }
 }
 
@@ -273,6 +275,16 @@ impl<P: Port> Sender<P> {
         self.air.holds_back()
     }
 
+    /// Whether the radio has sent frames of which nobody looked yet what became of them, and others go meanwhile.
+    pub fn is_unsettled(&self) -> bool {
+        self.air.is_unsettled()
+    }
+
+    /// What the radio told so far was looked at.
+    pub fn looked(&mut self) {
+        self.air.looked();
+    }
+
     /// How many frames were sent on the air.
     pub fn sent_on_air(&self) -> u64 {
         self.air.sent()
@@ -281,6 +293,14 @@ impl<P: Port> Sender<P> {
     /// The wire of the network of this place, and what waits for it.
     pub fn wire(&mut self, place: Place) -> Option<&mut Gate<P>> {
         self.wires.get_mut(place).and_then(Option::as_mut).map(|wire| &mut wire.gate)
+    }
+
+    /// The wire of the network of this place is by this port from now on.
+    pub fn set_wire(&mut self, place: Place, port: P) {
+        match &mut self.wires[place] {
+            Some(exit) => exit.gate = Gate::new(port),
+            none => *none = Some(Exit::new(port)),
+        }
     }
 
     /// All interfaces.

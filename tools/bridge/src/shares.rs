@@ -50,9 +50,12 @@ impl<R: Copy + Ord + Hash, T> Shares<R, T> {
         answer
     }
 
-    /// A frame of a network waits for a receiver, behind all that wait for it.
-    pub fn push(&mut self, place: Place, receiver: R, frame: T) {
-        self.change(place, receiver, |lane| lane.waiting.push_back(frame));
+    /// A frame of a network waits for a receiver, behind all that wait for it; answers how many do with it.
+    pub fn push(&mut self, place: Place, receiver: R, frame: T) -> usize {
+        self.change(place, receiver, |lane| {
+            lane.waiting.push_back(frame);
+            lane.waiting.len()
+        })
     }
 
     /// A frame is sent again: it waits before all others for its receiver.
@@ -62,6 +65,9 @@ impl<R: Copy + Ord + Hash, T> Shares<R, T> {
 
     /// Whose frame goes next, with the frame; `None` where none waits for a turn.
     pub fn first(&self) -> Option<(Place, R, &T)> {
+        if !self.has_ready() {
+            return None;
+        }
         let place = self.lanes.choose()?;
         let (receiver, frame) = self.networks[place].first()?;
         Some((place, receiver, frame))
@@ -85,8 +91,10 @@ impl<R: Copy + Ord + Hash, T> Shares<R, T> {
 
     /// A frame of a network for a receiver cost so many microseconds more than was reckoned.
     pub fn told(&mut self, place: Place, receiver: R, more: u32) {
-        self.lanes.told(place, more);
-        self.change(place, receiver, |lane| lane.start = lane.start.saturating_add(u64::from(more)));
+        if more > 0 {
+            self.lanes.told(place, more);
+            self.change(place, receiver, |lane| lane.start = lane.start.saturating_add(u64::from(more)));
+        }
     }
 
     /// A receiver is held: none of its frames goes next until it is released.
@@ -184,18 +192,21 @@ impl<R: Copy + Ord + Hash, T> Turns<R, T> {
     fn serve(&mut self, cost: u64) -> Option<T> {
         let (start, receiver) = self.ready.iter().next().copied()?;
         self.begun = start;
-        let frame = self.change(receiver, |lane| {
+        self.change(receiver, |lane| {
             lane.start = start.saturating_add(cost);
             lane.waiting.pop_front()
-        });
-        frame
+        })
     }
 
     /// Changes what waits for a receiver, and keeps it in the set where it belongs. One that isn't there owes nothing.
     fn change<A>(&mut self, receiver: R, change: impl FnOnce(&mut Lane<T>) -> A) -> A {
         let begun = self.begun;
         let unknown = || Lane { waiting: VecDeque::new(), start: begun, is_held: false };
-        let lane = self.lanes.entry(receiver).or_insert_with(unknown);
+        // What is there is found in less time than a place for what isn't.
+        let lane = match self.lanes.get_mut(&receiver) {
+            Some(lane) => lane,
+            None => self.lanes.entry(receiver).or_insert_with(unknown),
+        };
         let (before, was_ready, start) = (lane.waiting.len(), lane.is_ready(), lane.start);
         lane.start = lane.start.max(begun);
         let answer = change(lane);
@@ -444,7 +455,9 @@ mod tests {
         let mut shares = Shares::new([1, 2, 3]);
         let (costs, mut got) = ([12_000, 500, 1700], [0u64; 3]);
         for _ in 0..30_000 {
-            (0..3).for_each(|place| shares.push(place, 0u8, place));
+            for place in 0..3 {
+                shares.push(place, 0u8, place);
+            }
             let place = shares.first().unwrap().0;
             got[place] += u64::from(costs[place]);
             assert_eq!(shares.serve(place, costs[place]), Some(place));
@@ -461,7 +474,9 @@ mod tests {
         let mut shares = Shares::new([1, 1]);
         let mut turns = [0u64; 2];
         for _ in 0..10_000 {
-            (0..2).for_each(|place| shares.push(place, 0u8, place));
+            for place in 0..2 {
+                shares.push(place, 0u8, place);
+            }
             let place = next(&mut shares, 100).unwrap();
             turns[place] += 1;
             if place == 0 {
@@ -474,8 +489,12 @@ mod tests {
     #[test]
     fn receivers_of_a_network_take_turns_by_time() {
         let mut shares = Shares::new([1]);
-        (0..9).for_each(|_| shares.push(0, 'a', 3));
-        (0..9).for_each(|_| shares.push(0, 'b', 1));
+        for _ in 0..9 {
+            shares.push(0, 'a', 3);
+        }
+        for _ in 0..9 {
+            shares.push(0, 'b', 1);
+        }
         let order: Vec<u32> = std::iter::from_fn(|| {
             let cost = *shares.first()?.2;
             next(&mut shares, cost)
@@ -487,9 +506,13 @@ mod tests {
     #[test]
     fn idle_time_earns_nothing() {
         let mut shares = Shares::new([1, 1]);
-        (0..50).for_each(|_| shares.push(0, 'a', 'a'));
+        for _ in 0..50 {
+            shares.push(0, 'a', 'a');
+        }
         (0..40).for_each(|_| assert_eq!(next(&mut shares, 10), Some('a')));
-        (0..50).for_each(|_| shares.push(1, 'b', 'b'));
+        for _ in 0..50 {
+            shares.push(1, 'b', 'b');
+        }
         let order: String = std::iter::from_fn(|| next(&mut shares, 10)).take(8).collect();
         assert_eq!(order, "babababa");
     }
@@ -497,7 +520,9 @@ mod tests {
     #[test]
     fn a_held_receiver_waits_and_keeps_its_order() {
         let mut shares = Shares::new([1]);
-        [1, 2].into_iter().for_each(|frame| shares.push(0, 'a', frame));
+        for frame in [1, 2] {
+            shares.push(0, 'a', frame);
+        }
         shares.hold(0, 'a');
         assert_eq!((shares.first(), shares.has_ready(), shares.is_empty()), (None, false, false));
         shares.push_first(0, 'a', 0);
@@ -509,7 +534,9 @@ mod tests {
     #[test]
     fn frames_are_taken_out_by_what_they_are() {
         let mut shares = Shares::new([1]);
-        (0..6).for_each(|frame| shares.push(0, 'a', frame));
+        for frame in 0..6 {
+            shares.push(0, 'a', frame);
+        }
         assert_eq!(shares.longest(0), Some('a'));
         assert_eq!(shares.take_all(0, 'a', |frame| frame % 2 == 0), [0, 2, 4]);
         assert_eq!([(); 4].map(|_| next(&mut shares, 1)), [Some(1), Some(3), Some(5), None]);
@@ -526,7 +553,9 @@ mod tests {
         }
         let most = 2 * MOST_RESTING + FEW + 1;
         assert!((FEW..=most).contains(&shares.networks[0].lanes.len()), "{}", shares.networks[0].lanes.len());
-        (0..2).for_each(|_| shares.push(0, 7, ()));
+        for _ in 0..2 {
+            shares.push(0, 7, ());
+        }
         (0..2).for_each(|_| assert_eq!(next(&mut shares, 5), Some(())));
         shares.networks[0].forget_rested();
         assert_eq!(shares.networks[0].lanes.len(), 1);

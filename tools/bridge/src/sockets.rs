@@ -1,11 +1,11 @@
-//! Packet sockets (packet(7)): one on the monitor interface, one on each wired port. What is unsafe of the bridge is
-//! here alone: the calls of the system that no crate has for these sockets.
+//! Packet sockets (packet(7)): those of the monitor interface, one of each wired port, all of which `tools/live` opens and
+//! hands over. What is unsafe of the bridge is here and in `rights` alone: the calls of the system that no crate has.
 #![allow(unsafe_code)]
-use std::ffi::CString;
+use std::collections::VecDeque;
 use std::io;
 use std::mem::{size_of, size_of_val, zeroed};
 use std::os::unix::io::{AsRawFd, FromRawFd, OwnedFd, RawFd};
-use std::os::unix::net::UnixListener;
+use std::os::unix::net::{UnixListener, UnixStream};
 use std::ptr;
 
 use libc::{c_int, c_void, iovec, mmsghdr, sock_filter, sockaddr_ll};
@@ -18,14 +18,14 @@ pub const AT_A_TIME: usize = 8;
 /// The octets that are read of a packet: a frame that goes on has fewer, with its header of radiotap.
 const PACKET_LEN: usize = 8192;
 const CONTROL_LEN: usize = 128;
-const RECEIVING_ROOM: c_int = 16 << 20;
+/// The room for descriptors that are handed over at a time: those of the radio and of 16 wires fit.
+const HANDED_LEN: usize = 256;
 // What follows is of <linux/if_packet.h>, and not in the crate libc yet.
 const NO_CHECKSUM: u32 = 1 << 3;
 const HAD_TAG: u32 = 1 << 4;
 const OUTGOING: u8 = 4;
 const PACKET_STATISTICS: c_int = 6;
 const PACKET_AUXDATA: c_int = 8;
-const PACKET_IGNORE_OUTGOING: c_int = 23;
 
 /// What the kernel says beside a packet.
 #[repr(C)]
@@ -87,6 +87,12 @@ pub trait Port {
     fn close(&mut self) {}
 }
 
+/// What is made of a socket that was handed over.
+pub trait OfSocket: Port {
+    /// The port of this interface, whose socket this is.
+    fn of(interface: &str, socket: OwnedFd) -> Self;
+}
+
 /// A socket that hears all of an interface and sends whole frames by it.
 #[derive(Debug)]
 pub struct PacketSocket {
@@ -97,50 +103,15 @@ pub struct PacketSocket {
 }
 
 impl PacketSocket {
-    /// Opens it; `sending_room` bounds the octets that wait in the kernel to be sent. It never hears what a filter
-    /// doesn't let through.
-    pub fn open(interface: &str, sending_room: c_int, filter: Option<&[sock_filter]>) -> io::Result<PacketSocket> {
-        let index = index_of(interface)?;
-        // SAFETY: no memory is handed over; the descriptor is owned from here on.
-        let socket = unsafe {
-            let kind = libc::SOCK_RAW | libc::SOCK_NONBLOCK | libc::SOCK_CLOEXEC;
-            OwnedFd::from_raw_fd(checked(libc::socket(libc::AF_PACKET, kind, 0))?)
-        };
-        let one: c_int = 1;
-        set_option(&socket, libc::SOL_SOCKET, libc::SO_RCVBUFFORCE, &RECEIVING_ROOM)?;
-        set_option(&socket, libc::SOL_SOCKET, libc::SO_SNDBUFFORCE, &sending_room)?;
-        set_option(&socket, libc::SOL_SOCKET, libc::SO_TIMESTAMPNS, &one)?;
-        set_option(&socket, libc::SOL_PACKET, PACKET_AUXDATA, &one)?;
-        set_option(&socket, libc::SOL_PACKET, PACKET_IGNORE_OUTGOING, &one)?;
-        if let Some(filter) = filter {
-            attach(&socket, filter)?;
-        }
-        // SAFETY: all zero is an address; the length is its own.
-        unsafe {
-            let mut address: sockaddr_ll = zeroed();
-            address.sll_family = libc::AF_PACKET as u16;
-            address.sll_protocol = (libc::ETH_P_ALL as u16).to_be();
-            address.sll_ifindex = index;
-            let place = &address as *const sockaddr_ll;
-            checked(libc::bind(socket.as_raw_fd(), place.cast(), size_of::<sockaddr_ll>() as u32))?;
-        }
-        Ok(PacketSocket { interface: interface.to_owned(), socket: Some(socket), dropped: 0 })
-    }
-
-    /// Takes frames for any receiver, as long as the socket is there.
-    pub fn hear_all(&self) -> io::Result<()> {
-        let membership = libc::packet_mreq {
-            mr_ifindex: index_of(&self.interface)?,
-            mr_type: libc::PACKET_MR_PROMISC as u16,
-            mr_alen: 0,
-            mr_address: [0; 8],
-        };
-        set_option(self.open_socket()?, libc::SOL_PACKET, libc::PACKET_ADD_MEMBERSHIP, &membership)
-    }
-
     /// The socket, where it wasn't closed.
     fn open_socket(&self) -> io::Result<&OwnedFd> {
         self.socket.as_ref().ok_or_else(|| io::Error::from_raw_os_error(libc::ENETDOWN))
+    }
+}
+
+impl OfSocket for PacketSocket {
+    fn of(interface: &str, socket: OwnedFd) -> PacketSocket {
+        PacketSocket { interface: interface.to_owned(), socket: Some(socket), dropped: 0 }
     }
 }
 
@@ -192,16 +163,6 @@ impl Port for PacketSocket {
     }
 }
 
-/// The number of an interface.
-fn index_of(interface: &str) -> io::Result<c_int> {
-    let name = CString::new(interface)?;
-    // SAFETY: the name ends with its zero octet.
-    match unsafe { libc::if_nametoindex(name.as_ptr()) } {
-        0 => Err(io::Error::last_os_error()),
-        index => Ok(index as c_int),
-    }
-}
-
 /// What a call of the system answered, or its fault.
 fn checked(answer: c_int) -> io::Result<c_int> {
     if answer < 0 {
@@ -238,7 +199,16 @@ fn number_of(descriptor: RawFd, request: libc::c_ulong) -> io::Result<usize> {
     Ok(found.max(0) as usize)
 }
 
-/// The listening socket that this process was started with, whose number `tools/live` gave.
+/// A descriptor that this process was started with, whose number `tools/live` gave. What this process starts doesn't
+/// have it.
+pub fn inherited(number: RawFd) -> io::Result<OwnedFd> {
+    // SAFETY: no memory is handed over.
+    unsafe { checked(libc::fcntl(number, libc::F_SETFD, libc::FD_CLOEXEC))? };
+    // SAFETY: the descriptor is open, and nothing else of this process owns it.
+    Ok(unsafe { OwnedFd::from_raw_fd(number) })
+}
+
+/// The listening socket that this process was started with.
 pub fn inherited_listener(number: RawFd) -> io::Result<UnixListener> {
     let mut is_listening: c_int = 0;
     let mut length = size_of_val(&is_listening) as u32;
@@ -250,8 +220,7 @@ pub fn inherited_listener(number: RawFd) -> io::Result<UnixListener> {
     if is_listening == 0 {
         return Err(io::Error::from_raw_os_error(libc::EINVAL));
     }
-    // SAFETY: the descriptor is a socket, and nothing else of this process owns it.
-    Ok(unsafe { UnixListener::from_raw_fd(number) })
+    Ok(inherited(number)?.into())
 }
 
 /// The user who connected a socket of this machine.
@@ -266,6 +235,69 @@ pub fn user_of(socket: RawFd) -> io::Result<u32> {
     Ok(found.uid)
 }
 
+/// Appends what a socket has to read, and the descriptors that come with it; answers how many octets came, and is
+/// refused where none wait. What this process starts doesn't have the descriptors.
+pub fn receive_handed(
+    socket: &UnixStream,
+    octets: &mut Vec<u8>,
+    descriptors: &mut VecDeque<OwnedFd>,
+) -> io::Result<usize> {
+    let mut piece = [0u8; 256];
+    let mut control = Control([0; HANDED_LEN]);
+    let mut vector = iovec { iov_base: piece.as_mut_ptr().cast(), iov_len: piece.len() };
+    let mut header = header_of(&mut vector).msg_hdr;
+    header.msg_control = control.0.as_mut_ptr().cast();
+    header.msg_controllen = HANDED_LEN as _;
+    let flags = libc::MSG_DONTWAIT | libc::MSG_CMSG_CLOEXEC;
+    // SAFETY: the header points to a piece and to room for control messages, both as long as it says.
+    let found = unsafe { libc::recvmsg(socket.as_raw_fd(), &mut header, flags) };
+    if found < 0 {
+        return Err(io::Error::last_os_error());
+    }
+    octets.extend(&piece[..found as usize]);
+    // SAFETY: the kernel wrote whole control messages into the room and said how long they are; each descriptor in them
+    // is new, and owned from here on.
+    unsafe {
+        let mut message = libc::CMSG_FIRSTHDR(&header);
+        while !message.is_null() {
+            if ((*message).cmsg_level, (*message).cmsg_type) == (libc::SOL_SOCKET, libc::SCM_RIGHTS) {
+                let length = (*message).cmsg_len as usize - libc::CMSG_LEN(0) as usize;
+                let content = libc::CMSG_DATA(message).cast::<RawFd>();
+                let numbers = (0..length / size_of::<RawFd>()).map(|place| ptr::read_unaligned(content.add(place)));
+                descriptors.extend(numbers.map(|number| OwnedFd::from_raw_fd(number)));
+            }
+            message = libc::CMSG_NXTHDR(&header, message);
+        }
+    }
+    Ok(found as usize)
+}
+
+/// Writes octets, and hands over descriptors with them, as `tools/live` does.
+#[cfg(test)]
+pub fn hand(socket: &UnixStream, octets: &[u8], descriptors: &[OwnedFd]) -> io::Result<()> {
+    let numbers: Vec<RawFd> = descriptors.iter().map(AsRawFd::as_raw_fd).collect();
+    let mut control = Control([0; HANDED_LEN]);
+    let mut vector = iovec { iov_base: octets.as_ptr() as *mut c_void, iov_len: octets.len() };
+    let mut header = header_of(&mut vector).msg_hdr;
+    header.msg_control = control.0.as_mut_ptr().cast();
+    let length = size_of_val(&numbers[..]) as u32;
+    assert!(length as usize <= HANDED_LEN / 2);
+    // SAFETY: the room for control messages has more octets than these descriptors take.
+    unsafe {
+        header.msg_controllen = libc::CMSG_SPACE(length) as _;
+        let message = libc::CMSG_FIRSTHDR(&header);
+        (*message).cmsg_level = libc::SOL_SOCKET;
+        (*message).cmsg_type = libc::SCM_RIGHTS;
+        (*message).cmsg_len = libc::CMSG_LEN(length) as _;
+        ptr::copy_nonoverlapping(numbers.as_ptr(), libc::CMSG_DATA(message).cast::<RawFd>(), numbers.len());
+        let sent = libc::sendmsg(socket.as_raw_fd(), &header, 0);
+        if sent < 0 {
+            return Err(io::Error::last_os_error());
+        }
+    }
+    Ok(())
+}
+
 /// Sends frames by one call.
 fn send_many(socket: RawFd, frames: &[&[u8]]) -> io::Result<usize> {
     if let [frame] = frames {
@@ -278,7 +310,7 @@ fn send_many(socket: RawFd, frames: &[&[u8]]) -> io::Result<usize> {
         .take(AT_A_TIME)
         .map(|frame| iovec { iov_base: frame.as_ptr() as *mut c_void, iov_len: frame.len() })
         .collect();
-    let mut headers: Vec<mmsghdr> = vectors.iter_mut().map(|vector| header_of(vector)).collect();
+    let mut headers: Vec<mmsghdr> = vectors.iter_mut().map(header_of).collect();
     // SAFETY: the headers point to the vectors, these to the frames, all of which outlive the call, and the kernel only
     // reads the frames.
     let sent =
@@ -298,12 +330,12 @@ fn header_of(vector: &mut iovec) -> mmsghdr {
 /// Room for control messages, aligned as they are.
 #[repr(C, align(8))]
 #[derive(Clone)]
-struct Control([u8; CONTROL_LEN]);
+struct Control<const LEN: usize>([u8; LEN]);
 
 /// Room for the packets of one call, and what it read.
 pub struct Batch {
     octets: Vec<u8>,
-    controls: Vec<Control>,
+    controls: Vec<Control<CONTROL_LEN>>,
     addresses: Vec<sockaddr_ll>,
     /// Points into the three before, and is pointed to by `headers`: none of them ever grows.
     vectors: Vec<iovec>,
@@ -417,13 +449,45 @@ mod tests {
     use crate::filter::{monitor_filter, Shown};
     use crate::samples::{data, radiotap, OURS, STRANGER};
     use crate::time::{now, wall_now};
+    use std::io::Write;
 
-    /// Two sockets on the loopback interface, or `None` where the machine gives none, as without root.
+    const PACKET_IGNORE_OUTGOING: c_int = 23;
+
+    /// A socket of the loopback interface, as `tools/live` opens those of the others.
+    fn open() -> io::Result<PacketSocket> {
+        // SAFETY: no memory is handed over; the descriptor is owned from here on.
+        let socket = unsafe {
+            let kind = libc::SOCK_RAW | libc::SOCK_NONBLOCK | libc::SOCK_CLOEXEC;
+            OwnedFd::from_raw_fd(checked(libc::socket(libc::AF_PACKET, kind, 0))?)
+        };
+        let one: c_int = 1;
+        let room: c_int = 1 << 16;
+        set_option(&socket, libc::SOL_SOCKET, libc::SO_SNDBUFFORCE, &room)?;
+        set_option(&socket, libc::SOL_SOCKET, libc::SO_TIMESTAMPNS, &one)?;
+        set_option(&socket, libc::SOL_PACKET, PACKET_AUXDATA, &one)?;
+        set_option(&socket, libc::SOL_PACKET, PACKET_IGNORE_OUTGOING, &one)?;
+        // SAFETY: all zero is an address; the length is its own.
+        unsafe {
+            let mut address: sockaddr_ll = zeroed();
+            address.sll_family = libc::AF_PACKET as u16;
+            address.sll_protocol = (libc::ETH_P_ALL as u16).to_be();
+            address.sll_ifindex = 1;
+            let place = &address as *const sockaddr_ll;
+            checked(libc::bind(socket.as_raw_fd(), place.cast(), size_of::<sockaddr_ll>() as u32))?;
+        }
+        Ok(PacketSocket::of("lo", socket))
+    }
+
+    /// Two sockets on the loopback interface, or `None` where the machine gives none, as without root. That is told past
+    /// what the test's runner keeps back, so that whoever counts the tests that passed can leave this one out.
     fn pair() -> Option<(PacketSocket, PacketSocket)> {
-        match (PacketSocket::open("lo", 1 << 16, None), PacketSocket::open("lo", 1 << 16, None)) {
+        match (open(), open()) {
             (Ok(hearing), Ok(sending)) => Some((hearing, sending)),
             _ => {
-                eprintln!("no packet socket here: not tried");
+                let thread = std::thread::current();
+                let name = thread.name().unwrap_or("a test");
+                let mut told = io::stderr();
+                writeln!(told, "not run: {name}: no packet socket here, which takes root").unwrap();
                 None
             }
         }

@@ -61,6 +61,8 @@ pub enum Next {
 #[derive(Debug)]
 struct Last {
     frame: Rc<Vec<u8>>,
+    /// Its fragment and sequence number.
+    number: Option<u16>,
     choice: Choice,
     was_again: bool,
 }
@@ -82,6 +84,8 @@ struct Station {
 #[derive(Debug)]
 struct Members {
     network: Network,
+    /// Its lowest basic rate.
+    lowest: u8,
     stations: AddressMap<Station>,
     joining: VecDeque<(Address, Rates)>,
     /// Who asked for this network alone, by a probe request that isn't answered yet.
@@ -104,6 +108,7 @@ impl Stations {
     pub fn new(networks: &[Network]) -> Stations {
         let members = |network: &Network| Members {
             network: network.clone(),
+            lowest: network.lowest_basic_rate(),
             stations: AddressMap::default(),
             joining: VecDeque::new(),
             asking: VecDeque::new(),
@@ -167,7 +172,7 @@ impl Stations {
 
     /// A network's lowest basic rate.
     pub fn lowest(&self, place: Place) -> u8 {
-        self.networks[place].network.lowest_basic_rate()
+        self.networks[place].lowest
     }
 
     /// Since when frames for a station don't wait for what became of one before.
@@ -191,10 +196,11 @@ impl Stations {
         is_busy: bool,
         now: Nanos,
     ) -> (Choice, bool) {
-        let plainly = Choice { rate: self.lowest(place), retries: MOST_RETRIES, is_sample: false };
         let is_told = self.is_told();
+        let Members { lowest, stations, .. } = &mut self.networks[place];
+        let plainly = Choice { rate: *lowest, retries: MOST_RETRIES, is_sample: false };
         self.turns += 1;
-        let station = match self.networks[place].stations.get_mut(&address).filter(|_| is_told) {
+        let station = match stations.get_mut(&address).filter(|_| is_told) {
             Some(station) => station,
             None => return (plainly, false),
         };
@@ -206,7 +212,7 @@ impl Stations {
             (false, false) => plainly,
         };
         let waits = was_again || choice.is_sample || station.rates.is_in_doubt();
-        station.last = Some(Last { frame: Rc::clone(frame), choice, was_again });
+        station.last = Some(Last { frame: Rc::clone(frame), number: number(frame), choice, was_again });
         if waits {
             let until = now + MOST_WAIT;
             station.waits_until = Some(until);
@@ -222,33 +228,43 @@ impl Stations {
             None => return Next::Nothing,
         };
         self.was_told = true;
-        let last = station.last.as_mut().filter(|last| number(&last.frame) == number(frame));
+        let number = number(frame);
+        let last = station.last.as_mut().filter(|last| last.number == number);
         let is_sample = last.as_ref().map_or(false, |last| last.choice.is_sample);
-        if is_unit(frame) {
+        let is_unit = is_unit(frame);
+        if is_unit {
             let rate = outcome.rate.or_else(|| last.as_ref().map(|last| last.choice.rate));
             let tries = outcome.retries.saturating_add(1);
             let rates = &mut station.rates;
             rate.into_iter().for_each(|rate| rates.told(rate, tries, outcome.is_acknowledged, is_sample));
         }
-        let is_lost = is_unit(frame) && !outcome.is_acknowledged;
-        match last {
+        let is_lost = is_unit && !outcome.is_acknowledged;
+        let next = match last {
             Some(last) if is_lost && !last.was_again => {
                 last.was_again = true;
                 last.frame = Rc::new(again(&last.frame));
-                let frame = Rc::clone(&last.frame);
                 self.unacknowledged.again += 1;
-                station.go(now);
-                Next::Again(frame)
+                Next::Again(Rc::clone(&last.frame))
             }
-            Some(_) => {
+            last => {
                 self.unacknowledged.lost += u64::from(is_lost);
-                station.go(now);
-                Next::Goes
+                last.map_or(Next::Nothing, |_| Next::Goes)
             }
-            None => {
-                self.unacknowledged.lost += u64::from(is_lost);
-                Next::Nothing
+        };
+        if next != Next::Nothing && station.go(now) {
+            self.forget_ended_waits();
+        }
+        next
+    }
+
+    /// The first of the waits is one that hasn't ended, or there is none: nobody is woken for one that has.
+    fn forget_ended_waits(&mut self) {
+        while let Some((until, place, address)) = self.waits.front() {
+            let station = self.networks[*place].stations.get(address);
+            if station.map_or(false, |station| station.waits_until == Some(*until)) {
+                break;
             }
+            self.waits.pop_front();
         }
     }
 
@@ -288,11 +304,13 @@ impl Stations {
 }
 
 impl Station {
-    /// What comes next for it waits no more.
-    fn go(&mut self, now: Nanos) {
-        if self.waits_until.take().is_some() {
+    /// What comes next for it waits no more; answers whether it did.
+    fn go(&mut self, now: Nanos) -> bool {
+        let waited = self.waits_until.take().is_some();
+        if waited {
             self.goes_since = now;
         }
+        waited
     }
 }
 

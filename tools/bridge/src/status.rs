@@ -2,6 +2,7 @@
 use std::collections::{BTreeMap, VecDeque};
 use std::fmt::{self, Display, Write};
 
+use crate::program::Record;
 use crate::roster::{Roster, State, Station};
 use crate::sending::Network;
 use crate::tables::Tables;
@@ -43,6 +44,8 @@ pub struct Status<'a> {
     pub began: Nanos,
     /// The program's last faults.
     pub faults: &'a Faults,
+    /// What is recorded, where something is.
+    pub record: Option<&'a Record>,
     /// The beacons so far.
     pub beacons: &'a Lateness,
     /// What was dropped or lost.
@@ -79,6 +82,7 @@ impl Status<'_> {
         list(to, faults, |to, (since, text)| {
             write!(to, "{{\"seconds\":{},\"text\":{}}}", Seconds(self.now.saturating_sub(*since)), Text(text))
         })?;
+        write!(to, ",\"record\":{}", Maybe(self.record.map(Recorded)))?;
         let Lateness { sent, .. } = *self.beacons;
         let (mean, worst, missed) = (self.beacons.mean(), self.beacons.worst, self.beacons.missed);
         write!(to, ",\"beacons\":{{\"sent\":{sent},\"late_ms_mean\":{},", Milliseconds(mean))?;
@@ -208,6 +212,15 @@ impl<T: Display> Display for Maybe<T> {
     }
 }
 
+/// How many octets were recorded, and why no more are.
+struct Recorded<'a>(&'a Record);
+
+impl Display for Recorded<'_> {
+    fn fmt(&self, to: &mut fmt::Formatter<'_>) -> fmt::Result {
+        write!(to, "{{\"octets\":{},\"fault\":{}}}", self.0.written(), Maybe(self.0.fault().map(Text)))
+    }
+}
+
 /// A time in seconds, to the millisecond.
 struct Seconds(Nanos);
 
@@ -276,6 +289,7 @@ mod tests {
         }
         faults.push("fault L2 line 3", SECOND);
         faults.push("fault L1 line 4", 2 * SECOND);
+        let record = Record::new("today", std::fs::File::open("/dev/null").unwrap());
         let mut beacons = Lateness::default();
         beacons.count(2 * MILLISECOND);
         beacons.count(4 * MILLISECOND);
@@ -286,6 +300,7 @@ mod tests {
             channel: 6,
             began: 0,
             faults: &faults,
+            record: Some(&record),
             beacons: &beacons,
             drops: Named::from([("the air: late".to_owned(), 3)]),
             left_out: Named::new(),
@@ -299,6 +314,7 @@ mod tests {
         let wanted = [
             r#""since":3.000,"phy":"phy0","channel":6,"#,
             r#""faults":[{"seconds":2.000,"text":"fault L2 line 3"},{"seconds":1.000,"text":"fault L1 line 4"}],"#,
+            r#""record":{"octets":0,"fault":null},"#,
             r#""beacons":{"sent":2,"late_ms_mean":3.000,"late_ms_worst":4.000,"missed":0},"#,
             r#""drops":{"the air: late":3},"left_out":{},"networks":["#,
             r#"{"bssid":"02:00:00:00:01:01","ssid":"6c","wire":"wire1","wire_down":2.500,"#,

@@ -10,6 +10,11 @@ const NEW_ENOUGH: Nanos = SECOND;
 /// Whoever waits for tables is answered without them after so long.
 const MOST_WAIT: Nanos = SECOND;
 
+/// How many questions for tables the program may have that it hasn't answered.
+const MOST_ASKERS: usize = 16;
+/// The most stations that a network knows, as a configuration says it.
+const MOST_KNOWN: usize = 10_000;
+
 /// Who asked for the tables.
 #[derive(Debug, Clone, Copy, PartialEq, Eq)]
 pub enum Asker {
@@ -62,7 +67,12 @@ impl Tables {
 
     /// Whether the status has to ask for them.
     pub fn are_wanted(&self, now: Nanos) -> bool {
-        !self.are_new(now) && self.asked.map_or(true, |asked| now >= asked + NEW_ENOUGH)
+        !self.are_new(now) && self.may_be_asked() && self.asked.map_or(true, |asked| now >= asked + NEW_ENOUGH)
+    }
+
+    /// Whether the program may be asked once more: one that doesn't answer is asked no further.
+    pub fn may_be_asked(&self) -> bool {
+        self.askers.len() < MOST_ASKERS
     }
 
     /// Whether there are such that were asked for less than a second ago.
@@ -85,7 +95,7 @@ impl Tables {
         let is_shown = self.askers.front() != Some(&Asker::Status);
         let words: Vec<&str> = line.split(' ').collect();
         match words[..] {
-            ["network", _, "ssid", ssid] => {
+            ["network", _, "ssid", ssid] if self.coming.len() < self.networks => {
                 self.coming.push(Table { ssid: ssid.to_owned(), ..Table::default() });
             }
             ["events", ..] => {
@@ -94,7 +104,8 @@ impl Tables {
                 }
             }
             ["station", address, ..] => {
-                if let (Some(table), Ok(address)) = (self.coming.last_mut(), address.parse()) {
+                let table = self.coming.last_mut().filter(|table| table.stations.len() < MOST_KNOWN);
+                if let (Some(table), Ok(address)) = (table, address.parse()) {
                     table.stations.insert(address, station_of(&words));
                 }
             }
@@ -182,5 +193,24 @@ mod tests {
         assert!(tables.are_new(SECOND + 6) && !tables.are_wanted(SECOND + 6));
         assert!(tables.are_wanted(2 * SECOND + 6));
         assert!(tables.is_late(SECOND, 2 * SECOND) && !tables.is_late(SECOND, 2 * SECOND - 1));
+    }
+
+    /// A program that answers no question is asked no more, and what it writes without end isn't kept.
+    #[test]
+    fn what_is_kept_is_bounded() {
+        let mut tables = Tables::new(1);
+        (0..MOST_ASKERS as u64).for_each(|second| tables.ask(Asker::Status, second));
+        assert!(!tables.may_be_asked() && !tables.are_wanted(100 * SECOND));
+        for _ in 0..10 {
+            tables.take(LINES[0], 0);
+        }
+        for number in 0..MOST_KNOWN + 100 {
+            let [.., high, low] = (number as u32).to_be_bytes();
+            tables.take(&format!("station 02:aa:00:00:{high:02x}:{low:02x} authenticated"), 0);
+        }
+        tables.take("end", 0);
+        let found = tables.last().unwrap();
+        assert_eq!((found.len(), found[0].stations.len()), (1, MOST_KNOWN));
+        assert!(tables.may_be_asked());
     }
 }

@@ -10,7 +10,7 @@ use std::hash::{Hash, Hasher};
 use std::io;
 use std::rc::Rc;
 
-use crate::airtime::Size;
+use crate::airtime::{Cost, Size};
 use crate::faults::{reason, tell};
 use crate::flight::{Flight, Name};
 use crate::frames::{Address, Frame, FrameType};
@@ -36,6 +36,8 @@ const MOST_FOR_OTHERS: usize = 256;
 const MOST_OCTETS: usize = 2 << 20;
 /// How often the radio's socket is looked at, where the radio doesn't say what became of a frame.
 const LOOK_EVERY: Nanos = MILLISECOND;
+/// A radio that had as much as it may have at once is busy for so long.
+const BUSY_SINCE_FULL: Nanos = 100 * MILLISECOND;
 const MICROSECOND: Nanos = 1000;
 
 const PROBE_RESPONSE: u8 = 0x50;
@@ -43,7 +45,7 @@ const AUTHENTICATION: u8 = 0xb0;
 const ASSOCIATION_RESPONSES: [u8; 2] = [0x10, 0x30];
 
 /// Whose frames wait in one queue of a network.
-#[derive(Debug, Clone, Copy, PartialEq, Eq, PartialOrd, Ord)]
+#[derive(Debug, Clone, Copy, Eq, PartialOrd, Ord)]
 pub enum Receiver {
     /// All frames for groups but beacons.
     Groups,
@@ -53,13 +55,26 @@ pub enum Receiver {
     Station(Address),
 }
 
+impl Receiver {
+    /// One number for each: a station's is its address.
+    fn number(&self) -> u64 {
+        match self {
+            Receiver::Groups => 1 << 48,
+            Receiver::Others => 1 << 49,
+            Receiver::Station(address) => address.number(),
+        }
+    }
+}
+
+impl PartialEq for Receiver {
+    fn eq(&self, other: &Receiver) -> bool {
+        self.number() == other.number()
+    }
+}
+
 impl Hash for Receiver {
     fn hash<H: Hasher>(&self, to: &mut H) {
-        match self {
-            Receiver::Groups => to.write_u64(1 << 48),
-            Receiver::Others => to.write_u64(1 << 49),
-            Receiver::Station(address) => address.hash(to),
-        }
+        to.write_u64(self.number());
     }
 }
 
@@ -121,7 +136,7 @@ struct Waiting {
 /// What is known of a frame that the radio has.
 #[derive(Debug, Clone, Copy)]
 struct Sent {
-    size: Size,
+    cost: Cost,
     receiver: Receiver,
     is_own: bool,
 }
@@ -174,9 +189,15 @@ pub struct Transmitter<P> {
     flight: Flight<Sent>,
     /// Frames that are the radio's turn, and for which its socket has no room yet.
     chosen: VecDeque<(Name, Vec<u8>)>,
+    /// The room of frames that were sent, for those that come.
+    spare: Vec<Vec<u8>>,
     accounts: Vec<Account>,
     /// Whether the radio has as much as it may have at once.
     is_full: bool,
+    /// Until when it is busy, since it had that.
+    busy_until: Nanos,
+    /// Whether the radio has sent frames of which nobody looked yet what became of them.
+    is_unsettled: bool,
     /// When the radio's socket is looked at, while frames wait for the radio.
     look_due: Option<Nanos>,
     /// Whether the radio is given all that waits.
@@ -195,8 +216,11 @@ impl<P: Port> Transmitter<P> {
             stations: Stations::new(networks),
             flight: Flight::new(),
             chosen: VecDeque::new(),
+            spare: Vec::new(),
             accounts: vec![Account::default(); networks.len()],
             is_full: false,
+            busy_until: 0,
+            is_unsettled: false,
             look_due: None,
             is_ending: false,
             sent: 0,
@@ -281,17 +305,16 @@ impl<P: Port> Transmitter<P> {
     fn push(&mut self, place: Place, frame: Waiting) {
         let receiver = self.receiver_of(place, &frame);
         let most = if matches!(receiver, Receiver::Station(_)) { MOST_FOR_STATION } else { MOST_FOR_OTHERS };
-        if self.shares.waiting(place, receiver) >= most {
+        self.count_in(place, &frame);
+        if self.shares.push(place, receiver, frame) > most {
             self.drop_first(place, receiver, Unsent::Crowded);
         }
-        while self.accounts[place].octets + frame.octets.len() > MOST_OCTETS {
+        while self.accounts[place].octets > MOST_OCTETS {
             match self.shares.longest(place) {
                 Some(longest) => self.drop_first(place, longest, Unsent::Full),
                 None => break,
             }
         }
-        self.count_in(place, &frame);
-        self.shares.push(place, receiver, frame);
     }
 
     /// A beacon waits, two of each network at most: older ones are worth nothing beside it.
@@ -323,11 +346,11 @@ impl<P: Port> Transmitter<P> {
     /// sent to.
     fn is_late(&self, place: Place, frame: &Waiting, now: Nanos) -> bool {
         let waited = now.saturating_sub(frame.since);
-        let could_go = match frame.kind {
-            Kind::Unit => now.saturating_sub(self.stations.goes_since(place, frame.address).max(frame.since)),
-            _ => waited,
-        };
-        could_go > frame.kind.lifetime() || frame.kind == Kind::Unit && waited > MOST_LIFETIME
+        if waited <= frame.kind.lifetime() || frame.kind != Kind::Unit {
+            return waited > frame.kind.lifetime();
+        }
+        let could_go = now.saturating_sub(self.stations.goes_since(place, frame.address).max(frame.since));
+        could_go > frame.kind.lifetime() || waited > MOST_LIFETIME
     }
 
     /// Whether a frame waits that may go now.
@@ -349,6 +372,18 @@ impl<P: Port> Transmitter<P> {
     /// Whether frames wait that may go once it is known what became of those that the radio has.
     pub fn holds_back(&self) -> bool {
         self.flight.len() > 0 && !self.shares.is_empty()
+    }
+
+    /// Whether the radio has sent frames of which nobody looked yet what became of them, and others go meanwhile.
+    pub fn is_unsettled(&self) -> bool {
+        self.is_unsettled
+    }
+
+    /// What the radio told so far was looked at.
+    pub fn looked(&mut self) {
+        if std::mem::take(&mut self.is_unsettled) {
+            self.flight.looked();
+        }
     }
 
     /// From now on the radio is given all that waits, however much it has.
@@ -381,6 +416,7 @@ impl<P: Port> Transmitter<P> {
     /// waits.
     pub fn flush(&mut self, now: Nanos, until: Nanos, counts: &mut Counts) {
         let mut time = now;
+        self.settle(now);
         while !self.gate.is_blocked() && self.beacons.is_empty() && time < until {
             while self.chosen.len() < AT_A_TIME && self.choose(now) {}
             if self.chosen.is_empty() {
@@ -395,6 +431,17 @@ impl<P: Port> Transmitter<P> {
             (false, _) => None,
             (true, due) => due.or_else(|| Some(self.next_look(now))),
         };
+    }
+
+    /// Where frames wait behind such as are out for long, the radio's socket is asked whether they are: what became of
+    /// those that aren't needn't be known before others go.
+    fn settle(&mut self, now: Nanos) {
+        let may_be_done = self.flight.is_doubtful(now) && self.chosen.is_empty() && self.shares.has_ready();
+        if may_be_done && matches!(self.gate.port.unsent(), Ok(0)) {
+            self.flight.settle();
+            self.is_full = false;
+            self.is_unsettled = true;
+        }
     }
 
     /// When the radio's socket is looked at: once its first frame is overdue, and at once where it never tells anything.
@@ -415,62 +462,81 @@ impl<P: Port> Transmitter<P> {
                 let is_unit = matches!(frame.kind, Kind::Unit | Kind::Again);
                 let rate = self.stations.expected_rate(place, address, is_unit);
                 let size = Size { octets: frame.octets.len(), rate, is_acknowledged: !address.is_group() };
-                let (octets, kind) = (Rc::clone(&frame.octets), frame.kind);
-                self.is_full = !self.is_ending && !self.flight.has_room(size.tries(1), now);
-                return !self.is_full && self.take((place, receiver, address), kind, &octets, now);
+                let (cost, octets, kind) = (size.cost(), Rc::clone(&frame.octets), frame.kind);
+                self.is_full = !self.is_ending && !self.flight.has_room(cost.tries(1), now);
+                if self.is_full {
+                    self.busy_until = now + BUSY_SINCE_FULL;
+                    return false;
+                }
+                return self.take((place, receiver, address), kind, &octets, (size, cost), now);
             }
         }
         false
     }
 
     /// Takes the frame that goes next, and gives it to the radio.
-    fn take(&mut self, to: (Place, Receiver, Address), kind: Kind, octets: &Rc<Vec<u8>>, now: Nanos) -> bool {
-        let (place, receiver, address) = to;
-        let (choice, waits) = self.choice(place, address, kind, octets, now);
-        let size = Size { octets: octets.len(), rate: choice.rate, is_acknowledged: !address.is_group() };
-        let cost = size.sending(1);
-        match self.shares.serve(place, microseconds(cost)) {
+    fn take(
+        &mut self,
+        (place, receiver, address): (Place, Receiver, Address),
+        kind: Kind,
+        octets: &Rc<Vec<u8>>,
+        expected: (Size, Cost),
+        now: Nanos,
+    ) -> bool {
+        let (choice, waits, cost) = self.choice(place, address, kind, octets, expected, now);
+        let sending = cost.sending(1);
+        match self.shares.serve(place, microseconds(sending)) {
             Some(frame) => self.count_out(place, &frame),
             None => return false,
         }
         if waits {
             self.shares.hold(place, receiver);
         }
-        self.accounts[place].used += cost;
+        self.accounts[place].used += sending;
         let number = Frame::of(octets).and_then(|frame| frame.sequence_control());
         let name = Name { place, receiver: address, number };
         let is_own = matches!(kind, Kind::Own { .. });
-        self.flight.give(name, Sent { size, receiver, is_own }, size.tries(1), now);
-        let mut packet = Vec::with_capacity(SENDING_LEN + octets.len());
+        // A sample is likely to need both of its tries.
+        let reckoned = cost.tries(1 + u32::from(choice.is_sample));
+        self.flight.give(name, Sent { cost, receiver, is_own }, reckoned, now);
+        let mut packet = self.spare.pop().unwrap_or_default();
+        packet.clear();
+        packet.reserve_exact(SENDING_LEN + octets.len());
         packet.extend(sending_header(choice.rate, choice.retries));
-        packet.extend(&**octets);
+        packet.extend_from_slice(octets);
         self.chosen.push_back((name, packet));
         true
     }
 
-    /// At which rate a frame goes, how often it is tried again, and whether what comes next for its station waits.
+    /// At which rate a frame goes, how often it is tried again, whether what comes next for its station waits, and what
+    /// it takes of the air, which is reckoned anew where it goes otherwise than was expected.
     fn choice(
         &mut self,
         place: Place,
         address: Address,
         kind: Kind,
         octets: &Rc<Vec<u8>>,
+        (expected, cost): (Size, Cost),
         now: Nanos,
-    ) -> (Choice, bool) {
+    ) -> (Choice, bool, Cost) {
         let lowest = self.stations.lowest(place);
         let plainly = |retries| Choice { rate: lowest, retries, is_sample: false };
         let (choice, waits) = match kind {
             Kind::Own { retries } => (plainly(retries), false),
             _ if address.is_group() => (plainly(0), false),
-            _ => self.stations.choose(place, address, octets, self.flight.is_busy(), now),
+            _ => {
+                let is_busy = now < self.busy_until || self.flight.is_busy();
+                self.stations.choose(place, address, octets, is_busy, now)
+            }
         };
         let choice = if kind == Kind::AnswerToAll { plainly(0) } else { choice };
-        if choice.retries == 0 {
-            return (choice, waits);
-        }
-        let size = Size { octets: octets.len(), rate: choice.rate, is_acknowledged: true };
-        let tries = size.tries_within(MOST_TRYING, LEAST_TRIES, choice.retries + 1);
-        (Choice { retries: tries - 1, ..choice }, waits)
+        let size = Size { rate: choice.rate, ..expected };
+        let cost = if size == expected { cost } else { size.cost() };
+        let tries = match choice.retries {
+            0 => 1,
+            retries => cost.tries_within(MOST_TRYING, LEAST_TRIES, retries + 1),
+        };
+        (Choice { retries: tries - 1, ..choice }, waits, cost)
     }
 
     /// Hands the chosen frames to the radio's socket.
@@ -480,7 +546,8 @@ impl<P: Port> Transmitter<P> {
         let number = self.chosen.len().min(AT_A_TIME);
         match self.gate.send(&frames[..number]) {
             Ok(number) => {
-                self.chosen.drain(..number);
+                self.spare.extend(self.chosen.drain(..number).map(|(_, packet)| packet));
+                self.spare.truncate(AT_A_TIME);
                 self.sent += number as u64;
             }
             Err(fault) => {
@@ -502,9 +569,9 @@ impl<P: Port> Transmitter<P> {
         };
         let name = Name { place, receiver: address, number };
         let retries = u32::from(outcome.retries);
-        let found = self.flight.told(name, now, |sent| sent.size.tries(retries + 1));
+        let found = self.flight.told(name, now, |sent| sent.cost.tries(retries + 1));
         if let Some(sent) = &found {
-            let more = sent.size.sending(retries);
+            let more = sent.cost.sending(retries);
             self.is_full = false;
             self.accounts[place].used += more;
             self.shares.told(place, sent.receiver, microseconds(more));
@@ -659,7 +726,7 @@ mod tests {
             while let Some(next) = self.on_air.pop_front() {
                 let is_group = next.frame[4] & 1 != 0;
                 let size = Size { octets: next.frame.len(), rate: next.rate, is_acknowledged: !is_group };
-                self.now += size.tries(1);
+                self.now += size.cost().tries(1);
                 let place = usize::from(next.frame[15] == OTHER.octets()[5]);
                 self.told(place, &next, 0, true);
                 all.push(next);
@@ -880,7 +947,7 @@ mod tests {
         let mut driver = driver([1, 1]);
         driver.at_54();
         let group = of_network(0x08, OURS, Address::BROADCAST, 3, vec![0; 8]);
-        driver.send(0, group.clone());
+        driver.send(0, group);
         driver.send(0, of_network(BEACON, OURS, Address::BROADCAST, 4, vec![0; 30]));
         driver.air.beacon_gate.port.room = Some(0);
         driver.send(0, unit(OURS, STATION, 5));
@@ -936,7 +1003,8 @@ mod tests {
                 }
                 for seen in driver.run(1) {
                     let place = usize::from(seen.frame[15] == OTHER.octets()[5]);
-                    used[place] += Size { octets: seen.frame.len(), rate: seen.rate, is_acknowledged: true }.sending(1);
+                    let size = Size { octets: seen.frame.len(), rate: seen.rate, is_acknowledged: true };
+                    used[place] += size.cost().sending(1);
                 }
             }
             let wanted = (used[0] + used[1]) * parts[0] / (parts[0] + parts[1]);
@@ -973,12 +1041,37 @@ mod tests {
         driver.send(0, long(OURS, STATION, 9));
         let first = driver.flush();
         driver.now += 2 * MILLISECOND;
+        driver.air.gate.port.unsent = 1500;
         driver.send(0, long(OURS, STATION, 10));
         driver.send(1, unit(OTHER, STRANGER, 7));
         assert_eq!(numbers(&driver.flush()), [7]);
         driver.told(0, &first[0], 6, false);
         let again = driver.flush();
         assert_eq!((again.len(), again[0].number(), again[0].is_again()), (1, 9, true));
+    }
+
+    /// Frames need not wait for what is told of others that the radio has no more. Of such that are missing among those
+    /// that it told of one knows nothing, whatever its socket says.
+    #[test]
+    fn a_frame_that_left_the_radio_keeps_none_waiting_until_outcomes_were_looked_at() {
+        let mut driver = driver([1, 1]);
+        driver.at_54();
+        driver.send(0, long(OURS, STATION, 9));
+        let first = driver.flush();
+        driver.now += 2 * MILLISECOND;
+        driver.send(0, long(OURS, STATION, 10));
+        assert!(!driver.air.is_unsettled());
+        let second = driver.flush();
+        assert_eq!(numbers(&second), [10]);
+        assert!(driver.air.is_unsettled());
+        driver.told(0, &second[0], 0, true);
+        driver.air.looked();
+        assert!(!driver.air.is_unsettled());
+        driver.now += 2 * MILLISECOND;
+        driver.send(0, long(OURS, STATION, 11));
+        assert_eq!(driver.flush(), []);
+        driver.told(0, &first[0], 0, true);
+        assert_eq!(numbers(&driver.flush()), [11]);
     }
 
     /// What the bridge asks a station by itself keeps nothing back once it is known what became of it.
@@ -989,6 +1082,7 @@ mod tests {
         driver.air.send_own(0, crate::own_frames::null(OURS, STATION, 2057), 3, driver.now);
         let asked = driver.flush();
         assert_eq!((asked.len(), asked[0].rate, asked[0].retries), (1, 2, 3));
+        driver.air.gate.port.unsent = 100;
         driver.now += 20 * MILLISECOND;
         driver.send(0, of_network(0xb0, OURS, STATION, 9, vec![0, 0, 2, 0, 0, 0]));
         assert_eq!(driver.flush(), []);
@@ -1093,6 +1187,6 @@ mod tests {
         let sent = driver.flush();
         driver.told(0, &sent[0], 6, true);
         let size = Size { octets: sent[0].frame.len(), rate: 108, is_acknowledged: true };
-        assert_eq!(driver.air.accounts[0].used - before, size.sending(7));
+        assert_eq!(driver.air.accounts[0].used - before, size.cost().sending(7));
     }
 }

@@ -219,7 +219,9 @@ impl Queue {
                 found.last = place;
                 found.frames += 1;
             }
-            None => drop(self.flows.insert(flow, OfFlow { first: place, last: place, frames: 1 })),
+            None => {
+                self.flows.insert(flow, OfFlow { first: place, last: place, frames: 1 });
+            }
         }
     }
 
@@ -276,7 +278,9 @@ impl Queue {
                 found.first = next;
                 found.frames -= 1;
             }
-            _ => drop(self.flows.remove(&flow)),
+            _ => {
+                self.flows.remove(&flow);
+            }
         }
         self.free.push(place);
         if self.first.is_none() && self.slots.len() > KEPT_SLOTS {
@@ -371,6 +375,9 @@ pub struct Waiting {
     sources: Vec<Source>,
     lanes: Vec<Lane>,
     turn: usize,
+    /// How many frames wait in all lanes, and whether any was dropped so far.
+    frames: usize,
+    has_dropped: bool,
 }
 
 impl Waiting {
@@ -378,7 +385,18 @@ impl Waiting {
     pub fn new(networks: usize) -> Waiting {
         let of_networks = (0..networks).flat_map(|place| [Source::Air(place), Source::Wire(place)]);
         let sources: Vec<Source> = std::iter::once(Source::AirForAll).chain(of_networks).collect();
-        Waiting { lanes: sources.iter().map(|_| Lane::default()).collect(), sources, turn: 0 }
+        let lanes = sources.iter().map(|_| Lane::default()).collect();
+        Waiting { lanes, sources, turn: 0, frames: 0, has_dropped: false }
+    }
+
+    /// Changes a lane.
+    fn change<A>(&mut self, lane: usize, change: impl FnOnce(&mut Lane) -> A) -> A {
+        let lane = &mut self.lanes[lane];
+        let before = lane.frames;
+        let answer = change(lane);
+        self.frames = self.frames + lane.frames - before;
+        self.has_dropped |= !lane.dropped.is_empty();
+        answer
     }
 
     /// A frame of this source waits, or one is dropped for it, or it.
@@ -388,16 +406,18 @@ impl Waiting {
             Source::Air(place) => 1 + 2 * place,
             Source::Wire(place) => 2 + 2 * place,
         };
-        self.lanes[lane].push(waiter);
+        self.change(lane, |lane| lane.push(waiter));
     }
 
     /// The next frame, with its source: lanes take turns.
     pub fn pop(&mut self, now: Nanos) -> Option<(Source, Waiter)> {
-        for _ in 0..self.lanes.len() {
+        while self.frames > 0 {
             let lane = self.turn;
-            self.turn = (self.turn + 1) % self.lanes.len();
-            if let Some(waiter) = self.lanes[lane].pop(now) {
-                return Some((self.sources[lane], waiter));
+            self.turn = if lane + 1 < self.lanes.len() { lane + 1 } else { 0 };
+            if self.lanes[lane].frames > 0 {
+                if let Some(waiter) = self.change(lane, |lane| lane.pop(now)) {
+                    return Some((self.sources[lane], waiter));
+                }
             }
         }
         None
@@ -405,12 +425,17 @@ impl Waiting {
 
     /// How many frames wait.
     pub fn len(&self) -> usize {
-        self.lanes.iter().map(|lane| lane.frames).sum()
+        self.frames
     }
 
     /// Whether nothing waits.
     pub fn is_empty(&self) -> bool {
-        self.lanes.iter().all(|lane| lane.frames == 0)
+        self.frames == 0
+    }
+
+    /// Whether a frame was dropped so far.
+    pub fn has_dropped(&self) -> bool {
+        self.has_dropped
     }
 
     /// How many frames of each source were dropped, and why.
@@ -716,7 +741,9 @@ mod tests {
             let pushes = 4000;
             let waiters: Vec<_> = (0..pushes).map(|_| data(STATION, 0, 0)).collect();
             let begun = crate::time::now();
-            waiters.into_iter().for_each(|waiter| lane.push(waiter));
+            for waiter in waiters {
+                lane.push(waiter);
+            }
             (crate::time::now() - begun) / pushes
         };
         let (few, many) = (0..9).map(|_| (time(10), time(8000))).min_by_key(|(_, many)| *many).unwrap();

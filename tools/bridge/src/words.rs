@@ -11,7 +11,7 @@ use crate::shares::MOST_WEIGHT;
 
 /// How it is called.
 pub const USAGE: &str = "bridge --face text|octets --phy NAME --channel NUMBER --monitor NAME --interval UNITS \
-                         [--idle SECONDS] [--socket DESCRIPTOR] [--alive] [--record FILE] \
+                         [--idle SECONDS] [--socket DESCRIPTOR] [--alive] [--record DESCRIPTOR:NAME] [--bounds OCTETS] \
                          --network BSSID/RATES/KNOWN/SHARE[/WIRE]... PROGRAM CONFIG";
 
 /// What the words ask for.
@@ -33,8 +33,10 @@ pub struct Words {
     pub socket: Option<RawFd>,
     /// Whether it is told that the program answers.
     pub tells_alive: bool,
-    /// The file of the record.
-    pub record: Option<String>,
+    /// The file of the record as a descriptor, with its name for people.
+    pub record: Option<(RawFd, String)>,
+    /// How many octets of address space the program has, where it runs within bounds (`rights::Bounds`).
+    pub bounds: Option<u64>,
     /// The networks in the order of the configuration.
     pub networks: Vec<Network>,
     /// The program.
@@ -57,6 +59,8 @@ impl fmt::Display for NotWords {
 const IDLE: u32 = 300;
 /// The descriptors below are standard input, output and error.
 const FIRST_DESCRIPTOR: RawFd = 3;
+/// In fewer no program begins.
+const LEAST_BOUNDS: u64 = 1 << 20;
 const WEIGHTS: RangeInclusive<u8> = 1..=MOST_WEIGHT;
 
 impl Words {
@@ -65,6 +69,7 @@ impl Words {
         let mut words = words.into_iter();
         let (mut face, mut monitor, mut interval, mut record) = (None, None, None, None);
         let (mut phy, mut channel, mut idle, mut socket, mut tells_alive) = (None, None, IDLE, None, false);
+        let mut bounds = None;
         let (mut networks, mut rest) = (Vec::new(), Vec::new());
         while let Some(word) = words.next() {
             let mut value = || words.next().ok_or_else(|| NotWords(format!("{word} lacks its value")));
@@ -77,7 +82,8 @@ impl Words {
                 "--idle" => idle = read_number(&value()?, "number of seconds", 0..=u32::MAX)?,
                 "--socket" => socket = Some(read_number(&value()?, "descriptor", FIRST_DESCRIPTOR..=RawFd::MAX)?),
                 "--alive" => tells_alive = true,
-                "--record" => record = Some(value()?),
+                "--record" => record = Some(read_record(&value()?)?),
+                "--bounds" => bounds = Some(read_number(&value()?, "number of octets", LEAST_BOUNDS..=u64::MAX)?),
                 "--network" => networks.push(read_network(&value()?)?),
                 _ => rest.push(word),
             }
@@ -97,6 +103,7 @@ impl Words {
             socket,
             tells_alive,
             record,
+            bounds,
             networks,
             program,
             config,
@@ -115,6 +122,11 @@ fn read_face(text: &str) -> Result<Face, NotWords> {
 /// A number within limits.
 fn read_number<N: FromStr + PartialOrd>(text: &str, what: &str, limits: RangeInclusive<N>) -> Result<N, NotWords> {
     text.parse().ok().filter(|number| limits.contains(number)).ok_or_else(|| NotWords(format!("{text} is no {what}")))
+}
+
+fn read_record(text: &str) -> Result<(RawFd, String), NotWords> {
+    let (descriptor, name) = text.split_once(':').ok_or_else(|| NotWords(format!("{text} is no DESCRIPTOR:NAME")))?;
+    Ok((read_number(descriptor, "descriptor", FIRST_DESCRIPTOR..=RawFd::MAX)?, name.to_owned()))
 }
 
 fn read_network(text: &str) -> Result<Network, NotWords> {
@@ -138,7 +150,7 @@ mod tests {
     use crate::samples::{OTHER, OURS};
 
     const GOOD: &str = "--face octets --phy phy0 --channel 6 --monitor mon0 --interval 100 --idle 60 --socket 5 \
-                        --alive --record r --network 02:00:00:00:01:01/8284/256/1/wire1 --network \
+                        --alive --record 6:r:1 --bounds 2000000 --network 02:00:00:00:01:01/8284/256/1/wire1 --network \
                         02:00:00:00:01:02/16/10000/16 apctl config";
 
     fn read(text: &str) -> Result<Words, NotWords> {
@@ -160,7 +172,8 @@ mod tests {
             idle: 60,
             socket: Some(5),
             tells_alive: true,
-            record: Some("r".into()),
+            record: Some((6, "r:1".into())),
+            bounds: Some(2_000_000),
             networks,
             program: "apctl".into(),
             config: "config".into(),
@@ -188,6 +201,9 @@ mod tests {
             ("8284", "82g4"),
             ("256", "0"),
             ("256", "x"),
+            ("6:r:1", "r"),
+            ("2000000", "2000"),
+            ("6:r:1", "2:r"),
             ("256/1/wire1", ""),
             ("/10000/16", ""),
             ("10000/16", "10000"),

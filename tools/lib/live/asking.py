@@ -1,6 +1,5 @@
 """The socket by which a bridge that runs is asked, from both sides: made for the bridge, and asked for a person."""
 import glob
-import grp
 import json
 import os
 import socket
@@ -9,7 +8,6 @@ from contextlib import ExitStack
 from live import changes
 from live.faults import Fault
 
-ASKING_GROUP = "nogroup"  # of the page that shows what is going on; only root may ask for more
 SECONDS = 5.0
 
 
@@ -18,23 +16,22 @@ def socket_path(phy: str) -> str:
     return os.path.join(changes.RUN, f"{phy}.sock")
 
 
-def listen(phy: str, stack: ExitStack) -> socket.socket:
-    """A socket that listens there, in place of one that an earlier start left; it goes in the end."""
+def listen(phy: str, group: int, stack: ExitStack) -> socket.socket:
+    """A socket that listens there, in place of one that an earlier start left; it goes in the end. Besides root this
+    group alone may connect, that of the page that shows what is going on; only root may ask for more."""
     path = socket_path(phy)
     if os.path.lexists(path):
         os.unlink(path)
     listening = socket.socket(socket.AF_UNIX, socket.SOCK_STREAM | socket.SOCK_CLOEXEC)
     stack.callback(listening.close)
-    before = os.umask(0o117)
+    mask, before = os.umask(0o117), os.getegid()
     try:
+        os.setegid(group)  # whose the socket is then: giving it away would take another right
         listening.bind(path)
     finally:
-        os.umask(before)
+        os.setegid(before)
+        os.umask(mask)
     stack.callback(os.unlink, path)
-    try:
-        os.chown(path, 0, grp.getgrnam(ASKING_GROUP).gr_gid)
-    except KeyError:
-        pass
     listening.listen()
     return listening
 

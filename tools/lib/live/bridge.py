@@ -1,28 +1,30 @@
 """tools/bridge, by which frames go, as a child: it is started, asked, told of and ended here."""
-import os
 import select
 import signal
 import socket
 import subprocess
 import time
-from contextlib import ExitStack
+from collections.abc import Iterable
+from contextlib import ExitStack, suppress
 
 from frames import address_text
 from live.checks import Plan, Wanted
 from live.faults import Fault
+from live.rights import Rights, end
 from live.settings import Network
 from live.telling import tell
 
 SECONDS_TO_END, SECONDS_TO_DISMISS = 60, 5
 FIRST = ("nice", "-n", "-15")  # before this machine's other programs: stations wait for what these two send
 ENDING = (signal.SIGINT, signal.SIGTERM)
-OPEN, TABLES, DISMISS = "open", "tables", "dismiss"
+OPEN, WIRE, TABLES, DISMISS = "open", "wire", "tables", "dismiss"
 
 
 class Notice:
-    """The first words of what the bridge tells, a line each; it is asked by the lines OPEN, TABLES and DISMISS."""
+    """The first words of what the bridge tells, a line each; it is asked by the lines OPEN, WIRE, TABLES and DISMISS, of
+    which the first two hand sockets over."""
 
-    READY, SENDING, ALIVE, DISMISSED = "ready", "sending", "alive", "dismissed"
+    READY, SENDING, ALIVE, DOWN, DISMISSED = "ready", "sending", "alive", "down", "dismissed"
     STATUS, FAULT = "status", "fault"
 
 
@@ -72,61 +74,85 @@ def network_word(network: Network, wires: dict[bytes, str], shares: dict[bytes, 
     return "/".join(parts + [wires[network.bssid]] if network.bssid in wires else parts)
 
 
-def words_of(wanted: Wanted, plan: Plan, descriptor: int, tells_alive: bool) -> list[str]:
-    """The words by which the bridge is started, with the descriptor of the socket by which it is asked."""
+def words_of(wanted: Wanted, plan: Plan, descriptor: int, record: tuple[int, str] | None, tells_alive: bool,
+             memory: int | None) -> list[str]:
+    """The words by which the bridge is started, with the descriptor of the socket by which it is asked, that of the record
+    with its name, and how many octets of address space the program has, where it runs within bounds."""
     settings = plan.settings
     words = [wanted.bridge, "--face", plan.face, "--phy", wanted.phy, "--channel", str(settings.channel),
              "--monitor", wanted.monitor, "--interval", str(settings.interval), "--idle", str(wanted.idle),
              "--socket", str(descriptor)]
     if tells_alive:
         words += ["--alive"]
-    if wanted.record is not None:
-        words += ["--record", wanted.record]
+    if record is not None:
+        words += ["--record", f"{record[0]}:{record[1]}"]
+    if memory is not None:
+        words += ["--bounds", str(memory)]
     for network in settings.networks:
         words += ["--network", network_word(network, dict(plan.wires), dict(plan.shares))]
     return [*words, wanted.program, wanted.config]
 
 
 class Bridge:
-    """tools/bridge with its program, in a group of its own, so that Ctrl-C in a terminal doesn't end it, and scheduled
-    before other programs."""
+    """tools/bridge with its program, in a group of its own, so that Ctrl-C in a terminal doesn't end it, scheduled before
+    other programs, and then with fewer rights. It is spoken to by a Unix socket, its standard input and output."""
 
-    def __init__(self, words: list[str], signals: Signals, stack: ExitStack, descriptors: tuple[int, ...] = ()) -> None:
-        self.signals = signals
+    def __init__(self, words: list[str], signals: Signals, stack: ExitStack, descriptors: tuple[int, ...] = (),
+                 rights: Rights = Rights()) -> None:
+        self.signals, self.rights = signals, rights
         self.notices = b""
         self.is_ready = self.is_sending = self.is_over = self.was_dismissed = False
         self.alive = 0  # how often it told that the program answers
+        self.down: list[int] = []  # the places of networks whose wires have ended, until somebody has looked at them
         self.status: int | None = None
         self.fault: str | None = None
-        try:
-            self.process = subprocess.Popen([*FIRST, *words], stdin=subprocess.PIPE, stdout=subprocess.PIPE, bufsize=0,
-                                            start_new_session=True, pass_fds=descriptors)
-        except OSError as fault:
-            raise Fault(f"{words[0]}: {fault.strerror}") from None
-        assert self.process.stdin and self.process.stdout
-        self.requests, self.output = self.process.stdin, self.process.stdout
+        self.control, theirs = socket.socketpair()
+        stack.callback(self.control.close)
+        with theirs:
+            try:
+                self.process = subprocess.Popen([*FIRST, *rights.words(), *words], stdin=theirs.fileno(),
+                                                stdout=theirs.fileno(), start_new_session=True,
+                                                pass_fds=descriptors)
+            except OSError as fault:
+                raise Fault(f"{words[0]}: {fault.strerror}") from None
         stack.callback(self.kill)
 
     def kill(self) -> None:
         """Ends it at once, where it hasn't ended."""
-        self.process.kill()
+        self.send_kill()
         self.process.wait()
-        self.requests.close()
-        self.output.close()
+        self.control.close()
 
-    def ask(self, request: str) -> None:
-        """Asks it for something; one that has ended is asked for nothing."""
+    def send_kill(self) -> None:
+        """Ends it by a signal."""
+        end(self.process, self.rights.user, signal.SIGKILL)
+
+    def ask(self, request: str, sockets: Iterable[socket.socket] = ()) -> None:
+        """Asks it for something, and hands sockets over; one that has ended is asked for nothing."""
+        descriptors = [handed.fileno() for handed in sockets]
         try:
-            self.requests.write(f"{request}\n".encode())
-        except BrokenPipeError:
+            socket.send_fds(self.control, [f"{request}\n".encode()], descriptors)
+        except (BrokenPipeError, ConnectionResetError):
             pass
+
+    def open(self, radio: list[socket.socket], wires: dict[int, socket.socket]) -> None:
+        """Lets frames go by the sockets of the radio and of those wires that are there, by the places of their networks."""
+        self.ask(" ".join((OPEN, *map(str, wires))), (*radio, *wires.values()))
+
+    def take_wires(self, wires: dict[int, socket.socket]) -> None:
+        """Lets frames go by wires that are there now."""
+        for place, wire in wires.items():
+            self.ask(f"{WIRE} {place}", (wire,))
 
     def wait(self, seconds: float | None) -> None:
         """Waits until it tells something, a signal comes, or the time is over; then takes what was told."""
-        readable = select.select([self.signals.waker, self.output], [], [], seconds)[0]
+        readable = select.select([self.signals.waker, self.control], [], [], seconds)[0]
         self.signals.drain()
-        if self.output in readable:
-            piece = os.read(self.output.fileno(), 4096)
+        if self.control in readable:
+            try:
+                piece = self.control.recv(4096)
+            except ConnectionResetError:  # it has ended, and left unread what it was asked
+                piece = b""
             self.is_over = not piece
             *lines, self.notices = (self.notices + piece).split(b"\n")
             for line in lines:
@@ -141,6 +167,8 @@ class Bridge:
                 self.is_sending = True
             case Notice.ALIVE:
                 self.alive += 1
+            case Notice.DOWN:
+                self.down.append(int(rest))
             case Notice.DISMISSED:
                 self.was_dismissed = True
             case Notice.STATUS:
@@ -166,12 +194,13 @@ class Bridge:
 
     def end(self, afterwards: str = "taking down what was set up") -> None:
         """Ends it: the program's tables and the counts come, and its status. A fault where it told one, or was ended."""
-        self.requests.close()
+        with suppress(OSError):
+            self.control.shutdown(socket.SHUT_WR)
         until = time.monotonic() + SECONDS_TO_END
         while not self.is_over and time.monotonic() < until:
             self.wait(until - time.monotonic())
         if not self.is_over:
-            self.process.kill()
+            self.send_kill()
         status = self.process.wait()
         if self.status is not None:
             tell(f"the program ended with status {self.status}; {afterwards}")

@@ -16,6 +16,8 @@ RUN = "/run/waltigon"
 INTERFACE, OFFLOADS, UP, ADDRESS_MODE, UNMANAGED, COUNTRY = (
     "interface", "offloads", "up", "address mode", "unmanaged", "country")
 
+OF_WIRES = (OFFLOADS, UP, ADDRESS_MODE)
+
 
 @dataclass(frozen=True)
 class Change:
@@ -127,6 +129,13 @@ class Changes:
     def forget(self, change: Change) -> None:
         """It was taken back, or not made."""
         self.made.remove(change)
+        self.write()
+
+    def forget_gone(self, name: str) -> None:
+        """The interface of this name is another one now, or gone, and so may be its other end: nothing is left of what was
+        changed there."""
+        self.made = [change for change in self.made if change.kind not in OF_WIRES or change.name != name
+                     and Interface(change.name).exists]
         self.write()
 
     def left_interfaces(self) -> list[str]:

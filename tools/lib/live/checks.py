@@ -34,7 +34,8 @@ CARGO, PACKAGES = "/usr/bin/cargo", "cargo librust-hex-dev librust-libc-dev libr
 class Wanted:
     """What the words ask for; `wires` are pairs of a BSSID and an interface, and more of them stand in the file
     `wires_file`; `shares` are pairs of a BSSID and the weight of its share of the air, which is 1 of all others. Stations
-    of which nothing was heard for `idle` seconds are asked, with 0 nobody is."""
+    of which nothing was heard for `idle` seconds are asked, with 0 nobody is. With `as_root` the bridge and the program
+    run as root, and the program without bounds."""
 
     config: str
     program: str
@@ -49,6 +50,7 @@ class Wanted:
     wires_file: str | None = None
     status: int | None = None
     shares: Shares = ()
+    as_root: bool = False
 
     def network_interface(self, place: int) -> str:
         """The interface that stands for the network of this place, so that the radio acknowledges what comes to it."""
@@ -199,7 +201,15 @@ def check_wires(wanted: Wanted, settings: Settings, wires: Wires) -> None:
             raise Fault(f"--wire {address_text(bssid)}: this network has two interfaces")
         if names.count(name) > 1:
             raise Fault(f"--wire {address_text(bssid)}={name}: this interface is given for two networks")
-        check_wire(Interface(name))
+        if "/" in name or len(name) > MOST_NAME:
+            raise Fault(f"--wire {address_text(bssid)}={name}: no interface has such a name")
+        if Interface(name).exists:  # one that isn't there yet is taken once it is (`wires.Wires`)
+            check_wire(Interface(name))
+
+
+def missing_wires(plan: Plan) -> tuple[str, ...]:
+    """The wires that aren't there."""
+    return tuple(name for _, name in plan.wires if not Interface(name).exists)
 
 
 def check_wire(interface: Interface) -> None:

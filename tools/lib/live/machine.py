@@ -67,6 +67,11 @@ class Interface:
         return bool(self.name) and "/" not in self.name and os.path.isdir(self.folder)
 
     @property
+    def index(self) -> str | None:
+        """Its number, which another interface of its name doesn't have."""
+        return read_file(self.folder, "ifindex")
+
+    @property
     def is_ethernet(self) -> bool:
         """Whether its frames are those of Ethernet."""
         return read_file(self.folder, "type") == str(ETHERNET)
@@ -95,7 +100,7 @@ class Interface:
     @property
     def other_end(self) -> "Interface | None":
         """The other end of a veth, where it is in this namespace."""
-        index, other = read_file(self.folder, "ifindex"), read_file(self.folder, "iflink")
+        index, other = self.index, read_file(self.folder, "iflink")
         for name in os.listdir(INTERFACES) if index != other else ():
             if (read_file(INTERFACES, name, "ifindex"), read_file(INTERFACES, name, "iflink")) == (other, index):
                 return Interface(name)

@@ -1,20 +1,26 @@
 """An access point from its start to its end: what has to be so, what is set up, the bridge while it runs, the
 configuration that is read again, and what is taken down."""
 import os
+import signal
 import subprocess
 import time
 from contextlib import ExitStack
 
 from live import asking
-from live.bridge import OPEN, TABLES, Bridge, Signals, words_of
+from live.bridge import TABLES, Bridge, Signals, words_of
 from live.changes import Changes
-from live.checks import Plan, Wanted, check, check_again, check_rights
+from live.checks import Plan, Wanted, check, check_again, check_rights, missing_wires
 from live.faults import Fault
+from live.packets import open_radio
+from live.record import make_record
+from live.rights import MOST_MEMORY, end, page_user_of, rights_of
 from live.service import Service
 from live.setting_up import SettingUp
 from live.telling import ERROR, WARNING, tell
+from live.wires import Wires
 
 TOOLS = os.path.dirname(os.path.dirname(os.path.dirname(os.path.realpath(__file__))))
+LOOK_SECONDS = 1.0  # how often one looks for wires that are missing
 STATUS_PROGRAM = os.path.join(TOOLS, "status")
 
 
@@ -29,16 +35,36 @@ class AccessPoint:
         made = Changes(wanted.phy)
         stack.callback(made.close)
         self.plan = check(wanted, made, stack)
-        self.listening = asking.listen(wanted.phy, stack)
+        self.rights = rights_of(wanted)
+        self.page_user = page_user_of(wanted)
+        group = os.getegid() if self.page_user is None else self.page_user.pw_gid
+        self.listening = asking.listen(wanted.phy, group, stack)
         self.setting_up = SettingUp(wanted, made, stack)
+        self.wires = Wires(self.setting_up)
         self.page: subprocess.Popen[bytes] | None = None
         self.bridge = self.start(self.plan)
 
     def start(self, plan: Plan) -> Bridge:
         """A bridge of a plan, whose networks aren't open yet."""
-        descriptor = self.listening.fileno()
         tells_alive = self.service.watches or self.wanted.status is not None
-        return Bridge(words_of(self.wanted, plan, descriptor, tells_alive), self.signals, self.stack, (descriptor,))
+        memory = MOST_MEMORY if self.rights.has_bounds else None
+        record = self.make_record()
+        handed = [self.listening.fileno()] if record is None else [self.listening.fileno(), record[0]]
+        words = words_of(self.wanted, plan, handed[0], record, tells_alive, memory)
+        try:
+            return Bridge(words, self.signals, self.stack, tuple(handed), self.rights)
+        finally:
+            if record is not None:
+                os.close(record[0])
+
+    def make_record(self) -> tuple[int, str] | None:
+        """The file that a bridge records in, where one is wanted; which one it is where that isn't the first."""
+        if self.wanted.record is None:
+            return None
+        record = make_record(self.wanted.record)
+        if record[1] != self.wanted.record:
+            tell(f"the record is {record[1]}")
+        return record
 
     def run(self) -> None:
         """Serves until a signal or a fault ends it."""
@@ -54,16 +80,36 @@ class AccessPoint:
 
     def open(self) -> None:
         """Sets up what the plan takes, and lets frames go."""
-        self.setting_up.follow(self.plan)
-        self.bridge.ask(OPEN)
+        self.setting_up.follow(self.plan, missing_wires(self.plan))
+        with ExitStack() as ours:
+            radio = [ours.enter_context(opened) for opened in open_radio(self.wanted.monitor)]
+            wires = self.wires.open(self.plan)
+            for opened in wires.values():
+                ours.enter_context(opened)
+            self.bridge.open(radio, wires)
+
+    def look_at_wires(self) -> None:
+        """Hands over the wires that are there again."""
+        for place in self.bridge.down:
+            self.wires.went_down(place)
+        self.bridge.down.clear()
+        with ExitStack() as ours:
+            wires = self.wires.look()
+            for opened in wires.values():
+                ours.enter_context(opened)
+            self.bridge.take_wires(wires)
 
     def serve(self) -> None:
         """Lets frames go, and does what signals ask for."""
         due = time.monotonic() + (self.wanted.tables or 0)
+        look = time.monotonic() + LOOK_SECONDS
         has_told = None
         alive = 0
         while self.bridge.has_to_go_on():
-            self.bridge.wait(max(0.0, due - time.monotonic()) if self.wanted.tables else None)
+            self.bridge.wait(self.seconds_to(due if self.wanted.tables else None))
+            if self.bridge.down or self.wires.are_missing and time.monotonic() >= look:
+                look = time.monotonic() + LOOK_SECONDS
+                self.look_at_wires()
             if self.bridge.is_sending and has_told is not self.bridge:
                 has_told = self.bridge
                 self.tell_of_networks()
@@ -80,6 +126,13 @@ class AccessPoint:
             if self.signals.reload_asked and self.bridge.has_to_go_on():
                 self.signals.reload_asked = False
                 self.reload()
+
+    def seconds_to(self, due: float | None) -> float | None:
+        """For how long one waits at most: for what is due, and for wires that are missing."""
+        waits = [] if due is None else [max(0.0, due - time.monotonic())]
+        if self.wires.are_missing:
+            waits.append(LOOK_SECONDS)
+        return min(waits, default=None)
 
     def tell_of_networks(self) -> None:
         """The first beacon was seen as sent."""
@@ -125,7 +178,7 @@ class AccessPoint:
 
     def end_page(self, page: "subprocess.Popen[bytes]") -> None:
         """Ends the page."""
-        page.terminate()
+        end(page, self.page_user, signal.SIGTERM)
         page.wait()
 
     def look_at_page(self) -> None:

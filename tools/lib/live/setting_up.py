@@ -55,11 +55,13 @@ class SettingUp:
         self.wanted = wanted
         self.made = made
         self.parts: dict[Part, ExitStack] = {}
+        self.indices: dict[str, str | None] = {}  # of the wires that were set up, by their names
         self.stack = stack  # of the part that is being set up
         stack.callback(self.take_down)
 
-    def follow(self, plan: Plan) -> None:
-        """Takes down what isn't in the plan, and sets up what isn't there; all else stays as it is."""
+    def follow(self, plan: Plan, missing: tuple[str, ...] = ()) -> None:
+        """Takes down what isn't in the plan, and sets up what isn't there; all else stays as it is. Wires that are missing
+        are set up later."""
         for network in plan.settings.networks:
             if network.bssid not in dict(plan.wires):
                 tell(f"the network {address_text(network.bssid)} has no --wire: what it sends there is lost")
@@ -68,9 +70,33 @@ class SettingUp:
             if part not in wanted:
                 self.parts.pop(part).close()
         for part in wanted:
-            if part not in self.parts:
-                self.stack = self.parts[part] = ExitStack()
-                self.set_up(part)
+            if part not in self.parts and not (isinstance(part, WirePart) and part.interface in missing):
+                self.begin(part)
+
+    def begin(self, part: Part) -> None:
+        """Sets one part up, with a stack of its own."""
+        self.stack = self.parts[part] = ExitStack()
+        self.set_up(part)
+
+    def has_wire(self, interface: Interface) -> bool:
+        """Whether this very interface was set up as a wire."""
+        return WirePart(interface.name) in self.parts and interface.index == self.indices.get(interface.name)
+
+    def forget_wire(self, interface: Interface) -> None:
+        """What was set up by this name is gone: of that nothing is taken back."""
+        part = self.parts.pop(WirePart(interface.name), None)
+        if part is not None:
+            part.pop_all()
+            self.made.forget_gone(interface.name)
+
+    def set_up_wire_again(self, interface: Interface) -> None:
+        """Sets up a wire that is there now; where that fails, all of it is taken back."""
+        part = WirePart(interface.name)
+        try:
+            self.begin(part)
+        except BaseException:
+            self.parts.pop(part).close()
+            raise
 
     def parts_of(self, plan: Plan) -> list[Part]:
         """What a plan takes, in the order in which it is set up."""
@@ -107,6 +133,7 @@ class SettingUp:
                  "end: `ethtool -K NAME tx off gso off tso off`")
         if not interface.is_up:
             self.bring_up(interface.name)
+        self.indices[interface.name] = interface.index
 
     def turn_off(self, interface: Interface, offloads: dict[str, str]) -> None:
         """Turns off those offloads that are on."""

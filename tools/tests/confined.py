@@ -1,0 +1,279 @@
+"""An access point with a radio of this script, for tests of what its parts may do: the compiled bridge and a program run
+as `tools/live` starts them, without systemd, in a network namespace and with a list of users of their own. The words name
+what an attacker in one of them does; what came of it is printed as JSON.
+
+Usage: unshare --net --mount tools/tests/confined.py BRIDGE PROGRAM FOLDER CASE, as root.
+"""
+import ctypes
+import json
+import os
+import signal
+import socket
+import subprocess
+import sys
+import threading
+import time
+from contextlib import suppress
+from unittest import mock
+
+HERE = os.path.dirname(os.path.realpath(__file__))
+sys.path.insert(0, os.path.join(os.path.dirname(HERE), "lib"))
+sys.dont_write_bytecode = True
+from frames import address_of  # noqa: E402
+from live import changes, serving  # noqa: E402
+from live.checks import Plan, Wanted  # noqa: E402
+from live.faults import Fault  # noqa: E402
+from live.setting_up import SettingUp, WirePart  # noqa: E402
+from live.settings import read_settings  # noqa: E402
+from stations import run, wait_for  # noqa: E402
+
+OURS = address_of("02:00:00:00:01:01")
+CONFIG = """version = 1
+channel = 6
+interval = 100
+queue = 64
+[[network]]
+bssid = "02:00:00:00:01:01"
+ssid = "lab"
+rates = "82840b16"
+dtim = 1
+max_stations = 8
+max_known = 16
+quota = 8
+max_events = 100
+"""
+USERS = "waltigon:x:930:930::/:/usr/sbin/nologin\nwaltigon-status:x:931:931::/:/usr/sbin/nologin\n"
+GROUPS = "waltigon:x:930:\nwaltigon-status:x:931:\n"
+ATTACH, DETACH, GET, SET, CONTINUE, STEP, POKE = 16, 17, 12, 13, 7, 9, 4
+CALL, WORD = 0x050F, 8  # the instruction `syscall` of x86-64
+OPEN, SOCKET, EXECVE = 257, 41, 59
+WRITING = os.O_WRONLY | os.O_CREAT
+HERE_FOLDER = (1 << 64) - 100  # AT_FDCWD
+SECONDS = 10
+# A program that was built with a checker of addresses has more address space than there is memory.
+MEMORY = int(os.environ.get("MEMORY", serving.MOST_MEMORY))
+
+
+class Registers(ctypes.Structure):
+    """Those of a process of x86-64 (user_regs_struct)."""
+
+    _fields_ = [(name, ctypes.c_ulonglong) for name in (
+        "r15 r14 r13 r12 rbp rbx r11 r10 r9 r8 rax rcx rdx rsi rdi orig_rax rip cs eflags rsp ss fs_base gs_base ds es fs "
+        "gs").split()]
+
+
+def trace(request, process, address=0, data=0):
+    """ptrace(2)."""
+    library = ctypes.CDLL(None, use_errno=True)
+    library.ptrace.argtypes = [ctypes.c_long, ctypes.c_long, ctypes.c_void_p, ctypes.c_void_p]
+    library.ptrace.restype = ctypes.c_long
+    if library.ptrace(request, process, address, data) == -1:
+        raise OSError(ctypes.get_errno(), f"ptrace {request}")
+
+
+def call(process, number, *arguments, text=b""):
+    """A process makes a call of the system, as whoever has taken it over would have it; its answer, or how it ended. A text
+    stands on its stack, where an argument is None."""
+    trace(ATTACH, process)
+    os.waitpid(process, 0)
+    registers = Registers()
+    trace(GET, process, 0, ctypes.addressof(registers))
+    before = Registers.from_buffer_copy(registers)
+    place = (registers.rsp - 1024) & ~(WORD - 1)
+    padded = text + bytes(WORD - len(text) % WORD)
+    for offset in range(0, len(padded), WORD):
+        trace(POKE, process, place + offset, int.from_bytes(padded[offset:offset + WORD], "little"))
+    with open(f"/proc/{process}/mem", "r+b", buffering=0) as memory:
+        memory.seek(registers.rip)
+        code = memory.read(2)
+        memory.seek(registers.rip)
+        memory.write(CALL.to_bytes(2, "little"))
+        registers.rax, registers.orig_rax = number, (1 << 64) - 1
+        for name, value in zip(("rdi", "rsi", "rdx", "r10"), arguments):
+            setattr(registers, name, place if value is None else value)
+        trace(SET, process, 0, ctypes.addressof(registers))
+        trace(STEP, process)
+        _, status = os.waitpid(process, 0)
+        if os.WIFSIGNALED(status):
+            return f"killed by {signal.Signals(os.WTERMSIG(status)).name}"
+        trace(GET, process, 0, ctypes.addressof(registers))
+        memory.seek(before.rip)
+        memory.write(code)
+    trace(SET, process, 0, ctypes.addressof(before))
+    trace(DETACH, process)
+    return ctypes.c_longlong(registers.rax).value
+
+
+def have_call(process, number, *arguments, text=""):
+    """The same by a process of its own, which is no parent of what it traces."""
+    words = [sys.executable, os.path.realpath(__file__), json.dumps([process, number, *arguments, text])]
+    done = subprocess.run(words, capture_output=True, text=True, check=True)
+    return json.loads(done.stdout)
+
+
+def status_of(process):
+    """What the kernel says of a process."""
+    with open(f"/proc/{process}/status", encoding="ascii") as file:
+        return dict(line.rstrip("\n").split(":\t", 1) for line in file if ":\t" in line)
+
+
+def process_of(executable):
+    """The one process that runs this file."""
+    found = []
+    for name in filter(str.isdigit, os.listdir("/proc")):
+        with suppress(OSError):
+            if os.readlink(f"/proc/{name}/exe") == os.path.realpath(executable):
+                found.append(int(name))
+    assert len(found) <= 1, found
+    return found[0] if found else None
+
+
+def descriptors_of(process):
+    """What the descriptors of a process are."""
+    folder = f"/proc/{process}/fd"
+    return sorted(os.readlink(os.path.join(folder, name)).split(":")[0] for name in os.listdir(folder))
+
+
+def reflect(name):
+    """A radio: what is sent is shown as sent, which is how a radio acknowledges by its monitor interface."""
+    air = socket.socket(socket.AF_PACKET, socket.SOCK_RAW, socket.htons(3))
+    air.bind((name, 0))
+
+    def go_on():
+        while True:
+            frame, address = air.recvfrom(4096)
+            if address[2] != socket.PACKET_OUTGOING:
+                air.send(frame)
+    threading.Thread(target=go_on, daemon=True).start()
+
+
+def look(parts):
+    """What the kernel says of the parts' rights."""
+    return {name: {key: status_of(process).get(key) for key in (
+        "Uid", "Gid", "Groups", "CapInh", "CapPrm", "CapEff", "CapBnd", "CapAmb", "NoNewPrivs", "Seccomp")}
+        | {"descriptors": descriptors_of(process)} for name, process in parts.items()}
+
+
+def wire_goes(folder):
+    """The wire is deleted and made again, and its host's frame comes by it."""
+    run("ip", "link", "del", "wire1")
+    path = os.path.join(folder, "log")
+
+    def told(text):
+        with open(path, encoding="utf-8") as file:
+            return text in file.read()
+    wait_for("the end of the wire", SECONDS, lambda: told("has ended"))
+    time.sleep(1.5)
+    make_wire()
+    wait_for("the wire", SECONDS, lambda: told("wire1: there, the wire of"))
+    return "there again"
+
+
+def make_wire():
+    """A wire with a host's end."""
+    run("ip", "link", "add", "wire1", "type", "veth", "peer", "name", "host1")
+    run("ip", "link", "set", "host1", "addrgenmode", "none")
+    run("ip", "link", "set", "host1", "up")
+    run("ip", "link", "set", "wire1", "addrgenmode", "none")
+
+
+CASES = {
+    "look": lambda parts, folder: look(parts),
+    "wire": lambda parts, folder: wire_goes(folder),
+    "bridge-runs": lambda parts, folder: have_call(parts["bridge"], EXECVE, None, 0, 0, text="/bin/sh"),
+    "bridge-connects": lambda parts, folder: have_call(parts["bridge"], SOCKET, socket.AF_INET, socket.SOCK_STREAM, 0),
+    "bridge-writes": lambda parts, folder: have_call(parts["bridge"], OPEN, HERE_FOLDER, None, WRITING, 0o600,
+                                                     text=f"{folder}/written"),
+    "program-reads-another": lambda parts, folder: have_call(parts["program"], OPEN, HERE_FOLDER, None, os.O_RDONLY, 0,
+                                                             text="/etc/passwd"),
+    "program-reads-its-own": lambda parts, folder: have_call(parts["program"], OPEN, HERE_FOLDER, None, os.O_RDONLY, 0,
+                                                             text=f"{folder}/radio.toml"),
+    "program-writes-its-own": lambda parts, folder: have_call(parts["program"], OPEN, HERE_FOLDER, None, os.O_WRONLY, 0,
+                                                              text=f"{folder}/radio.toml"),
+    "program-connects": lambda parts, folder: have_call(parts["program"], SOCKET, socket.AF_UNIX, socket.SOCK_STREAM, 0),
+    "program-runs": lambda parts, folder: have_call(parts["program"], EXECVE, None, 0, 0, text="/bin/sh"),
+}
+
+
+def set_up(folder):
+    """The users, the radio and the wire."""
+    for path, more in (("/etc/passwd", USERS), ("/etc/group", GROUPS)):
+        with open(path, encoding="utf-8") as file:
+            lines = [line for line in file if not line.startswith("waltigon")]
+        own = os.path.join(folder, os.path.basename(path))
+        with open(own, "w", encoding="utf-8") as file:
+            file.write("".join(lines) + more)
+        os.chmod(own, 0o644)
+        run("mount", "--bind", own, path)
+    run("mount", "-t", "sysfs", "sysfs", "/sys")
+    run("ip", "link", "set", "lo", "up")
+    run("ip", "link", "add", "mon0", "type", "veth", "peer", "name", "air0")
+    for name in ("mon0", "air0"):
+        run("ip", "link", "set", name, "addrgenmode", "none", "mtu", "2304")
+        run("ip", "link", "set", name, "up")
+    reflect("air0")
+    make_wire()
+    run("ip", "link", "set", "wire1", "up")
+    with open(os.path.join(folder, "radio.toml"), "w", encoding="utf-8") as file:
+        file.write(CONFIG)
+    os.chmod(os.path.join(folder, "radio.toml"), 0o644)
+
+
+class NoRadio(SettingUp):
+    """Sets wires up, and no radio."""
+
+    def parts_of(self, plan):
+        return [part for part in super().parts_of(plan) if isinstance(part, WirePart)]
+
+
+def attack(bridge, program, folder, case, found):
+    """Waits until frames go, does what the case says, and ends all where that hasn't ended it."""
+    try:
+        wait_for("the bridge", SECONDS, lambda: "networks are on channel" in read(folder, "log"))
+        parts = {"bridge": process_of(bridge), "program": process_of(program)}
+        found["outcome"] = CASES[case](parts, folder)
+        time.sleep(0.5)
+    except Exception as fault:  # told as what came of it
+        found["outcome"] = repr(fault)
+    os.kill(os.getpid(), signal.SIGINT)
+
+
+def read(folder, name):
+    """A file's text."""
+    with open(os.path.join(folder, name), encoding="utf-8") as file:
+        return file.read()
+
+
+def main():
+    """Runs the case."""
+    if len(sys.argv) == 2:
+        *asked, text = json.loads(sys.argv[1])
+        print(json.dumps(call(*asked, text=text.encode() + b"\0")))
+        return
+    bridge, program, folder, case = sys.argv[1:]
+    set_up(folder)
+    config, found = os.path.join(folder, "radio.toml"), {}
+    wires = ((OURS, "wire1"),)
+    wanted = Wanted(config, program, bridge, "phy0", "mon0", wires, os.path.join(folder, "record"), None, status=9617)
+    plan = Plan(read_settings(config), wires, "octets")
+    log = os.open(os.path.join(folder, "log"), os.O_WRONLY | os.O_CREAT | os.O_APPEND, 0o644)
+    os.dup2(log, 2)
+    # The attacker is another thread: signals are handled by this one, as ever.
+    attacker = threading.Thread(target=attack, args=(bridge, program, folder, case, found))
+    attacker.start()
+    with (mock.patch.object(changes, "RUN", os.path.join(folder, "run")), mock.patch.object(serving, "SettingUp", NoRadio),
+          mock.patch.object(serving, "check", lambda *_: plan), mock.patch.object(serving, "MOST_MEMORY", MEMORY)):
+        try:
+            serving.serve(wanted)
+            found["fault"] = None
+        except Fault as fault:
+            found["fault"] = str(fault)
+    attacker.join()
+    found |= {"left": [name for name, path in (("bridge", bridge), ("program", program)) if process_of(path)],
+              "log": read(folder, "log"), "made": os.listdir(os.path.join(folder, "run")),
+              "record": oct(os.stat(os.path.join(folder, "record")).st_mode & 0o777)}
+    print(json.dumps(found))
+
+
+if __name__ == "__main__":
+    main()
