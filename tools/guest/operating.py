@@ -13,7 +13,7 @@ from frames import BROADCAST, DATA, DEAUTHENTICATION, DISASSOCIATION, NULL, Fram
 from live.radiotap import captured
 from parts import IN_REACH, OUT_OF_REACH, Part, join, set_reach
 from stage import Net, Start
-from stations import Failed, Host, Station, load_radios, run, unload_radios, wait_for
+from stations import Failed, Station, load_radios, run, unload_radios, wait_for
 
 HERE = os.path.dirname(os.path.realpath(__file__))
 TOP = os.path.dirname(os.path.dirname(HERE))

@@ -11,9 +11,9 @@ from dataclasses import dataclass, field
 from airing import Air
 from frames import Frame, address_of
 from live.radiotap import captured
-from points import Own, Point, Served
+from points import Point, Served
 from stage import PCAP_HEADER, PCAP_RECORD, Observer
-from stations import Failed, Host, Ping, Station, load_radios, run, unload_radios, wait_for
+from stations import Failed, Host, Station, load_radios, run, unload_radios, wait_for
 
 HERE = os.path.dirname(os.path.realpath(__file__))
 FREQUENCY, PORT = 2437, 9000

@@ -1,6 +1,7 @@
 """The cases of the status page beside a bridge on a radio: what it says has to be what stations did and heard."""
 import json
 import os
+import pwd
 import re
 import subprocess
 import urllib.error
@@ -73,7 +74,7 @@ class Page(Part):
         """Its cases in order."""
         case = self.case
         self.begins("shown: the bridge begins, and three stations join two networks", self.set_up)
-        case("the page, its JSON and its metrics are served at 127.0.0.1 alone, by nobody", self.served)
+        case("the page, its JSON and its metrics are served at 127.0.0.1 alone, by a user of its own", self.served)
         case("JSON says of each station what another radio heard and what its own kernel says", self.agrees)
         case("the metrics say what JSON says", self.metrics)
         case("a station that is kicked is gone from the page, and comes again", self.kick)
@@ -110,7 +111,7 @@ class Page(Part):
         return "5, 10 and 15 pings came back"
 
     def served(self) -> str:
-        """The process is another user's, and each form is there."""
+        """The process is a user's of its own, whose group may ask the bridge, and each form is there."""
         page = fetch("/")
         if page.status != 200 or "<script>" not in page.text or not page.kind.startswith("text/html"):
             raise Failed(f"the page: {page}")
@@ -123,8 +124,9 @@ class Page(Part):
         pid = re.search(r"pid=(\d+)", lines[0][-1])
         with open(f"/proc/{pid[1]}/status", encoding="ascii") as file:
             users = re.search(r"^Uid:\s+(.*)$", file.read(), re.MULTILINE)[1].split()
-        if users != ["65534"] * 4:
-            raise Failed(f"it runs as {users}")
+        own, asked = pwd.getpwnam("waltigon-status"), os.stat(f"/run/waltigon/{self.cases.phy}.sock")
+        if users != [str(own.pw_uid)] * 4 or (asked.st_gid, asked.st_mode & 0o777) != (own.pw_gid, 0o660):
+            raise Failed(f"it runs as {users}, and the socket is {asked.st_gid}'s, {asked.st_mode:o}")
         return f"{len(page.text)} octets of HTML, as user {users[0]}"
 
     def heard(self, station: Station) -> dict[str, tuple[int, int]]:

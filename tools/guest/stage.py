@@ -273,8 +273,9 @@ class Start:
             Start.running.take_down()
         Start.running = self
         self.observed = Tcpdump("obs0", os.path.join(self.folder, "observed.pcap"))
+        # What keeps the answers is a script, which couldn't run within the program's bounds.
         words = [self.bridge, self.config, "--phy", self.phy, "--program", self.keeping, "--record", self.record,
-                 *self.more]
+                 "--as-root", *self.more]
         for net in self.networks if "--wires" not in self.more else ():
             words += ["--wire", f"{net.bssid}={net.port}"]
         with open(self.log, "wb") as log:
@@ -417,8 +418,8 @@ class Start:
 
 def new_folder(folder: str, name: str) -> str:
     """Makes a folder of this name there, or where it is there already with the first number behind it that isn't."""
-    for number in itertools.count(1):
-        path = os.path.join(folder, name if number == 1 else f"{name}-{number}")
+    for count in itertools.count(1):
+        path = os.path.join(folder, name if count == 1 else f"{name}-{count}")
         if not os.path.exists(path):
             os.makedirs(path)
             return path

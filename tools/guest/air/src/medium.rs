@@ -128,7 +128,9 @@ impl Medium {
     pub fn take_address(&mut self, radio: Radio, address: Address) {
         match self.owners.get_mut(&address) {
             Some((owner, times)) if *owner == radio && *times > 1 => *times -= 1,
-            Some((owner, _)) if *owner == radio => drop(self.owners.remove(&address)),
+            Some((owner, _)) if *owner == radio => {
+                self.owners.remove(&address);
+            }
             _ => {}
         }
     }
