@@ -31,7 +31,8 @@ export CONFIG_NAME := $(value CONFIG)
 run: apctl ## proves what the program stands on, builds it, and runs it on an example or on INPUT=FILE
 	@build/apctl < "$$INPUT_NAME"
 
-# Runs the program without any proof, and says so on standard error: the same report, where it has 1 MiB at most.
+# Runs the program without any proof, and says so on standard error: the same report, or its beginning where it has more
+# than 1 MiB. Where the program stands built of these sources, that runs at once.
 try: ## runs the program without any proof on an example or on INPUT=FILE, in a minute
 	@.ci/try < "$$INPUT_NAME"
 
@@ -42,9 +43,11 @@ try-check: ## reads the configuration CONFIG=FILE without any proof
 
 # The gate. Proves every crate from nothing, tries each edit of crates/*/must-fail, runs each test, runs the program
 # that was built of what was proved over examples/ and tests/, with more and more memory, over files and streams that
-# fail and over lines and records that it answers as they come, lets each allocation of some calls fail in turn, and
-# finds edits of wrong/ that can't be applied, names in the documents that aren't there, and scripts that don't say how
-# they are used. The last line is 'N passed, M failed'.
+# fail and over lines and records that it answers as they come, lets each allocation of some calls fail in turn, holds it
+# against two models over hostile input that the commit draws, plays four traces at once, twice, and finds edits of wrong/
+# that can't be applied, names in the documents that aren't there, and scripts that don't say how they are used. It runs
+# the tests of the bridge, of the guest's air and of the tools, and what clippy, pyflakes and mypy find in them fails it.
+# Takes Debian's packages of .ci/packages, and installs those that are missing. The last line is 'N passed, M failed'.
 test: ## the gate: proves all from nothing, tries wrong bodies, runs all tests
 	@.ci/gate
 
@@ -79,8 +82,8 @@ stress: apctl ## plays four traces at once, a hundred times or TIMES=N times
 	@bench/stress $(TIMES)
 
 # Runs the program over hostile frames, wired frames, traces and records, each drawn from a fixed seed, and compares
-# each answer with that of the model, octet for octet. The last line is 'N compared, M differ'.
-fuzz: apctl ## compares the program with a model of the rules over hostile input
+# each answer with those of two models, octet for octet. The last line is 'N compared, M differ'.
+fuzz: apctl ## compares the program with two models of the rules over hostile input
 	@bench/fuzz
 
 # The built program, build/apctl, of proved crates. An earlier one stays until it is built, and where a proof fails;
@@ -98,9 +101,9 @@ documents: ## checks links, paths and names in the documents
 library: ## tries the programs of docs/LIBRARY.md, without any proof
 	@tests/library
 
-# Tests the tools for captures and pictures, tools/, beside the gate. Takes Debian's packages of tools/install, and
-# installs those that are missing. The last line is 'N passed, M failed'.
-test-tools: ## tests the tools for captures and pictures
+# Tests the tools of tools/, as the gate does. Takes Debian's packages of tools/install, and installs those that are
+# missing. The last line is 'N passed, M failed'.
+test-tools: ## tests the tools of tools/
 	@tools/install
 	@tools/test
 
@@ -109,17 +112,19 @@ test-tools: ## tests the tools for captures and pictures
 bridge: ## builds the bridge of tools/live, by Debian's cargo
 	@tools/bridge/build
 
-# Tests tools/live beside the gate: first the parts of its bridge and its own, then, in a guest, unmodified Linux
-# stations that join the networks of the built program, the same as a service of systemd and from the package of `make
-# deb`, then on an air that loses frames, and at last where networks share the air of one radio, both with hostapd
-# beside it. Takes root and Debian's packages debootstrap, e2fsprogs, qemu-system-x86 and python3, and those of `make
-# deb`. Each run in the guest ends with 'N passed, M failed'.
+# Tests tools/live beside the gate: first the parts of its bridge and its own, with what an attacker in one of them would
+# try, then, in a guest, unmodified Linux stations that join the networks of the built program, the same as a service of
+# systemd and from the package of `make deb`, then on an air that loses frames, and at last where networks share the air
+# of one radio, both with hostapd beside it. Takes root and Debian's packages debootstrap, e2fsprogs, qemu-system-x86 and
+# python3, and those of `make deb`. Each run in the guest ends with 'N passed, M failed'.
 test-live: apctl ## tests the bridge with real stations in a guest; takes root
 	@tools/bridge/build test
 	@tools/guest/air/build test
 	@tools/test live
+	@ATTACKS=yes tools/test Confined
 	@tools/test-live
 	@tools/test-live service
+	@tools/test-live networks
 	@share/deb
 	@tools/test-live package
 	@tools/test-live air

@@ -11,6 +11,8 @@ SECONDS = 60
 TOOLCHAIN = "rattle-kit-test logic 0"
 COPIED = (".ci", "share", "tools/lib", "tools/systemd", "docs", "tests/check", "tests/cases", "README.md",
           "CHANGELOG.md", "HANDLES")
+# Parts of the gate that look at the machine and at this repository's tools: there they say that all is well.
+QUIET = (".ci/packages", ".ci/lint", "tools/test")
 # The toolchain stands in the small repository's own folder. Each of its commands fails where a file `fails` is there, and
 # waits where a file `waits` is; the program that they build has the text of the crate's source. The prover writes down
 # which crates it was called for, and says what a proved crate's verdict is, but where a file `says_nothing` is there.
@@ -67,6 +69,8 @@ class SmallRepository(ToolTest):
         for name, text in (("rt", RT), ("rattle", RATTLE), ("rattle-link", LINK)):
             self.write(f"bin/{name}", text)
             os.chmod(self.path_of(f"bin/{name}"), 0o755)
+        for name in QUIET:
+            self.write(name, "#!/bin/sh\necho '1 passed, 0 failed'\n")
         self.git("init", "-q")
         self.commit()
 
@@ -103,7 +107,7 @@ class SmallRepository(ToolTest):
     def environment(self):
         """With the scripts for the toolchain."""
         return {**os.environ, "PATH": f"{self.path_of('bin')}:{os.environ['PATH']}", "STATES": self.states,
-                "TMPDIR": self.folder}
+                "TMPDIR": self.folder, "MAKE_USERS": "no"}
 
     def run_there(self, *words):
         """A script's status, and what it says."""

@@ -11,10 +11,11 @@ from types import SimpleNamespace
 
 import mistakes
 from common import CASES, PROGRAM, ROOT, THREE, ToolTest, heard, input_of, needs_program, tool, with_report
-from explaining import whole
+from explaining import odd_config, whole
 from explaining.answers import Answer, read_fault, run_program
 from explaining.source import Source
 from explaining.toml_scan import NoToml, scan
+from explaining.words import missing_file
 from frames import BROADCAST
 from live.checks import check_config
 from live.faults import Fault as LiveFault
@@ -313,6 +314,41 @@ class Mistakes(ToolTest):
             self.assertEqual(found.split("\n")[0], said)
             self.assertIn(says, found)
         self.assertEqual(whole.explain_config(self.path("wrong.toml"), "fault C1")[0], "fault C1")
+
+    def test_blanks_that_are_none_in_a_trace(self):
+        """A no-break space after `A` is shown and named, and one that isn't seen is named too."""
+        self.folder_with_files()
+        for text, says in (("T\nA\u00a040000000\n", ("my.trace:2:2: a no-break space (U+00A0)", "A\u237d4")),
+                           ("T\nA 4000\u200b0000\n", ("my.trace:2:7: a zero width space (U+200B)", "leave it out"))):
+            self.write("my.trace", text.encode())
+            found = self.run_tool("--said", "fault L1 line 2", "run", "my.toml", "my.trace")[1]
+            for words in says:
+                self.assertIn(words, found)
+
+    def test_pipes_are_handed_on_and_read_again(self):
+        """A file that the shell makes by `<(..)` is read by the program, and a second time for the reason."""
+        self.folder_with_files()
+        self.write("wrong.toml", CONFIG.replace('"lab"', "lab").encode())
+        self.write("stand_in", b"#!/bin/sh\ngrep -q '^ssid = lab' $2 && echo 'fault C1' >&2\nexit 1\n")
+        os.chmod(self.path("stand_in"), 0o755)
+        script = 'exec "$0" --program ./stand_in check <(cat wrong.toml)'
+        done = subprocess.run(["bash", "-c", script, os.path.join(ROOT, "tools", "explain")], cwd=self.folder,
+                              text=True, capture_output=True, check=False)
+        self.assertRegex(done.stdout, r"\Afault C1\n/dev/fd/\d+:8:8: ")
+        self.assertIn('write `ssid = "lab"`', done.stdout)
+
+    def test_files_far_from_a_name_are_not_suggested(self):
+        """Of the files of a folder one is meant that is written nearly as the name."""
+        self.folder_with_files()
+        for name, other, is_meant in (("radio.tml", "radio.toml", True), ("notes.txt", "tests.toml", False)):
+            self.write(other, b"")
+            advice = missing_file(self.path(name), None, FileNotFoundError()).advice
+            self.assertEqual(bool(advice and other in advice), is_meant, (name, advice))
+
+    def test_an_address_of_zeros_is_told(self):
+        """A network may have it, and it is odd."""
+        source = Source("my.toml", CONFIG.replace("02:00:00:00:00:01", "00:00:00:00:00:00").encode())
+        self.assertIn("all zeros", odd_config.odd(source)[0].text)
 
     @needs_program
     def test_ways_to_give_texts(self):

@@ -16,7 +16,8 @@ from small import SmallRepository
 
 SECONDS = 60
 BELL = "\a"
-COMMANDS = {f"waltigon-{name}": name for name in ("capture-from-report", "capture-from-run", "explain", "live", "picture",
+COMMANDS = {f"waltigon-{name}": name for name in ("capture-from-report", "capture-from-run",
+                                                  "config-from-hostapd", "explain", "live", "picture",
                                                   "report-to-json", "trace-from-capture")}
 OPTION = re.compile(r"(?<![\w-])--[a-z][a-z-]*")
 
@@ -31,7 +32,7 @@ class Install(ToolTest):
     def run_install(self, *words, **environment):
         """The status of share/install, and what it says."""
         done = subprocess.run([os.path.join(ROOT, "share", "install"), *words], capture_output=True, text=True,
-                              check=False, env={**os.environ, **environment})
+                              check=False, env={**os.environ, "MAKE_USERS": "no", **environment})
         return done.returncode, done.stdout + done.stderr
 
     def installed(self, top):
@@ -142,6 +143,13 @@ class WhatIsInstalled(SmallRepository):
                     shown += 1
         self.assertGreater(shown, 3)
 
+    def test_networks_are_examples(self):
+        """Each file of share/networks is installed as it stands, where docs/NETWORKS.md copies it from."""
+        self.install()
+        for path in glob.glob(os.path.join(ROOT, "share", "networks", "*")):
+            with open(path, encoding="utf-8") as file:
+                self.assertEqual(self.read(f"share/doc/waltigon/examples/networks/{os.path.basename(path)}"), file.read())
+
     def test_unit_follows_the_prefix(self):
         """The unit begins the command of the same prefix, and nothing else of it changes."""
         self.install()
@@ -222,7 +230,7 @@ class Pages(ToolTest):
     def test_pages_have_no_warning(self):
         """`man` renders each page without a warning, with all sections that a page of its kind has."""
         pages = glob.glob(os.path.join(ROOT, "share", "man", "man*", "*"))
-        self.assertEqual(len(pages), 9)
+        self.assertEqual(len(pages), 10)
         for page in pages:
             done = self.page(page)
             self.assertEqual((done.returncode, done.stderr), (0, ""), page)
@@ -278,7 +286,8 @@ class CompletionOfTools(ToolTest):
         self.assertEqual(self.completed("waltigon-report-to-json", "--w"), ["--without-frames"])
         self.assertEqual(self.completed("waltigon-explain", "--"), ["--program", "--said", "--help", "--version"])
         self.assertEqual(sorted(self.completed("waltigon-picture", "")), ["a.trace", "my.toml"])
-        self.assertEqual(sorted(self.completed("waltigon-live", "")), ["a.trace", "kick", "my.toml", "status"])
+        self.assertEqual(sorted(self.completed("waltigon-live", "")),
+                         ["a.trace", "check-networks", "kick", "my.toml", "status"])
         self.assertEqual(self.completed("waltigon-live", "ki"), ["kick"])
         self.assertEqual(sorted(self.completed("waltigon-explain", "my.toml", "")), ["a.trace", "my.toml"])
         self.assertEqual(self.completed("waltigon-trace-from-capture", "--fcs", "a"), ["auto"])
@@ -320,7 +329,7 @@ class Completion(ToolTest):
             with open(self.path(name), "w", encoding="ascii"):
                 pass
         self.completed("waltigon-report-to-json --w", "waltigon-report-to-json --without-frames")
-        self.completed("waltigon-live ", "kick", "status", "my.toml")
+        self.completed("waltigon-live ", "kick", "status", "check-networks", "my.toml")
         self.completed("waltigon-explain ", "check", "run", "play", "live", "my.toml", "a.trace")
         self.completed("waltigon-trace-from-capture --fcs ", "auto", "yes", "no")
         self.completed("waltigon-picture --", "--station", "--stations", "at most so many of a network")

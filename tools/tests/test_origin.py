@@ -97,6 +97,41 @@ class ProvedAnew(SmallRepository):
         self.build()
         self.assertEqual(self.proved(), ["low", "apctl"])
 
+    def test_wrong_body_below_a_newer_library(self):
+        """A body that has turned wrong below is found, though its library is newer than the text: what is kept is told
+        by what it was made of, and by no time."""
+        self.build()
+        self.proved()
+        source = self.path_of("crates/low/src/lib.rt")
+        self.write("crates/low/src/lib.rt", "wrong\n")
+        os.utime(source, (0, 0))
+        self.state("fails", True)
+        status, said = self.run_there(".ci/build")
+        self.assertEqual(status, 1)
+        self.assertIn("low: not proved", said)
+        self.assertEqual(self.proved(), ["low"])
+        self.assertIn("is an earlier program", self.run_there(".ci/origin", "check")[1])
+
+    def test_library_that_is_not_as_it_was_made(self):
+        """A kept library is told by the sum of all its files: where one is another, or one more is there, the crate is
+        proved again, and where the sum comes out the same, those above aren't."""
+        for name in ("format", "more"):
+            self.build()
+            self.proved()
+            self.write(f"crates/low/out/rlib/stated/low.rlib/{name}", "another\n")
+            self.build()
+            self.assertEqual(self.proved(), ["low"], name)
+
+    def test_sum_of_the_logic_is_told(self):
+        """One line says whether it is the one by which all was proved, whatever the toolchain is called."""
+        for kit, said in (("rattle-kit-13b logic dac8208d650f15bf", "is dac8208d650f15bf: it matches\n"),
+                          ("rattle-kit-13f logic 0123", "is 0123: it does not match dac8208d650f15bf, by which"),
+                          ("another", "is unknown: it does not match dac8208d650f15bf, by which")):
+            self.write("KIT-ID", f"{kit}\n")
+            status, lines = self.run_there(".ci/build")
+            self.assertEqual((status, lines.count("the sum of the toolchain's logic")), (0, 1))
+            self.assertIn(f"the sum of the toolchain's logic {said}", lines)
+
     def test_of_two_runs_the_second_waits(self):
         """It says so, and proves nothing that the first has proved."""
         self.build()
@@ -215,7 +250,7 @@ class Installed(SmallRepository):
         second = self.commit()
         self.assertNotIn("warning", self.install())
         names = [os.path.relpath(path, self.path("usr")) for path in glob.glob(self.path("usr/*bin/waltigon-*"))]
-        self.assertEqual(len(names), 7)
+        self.assertEqual(len(names), 8)
         for name in names:
             self.assertRegex(self.installed(name, "--version"),
                              rf"\Awaltigon {VERSION}\napctl of commit {first}, proved .*\nwith {TOOLCHAIN}\n"

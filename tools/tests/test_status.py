@@ -437,6 +437,9 @@ class Tool(ToolTest):
         self.assertEqual(started.stderr.read(), b"")
 
     def test_ctrl_c_ends_it_without_a_word(self):
+        # Where a shell started the tests in the background, they ignore the signal, and so would what they start.
+        before = signal.signal(signal.SIGINT, signal.default_int_handler)
+        self.addCleanup(signal.signal, signal.SIGINT, before)
         port = self.free_port()
         started = self.start(port)
         self.metrics(port)

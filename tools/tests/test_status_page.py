@@ -4,6 +4,7 @@ import os
 import unittest
 
 from browser import Browser, needs_chromium
+from status.demo import demo_of
 from status.document import Untold
 from status.server import serve
 from statuses import document, network, only_known, station
@@ -13,6 +14,41 @@ MARKUP = b'<img src=x onerror="x=1"></h2>&amp;'
 PICTURES = os.environ.get("STATUS_PICTURES")
 IS_WIDER = "document.documentElement.scrollWidth > document.documentElement.clientWidth"
 TEXT = "document.body.innerText"
+YEAR, DAYS = 365 * 86400.0, 86400.0
+WIDTHS = (360, 390, 600, 768, 1024, 1238, 1240, 1280, 1920, 2560)
+# Where a text leaves the box that it belongs to or the window, or covers another text of its row; and where cells of a
+# row cover each other or leave it.
+OVERFLOWS = """(() => {
+  const found = [], rows = new Map(), wide = document.documentElement.clientWidth;
+  const leaves = (box, room) => box.left < room.left - 1 || box.right > room.right + 1 || box.top < room.top - 1 ||
+    box.bottom > room.bottom + 1;
+  const covers = (one, other) => one.left < other.right - 1 && other.left < one.right - 1 &&
+    one.top < other.bottom - 1 && other.top < one.bottom - 1;
+  const apart = (boxes, what) => boxes.forEach((one, place) => boxes.slice(place + 1).forEach(other => {
+    if (covers(one[0], other[0])) found.push(what + ': ' + one[1] + ' over ' + other[1]);
+  }));
+  const walker = document.createTreeWalker(document.body, NodeFilter.SHOW_TEXT);
+  for (let node = walker.nextNode(); node; node = walker.nextNode()) {
+    const parent = node.parentElement, text = node.textContent.trim();
+    if (!text || parent.closest('script, select, noscript') || !parent.checkVisibility()) continue;
+    const range = document.createRange();
+    range.selectNodeContents(node);
+    const room = parent.closest('td, .card, #figures div, label, header, footer, #lost').getBoundingClientRect();
+    const row = parent.closest('tr, #figures div, #find, header, .card > p, li, footer');
+    for (const box of Array.from(range.getClientRects()).filter(box => box.width)) {
+      if (leaves(box, room) || box.right > wide + 1 || box.left < -1) found.push('leaves its box: ' + text);
+      if (row) rows.set(row, [...rows.get(row) || [], [box, text]]);
+    }
+  }
+  for (const boxes of rows.values()) apart(boxes, 'text');
+  for (const row of document.querySelectorAll('tbody tr')) {
+    if (!row.checkVisibility()) continue;
+    const cells = Array.from(row.children, cell => [cell.getBoundingClientRect(), cell.innerText]);
+    for (const [box, text] of cells) if (leaves(box, row.getBoundingClientRect())) found.push('leaves its row: ' + text);
+    apart(cells, 'cell');
+  }
+  return found.slice(0, 8);
+})()"""
 
 
 def twenty():
@@ -30,6 +66,34 @@ def twenty():
         network(3, b"devices", [stations[19], *map(only_known, range(300, 318))], wire=None),
         since=93784.5, drops={"the air: frames of data that had waited 50 ms": 3},
         left_out={"the air: sent again, and taken before": 12, "wire1: with a VLAN's tag": 4})
+
+
+def worst(number):
+    """A station with long texts in each column, of another kind for each number."""
+    ages = (0.4, 59.0, 280.0, 599.0, 3599.0, 86399.0, 12 * DAYS + 82800, 364 * DAYS + 82800)
+    counts = (0, 1, 375, 469_699, 999_999, 1_999_999, 4_930_000_000, 10 ** 9)
+    octets = (0, 1, 999, 2_700, 999_949, 10 ** 12, 999_949_999, 10 ** 12)
+    place = number % 8
+    return station(number, since=ages[7 - place], heard=ages[place], signal=(-30, -100, None)[number % 3],
+                   dozes=number % 2 == 0, kept=(0, 12, 99_999)[number % 3], rate_to=(108, 11, 2)[number % 3],
+                   rate_from=(11, 96, 108)[number % 3], octets_to=octets[place], octets_from=octets[7 - place],
+                   frames_to=counts[place], frames_from=counts[7 - place])
+
+
+def year(networks, stations):
+    """So many networks with so many stations each, after a year."""
+    names = (b"guests", "Gäste ☕".encode(), b"W" * 32, b"\xff" * 32)
+    counts = {"events": 10 ** 12, "clock": 307_968_750, "unread": 10 ** 9, "lost": 10 ** 9, "kept": 99_999}
+    return document(*(network(
+        place + 1, names[place % 4], [*(worst(1 + 7 * place + number) for number in range(stations)),
+                                      only_known(5000 + place)], counts=counts, refusals={"1": 10 ** 9, "17": 10 ** 9},
+        wire=("w" * 15, "eth0.100", None)[place % 3], wire_down=(None, 90_000.0)[place % 2],
+        air={"weight": 100, "seconds": 3e6, "waiting": 9_999, "unsent": {"frames of data that had waited 50 ms": 10 ** 9}})
+        for place in range(networks)), since=YEAR,
+        beacons={"sent": 4_927_500_000, "late_ms_mean": 412.4, "late_ms_worst": 79_000.5, "missed": 10 ** 9},
+        drops={"the air: frames of data before 32 younger ones of the same sender": 10 ** 12},
+        left_out={"the air: sent again, and taken before": 10 ** 12},
+        faults=[{"seconds": 12 * DAYS, "text": "fault " + "line " * 40}])
 
 
 @needs_chromium
@@ -89,6 +153,61 @@ class Shown(unittest.TestCase):
             self.assertIn(words, text)
         self.assertEqual(self.browser.faults, [])
 
+    def test_no_text_leaves_its_box_after_a_year(self):
+        """In windows of 360 to 2,560 pixels, in light and in dark, no text covers another or leaves its box."""
+        self.told = year(16, 9)
+        self.open()
+        self.browser.value("document.querySelectorAll('details').forEach(node => { node.open = true })")
+        for width in WIDTHS:
+            for is_dark in (False, True):
+                self.browser.size(width, 900, is_dark)
+                self.assertEqual(self.browser.value(OVERFLOWS), [], f"{width} pixels")
+                self.assertFalse(self.browser.value(IS_WIDER), f"{width} pixels")
+        self.look("year")
+
+    def test_many_stations_are_found_and_sorted(self):
+        """Of 2,007 stations in each of 16 networks one is found by a part of its address, and the first ones come first
+        in the order that is asked for."""
+        self.told = year(16, 2007)
+        self.open()
+        last = self.told["networks"][15]["stations"][2006]["address"]
+        addresses = "[...document.querySelectorAll('#networks table:not(.only) td.address')].map(it => it.textContent)"
+        self.assertEqual(len(self.browser.value(addresses)), 16 * 100)
+        self.assertNotIn(last, self.browser.value(addresses))
+        self.choose("search", last[6:].upper())
+        self.assertEqual(set(self.browser.value(addresses)), {last})
+        self.choose("search", "zz")
+        self.assertEqual(self.browser.value(addresses), [])
+        self.assertIn("No station here has such an address.", self.browser.value(TEXT))
+        self.choose("search", "")
+        self.choose("sort", "most sent to it")
+        first = [max(one["stations"], key=lambda told: (told["octets_to"], [-ord(it) for it in told["address"]]))["address"]
+                 for one in self.told["networks"]]
+        found = self.browser.value("[...document.querySelectorAll('#networks section')].map(card => "
+                                   "card.querySelector('td.address').textContent)")
+        self.assertEqual(found, first)
+        self.assertEqual(self.browser.faults, [])
+
+    def choose(self, name, value):
+        """Writes into a box of the page, or chooses from it."""
+        self.browser.value(f"box = document.getElementById('{name}'); box.value = '{value}';"
+                           "box.dispatchEvent(new Event('input')); box.dispatchEvent(new Event('change')); 0")
+
+    def test_made_up_networks_move(self):
+        """What `tools/status --demo` shows is a document as of an access point, and another one a moment later."""
+        self.assertNotEqual(demo_of(0.0, 10.0), demo_of(0.0, 12.0))
+        self.told = demo_of(0.0, 10.0)
+        self.open()
+        for is_dark in (False, True):
+            self.browser.size(*DESK, is_dark)
+            self.assertEqual(self.browser.value(OVERFLOWS), [])
+        self.look("demo")
+        before = self.browser.value(TEXT)
+        self.told = demo_of(0.0, 700.0)
+        self.browser.wait(f"{TEXT}.includes('1 h 11 min')")
+        self.assertNotEqual(self.browser.value(TEXT), before)
+        self.assertEqual(self.browser.faults, [])
+
     def test_those_that_only_authenticated_unfold_and_stay_so(self):
         self.open()
         self.browser.value("document.querySelectorAll('#networks details')[2].open = true")
@@ -99,7 +218,8 @@ class Shown(unittest.TestCase):
         self.look("unfolded")
 
     def test_no_station(self):
-        self.told = document(network(1, b"guests", wire_down=90.5), {**network(2, b"office", counts=None), "ssid": None})
+        self.told = document(network(1, b"guests", wire_down=90.5), {**network(2, b"office", counts=None), "ssid": None},
+                             record={"octets": 65536, "fault": "No space left on device"})
         self.open()
         self.look("none")
         text = self.browser.value(TEXT)
@@ -107,6 +227,7 @@ class Shown(unittest.TestCase):
         self.assertIn("02:00:00:00:01:01, wire wire1, which went down 1 min 30 s ago", text)
         self.assertNotIn("wire wire2, which", text)
         self.assertIn("no counts yet", text)
+        self.assertIn("the recording stopped: No space left on device", text)
         self.assertIn("(name not told yet)", text)
         self.assertEqual(self.browser.faults, [])
 

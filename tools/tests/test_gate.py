@@ -1,0 +1,96 @@
+"""Tests of what the gate does beside the proofs: what it installs, and how it counts a crate's tests."""
+import os
+import subprocess
+
+from common import ROOT, TOOLS, ToolTest
+
+# Installs packages up to a number at a time, and none that is named in $GONE.
+APT = """#!/bin/sh
+echo "$@" >>"$LOG"
+case "$*" in *update*) exit "$UPDATED" ;; esac
+while [ "$1" != --no-install-recommends ]; do shift; done
+shift
+[ $# -le "$MOST" ] || exit 100
+for package; do
+    case " $GONE " in *" $package "*) exit 100 ;; esac
+    echo "$package" >>"$THERE"
+done
+"""
+QUERY = '#!/bin/sh\nfor word; do last=$word; done\ngrep -qx -- "$last" "$THERE" && printf installed\n'
+SUDO = '#!/bin/sh\nshift\nexec "$@"\n'
+TOLD = """running 3 tests
+.not run: sockets::many: no packet socket here, which takes root
+..
+test result: ok. 3 passed; 0 failed; 0 ignored; 0 measured; 0 filtered out; finished in 0.01s
+test result: {}. 4 passed; {} failed; 0 ignored; 0 measured; 0 filtered out; finished in 0.01s"""
+
+
+class Packages(ToolTest):
+    """What is missing is installed, and what can't be is named and counted."""
+
+    def put(self, name, text):
+        """A script of the test's folder."""
+        os.makedirs(os.path.dirname(self.path(name)), exist_ok=True)
+        with open(self.path(name), "w", encoding="utf-8") as file:
+            file.write(text)
+        os.chmod(self.path(name), 0o755)
+
+    def installed(self, most=99, gone="", updated=0):
+        """Runs `.ci/packages` in a folder of its own, where nothing is installed: its status, its lines, and what was
+        asked of apt-get."""
+        with open(os.path.join(ROOT, ".ci", "packages"), encoding="utf-8") as file:
+            self.put(".ci/packages", file.read())
+        for name, text in (("bin/apt-get", APT), ("bin/dpkg-query", QUERY), ("bin/sudo", SUDO),
+                           ("bin/sleep", "#!/bin/sh\n"), ("log", ""), ("there", "")):
+            self.put(name, text)
+        more = {"PATH": f"{self.path('bin')}:{os.environ['PATH']}", "LOG": self.path("log"), "MOST": str(most),
+                "THERE": self.path("there"), "GONE": gone, "UPDATED": str(updated)}
+        done = subprocess.run([self.path(".ci/packages")], capture_output=True, text=True, check=False,
+                              env={**os.environ, **more})
+        with open(self.path("log"), encoding="ascii") as file:
+            return done.returncode, done.stdout.splitlines(), file.read().splitlines()
+
+    def test_all_at_once(self):
+        """One update and one call install all."""
+        status, lines, asked = self.installed()
+        self.assertEqual((status, len(asked)), (0, 2))
+        self.assertRegex(lines[-1], r"^[1-9]\d* passed, 0 failed$")
+
+    def test_a_mirror_that_fails_is_told_and_counted(self):
+        """Each step is tried three times, then each package alone; all that is missing is named."""
+        status, lines, asked = self.installed(most=0, updated=1)
+        self.assertEqual(status, 1)
+        self.assertIn("apt-get update failed three times: the mirror may be out of reach", lines)
+        named = [line for line in lines if line.startswith("not installed: ")]
+        self.assertEqual(lines[-1], f"0 passed, {len(named)} failed")
+        self.assertEqual(len([line for line in asked if line.endswith("update")]), 3)
+
+    def test_one_that_is_gone_keeps_no_other_out(self):
+        """Where all at once fail, each is tried by itself."""
+        status, lines, _ = self.installed(gone="mypy")
+        self.assertEqual(status, 1)
+        self.assertRegex(lines[-2], "^not installed: mypy; build/packages.log has what apt-get said")
+        self.assertRegex(lines[-1], r"^[1-9]\d* passed, 1 failed$")
+
+
+class Counted(ToolTest):
+    """The last line of a crate's tests."""
+
+    def counted(self, text, status):
+        """What `test_by_cargo` makes of what cargo says."""
+        with open(os.path.join(TOOLS, "lib", "cargo.sh"), encoding="utf-8") as file:
+            script = file.read().replace("/usr/bin/cargo", self.path("cargo"))
+        with open(self.path("cargo"), "w", encoding="ascii") as file:
+            file.write(f"#!/bin/sh\ncat <<'END'\n{text}\nEND\nexit {status}\n")
+        os.chmod(self.path("cargo"), 0o755)
+        done = subprocess.run(["bash", "-euc", f"{script}\ntest_by_cargo"], capture_output=True, text=True, check=False)
+        return done.returncode, done.stdout.splitlines()[-1]
+
+    def test_what_was_not_run_is_not_counted(self):
+        """What couldn't run is no test that passed."""
+        self.assertEqual(self.counted(TOLD.format("ok", 0), 0), (0, "6 passed, 0 failed"))
+        self.assertEqual(self.counted(TOLD.format("FAILED", 2), 101), (1, "6 passed, 2 failed"))
+
+    def test_what_was_not_built_has_failed(self):
+        """Where nothing could be built, that is one failure."""
+        self.assertEqual(self.counted("error: no such thing", 101), (1, "0 passed, 1 failed"))
