@@ -5,10 +5,11 @@ _waltigon() {
     case ${1##*/} in
     waltigon-capture-from-report) options='--network --out' ;;
     waltigon-capture-from-run) options='--clutter --out' ;;
+    waltigon-config-from-hostapd) ;;
     waltigon-explain) options='--program --said' offered='check run play live' ;;
     waltigon-live)
-        options='--phy --wire --wires --share --monitor --country --idle --program --bridge --record --tables --status'
-        offered='kick status'
+        options='--phy --wire --wires --share --monitor --country --idle --program --bridge --record --tables --status --as-root'
+        offered='kick status check-networks'
         ;;
     waltigon-picture) options='--out --from --to --station --network --overview --stations' ;;
     waltigon-report-to-json) options='--without-frames' ;;
@@ -32,5 +33,5 @@ _waltigon() {
         ;;
     esac
 }
-complete -o filenames -F _waltigon waltigon-capture-from-report waltigon-capture-from-run waltigon-explain \
-    waltigon-live waltigon-picture waltigon-report-to-json waltigon-trace-from-capture
+complete -o filenames -F _waltigon waltigon-capture-from-report waltigon-capture-from-run waltigon-config-from-hostapd \
+    waltigon-explain waltigon-live waltigon-picture waltigon-report-to-json waltigon-trace-from-capture

@@ -192,7 +192,14 @@ class Station(Namespace):
     def create(self) -> None:
         """Makes the namespace, and moves the radio there."""
         super().create()
+        self.ask_no_routers()
         run("iw", "phy", self.phy, "set", "netns", "name", self.name)
+
+    def ask_no_routers(self) -> None:
+        """Sends no router solicitations: there are no routers, and for each a station that dozes would wake at a time of
+        its own."""
+        number = "/proc/sys/net/ipv6/conf/default/router_solicitations"
+        self.run("sh", "-c", f"[ ! -e {number} ] || echo 0 >{number}")
 
     def delete(self) -> None:
         """Takes it away; the radio goes back."""

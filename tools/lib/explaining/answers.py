@@ -1,6 +1,8 @@
 """What the program answers: it is run, and the line of its fault is read."""
 import os
 import re
+import shutil
+import stat
 import subprocess
 from dataclasses import dataclass
 
@@ -9,6 +11,8 @@ PROGRAM = os.path.join(ROOT, "build", "apctl")
 FAULT = re.compile(r"fault (?:(?P<code>[CLF]\d+|sources|words|memory|thread|output|clock)"
                    r"(?: trace (?P<trace>\d+))?(?: (?:line|record) (?P<line>\d+))?(?: network (?P<network>\S+))?"
                    r"|file (?P<file>.*))", re.DOTALL)
+
+DESCRIPTOR = re.compile(r"/(?:dev|proc/self)/fd/([0-9]{1,6})")
 
 
 class NoProgram(Exception):
@@ -45,15 +49,35 @@ def read_fault(said: str) -> Fault | None:
         return None
     if match["file"] is not None:
         return Fault(said, "file", file=match["file"])
-    numbers = {name: int(match[name]) for name in ("network", "trace", "line") if (match[name] or "").isdigit()}
-    return Fault(said, match["code"], **numbers)
+    network, trace, line = (int(digits) if (digits or "").isdigit() else None
+                            for digits in match.group("network", "trace", "line"))
+    return Fault(said, match["code"], network, trace, line)
 
 
-def run_program(program: str, words: list[str], given: bytes | None = None) -> Answer:
-    """Runs the program with these words, and with this on standard input, or this process's own."""
+def keep_pipes(words: list[str]) -> tuple[int, ...]:
+    """The descriptors that words name, as those do that a shell puts for `<(..)`. What comes by such a pipe is read to
+    its end, and stands in memory in its place as a file that can be read again."""
+    named = {int(match[1]) for match in map(DESCRIPTOR.fullmatch, words) if match}
+    found = []
+    for number in sorted(named):
+        try:
+            is_pipe = stat.S_ISFIFO(os.fstat(number).st_mode)
+            if number > 2 and is_pipe:
+                with open(number, "rb", closefd=False) as pipe, open(os.memfd_create("pipe"), "r+b") as kept:
+                    shutil.copyfileobj(pipe, kept)
+                    kept.flush()
+                    os.dup2(kept.fileno(), number)
+            found.append(number)
+        except OSError:  # no such descriptor: the program says so
+            pass
+    return tuple(found)
+
+
+def run_program(program: str, words: list[str], given: bytes | None = None,
+                descriptors: tuple[int, ...] = ()) -> Answer:
+    """Runs the program with these words and descriptors, and with this on standard input, or this process's own."""
     try:
-        stdin = {"stdin": None} if given is None else {"input": given}
-        done = subprocess.run([program, *words], capture_output=True, check=False, **stdin)
+        done = subprocess.run([program, *words], capture_output=True, check=False, input=given, pass_fds=descriptors)
     except (OSError, ValueError) as fault:
         reason = getattr(fault, "strerror", None) or fault
         raise NoProgram(f"{program} can't be run: {reason} (`make apctl` builds it)") from None

@@ -7,6 +7,7 @@ from explaining.keys import (HOSTAPD, NETWORK_KEYS, NETWORK_LIMITS, OPTIONS, RAD
                              is_of_encryption, meant)
 from explaining.source import Finding, Place, Source, quoted
 from explaining.toml_scan import Entry, NoToml, Table, Value, scan
+from hostapd import Line, left_out, line_for
 from radio import MOST_IN_VERSION, MOST_NETWORKS
 
 MOST_KEYS_SHOWN = 3
@@ -19,6 +20,9 @@ class NetworkTable:
     begin: int
     end: int
     entries: dict[str, Entry] = field(default_factory=dict)
+
+
+Placed = Entry | Value | Table | NetworkTable
 
 
 class Config:
@@ -41,16 +45,15 @@ class Config:
                 self.networks[-1].entries[table.name[1]] = inner
         array = self.top.get("network")
         if array and array.value.kind == "array":
-            self.networks = [NetworkTable(item.begin, item.begin + 1, keys_of(item.items))
+            self.networks = [NetworkTable(item.begin, item.begin + 1, keys_of(item.entries))
                              for item in array.value.items if item.kind == "table"]
 
     @property
-    def version(self) -> object:
+    def version(self) -> int | None:
         """What `version` is worth, where it is a whole number."""
-        entry = self.top.get("version")
-        return entry.value.worth if entry and entry.value.kind == "integer" else None
+        return number_of(self.top.get("version"))
 
-    def place(self, thing: object) -> Place:
+    def place(self, thing: Placed) -> Place:
         """Where a key, a value or a table stands."""
         return self.source.at(thing.begin, thing.end)
 
@@ -65,6 +68,11 @@ class Config:
 def keys_of(entries: list[Entry]) -> dict[str, Entry]:
     """Entries by the first part of their keys."""
     return {entry.key[0]: entry for entry in entries}
+
+
+def number_of(entry: Entry | None) -> int | None:
+    """The whole number that a key has, where it has one."""
+    return entry.value.integer if entry else None
 
 
 def explain(source: Source, fault: Fault) -> list[Finding]:
@@ -124,20 +132,20 @@ def number_findings(config: Config, entries: dict[str, Entry], key: str, limits:
     entry = entries.get(key)
     if entry is None:
         return [missing(config, entries, key, where, None)]
-    value = entry.value
+    value, number = entry.value, entry.value.integer
     hint = {"channel": values.channel_hint, "interval": values.interval_hint}.get(key)
-    if value.kind != "integer":
+    if number is None:
         digits = str(value.worth).strip() if value.kind in ("text", "number") else ""
         digits = digits.removesuffix(".0")
         is_number = digits.isascii() and digits.isdigit() and least <= int(digits) <= most
         return [wrong_kind(config, entry, key, f"a whole number of {least} to {most}",
                            str(int(digits)) if is_number else SAMPLES[key])]
-    if least <= value.worth <= most:
+    if least <= number <= most:
         return []
-    advice = hint(value.worth) if hint else None
-    if key in ("max_events", "max_known", "quota") and value.worth > most:
+    advice = hint(number) if hint else None
+    if key in ("max_events", "max_known", "quota") and number > most:
         advice = f"write `{key} = {most}`, the most that there is"
-    return [Finding(f"`{key}` is {value.worth}, and may be {least} to {most}", config.place(value),
+    return [Finding(f"`{key}` is {number}, and may be {least} to {most}", config.place(value),
                     advice or f"write a number of {least} to {most}, as `{key} = {SAMPLES[key]}`")]
 
 
@@ -168,9 +176,9 @@ def unlisted_findings(config: Config) -> list[Finding]:
         found += [(entry.begin, unlisted(config, entry, allowed, RADIO_KEYS, place))
                   for place, network in enumerate(config.networks)
                   for key, entry in network.entries.items() if key not in allowed]
-    found = [finding for _, finding in sorted(found, key=lambda pair: pair[0])]
-    more = len(found) - MOST_KEYS_SHOWN
-    return found[:MOST_KEYS_SHOWN] + ([Finding(f"and {more} more keys that aren't listed")] if more > 0 else [])
+    findings = [finding for _, finding in sorted(found, key=lambda pair: pair[0])]
+    more = len(findings) - MOST_KEYS_SHOWN
+    return findings[:MOST_KEYS_SHOWN] + ([Finding(f"and {more} more keys that aren't listed")] if more > 0 else [])
 
 
 def strange_table(config: Config, table: Table) -> Finding:
@@ -195,6 +203,9 @@ def unlisted(config: Config, entry: Entry, here: tuple[str, ...], there: tuple[s
         advice = "above the first `[[network]]`, as a key of the radio" if network is not None else \
             "below the `[[network]]` that it is of"
         return Finding(text, place, f"write it {advice}")
+    stands = line_for(key, str(entry.value.worth))
+    if stands and stands.key in here + there + OPTIONS:
+        return Finding(text, place, of_hostapd(config, stands, network))
     like = meant(key, here)
     if like:
         is_there = like in (config.top if network is None else config.networks[network].entries)
@@ -202,9 +213,24 @@ def unlisted(config: Config, entry: Entry, here: tuple[str, ...], there: tuple[s
         return Finding(text, place, f"write `{like}`{more}")
     if is_of_encryption(key):
         return Finding(text, place, "these networks don't encrypt: leave it out")
-    if key in HOSTAPD:
-        return Finding(f"{text}, but one of hostapd", place, "docs/PROTOCOL.md, \"Configuration\", has the keys")
+    if left_out(key, "") or key in HOSTAPD:
+        return Finding(f"{text}, but one of hostapd", place, f"leave it out: {left_out(key, '') or 'it is not here'}")
     return Finding(text, place, f"the keys are {', '.join(here)}; a remark begins with `#`")
+
+
+def of_hostapd(config: Config, line: Line, network: int | None) -> str:
+    """What to write for a line of hostapd, and where."""
+    of_radio = line.key in RADIO_KEYS
+    entries = [config.top] if of_radio else [config.networks[network].entries] if network is not None else \
+        [other.entries for other in config.networks]
+    if line.key in OPTIONS and config.version == 1:
+        return f"write `version = 2`, and `{line.text()}` in each network that it is for; both options stand in each"
+    if entries and all(line.key in found for found in entries):
+        return f"write `{line.text()}` in place of the line with `{line.key}` that is there, and leave this one out"
+    if of_radio == (network is None):
+        return f"write `{line.text()}`"
+    return f"write `{line.text()}` " + ("above the first `[[network]]`" if of_radio else
+                                        "below the `[[network]]` that it is of")
 
 
 def network_findings(config: Config) -> list[Finding]:
@@ -224,7 +250,7 @@ def network_findings(config: Config) -> list[Finding]:
         if odd:
             return [Finding(f"each network is a table, and this is {values.KINDS[odd.kind]}", config.place(odd),
                             "write a line `[[network]]`, and the network's keys below it")]
-    count, most = len(config.networks), MOST_IN_VERSION.get(config.version, 0)
+    count, most = len(config.networks), MOST_IN_VERSION.get(config.version or 0, 0)
     if not count:
         return [Finding("there is no network", config.place(entry) if entry else None,
                         "write a line `[[network]]`, and the network's keys below it")]
@@ -238,32 +264,32 @@ def network_findings(config: Config) -> list[Finding]:
                     config.place(config.networks[most]), advice)]
 
 
-def text_of(config: Config, network: NetworkTable, key: str) -> tuple[Value | None, list[Finding]]:
-    """The value of a key that is a text, or what is wrong."""
+def text_of(config: Config, network: NetworkTable, key: str) -> tuple[Value, str] | Finding:
+    """The value of a key that is a text, and its characters; or what is wrong."""
     entry = network.entries.get(key)
     if entry is None:
-        return None, [missing(config, network.entries, key, in_network(config, network), config.place(network))]
-    if entry.value.kind != "text":
-        return None, [wrong_kind(config, entry, key, "a text", SAMPLES[key])]
-    return entry.value, []
+        return missing(config, network.entries, key, in_network(config, network), config.place(network))
+    text = entry.value.text
+    return wrong_kind(config, entry, key, "a text", SAMPLES[key]) if text is None else (entry.value, text)
 
 
 def bssid_findings(config: Config, network: NetworkTable) -> list[Finding]:
     """C8."""
-    value, findings = text_of(config, network, "bssid")
-    if value is None:
-        return findings
-    fault = values.address_fault(value.worth)
+    found = text_of(config, network, "bssid")
+    if isinstance(found, Finding):
+        return [found]
+    value, bssid = found
+    fault = values.address_fault(bssid)
     if fault:
         text, span, mended = fault
         return [Finding(text, config.within(value, span), f"write `bssid = \"{mended or '02:00:00:00:00:01'}\"`")]
-    if int(value.worth[:2], 16) & 1:
-        return [Finding(f"this is a group address, since its first octet, {value.worth[:2]}, is odd; a network's is "
-                        "of one receiver", config.within(value, (0, 2)),
-                        f"write `bssid = \"{values.single_address(value.worth)}\"`")]
+    if int(bssid[:2], 16) & 1:
+        return [Finding(f"this is a group address, since its first octet, {bssid[:2]}, is odd; a network's is of one "
+                        "receiver", config.within(value, (0, 2)),
+                        f"write `bssid = \"{values.single_address(bssid)}\"`")]
     for place, other in enumerate(config.networks[:config.networks.index(network)]):
         entry = other.entries.get("bssid")
-        if entry and str(entry.value.worth).lower() == value.worth.lower():
+        if entry and str(entry.value.worth).lower() == bssid.lower():
             line = config.source.first + config.place(entry).line - 1
             return [Finding(f"the network {place} has this address already, in line {line}", config.place(value),
                             "give each network an address of its own")]
@@ -276,16 +302,17 @@ def ssid_findings(config: Config, network: NetworkTable) -> list[Finding]:
     if entry and entry.value.kind in ("integer", "truth", "number"):
         written = config.source.text[entry.value.begin:entry.value.end]
         return [wrong_kind(config, entry, "ssid", "a text, which stands in quotes", f'"{written}"')]
-    value, findings = text_of(config, network, "ssid")
-    if value is None:
-        return findings
-    length = len(value.worth.encode())
+    found = text_of(config, network, "ssid")
+    if isinstance(found, Finding):
+        return [found]
+    value, name = found
+    length = len(name.encode())
     if not length:
         return [Finding("an SSID has 1 to 32 octets, and this is empty", config.place(value), 'write `ssid = "lab"`')]
     if length <= values.MOST_NAME:
         return []
-    letters = f" ({len(value.worth)} characters, some of several octets)" if len(value.worth) < length else ""
-    short = value.worth.encode()[:values.MOST_NAME].decode("utf-8", "ignore")
+    letters = f" ({len(name)} characters, some of several octets)" if len(name) < length else ""
+    short = name.encode()[:values.MOST_NAME].decode("utf-8", "ignore")
     return [Finding(f"an SSID has at most 32 octets, and this has {length}{letters}", config.place(value),
                     f"the first 32 are {quoted(short)}")]
 
@@ -300,10 +327,11 @@ def rates_findings(config: Config, network: NetworkTable) -> list[Finding]:
         is_digits = entry.value.kind == "integer" and not values.rates_fault(written)
         return [wrong_kind(config, entry, "rates", "a text of hexadecimal digits, two for each rate in units of 500 "
                            "kb/s", f'"{written if is_digits else meant_rates or "82840b16"}"')]
-    value, findings = text_of(config, network, "rates")
-    if value is None:
-        return findings
-    fault = values.rates_fault(value.worth)
+    found = text_of(config, network, "rates")
+    if isinstance(found, Finding):
+        return [found]
+    value, digits = found
+    fault = values.rates_fault(digits)
     if not fault:
         return []
     text, span, mended = fault
@@ -314,14 +342,12 @@ def rates_findings(config: Config, network: NetworkTable) -> list[Finding]:
 
 def known_findings(config: Config, network: NetworkTable) -> list[Finding]:
     """C12."""
-    known, stations = (network.entries.get(key) for key in ("max_known", "max_stations"))
-    if not known or not stations or known.value.kind != "integer" or stations.value.kind != "integer":
+    entry, other = network.entries.get("max_known"), network.entries.get("max_stations")
+    known, stations = number_of(entry), number_of(other)
+    if entry is None or known is None or stations is None or known >= stations:
         return []
-    if known.value.worth >= stations.value.worth:
-        return []
-    return [Finding(f"`max_known` is {known.value.worth} and `max_stations` {stations.value.worth}: each station that "
-                    "is associated is known too", config.place(known.value),
-                    f"write `max_known = {stations.value.worth}` or more")]
+    return [Finding(f"`max_known` is {known} and `max_stations` {stations}: each station that is associated is known "
+                    "too", config.place(entry.value), f"write `max_known = {stations}` or more")]
 
 
 def option_findings(config: Config, network: NetworkTable) -> list[Finding]:

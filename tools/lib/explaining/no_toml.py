@@ -7,8 +7,9 @@ import tomllib
 from explaining import values
 from explaining.keys import (HOSTAPD, NETWORK_KEYS, NETWORK_LIMITS, OPTIONS, RADIO_KEYS, RADIO_LIMITS, SAMPLES,
                              TEXT_KEYS)
-from explaining.source import Finding, Place, Source, quoted
+from explaining.source import Finding, Place, Source, odd_blank, quoted
 from explaining.toml_scan import NoToml, scan
+from hostapd import line_for
 
 # How files begin that are no text of this program.
 MAGICS = ((b"\xd4\xc3\xb2\xa1", "capture"), (b"\xa1\xb2\xc3\xd4", "capture"), (b"\x4d\x3c\xb2\xa1", "capture"),
@@ -87,7 +88,7 @@ def other_text(source: Source) -> Finding | None:
         number = next(number for number, line in enumerate(source.lines, 1) if line.startswith(of_hostapd[0]))
         return Finding("this is a configuration of hostapd, and the program has its own keys, in TOML",
                        source.place(number, 1, len(of_hostapd[0])),
-                       "docs/PROTOCOL.md, \"Configuration\", has them; README.md shows one")
+                       "tools/config-from-hostapd writes one for it, and says of each line that it left out why")
     if "\n" not in source.text.strip() and "\r" in source.text.strip():
         return Finding("lines end with CR alone, and TOML's end with LF", source.at(*first_return(source)),
                        "`tr '\\r' '\\n'` writes such a text anew")
@@ -109,6 +110,9 @@ def of_line(source: Source, fault: NoToml, wants_trace: bool) -> Finding:
         return finding
     by_expected = {"`=` after a key": of_key, "a key": of_key, "a value": of_value, "the line's end": of_rest,
                    "a key that isn't there yet": of_key_twice, "a table that isn't there yet": of_table_twice}
+    blank = odd_blank(source, place.line, place.column - 1, place.column - 1 + place.length)
+    if blank and fault.expected in ("`=` after a key", "a key", "a value", "the line's end"):
+        return blank
     if fault.expected in by_expected:
         return by_expected[fault.expected](place, line, fault, source)
     if fault.expected.startswith("a closing"):
@@ -154,12 +158,11 @@ def of_key(place: Place, line: str, fault: NoToml, source: Source) -> Finding:
     if words and re.match(r"\s*:", text[words.end():]):
         return Finding("`:` stands where TOML has `=`", place,
                        f"write `{words[0]} = {text[words.end():].lstrip(': ').rstrip(',')}`")
-    known = words and words[0] in RADIO_KEYS + NETWORK_KEYS
-    if known and not text[words.end():].strip():
-        return Finding(f"`{words[0]}` has no value", place, f"write `{words[0]} = {SAMPLES.get(words[0], '..')}`")
-    if known:
-        return Finding(f"`=` is missing after the key `{words[0]}`", place,
-                       f"write `{words[0]} = {text[words.end():].strip()}`")
+    if words and words[0] in RADIO_KEYS + NETWORK_KEYS:
+        rest = text[words.end():].strip()
+        if not rest:
+            return Finding(f"`{words[0]}` has no value", place, f"write `{words[0]} = {SAMPLES.get(words[0], '..')}`")
+        return Finding(f"`=` is missing after the key `{words[0]}`", place, f"write `{words[0]} = {rest}`")
     if text.startswith("<"):
         return Finding("this is XML or HTML, and a configuration is TOML", place)
     if text.startswith(("\u201c", "\u201d", "\u2018", "\u2019")):
@@ -172,6 +175,9 @@ def of_key(place: Place, line: str, fault: NoToml, source: Source) -> Finding:
 def of_value(place: Place, line: str, fault: NoToml, source: Source) -> Finding:
     """A value that is none."""
     text, key = source.text[fault.begin:fault.end].strip(), fault.key
+    stands = line_for(key, text)
+    if stands:
+        return Finding(f"`{key}` is one of hostapd's", place, f"write `{stands.text()}`")
     name = key or "the key"
     if not text:
         return Finding(f"`{name}` has no value", place, f"write `{key} = {SAMPLES[key]}`" if key in SAMPLES else None)
@@ -250,14 +256,18 @@ def of_key_twice(place: Place, line: str, fault: NoToml, source: Source) -> Find
     line_text = ""
     if earlier and earlier.start() < fault.begin:
         number = source.text.count("\n", 0, earlier.end()) + source.first
-        line_text = f", in line {number}"
+        line_text = f"; the first is in line {number}"
     return Finding(f"the key `{fault.key}` stands here a second time{line_text}", place,
                    "leave one out; the keys of another network stand below a `[[network]]` of its own")
 
 
 def of_table_twice(place: Place, line: str, fault: NoToml, source: Source) -> Finding:
     """A table that is there already."""
-    return Finding(f"`{fault.key}` is there already", place, "write `[[network]]` for each network")
+    earlier = re.compile(rf"^[ \t]*\[{{1,2}}\s*{re.escape(fault.key)}\s*\]", re.MULTILINE).search(source.text)
+    line_text = ""
+    if earlier and earlier.start() < fault.begin:
+        line_text = f", in line {source.text.count(chr(10), 0, earlier.end()) + source.first}"
+    return Finding(f"`{fault.key}` is there already{line_text}", place, "write `[[network]]` for each network")
 
 
 def of_library(source: Source) -> list[Finding]:

@@ -4,6 +4,8 @@ from explaining.config import Config, NetworkTable
 from explaining.source import Finding, Source, quoted
 from explaining.toml_scan import NoToml
 
+NO_ADDRESS = "00:00:00:00:00:00"
+
 
 def odd(source: Source | None) -> list[Finding]:
     """What is odd in a configuration: networks that stations can't tell apart, and networks without a basic rate."""
@@ -11,14 +13,21 @@ def odd(source: Source | None) -> list[Finding]:
         config = Config(source) if source else None
     except (NoToml, RecursionError):
         return []
-    return [*of_names(config), *of_rates(config)] if config else []
+    return [*of_addresses(config), *of_names(config), *of_rates(config)] if config else []
 
 
 def texts_of(config: Config, key: str) -> list[tuple[int, NetworkTable, str]]:
     """The place of each network that has a text for a key, the network, and the text."""
     found = [(place, network, network.entries.get(key)) for place, network in enumerate(config.networks)]
-    return [(place, network, entry.value.worth) for place, network, entry in found
-            if entry and entry.value.kind == "text"]
+    return [(place, network, entry.value.text) for place, network, entry in found
+            if entry and entry.value.text is not None]
+
+
+def of_addresses(config: Config) -> list[Finding]:
+    """Networks whose address is all zeros."""
+    return [Finding(f"the address of the network {place} is all zeros, which no radio has: stations may take it for none",
+                    config.place(network.entries["bssid"].value), "write one of its own, as 02:00:00:00:00:01")
+            for place, network, text in texts_of(config, "bssid") if text == NO_ADDRESS]
 
 
 def of_names(config: Config) -> list[Finding]:

@@ -6,7 +6,7 @@ from dataclasses import dataclass, field
 
 from explaining import odd_config
 from explaining.check_sequences import FCS_LEN, LEAST_LEN, ends_with_fcs, octets_too_many
-from explaining.config import Config, NetworkTable
+from explaining.config import Config, NetworkTable, number_of
 from explaining.progress import Progress
 from explaining.source import Finding, Source, quoted
 from explaining.toml_scan import NoToml
@@ -48,8 +48,7 @@ class Hearing:
 
     def limit(self, key: str) -> int | None:
         """A number of its configuration."""
-        entry = self.table.entries.get(key) if self.table else None
-        return entry.value.worth if entry and entry.value.kind == "integer" else None
+        return number_of(self.table.entries.get(key)) if self.table else None
 
     def has_frames_of_its_own(self) -> bool:
         """Whether it took a frame that is to it and not to all."""
@@ -312,7 +311,8 @@ def of_statuses(hearing: Hearing) -> list[Finding]:
         findings.append(Finding(f"{hearing.name}: it knows as many stations as it may, `max_known = {known}`: each new "
                                 "one will be refused (status 1)"))
     if sent[ASSOCIATION_RESPONSE, 1]:
-        names = Counter(name for name in map(name_asked_for, hearing.heard) if name not in (None, section.ssid))
+        names = Counter(name for name in map(name_asked_for, hearing.heard)
+                        if name is not None and name != section.ssid)
         asked = ", ".join(quoted(name.decode("utf-8", "replace")) for name, _ in names.most_common(MOST_NAMED))
         findings.append(Finding(f"{hearing.name}: associations refused with status 1: {sent[ASSOCIATION_RESPONSE, 1]} "
                                 f"(they named another SSID{f', {asked},' if asked else ''} than "

@@ -4,7 +4,8 @@ from dataclasses import dataclass
 
 MOST_SHOWN = 96
 BEFORE_MARK = 40
-TAB_SHOWN, CONTROL_SHOWN = "\u21e5", 0x2400
+TAB_SHOWN, BLANK_SHOWN, CONTROL_SHOWN = "\u21e5", "\u237d", 0x2400
+MARK = "\ufeff"
 
 
 class Source:
@@ -65,7 +66,27 @@ def visible(letter: str) -> str:
         return TAB_SHOWN
     if ord(letter) < 0x20:
         return chr(CONTROL_SHOWN + ord(letter))
+    if is_odd_blank(letter) and letter != MARK and unicodedata.category(letter) == "Zs":
+        return BLANK_SHOWN
     return "\ufffd" if unicodedata.category(letter)[0] == "C" else letter
+
+
+def is_odd_blank(letter: str) -> bool:
+    """Whether a character looks like a space or like nothing, and is no space of ASCII."""
+    return not letter.isascii() and unicodedata.category(letter) in ("Zs", "Cf")
+
+
+def odd_blank(source: Source, line: int, begin: int = 0, end: int | None = None) -> "Finding | None":
+    """The first character of a line, or of a part of it, that looks like a space or like nothing and is neither."""
+    text = source.line(line)
+    for at, letter in enumerate(text[begin:end], begin):
+        if is_odd_blank(letter) and not (letter == MARK and line == 1 and at == 0):
+            name = unicodedata.name(letter, "a character that isn't seen").lower()
+            is_seen = unicodedata.category(letter) == "Zs"
+            return Finding(f"a {name} (U+{ord(letter):04X}) stands here" +
+                           (", which looks like a space and is none" if is_seen else ", which isn't seen"),
+                           source.place(line, at + 1), "write a space" if is_seen else "leave it out")
+    return None
 
 
 def quoted(text: str, most: int = 40) -> str:

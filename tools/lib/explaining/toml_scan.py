@@ -37,7 +37,18 @@ class Value:
     worth: object
     begin: int
     end: int
-    items: list = field(default_factory=list)
+    items: list["Value"] = field(default_factory=list)
+    entries: list["Entry"] = field(default_factory=list)
+
+    @property
+    def text(self) -> str | None:
+        """The characters of a text; None for another kind."""
+        return self.worth if self.kind == "text" and isinstance(self.worth, str) else None
+
+    @property
+    def integer(self) -> int | None:
+        """The whole number that it is; None for another kind."""
+        return self.worth if self.kind == "integer" and isinstance(self.worth, int) else None
 
 
 @dataclass
@@ -203,17 +214,20 @@ class Scanner:
 
     def array(self, key: str) -> Value:
         """An array, which may stand in several lines."""
-        begin, items = self.at, []
+        begin = self.at
+        items: list[Value] = []
         for _ in self.parts("]", "an array", key):
             items.append(self.value(key))
         return Value("array", [item.worth for item in items], begin, self.at, items)
 
     def inline_table(self) -> Value:
         """A table between braces, which may stand in several lines."""
-        begin, entries = self.at, []
+        begin = self.at
+        entries: list[Entry] = []
         for _ in self.parts("}", "a table", ""):
             self.entry(entries)
-        return Value("table", {entry.key: entry.value.worth for entry in entries}, begin, self.at, entries)
+        return Value("table", {entry.key: entry.value.worth for entry in entries}, begin, self.at,
+                     entries=entries)
 
     def parts(self, closing: str, whole: str, key: str) -> Iterator[None]:
         """Steps over brackets and the commas between them; whoever asks for the next part steps over that."""

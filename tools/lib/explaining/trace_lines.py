@@ -5,7 +5,7 @@ import re
 from explaining import values
 from explaining.answers import Fault
 from explaining.no_toml import MAGICS, REPORT_LINE, UTF_16
-from explaining.source import Finding, Source, quoted
+from explaining.source import Finding, Source, odd_blank, quoted
 
 MOST_OCTETS, MOST_LINES, MOST_NAMED = 4096, 1_000_000, 4
 HEX_DUMP = re.compile(r"(?:0x)?[0-9A-Fa-f]{4,8}:? +(?:(?:[0-9A-Fa-f]{2}|[0-9A-Fa-f]{4})(?: +|$)){4,}")
@@ -27,6 +27,9 @@ def explain(source: Source, fault: Fault, bssids: list[str], is_live: bool = Fal
         return []
     line = source.lines[number - 1]
     line = (line.removesuffix("\r") if number < len(source.lines) else line).rstrip(" ")
+    odd = odd_blank(source, number)
+    if odd and fault.code in ("L1", "L2", "L3", "L4"):
+        return [odd]
     parts = {"L1": of_word, "L2": of_digits, "L3": of_address, "L4": of_network, "L5": of_length}
     finding = parts[fault.code](source, number, line, bssids) if fault.code in parts else None
     return [finding] if finding else []
@@ -175,7 +178,7 @@ def of_address(source: Source, number: int, line: str, bssids: list[str]) -> Fin
     """L3: the address after `W`."""
     match = re.match(r"W +([^ ]*)", line)
     word = match[1] if match else ""
-    if not word:
+    if not match or not word:
         return Finding("after `W` the address of the network stands, whose wire it is", source.place(number, 1),
                        f"write `W {bssids[0] if bssids else '02:00:00:00:00:01'}` and the frame's digits")
     fault = values.address_fault(word)
@@ -184,7 +187,7 @@ def of_address(source: Source, number: int, line: str, bssids: list[str]) -> Fin
     text, span, mended = fault
     some = bssids[0] if bssids else "02:00:00:00:00:01"
     place = source.place(number, match.start(1) + 1 + span[0], span[1] - span[0])
-    if DIGITS.fullmatch(word) and mended not in map(str.lower, bssids):
+    if DIGITS.fullmatch(word) and (mended is None or mended not in map(str.lower, bssids)):
         return Finding("after `W` the BSSID is missing, the address of the network whose wire it is, before the frame",
                        source.place(number, match.start(1) + 1, len(word)),
                        f"write {quoted(f'W {some} {word}', 60)}" + (f"; {having(bssids)}" if bssids else ""))

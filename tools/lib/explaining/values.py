@@ -54,7 +54,7 @@ def rates_of_megabits(numbers: list[float]) -> str | None:
     if any(octet != 2 * rate or not 1 <= octet <= MOST_RATE for octet, rate in zip(octets, numbers)):
         return None
     basic = DSSS_BASIC if any(rate in DSSS for rate in numbers) else OFDM_BASIC
-    wanted = [rate for rate in basic if rate in numbers] or [min(numbers)]
+    wanted: list[float] = [rate for rate in basic if rate in numbers] or [min(numbers)]
     return bytes(octet | (BASIC if rate in wanted else 0) for octet, rate in zip(octets, numbers)).hex()
 
 
@@ -79,8 +79,8 @@ def rates_fault(text: str) -> tuple[str, tuple[int, int], str | None] | None:
     if stray and meant:
         return "these are rates in Mb/s, and `rates` has them in units of 500 kb/s as hexadecimal digits", whole, meant
     if stray:
-        mended = re.sub(r"0[xX]|[^0-9A-Fa-f]", "", text)
-        mended = mended if mended and rates_fault(mended) is None else None
+        digits = re.sub(r"0[xX]|[^0-9A-Fa-f]", "", text)
+        mended = digits if digits and rates_fault(digits) is None else None
         return f"{quoted(stray[0])} is no hexadecimal digit", stray.span(), mended
     if not text:
         return "a network has at least one rate", whole, "82840b16"

@@ -130,10 +130,11 @@ def of_good_run(texts: Texts, answer: Answer) -> list[str]:
 
 def odd_in(texts: Texts, output: str) -> list[Finding]:
     """What is odd in a run, or that nothing was found, or that it couldn't be looked at."""
-    if texts.config is None or None in texts.traces:
+    traces = [trace for trace in texts.traces if trace is not None]
+    if texts.config is None or len(traces) < len(texts.traces):
         return [Finding("a text of this run can't be read a second time, so what is odd in it wasn't looked for")]
     try:
-        odd = runs.odd(texts.config, texts.traces, output, texts.has_separator)
+        odd = runs.odd(texts.config, traces, output, texts.has_separator)
     except TextError as fault:
         return [Finding(f"what is odd in this run wasn't looked for: {fault}")]
     return odd or [Finding("nothing odd was found in this run")]

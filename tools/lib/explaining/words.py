@@ -12,12 +12,13 @@ FORMS = ("check CONFIG, run CONFIG TRACE, play CONFIG TRACE..., live CONFIG and 
          "reads standard input")
 OCTETS = "--octets"
 MOST_TRACES, MOST_FILES = 64, 4
+LIKE = 0.75  # how much a file's name has to be like the one that was given, for it to be meant
 
 
 def explain(fault: Fault, words: list[str]) -> list[Finding]:
     """The reasons for a fault that is of no text; none where nothing was found."""
     parts = {"words": of_words, "file": of_file, "sources": of_sources, "memory": of_memory, "output": of_output,
-             "thread": of_thread, "clock": of_clock, "F2": of_finish, "F3": of_finish, "F4": of_finish}
+             "thread": of_thread, "clock": of_clock, "F3": of_uncovered}
     return parts[fault.code](fault, words) if fault.code in parts else []
 
 
@@ -121,7 +122,7 @@ def missing_file(name: str, advice: str | None, reason: OSError) -> Finding:
     if not os.path.isdir(folder):
         return Finding(f"{quoted(name)} isn't there: there is no folder {quoted(folder)}", None, advice)
     try:
-        close = difflib.get_close_matches(os.path.basename(name), os.listdir(folder), 1, 0.6)
+        close = difflib.get_close_matches(os.path.basename(name), os.listdir(folder), 1, LIKE)
     except OSError:
         close = []
     if close and not advice:
@@ -162,7 +163,7 @@ def of_clock(fault: Fault, words: list[str]) -> list[Finding]:
                     "start the program again")]
 
 
-def of_finish(fault: Fault, words: list[str]) -> list[Finding]:
+def of_uncovered(fault: Fault, words: list[str]) -> list[Finding]:
     """What no run has met."""
-    return [Finding("what the threads were told and the histories of the networks don't agree: this is a mistake of "
-                    "the program, and not of these texts", None, "keep the texts, and tell whoever maintains it")]
+    return [Finding("a network was not given all lines of each trace, or a frame of it still waits: this is a mistake "
+                    "of the program, and not of these texts", None, "keep the texts, and tell whoever maintains it")]

@@ -81,6 +81,13 @@ def of_all(document: dict) -> Iterator[Family]:
     worst = gauge("beacon_lateness_worst_seconds", "How late the latest beacon interval began.")
     worst.add(beacons["late_ms_worst"], PER_MILLISECOND)
     yield from (sent, missed, mean, worst)
+    record = document.get("record")
+    if record is not None:
+        octets = gauge("record_octets", "Octets of the file that the lines are recorded in.")
+        octets.add(record["octets"])
+        records = gauge("recording", "1 while lines are recorded, 0 once the recording has stopped.")
+        records.add(int(record["fault"] is None))
+        yield from (octets, records)
     for name, key, text in (("frames_dropped", "drops", "Frames that the bridge dropped, by the reason."),
                             ("frames_left_out", "left_out", "Frames that no network has to hear, by the reason.")):
         family = counter(name, text)

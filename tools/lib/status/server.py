@@ -36,6 +36,9 @@ FIXED_HEADERS = {"Connection": "close", "Cache-Control": "no-store", "X-Content-
                  "Referrer-Policy": "no-referrer", "Cross-Origin-Resource-Policy": "same-origin"}
 
 
+Request = socket.socket | tuple[bytes, socket.socket]  # what `socketserver` calls a request: here a connection
+
+
 class Status:
     """Asks for the status document: one thread at a time, and each answer serves those who ask soon after."""
 
@@ -100,7 +103,7 @@ class Handler(BaseHTTPRequestHandler):
 
     def answer(self) -> None:
         """Answers a request that was read."""
-        hosts = self.headers.get_all("Host", [])
+        hosts: list[str] = self.headers.get_all("Host", [])
         if len(hosts) != 1 or not HOST.fullmatch(hosts[0].strip()):
             self.send_error(HTTPStatus.MISDIRECTED_REQUEST, "ask for 127.0.0.1 or localhost")
         elif self.command not in ALLOWED:
@@ -173,7 +176,7 @@ class Server(socketserver.ThreadingTCPServer):
         """Begins to answer."""
         self.serving.start()
 
-    def process_request(self, request: socket.socket, client_address: tuple) -> None:
+    def process_request(self, request: Request, client_address: object) -> None:
         """Begins the thread of a connection, where there is room for it."""
         if not self.room.acquire(blocking=False):
             self.shutdown_request(request)
@@ -184,14 +187,14 @@ class Server(socketserver.ThreadingTCPServer):
             self.room.release()
             raise
 
-    def process_request_thread(self, request: socket.socket, client_address: tuple) -> None:
+    def process_request_thread(self, request: Request, client_address: object) -> None:
         """The thread of a connection."""
         try:
             super().process_request_thread(request, client_address)
         finally:
             self.room.release()
 
-    def handle_error(self, request: socket.socket, client_address: tuple) -> None:
+    def handle_error(self, request: Request, client_address: object) -> None:
         """A connection that broke or was too slow is no fault of ours, and isn't told."""
 
     @property
