@@ -21,8 +21,10 @@ class Words(ToolTest):
         os.chmod(self.path(".ci/try"), 0o755)
 
     def made(self, *words):
-        """The status of make, and what it says."""
-        done = subprocess.run(["make", *words], capture_output=True, text=True, check=False, cwd=self.folder)
+        """The status of make, and what it says, as by hand: a make that runs this test hands on how it was called."""
+        by_hand = {name: value for name, value in os.environ.items() if name not in ("MAKELEVEL", "MAKEFLAGS", "MFLAGS")}
+        done = subprocess.run(["make", *words], capture_output=True, text=True, check=False, cwd=self.folder,
+                              env=by_hand)
         return done.returncode, done.stdout, done.stderr
 
     def test_files_are_no_targets(self):
