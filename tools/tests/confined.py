@@ -2,7 +2,8 @@
 as `tools/live` starts them, without systemd, in a network namespace and with a list of users of their own. The words name
 what an attacker in one of them does; what came of it is printed as JSON.
 
-Usage: unshare --net --mount tools/tests/confined.py BRIDGE PROGRAM FOLDER CASE, as root.
+Usage: unshare --net --mount --pid --fork --kill-child --mount-proc tools/tests/confined.py BRIDGE PROGRAM FOLDER CASE, as
+root.
 """
 import ctypes
 import json
@@ -44,12 +45,12 @@ max_events = 100
 """
 USERS = "waltigon:x:930:930::/:/usr/sbin/nologin\nwaltigon-status:x:931:931::/:/usr/sbin/nologin\n"
 GROUPS = "waltigon:x:930:\nwaltigon-status:x:931:\n"
-ATTACH, DETACH, GET, SET, CONTINUE, STEP, POKE = 16, 17, 12, 13, 7, 9, 4
+SEIZE, INTERRUPT, DETACH, GET, SET, STEP, POKE = 0x4206, 0x4207, 17, 12, 13, 9, 4
 CALL, WORD = 0x050F, 8  # the instruction `syscall` of x86-64
 OPEN, SOCKET, EXECVE = 257, 41, 59
 WRITING = os.O_WRONLY | os.O_CREAT
 HERE_FOLDER = (1 << 64) - 100  # AT_FDCWD
-SECONDS = 10
+SECONDS = 30
 # A program that was built with a checker of addresses has more address space than there is memory.
 MEMORY = int(os.environ.get("MEMORY", serving.MOST_MEMORY))
 
@@ -74,7 +75,9 @@ def trace(request, process, address=0, data=0):
 def call(process, number, *arguments, text=b""):
     """A process makes a call of the system, as whoever has taken it over would have it; its answer, or how it ended. A text
     stands on its stack, where an argument is None."""
-    trace(ATTACH, process)
+    # stopped so, it gets no signal that could come in the place of the step
+    trace(SEIZE, process)
+    trace(INTERRUPT, process)
     os.waitpid(process, 0)
     registers = Registers()
     trace(GET, process, 0, ctypes.addressof(registers))
@@ -226,16 +229,19 @@ class NoRadio(SettingUp):
         return [part for part in super().parts_of(plan) if isinstance(part, WirePart)]
 
 
-def attack(bridge, program, folder, case, found):
-    """Waits until frames go, does what the case says, and ends all where that hasn't ended it."""
+def attack(bridge, program, folder, case, found, ended):
+    """Waits until frames go, does what the case says, and ends all where nothing has ended it."""
     try:
-        wait_for("the bridge", SECONDS, lambda: "networks are on channel" in read(folder, "log"))
+        wait_for("the bridge", SECONDS, lambda: ended.is_set() or "networks are on channel" in read(folder, "log"))
+        if ended.is_set():
+            return
         parts = {"bridge": process_of(bridge), "program": process_of(program)}
         found["outcome"] = CASES[case](parts, folder)
         time.sleep(0.5)
     except Exception as fault:  # told as what came of it
         found["outcome"] = repr(fault)
-    os.kill(os.getpid(), signal.SIGINT)
+    if not ended.is_set():
+        os.kill(os.getpid(), signal.SIGINT)
 
 
 def read(folder, name):
@@ -259,7 +265,8 @@ def main():
     log = os.open(os.path.join(folder, "log"), os.O_WRONLY | os.O_CREAT | os.O_APPEND, 0o644)
     os.dup2(log, 2)
     # The attacker is another thread: signals are handled by this one, as ever.
-    attacker = threading.Thread(target=attack, args=(bridge, program, folder, case, found))
+    ended = threading.Event()
+    attacker = threading.Thread(target=attack, args=(bridge, program, folder, case, found, ended))
     attacker.start()
     with (mock.patch.object(changes, "RUN", os.path.join(folder, "run")), mock.patch.object(serving, "SettingUp", NoRadio),
           mock.patch.object(serving, "check", lambda *_: plan), mock.patch.object(serving, "MOST_MEMORY", MEMORY)):
@@ -268,6 +275,7 @@ def main():
             found["fault"] = None
         except Fault as fault:
             found["fault"] = str(fault)
+        ended.set()
     attacker.join()
     found |= {"left": [name for name, path in (("bridge", bridge), ("program", program)) if process_of(path)],
               "log": read(folder, "log"), "made": os.listdir(os.path.join(folder, "run")),

@@ -36,7 +36,9 @@ class Confined(ToolTest):
         os.makedirs(folder)
         for path in (self.folder, folder):
             os.chmod(path, 0o755)
-        words = ["unshare", "--net", "--mount", sys.executable, SCRIPT, BRIDGE, PROGRAM, folder, case]
+        # whatever is left of it ends with it, so that nothing is waited for after the time is over
+        words = ["unshare", "--net", "--mount", "--pid", "--fork", "--kill-child", "--mount-proc",
+                 sys.executable, SCRIPT, BRIDGE, PROGRAM, folder, case]
         done = subprocess.run(words, capture_output=True, text=True, check=False, timeout=120)
         self.assertEqual(done.returncode, 0, done.stderr)
         found = json.loads(done.stdout)
