@@ -98,24 +98,27 @@ class Documents(ToolTest):
             self.assertIn("There are 3 wrong bodies of `wrong/`.", file.read())
 
 class Readme(ToolTest):
-    """The configurations that README.md shows."""
+    """What README.md shows: a configuration, a trace, and what a network answers."""
 
-    def configs(self):
-        """Each of them, without the trace that may follow."""
-        blocks = re.findall(r"^```\n(version = .*?)^```$", read_text(os.path.join(ROOT, "README.md")), re.DOTALL | re.M)
-        return [block.split("---\n")[0] for block in blocks]
+    def blocks(self):
+        """The blocks of its text."""
+        return re.findall(r"^```\n(.*?)^```$", read_text(os.path.join(ROOT, "README.md")), re.DOTALL | re.M)
 
-    def test_guests_are_kept_apart(self):
-        """There is one of a network for guests, which are kept apart and whose units age."""
-        networks = [network for config in map(tomllib.loads, self.configs()) if config["version"] == 2
-                    for network in config["network"]]
-        self.assertIn((False, True), [(network["relay"], network["aging"]) for network in networks])
+    def shown(self):
+        """The configuration, and the trace."""
+        return next(block for block in self.blocks() if block.startswith("version")).split("---\n")
+
+    def test_it_is_the_sample(self):
+        """The configuration is that of share/networks, of three networks, and guests are kept apart in it."""
+        config = tomllib.loads(self.shown()[0])
+        self.assertEqual(config, tomllib.loads(read_text(os.path.join(ROOT, "share/networks/phy0.toml"))))
+        self.assertEqual([(network["ssid"], network["relay"]) for network in config["network"]],
+                         [("guests", False), ("office", True), ("devices", False)])
 
     @needs_program
-    def test_program_takes_them(self):
-        """The program finds no fault in any."""
-        self.assertGreater(len(self.configs()), 1)
-        for config in self.configs():
-            with open(self.path("my.toml"), "w", encoding="ascii") as file:
-                file.write(config)
-            self.assertEqual(run_program("check", self.path("my.toml")), f"ok {config.count('[[network]]')}\n")
+    def test_program_answers_so(self):
+        """The section that is shown is one of the program's report, and the only one with an answer."""
+        report = run_program(program_input="---\n".join(self.shown()))
+        section = next(block for block in self.blocks() if block.startswith("network "))
+        self.assertIn(section, report)
+        self.assertEqual(report.count("\nair "), 1)
