@@ -20,9 +20,10 @@ class ServiceCases:
         self.words = words
         self.passed = self.failed = 0
 
-    def make_stage(self) -> str:
-        """Makes a station and a host: the name of the access point's radio."""
-        radios = load_radios(2)
+    def make_stage(self, more: int = 0) -> str:
+        """Makes a station and a host, with so many more radios: the name of the access point's radio."""
+        radios = load_radios(2 + more)
+        self.more_radios = radios[2:]
         run("iw", "dev", radios[0].interface, "del")
         self.unit = f"waltigon@{radios[0].phy}.service"
         self.host = Host("host1", "eth0", "10.0.1.1", "wire1")
