@@ -2,6 +2,7 @@
 is kicked, a configuration that is read again, and the commands that the documents give."""
 import json
 import os
+import pwd
 import random
 import re
 import signal
@@ -145,7 +146,8 @@ class Silence(Part):
         return done.stdout.strip()
 
     def status(self) -> str:
-        """The stations with what was sent to them and heard of them; another user may not kick."""
+        """The stations with what was sent to them and heard of them. The page's user may ask and not kick, and any other
+        may do neither."""
         wait_for("a hundred beacons", 30, lambda: json.loads(ask("status").stdout)["beacons"]["sent"] >= 100)
         found = json.loads(ask("status").stdout)
         network = found["networks"][0]
@@ -159,12 +161,17 @@ class Silence(Part):
             raise Failed(f"a station: {mine}")
         if network["counts"]["clock"] < 100 or found["beacons"]["sent"] < 100 or network["wire"] != "wire1":
             raise Failed(f"{found}")
-        kick = ["setpriv", "--reuid", "65534", "--regid", "65534", "--clear-groups", LIVE, "kick", GUESTS,
-                self.silent.hardware_address()]
-        refused = subprocess.run(kick, capture_output=True, text=True, check=False)
-        if refused.returncode != 1 or "only root may kick" not in refused.stderr:
-            raise Failed(f"kick as another user: {refused.stderr}")
+        for user, says in (("waltigon-status", "only root may kick"), ("nobody", "Permission denied")):
+            refused = self.kick_as(user)
+            if refused.returncode != 1 or says not in refused.stderr:
+                raise Failed(f"kick as {user}: {refused.stderr}")
         return f"{len(stations)} stations, {found['beacons']}"
+
+    def kick_as(self, user: str) -> subprocess.CompletedProcess:
+        """Kicks a station as another user, in that user's group alone."""
+        return subprocess.run(["setpriv", "--reuid", user, "--regid", str(pwd.getpwnam(user).pw_gid), "--clear-groups",
+                               LIVE, "kick", GUESTS, self.silent.hardware_address()],
+                              capture_output=True, text=True, check=False)
 
 
 class Flood(Part):
@@ -363,7 +370,9 @@ class ByHand:
             with open(log, "wb") as file:
                 process = subprocess.Popen(self.words(serving, names), cwd=self.folder, stdin=subprocess.DEVNULL,
                                            stdout=file, stderr=file, start_new_session=True)
-            wait_for("the access point", 30, lambda: b"networks are on channel" in read(log))
+            wait_for("the access point", 30, lambda: b"networks are on channel" in read(log) or process.poll() is not None)
+            if process.poll() is not None:
+                raise Failed(read(log).decode())
             told = self.shell(joining, names)
             os.killpg(process.pid, signal.SIGINT)
             process.wait(60)
