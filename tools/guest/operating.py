@@ -5,6 +5,7 @@ import os
 import pwd
 import random
 import re
+import shutil
 import signal
 import socket
 import subprocess
@@ -13,7 +14,7 @@ import time
 from frames import BROADCAST, DATA, DEAUTHENTICATION, DISASSOCIATION, NULL, Frame, address_of
 from live.radiotap import captured
 from parts import IN_REACH, OUT_OF_REACH, Part, join, set_reach
-from stage import Net, Start
+from stage import COMPILED, Net, Start
 from stations import Failed, Station, load_radios, run, unload_radios, wait_for
 
 HERE = os.path.dirname(os.path.realpath(__file__))
@@ -347,16 +348,16 @@ class ByHand:
     SECTION, NEXT = "\n## By hand\n", "\n### "
     BLOCK = re.compile(r"^```(?:toml|bash)\n(.*?)^```$", re.MULTILINE | re.DOTALL)
 
-    def __init__(self, folder: str) -> None:
+    def __init__(self, folder: str, program: str) -> None:
         self.folder = os.path.join(folder, "by-hand")
+        self.program = program
 
     def run(self) -> str:
         """A station joins and pings the host; what was recorded is what `run` takes."""
         with open(os.path.join(TOP, "docs", "LIVE.md"), encoding="utf-8") as file:
             section = file.read().partition(self.SECTION)[2].partition(self.NEXT)[0]
         config, wires, serving, joining = self.BLOCK.findall(section)
-        os.makedirs(self.folder)
-        os.symlink(os.path.join(TOP, "tools"), os.path.join(self.folder, "tools"))
+        self.check_out()
         with open(os.path.join(self.folder, "my.toml"), "w", encoding="utf-8") as file:
             file.write(config)
         loading, _, wires = wires.partition("\n")
@@ -385,6 +386,16 @@ class ByHand:
         if "Connected to 02:00:00:00:01:01" not in told or "4 packets transmitted, 4 received" not in told:
             raise Failed(f"{told} {read(log).decode()}")
         return "4 of 4 pings came back"
+
+    def check_out(self) -> None:
+        """The tools and what was built, on a file system of this machine: the program runs from no other within its
+        bounds."""
+        for path, name in ((self.program, "apctl"), (COMPILED, os.path.relpath(COMPILED, os.path.join(TOP, "build")))):
+            place = os.path.join(self.folder, "build", name)
+            os.makedirs(os.path.dirname(place))
+            shutil.copy(path, place)
+        shutil.copytree(os.path.join(TOP, "tools"), os.path.join(self.folder, "tools"), symlinks=True,
+                        ignore=shutil.ignore_patterns("bridge", "guest"))
 
     def words(self, commands: str, names: dict[str, str]) -> list[str]:
         """Commands for bash, where root needs no sudo."""

@@ -24,6 +24,19 @@ const PIECE_LEN: usize = 1 << 16;
 const MOST_UNREAD: usize = 32;
 const EVERY: Duration = Duration::from_millis(5);
 
+/// Why the program wasn't begun. Landlock knows a file by its place in the kernel, which a file system of another machine
+/// may give anew each time that a file is opened (9p does).
+fn not_begun(path: &str, is_bounded: bool, fault: &io::Error) -> Fault {
+    let of_landlock = match fault.kind() {
+        ErrorKind::PermissionDenied if is_bounded => {
+            " within its bounds: where the file system is another machine's (9p), copy the program and the configuration \
+             to this machine's own, or say --as-root"
+        }
+        _ => "",
+    };
+    Fault::new(format!("{path}: {}{of_landlock}", reason(fault)))
+}
+
 /// `PROGRAM live CONFIG` or `PROGRAM live --octets CONFIG`.
 #[derive(Debug)]
 pub struct Program {
@@ -51,10 +64,11 @@ impl Program {
             command.arg("--octets");
         }
         command.arg(config).stdin(Stdio::piped()).stdout(Stdio::piped());
+        let is_bounded = bounds.is_some();
         if let Some(bounds) = bounds {
             bounds.hold(&mut command);
         }
-        let mut child = command.spawn().map_err(|fault| Fault::of(path, &fault))?;
+        let mut child = command.spawn().map_err(|fault| not_begun(path, is_bounded, &fault))?;
         match (child.stdin.take(), child.stdout.take()) {
             (Some(input), Some(output)) => {
                 for pipe in [input.as_raw_fd(), output.as_raw_fd()] {
@@ -329,6 +343,14 @@ mod tests {
         assert_eq!(std::fs::read_to_string(&path).unwrap(), "T\n# I\nA 0102\n");
         assert_eq!((record.written(), record.fault()), (13, None));
         std::fs::remove_file(path).unwrap();
+    }
+
+    #[test]
+    fn a_program_that_may_not_be_run_within_its_bounds_is_told_so() {
+        let said = |is_bounded, number| not_begun("apctl", is_bounded, &io::Error::from_raw_os_error(number)).to_string();
+        assert_eq!(said(false, libc::EACCES), "apctl: Permission denied");
+        assert_eq!(said(true, libc::ENOENT), "apctl: No such file or directory");
+        assert!(said(true, libc::EACCES).starts_with("apctl: Permission denied within its bounds: where the file system"));
     }
 
     #[test]
