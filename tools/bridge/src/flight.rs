@@ -44,7 +44,8 @@ struct Given<W> {
     /// What of the radio's time it is reckoned to take from now on.
     reckoned: Nanos,
     since: Nanos,
-    /// When it has been out for twice the time that was reckoned for it and for all before it.
+    /// When it has been out for twice the time that was reckoned for it and for all before it, since the radio got it or
+    /// since one before it that took longer was told of.
     overdue: Nanos,
     state: State,
 }
@@ -65,6 +66,11 @@ impl<W> Given<W> {
     fn was_overtaken(&self, now: Nanos) -> bool {
         self.state != State::Done && self.overdue.max(self.since + 2 * MOST_AT_ONCE) < now
     }
+}
+
+/// How long a radio of this pace takes for what is reckoned to take so long.
+fn at_pace(pace: u64, reckoned: Nanos) -> Nanos {
+    (reckoned / PACE_UNIT).saturating_mul(pace)
 }
 
 /// The frames that the radio has, in the order in which it got them, and how fast it is.
@@ -103,7 +109,7 @@ impl<W> Flight<W> {
 
     /// How long the radio takes for what is reckoned to take so long, by its pace.
     fn by_clock(&self, reckoned: Nanos) -> Nanos {
-        (reckoned / PACE_UNIT).saturating_mul(self.pace)
+        at_pace(self.pace, reckoned)
     }
 
     /// The radio is given a frame.
@@ -117,14 +123,26 @@ impl<W> Flight<W> {
     /// `None` of a frame that it doesn't have.
     pub fn told(&mut self, name: Name, now: Nanos, took: impl FnOnce(&W) -> Nanos) -> Option<W> {
         let found = self.frames.iter().position(|given| given.name == name)?;
-        let Given { what, reckoned, since, .. } = self.frames.remove(found)?;
+        let Given { what, reckoned, since, overdue, .. } = self.frames.remove(found)?;
         self.reckoned -= reckoned;
+        if overdue < now {
+            self.wait_anew(found, now);
+        }
         let step = now.saturating_sub(since.max(self.last_told)).min(MOST_STEP);
         self.last_told = self.last_told.max(now);
         self.spent = self.spent - self.spent / PACE_PARTS + step;
         self.took = self.took - self.took / PACE_PARTS + took(&what);
         self.pace = (self.spent * PACE_UNIT / self.took.max(1)).max(PACE_UNIT / FASTEST);
         Some(what)
+    }
+
+    /// A frame took longer than was reckoned: those that the radio got after it have their time from now on.
+    fn wait_anew(&mut self, from: usize, now: Nanos) {
+        let (pace, mut reckoned) = (self.pace, 0);
+        for given in self.frames.iter_mut().skip(from) {
+            reckoned += given.reckoned;
+            given.overdue = given.overdue.max(now + 2 * at_pace(pace, reckoned).max(reckoned));
+        }
     }
 
     /// The radio was never given this frame.
@@ -134,12 +152,13 @@ impl<W> Flight<W> {
         }
     }
 
-    /// Whether the radio has a frame for this receiver that is out for more than twice its reckoned time.
+    /// Whether the oldest frame that the radio has is for this receiver, and is out for more than twice its reckoned time.
+    /// The younger ones may wait for it alone.
     pub fn is_overdue(&self, place: Place, receiver: Address, now: Nanos) -> bool {
-        let of_it = |given: &&Given<W>| {
-            given.name.receiver == receiver && given.name.place == place && given.state != State::Done
-        };
-        self.frames.iter().find(of_it).map_or(false, |given| given.overdue < now)
+        let oldest = self.frames.iter().find(|given| given.state != State::Done);
+        oldest.map_or(false, |given| {
+            given.overdue < now && given.name.receiver == receiver && given.name.place == place
+        })
     }
 
     /// Whether `settle` has something to do at this time.
@@ -211,7 +230,7 @@ mod tests {
     }
 
     /// The radio takes so many times the reckoned millisecond for each of a hundred frames.
-    fn at_pace(times: u64) -> Flight<()> {
+    fn of_pace(times: u64) -> Flight<()> {
         let mut flight = flight();
         for number in 0..100 {
             flight.give(name(number), (), MILLISECOND, times * MILLISECOND * u64::from(number));
@@ -230,9 +249,9 @@ mod tests {
     #[test]
     fn the_radio_has_what_it_sends_in_eight_milliseconds() {
         assert_eq!(fitting(flight()), 8);
-        assert_eq!(fitting(at_pace(1)), 8);
-        assert_eq!(fitting(at_pace(4)), 2);
-        assert_eq!(fitting(at_pace(0)), 32);
+        assert_eq!(fitting(of_pace(1)), 8);
+        assert_eq!(fitting(of_pace(4)), 2);
+        assert_eq!(fitting(of_pace(0)), 32);
         let mut busy = flight();
         busy.give(name(1), (), BUSY, 0);
         assert!(!busy.is_busy());
@@ -242,7 +261,7 @@ mod tests {
 
     #[test]
     fn one_frame_it_always_has() {
-        assert_eq!(fitting(at_pace(50)), 1);
+        assert_eq!(fitting(of_pace(50)), 1);
         let mut flight = flight();
         assert!(flight.has_room(Nanos::from(u32::MAX), 0));
         flight.give(name(1), (), 7 * MILLISECOND, 0);
@@ -275,15 +294,31 @@ mod tests {
         assert_eq!((flight.len(), flight.reckoned), (0, 0));
     }
 
-    #[test]
-    fn a_frame_is_overdue_after_twice_the_time_of_all_before_it() {
+    /// A flight of a frame for one station and, behind it, one for another.
+    fn of_two() -> Flight<()> {
         let mut flight = flight();
         flight.give(name(1), (), MILLISECOND, 0);
         flight.give(Name { receiver: OTHER, ..name(2) }, (), MILLISECOND, 0);
+        flight
+    }
+
+    #[test]
+    fn a_frame_is_overdue_after_twice_the_time_of_all_before_it() {
+        let mut flight = of_two();
         assert!(!flight.is_overdue(0, STATION, 2 * MILLISECOND));
         assert!(flight.is_overdue(0, STATION, 2 * MILLISECOND + 1));
+        flight.forget(name(1));
         assert!(!flight.is_overdue(0, OTHER, 4 * MILLISECOND) && flight.is_overdue(0, OTHER, 4 * MILLISECOND + 1));
-        assert!(!flight.is_overdue(1, STATION, MOST_OUT));
+        assert!(!flight.is_overdue(1, OTHER, MOST_OUT));
+    }
+
+    #[test]
+    fn a_frame_behind_one_that_takes_long_has_its_time_once_that_was_told_of() {
+        let (mut flight, late) = (of_two(), 20 * MILLISECOND);
+        assert!(flight.is_overdue(0, STATION, late) && !flight.is_overdue(0, OTHER, late));
+        flight.told(name(1), late, |_| late);
+        let due = late + 2 * MILLISECOND;
+        assert!(!flight.is_overdue(0, OTHER, due) && flight.is_overdue(0, OTHER, due + 1));
     }
 
     #[test]
