@@ -21,7 +21,8 @@ from dataclasses import replace
 from unittest import mock
 
 from frames import BROADCAST, address_of
-from live import asking, changes, checks, machine, radiotap, record, rights, serving, setting_up, telling, wires
+from live import (asking, changes, checks, keeping, machine, radiotap, record, rights, serving, setting_up, telling,
+                  wires)
 from live.bridge import Bridge, Signals
 from live.changes import Change, Changes
 from live.checks import (Plan, Wanted, check_abilities, check_bridge, check_config, check_left, check_names, check_port,
@@ -396,6 +397,16 @@ class KilledBefore(OnMachine):
                 Changes("phy9", self.folder)
 
 
+class Opened(str):
+    """A socket of a wire, by its name; it is known whether it was closed."""
+
+    is_closed = False
+
+    def close(self):
+        """It is closed."""
+        self.is_closed = True
+
+
 class WiresThatGo(OnMachine):
     """Wires that are missing, and come back; of the kernel's files about interfaces there are some of the test."""
 
@@ -433,7 +444,7 @@ class WiresThatGo(OnMachine):
 
     def open(self, name):
         """Opens nothing, and keeps the name."""
-        self.opened.append(name)
+        self.opened.append(Opened(name))
         return self.opened[-1]
 
     def look(self):
@@ -477,6 +488,24 @@ class WiresThatGo(OnMachine):
         self.have(7, True)
         self.assertEqual(self.look(), ({1: "nowire1"}, ""))
         self.assertEqual((self.made.made, self.commands[before:]), (made, []))
+
+    def test_kept_open(self):
+        """A wire stays open from one bridge to the next, and is closed where it went down, is another interface or isn't
+        wanted any more."""
+        self.have(7, True)
+        self.follow()
+        self.assertEqual(self.follow()[0], {1: "nowire1"})
+        self.assertEqual((len(self.opened), self.opened[0].is_closed), (1, False))
+        self.have(8, True)
+        self.assertEqual(self.follow()[0], {1: "nowire1"})
+        self.assertEqual((len(self.opened), self.opened[0].is_closed), (2, True))
+        self.wires.went_down(1)
+        self.assertTrue(self.opened[1].is_closed)
+        self.look()
+        self.plan = Plan(self.SETTINGS, (), "octets")
+        self.assertEqual(self.follow()[0], {})
+        self.assertEqual([opened.is_closed for opened in self.opened], [True] * 3)
+        self.wires.close()
 
     def test_another_index(self):
         """An interface of its name that is another one is set up anew, and of the one that is gone nothing is taken
@@ -850,7 +879,40 @@ echo status {status}
 """
 
 
-SENDS = "[ $request = open ] && echo sending; [ $request = dismiss ] && echo dismissed"
+SENDS = "[ \"$request\" = open ] && echo sending; [ \"$request\" = 'dismiss 0' ] && echo dismissed"
+
+
+class WhatStays(WithFiles):
+    """What a bridge leaves for the next one, and whose stations stay."""
+
+    def test_files(self):
+        """They are their owner's alone, keep what a killed start left, and go in the end."""
+        left = self.write("phy0.state.0", "left", 0o644)
+        with mock.patch.object(changes, "RUN", self.folder), ExitStack() as stack:
+            files = keeping.StateFiles("phy0", stack)
+            self.assertEqual([stat.S_IMODE(os.stat(path).st_mode) for path in files.paths], [0o600] * 2)
+            self.assertEqual(os.read(files.descriptors[0], 9), b"left")
+            os.write(files.descriptors[1], b"more")
+        self.assertFalse(os.path.exists(left) or os.path.exists(files.paths[1]))
+
+    def test_link(self):
+        """What somebody else has put there is not followed."""
+        os.symlink(self.write("other", "other"), os.path.join(self.folder, "phy0.state.1"))
+        with mock.patch.object(changes, "RUN", self.folder), ExitStack() as stack:
+            with self.assertRaisesRegex(Fault, "phy0.state.1: Too many levels of symbolic links"):
+                keeping.StateFiles("phy0", stack)
+
+    def test_changed_networks(self):
+        """Of those that are gone, or are others to their stations."""
+        one, two = Network(OURS, b"\x82", ssid=b"a"), Network(OTHER, b"\x82", ssid=b"b")
+        before = Plan(Settings(6, 100, (one, two)), (), "octets")
+        for networks, wanted in (((one, two), []), ((two, one), []), ((one,), [1]), ((), [0, 1]),
+                                 ((replace(one, ssid=b"c"), two), [0]), ((one, replace(two, rates=b"\x84")), [1]),
+                                 ((replace(one, max_known=9, max_stations=3, max_events=5), two), [])):
+            after = Plan(Settings(6, 100, networks), ((OURS, "wire1"),), "octets")
+            self.assertEqual(keeping.changed_networks(before, after), wanted, networks)
+        for settings in (Settings(7, 100, (one, two)), Settings(6, 99, (one, two))):
+            self.assertEqual(keeping.changed_networks(before, Plan(settings, (), "octets")), [0, 1])
 
 
 class Running(WithFiles):
@@ -918,26 +980,67 @@ class Running(WithFiles):
         self.run_bridge(later)
         self.assertRegex(self.read("words"),
                          "^--face octets --phy phy0 --channel 6 --monitor mon0 --interval 100 --idle 300 --socket [0-9]+ "
-                         f"--record [0-9]+:{self.path('a.trace')} --bounds [0-9]+ --network 02:00:00:00:01:01/82840b16/16/1/wire1 apctl {self.config}\n$")
-        self.assertEqual(self.read("asked"), "open\ntables\n")
+                         f"--record [0-9]+:{self.path('a.trace')} --bounds [0-9]+ --network 02:00:00:00:01:01/6c6162/82840b16/8/16/1/wire1 apctl {self.config}\n$")
+        self.assertEqual(self.read("asked"), "state\nopen\ntables\n")
         self.assertRegex(self.told.getvalue(), "^live: 1 networks are on channel 6; Ctrl-C ends it, .*\nlive: the program "
                                                "ended with status 0; taking down what was set up\n$")
         self.assertEqual(len(self.followed), 1)
-        self.assertFalse(os.path.exists(os.path.join(self.folder, "phy0.sock")))
+        self.assertEqual([name for name in os.listdir(self.folder) if name.startswith("phy0.")], ["phy0.lock"])
 
     def test_reload(self):
-        """By SIGHUP another bridge is started, stations are told to join again, and what is set up follows."""
+        """By SIGHUP another bridge is started, stations of what is another network now are told to join again, and what
+        is set up follows."""
         def later():
             self.write("radio.toml", CONFIG.replace("channel = 6", "channel = 11"))
             os.kill(os.getpid(), signal.SIGHUP)
             time.sleep(0.8)
             self.end()
         self.run_bridge(later)
-        self.assertEqual(self.read("asked"), "open\ndismiss\nopen\n")
+        self.assertEqual(self.read("asked"), "state\nopen\ndismiss 0\nstate\nopen\n")
         self.assertEqual([plan.settings.channel for plan in self.followed], [6, 11])
         told = self.told.getvalue()
         for text in ("reading ", "ended with status 0; it begins anew", "1 networks are on channel 11", "taking down"):
             self.assertIn(text, told)
+
+    def test_reload_that_changes_nothing_for_stations(self):
+        """Nobody is told to join again."""
+        def later():
+            self.write("radio.toml", CONFIG.replace("quota = 8", "quota = 9"))
+            os.kill(os.getpid(), signal.SIGHUP)
+            time.sleep(0.8)
+            self.end()
+        self.run_bridge(later)
+        self.assertEqual(self.read("asked"), "state\nopen\nstate\nopen\n")
+
+    def test_begins_anew(self):
+        """A bridge that is killed, or whose program ends, is followed by another one; what it left is handed on."""
+        for does, after, told in (
+                (f"[ -e {self.folder}/second ] || {{ touch {self.folder}/second; kill -9 $$; }}", "true",
+                 "the bridge ended by itself, by the signal SIGKILL; it begins anew"),
+                (f"[ -e {self.folder}/second ] || {{ touch {self.folder}/second; break; }}",
+                 f"[ -e {self.folder}/third ] || {{ touch {self.folder}/third; "
+                 "echo 'fault the program ended by itself'; exit 1; }",
+                 "the program ended by itself, with status 0; it begins anew")):
+            does = f"[ \"$request\" != open ] || {{ {does}; echo sending; }}"
+            self.run_bridge(lambda: self.end_once_told("networks are on channel"), does=does, after=after)
+            self.assertIn(told, self.told.getvalue())
+            self.assertEqual(self.read("asked"), "state\nopen\nstate\nopen\n")
+            for name in ("asked", "second"):
+                os.unlink(os.path.join(self.folder, name))
+            self.told.truncate(0)
+
+    def test_does_not_begin_anew(self):
+        """Three in a row that end at once, and one that made a call that it may not make, end all."""
+        with self.assertRaisesRegex(Fault, "the bridge ended by itself, by the signal SIGKILL"):
+            self.run_bridge(does="[ $request != open ] || kill -9 $$")
+        self.assertEqual(self.told.getvalue().count("it begins anew"), 2)
+        self.told.truncate(0)
+        with self.assertRaisesRegex(Fault, "by the signal SIGSYS"):
+            self.run_bridge(does="[ $request != open ] || kill -SYS $$")
+        with self.assertRaisesRegex(Fault, "the program ended by itself"):
+            self.run_bridge(does="[ $request != open ] || break", status=128 + signal.SIGSYS,
+                            after="echo 'fault the program ended by itself'; exit 1")
+        self.assertNotIn("it begins anew", self.told.getvalue())
 
     def test_reload_with_a_fault(self):
         """All stays as it is, and the fault is told."""
@@ -947,7 +1050,7 @@ class Running(WithFiles):
             time.sleep(0.8)
             self.end()
         self.run_bridge(later)
-        self.assertEqual((self.read("asked"), len(self.followed)), ("open\n", 1))
+        self.assertEqual((self.read("asked"), len(self.followed)), ("state\nopen\n", 1))
         self.assertIn("all stays as it is", self.told.getvalue())
 
     def test_reload_that_does_not_begin(self):
@@ -958,7 +1061,7 @@ class Running(WithFiles):
             time.sleep(0.8)
             self.end()
         self.run_bridge(later)
-        self.assertEqual(self.read("asked"), "open\n")
+        self.assertEqual(self.read("asked"), "state\nopen\n")
         self.assertIn("all stays as it is: it doesn't begin", self.told.getvalue())
 
     def test_page(self):
@@ -990,9 +1093,7 @@ class Running(WithFiles):
         self.assertIn("the program ended with status 0", self.told.getvalue())
 
     def test_killed(self):
-        """A bridge that is killed is told, and so is one that ends as it shouldn't."""
-        with self.assertRaisesRegex(Fault, "the bridge ended by itself, by the signal SIGKILL"):
-            self.run_bridge(does="kill -9 $$")
+        """A bridge that ends as it shouldn't is told."""
         with self.assertRaisesRegex(Fault, "the bridge ended by itself, with status 3"):
             self.run_bridge(does="exit 3")
 

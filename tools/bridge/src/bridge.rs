@@ -11,12 +11,14 @@ use crate::faults::{reason, tell, Fault};
 use crate::filter::{acknowledged_filter, monitor_filter, nothing_filter, Shown};
 use crate::frames::{Address, Frame};
 use crate::gathering::Gathering;
+use crate::keeping::Keeping;
 use crate::log::{self, Level};
 use crate::operating::{Errand, Operating};
 use crate::poller::{Poller, Ready, Token};
 use crate::program::{Feeder, Program};
 use crate::radiotap::reception;
 use crate::receiving::{judge_wired, Air, Judged, LeftOut};
+use crate::restoring::{self, NotUsed, OfNetwork, Restored, Restoring, Setting, State};
 use crate::sending::{Network, Sender, BEACON};
 use crate::silence;
 use crate::sockets::{Batch, OfSocket, Packet, Port, AT_A_TIME};
@@ -27,6 +29,10 @@ use crate::waiting::{Source, Waiter, Waiting};
 
 const TO_BEACON: Nanos = SECOND;
 const TO_READY: Nanos = 20 * SECOND;
+/// Marks in the record around the events by which a new program comes to know stations: what it answers to these was
+/// swallowed.
+const RESTORED_FROM: &str = "restored: of the lines from here on the answers were not sent";
+const RESTORED_TO: &str = "restored: up to here";
 const TO_END: Nanos = 20 * SECOND;
 /// After how many frames on the air the ones are read that the radio shows as acknowledged, where no frame waits for them.
 const UNREAD_ACKNOWLEDGED: u64 = AT_A_TIME as u64;
@@ -48,12 +54,8 @@ const ALIVE_EVERY: Nanos = SECOND;
 /// How it is asked to run.
 #[derive(Debug, Clone, PartialEq, Eq)]
 pub struct Manner {
-    /// The radio's name.
-    pub phy: String,
-    /// Its channel.
-    pub channel: u8,
-    /// The beacon interval in time units.
-    pub interval: u16,
+    /// The radio, its channel and the beacon interval.
+    pub setting: Setting,
     /// After how long an associated station of which nothing was heard is asked; `None` asks nobody.
     pub most_silence: Option<Nanos>,
     /// Whether `tools/live` is told that the program answers.
@@ -67,6 +69,8 @@ enum Phase {
     Opening(Nanos),
     /// `tools/live` sets the interfaces up.
     SettingUp,
+    /// The program is told of stations that joined before, until this time.
+    Restoring(Nanos),
     /// Frames go.
     Running,
     /// What the program still writes is sent.
@@ -152,6 +156,10 @@ pub struct Bridge<P> {
     batch: Batch,
     /// The sockets of the interfaces, until they are served.
     handed: Option<Handed>,
+    /// The files by which stations stay.
+    keeping: Option<Keeping>,
+    /// What is said of them to the program, and the interfaces meanwhile.
+    restoring: Option<(Restoring, Sender<P>)>,
     tables_asked: bool,
     dismissing: bool,
     waits_for_room: bool,
@@ -187,6 +195,8 @@ impl<P: OfSocket> Bridge<P> {
             running: None,
             batch: Batch::new(),
             handed: None,
+            keeping: None,
+            restoring: None,
             tables_asked: false,
             dismissing: false,
             waits_for_room: false,
@@ -205,6 +215,7 @@ impl<P: OfSocket> Bridge<P> {
         }
         let rest = self.drain();
         let status = self.program.status(now() + TO_END).map_err(|fault| Fault::of("the program", &fault))?;
+        self.keep(true);
         if let Some(running) = &mut self.running {
             running.tell_counts();
         }
@@ -235,9 +246,10 @@ impl<P: OfSocket> Bridge<P> {
             Phase::Ending => return Ok(()),
             Phase::SettingUp => {
                 if let Some(handed) = self.handed.take() {
-                    self.begin(open(handed)?)?;
+                    self.restore(open(handed)?)?;
                 }
             }
+            Phase::Restoring(_) => self.end_restoring()?,
             _ => {}
         }
         self.take_time()?;
@@ -246,7 +258,9 @@ impl<P: OfSocket> Bridge<P> {
         self.look();
         self.feed()?;
         self.send()?;
-        self.take_acknowledged()
+        self.take_acknowledged()?;
+        self.keep(false);
+        Ok(())
     }
 
     /// Looks at stations that are silent, where it is time.
@@ -283,7 +297,7 @@ impl<P: OfSocket> Bridge<P> {
     /// When something is to be done at the latest.
     fn due(&self) -> Nanos {
         match (self.phase, &self.running) {
-            (Phase::Opening(until), _) => until,
+            (Phase::Opening(until) | Phase::Restoring(until), _) => until,
             (Phase::Running, Some(running)) => {
                 let is_late = running.ticks.due() <= self.time;
                 let tick = if is_late { self.time + MILLISECOND } else { running.ticks.due() };
@@ -299,7 +313,7 @@ impl<P: OfSocket> Bridge<P> {
     /// How many milliseconds to wait at most: the program doesn't say when it has read something, and a client whose
     /// answer is written may have asked more before.
     fn most_wait(&self) -> Option<u16> {
-        let waits = self.running.as_ref().map_or(false, |running| !running.waiting.is_empty());
+        let waits = self.running.as_ref().map_or(self.restoring.is_some(), |running| !running.waiting.is_empty());
         let asks = self.clients.as_ref().map_or(false, Clients::has_questions);
         (waits && !self.waits_for_room || asks).then_some(1)
     }
@@ -307,6 +321,7 @@ impl<P: OfSocket> Bridge<P> {
     fn take_requests(&mut self) -> Result<(), Fault> {
         while let Some(request) = self.requests.next()? {
             match (request, self.phase) {
+                (Request::State(files), _) => self.keeping = Some(Keeping::new(files)),
                 (Request::Open(handed), _) => self.handed = Some(handed),
                 (Request::Wire(place, socket), Phase::Running) => {
                     if let Some(running) = &mut self.running {
@@ -315,9 +330,9 @@ impl<P: OfSocket> Bridge<P> {
                     }
                 }
                 (Request::Tables, Phase::Running) => self.tables_asked = true,
-                (Request::Dismiss, Phase::Running) => {
+                (Request::Dismiss(places), Phase::Running) => {
                     self.dismissing = true;
-                    self.running.iter_mut().for_each(|running| running.operating.dismiss());
+                    self.running.iter_mut().for_each(|running| running.operating.dismiss(&places));
                 }
                 (Request::End, _) => {
                     self.poller.remove(self.requests.descriptor())?;
@@ -328,6 +343,72 @@ impl<P: OfSocket> Bridge<P> {
             }
         }
         Ok(())
+    }
+
+    /// The interfaces are there. Where an earlier bridge has left stations, the program is told of these first.
+    fn restore(&mut self, sender: Sender<P>) -> Result<(), Fault> {
+        let state = match &mut self.keeping {
+            Some(keeping) => left_state(keeping, &self.manner.setting, self.time),
+            None => None,
+        };
+        let restoring = state.and_then(|state| restoring_of(&state, sender.networks()));
+        match restoring {
+            Some(restoring) => {
+                self.feeder.remark(RESTORED_FROM);
+                self.restoring = Some((restoring, sender));
+                self.phase = Phase::Restoring(self.time + TO_READY);
+                Ok(())
+            }
+            None => self.begin(sender),
+        }
+    }
+
+    /// Says to the program what is to be restored, as far as it has read what was said before; answers how much was said.
+    fn say_restored(&mut self) -> usize {
+        let mut said = 0;
+        if let Some((restoring, _)) = &mut self.restoring {
+            let room = self.feeder.room();
+            while said < room {
+                match restoring.next() {
+                    Some(event) => self.feeder.say(event.event()),
+                    None => break,
+                }
+                said += 1;
+            }
+        }
+        said
+    }
+
+    /// Frames go once the program has answered all that was restored.
+    fn end_restoring(&mut self) -> Result<(), Fault> {
+        let (restoring, sender) = match self.restoring.take() {
+            Some(found) if found.0.is_done() => found,
+            unfinished => {
+                self.restoring = unfinished;
+                return Ok(());
+            }
+        };
+        self.feeder.remark(RESTORED_TO);
+        let restored = restoring.restored();
+        self.time = now();
+        self.begin(sender)?;
+        if let Some(running) = &mut self.running {
+            running.restore(&restored, self.time);
+        }
+        Ok(())
+    }
+
+    /// Leaves for the next bridge what it has to know of stations, where it is time, or at the end.
+    fn keep(&mut self, is_last: bool) {
+        let (keeping, running) = match (&mut self.keeping, &mut self.running) {
+            (Some(keeping), Some(running)) => (keeping, running),
+            _ => return,
+        };
+        let changes = running.operating.changes();
+        if is_last || keeping.is_due(changes, self.time) {
+            let written = now();
+            keeping.write(&running.state(&self.manner.setting, written, is_last).text(), changes, written);
+        }
     }
 
     /// The interfaces are there: frames go, and the first beacon interval begins.
@@ -345,6 +426,9 @@ impl<P: OfSocket> Bridge<P> {
             }
         }
         if let Some(port) = sender.acknowledged() {
+            // What an earlier bridge has let through is heard by the monitor interface's own socket again.
+            let outcome = port.set_filter(&nothing_filter());
+            outcome.map_err(|fault| Fault::of(format!("{}: no filter", port.interface()), &fault))?;
             self.poller.add(port.descriptor(), Token::Acknowledged, false, false)?;
         }
         if let Some(clients) = &self.clients {
@@ -379,7 +463,9 @@ impl<P: OfSocket> Bridge<P> {
         }
         match (self.program.has_ended(), self.phase) {
             (true, Phase::Opening(_)) => Err(self.ended_early()),
-            (true, Phase::SettingUp | Phase::Running) => Err(Fault::new("the program ended by itself")),
+            (true, Phase::SettingUp | Phase::Restoring(_) | Phase::Running) => {
+                Err(Fault::new("the program ended by itself"))
+            }
             _ => Ok(()),
         }
     }
@@ -392,6 +478,13 @@ impl<P: OfSocket> Bridge<P> {
     }
 
     fn take_answer(&mut self, answer: Answer, time: Nanos) -> Result<(), Fault> {
+        if let Some((restoring, _)) = &mut self.restoring {
+            match &answer {
+                Answer::Told(line) if line.starts_with("fault ") => self.take_told(line, time),
+                _ => restoring.take(&answer),
+            }
+            return Ok(());
+        }
         match (answer, &mut self.running) {
             (Answer::Told(line), _) => self.take_told(&line, time),
             (Answer::Ready(_), _) => {
@@ -556,7 +649,7 @@ impl<P: OfSocket> Bridge<P> {
     fn take_time(&mut self) -> Result<(), Fault> {
         let time = self.time;
         match (self.phase, &mut self.running) {
-            (Phase::Opening(until), _) if time >= until => {
+            (Phase::Opening(until) | Phase::Restoring(until), _) if time >= until => {
                 return Err(Fault::new(format!("the program answered nothing in {} seconds", TO_READY / SECOND)));
             }
             (Phase::Running, Some(running)) => {
@@ -594,6 +687,9 @@ impl<P: OfSocket> Bridge<P> {
         loop {
             let is_written = self.feeder.flush()?;
             self.wait_for_room(!is_written)?;
+            if is_written && self.say_restored() > 0 {
+                continue;
+            }
             let running = match &mut self.running {
                 Some(running) if is_written => running,
                 _ => return Ok(()),
@@ -682,6 +778,61 @@ impl<P: OfSocket> Bridge<P> {
     }
 }
 
+/// What an earlier bridge has left; where it isn't used, that is told.
+fn left_state(keeping: &mut Keeping, setting: &Setting, now: Nanos) -> Option<State> {
+    let chosen = match keeping.left() {
+        Ok(texts) => restoring::choose(&texts, setting, now),
+        Err(_) => Err(NotUsed::Damaged),
+    };
+    match chosen {
+        Ok(Some((place, state))) => {
+            keeping.begin_with(1 - place);
+            tell_of_units(&state);
+            Some(state)
+        }
+        Ok(None) => None,
+        Err(reason) => {
+            tell_not_used(reason);
+            None
+        }
+    }
+}
+
+/// What is to be said to the program, where it is something.
+fn restoring_of(state: &State, networks: &[Network]) -> Option<Restoring> {
+    match Restoring::of(state, networks) {
+        Ok(restoring) => Some(restoring).filter(|restoring| !restoring.is_empty()),
+        Err(reason) => {
+            tell_not_used(reason);
+            None
+        }
+    }
+}
+
+fn tell_not_used(reason: NotUsed) {
+    log::write_event(
+        Level::Warning,
+        format_args!("the state of stations that was left isn't used, since {reason}: they join again"),
+    );
+}
+
+/// Units that were kept are lost with the program that kept them.
+fn tell_of_units(state: &State) {
+    for OfNetwork { bssid, units, waiting, .. } in &state.networks {
+        match units {
+            Some(0) => {}
+            Some(units) => {
+                log::write_event(Level::Notice, format_args!("{units} units that {bssid} kept for stations are lost"));
+            }
+            None if *waiting > 0 => log::write_event(
+                Level::Notice,
+                format_args!("the units that {bssid} kept for {waiting} stations are lost"),
+            ),
+            None => {}
+        }
+    }
+}
+
 impl<P: Port> Running<P> {
     fn new(sender: Sender<P>, networks: Vec<Network>, manner: &Manner) -> Running<P> {
         let start = now();
@@ -694,7 +845,7 @@ impl<P: Port> Running<P> {
             tables: Tables::new(networks.len()),
             read_in: vec![0; 1 + networks.len()],
             networks,
-            ticks: Ticks::new(start, manner.interval),
+            ticks: Ticks::new(start, manner.setting.interval),
             said_tick: start,
             is_answered: false,
             beacons_awaited: 0,
@@ -759,6 +910,43 @@ impl<P: Port> Running<P> {
     fn wire_of(&self, place: usize) -> Result<String, Fault> {
         let wire = self.networks.get(place).and_then(|network| network.wire.clone());
         wire.ok_or_else(|| Fault::new("tools/live handed over the wire of no network"))
+    }
+
+    /// The program knows stations that joined before.
+    fn restore(&mut self, restored: &Restored, time: Nanos) {
+        for ((place, _), kept) in &restored.stay {
+            if let Some(request) = Frame::of(&kept.request) {
+                self.sender.restore(*place, request);
+            }
+        }
+        for (place, network) in self.networks.iter().enumerate() {
+            let stay = restored.stay.iter().filter(|((of, _), _)| *of == place).count();
+            let again = restored.again.iter().filter(|(of, _)| *of == place).count();
+            if stay + again > 0 {
+                let bssid = network.bssid;
+                log::write_event(
+                    Level::Notice,
+                    format_args!("{stay} stations of {bssid} stay; {again} are told to join again"),
+                );
+            }
+        }
+        let errands = self.operating.restore(restored, time);
+        self.run(errands, time);
+    }
+
+    /// What a new program has to know of stations.
+    fn state(&mut self, setting: &Setting, written: Nanos, is_last: bool) -> State {
+        let tables = self.tables.last().filter(|_| is_last && self.tables.are_new(written));
+        let of_network = |(place, network): (usize, &Network)| OfNetwork {
+            bssid: network.bssid,
+            ssid: network.ssid.clone(),
+            rates: network.rates.clone(),
+            units: tables.and_then(|tables| tables.get(place)).and_then(|table| table.count("kept")),
+            waiting: self.operating.told_of(place),
+            stations: self.operating.kept(place),
+        };
+        let networks = self.networks.iter().enumerate().map(of_network).collect();
+        State { setting: setting.clone(), written, is_last, networks }
     }
 
     /// A beacon came of the program. Behind the last one that is due stations are looked at that are silent.
@@ -851,8 +1039,8 @@ impl<P: Port> Running<P> {
         self.beacons.missed = self.ticks.missed();
         let (drops, left_out) = (self.drops(), self.left_out());
         Status {
-            phy: &manner.phy,
-            channel: manner.channel,
+            phy: &manner.setting.phy,
+            channel: manner.setting.channel,
             began,
             faults,
             record: feeder.record(),
@@ -1496,8 +1684,7 @@ done
             wires[1] = None;
         }
         let (program, feeder) = Program::start(path, "radio.toml", face, None, Some(record))?;
-        let manner =
-            Manner { phy: "phy0".into(), channel: 6, interval, most_silence: Some(300 * SECOND), tells_alive: false };
+        let manner = Manner { setting: setting(interval), most_silence: Some(300 * SECOND), tells_alive: false };
         let mut bridge = Bridge::new(program, feeder, Requests::new(asked), Some(clients), manner)?;
         let mut ports = Some((monitor, wires));
         bridge.serve(|_| {
@@ -1531,6 +1718,10 @@ done
             others.sort();
             assert_eq!(others, ["# I".to_owned(), format!("A {}", hex::encode(data()))], "{face:?}");
         }
+    }
+
+    fn setting(interval: u16) -> Setting {
+        Setting { phy: "phy0".into(), channel: 6, interval }
     }
 
     /// Asks the bridge by its socket.

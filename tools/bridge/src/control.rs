@@ -14,6 +14,8 @@ const MOST_OCTETS: usize = 1024;
 const MOST_DESCRIPTORS: usize = 64;
 /// The sockets of the radio: what it hears, its beacons, and what it shows as acknowledged.
 const OF_RADIO: usize = 3;
+/// The files of the state.
+const OF_STATE: usize = 2;
 
 /// The sockets of the interfaces.
 #[derive(Debug)]
@@ -27,14 +29,16 @@ pub struct Handed {
 /// What `tools/live` asks for.
 #[derive(Debug)]
 pub enum Request {
+    /// In these files is what an earlier bridge left of stations, and this one leaves it there too.
+    State([OwnedFd; OF_STATE]),
     /// The interfaces are there: from now on frames go.
     Open(Handed),
     /// The wire of the network of this place is there, or there again.
     Wire(usize, OwnedFd),
     /// The tables are to be shown.
     Tables,
-    /// All stations are to be told that they have to join again.
-    Dismiss,
+    /// All stations of the networks of these places are to be told that they have to join again.
+    Dismiss(Vec<usize>),
     /// The bridge is to end.
     End,
 }
@@ -50,7 +54,7 @@ pub enum Notice {
     Sending,
     /// The program has answered the last beginning of a beacon interval; told once a second at most.
     Alive,
-    /// All stations were told that they have to join again.
+    /// All stations that were to be told that they have to join again were told so.
     Dismissed,
     /// The program has ended with this status.
     Status(i32),
@@ -125,10 +129,11 @@ impl Requests {
         let places: Result<Vec<usize>, _> = rest.split_ascii_whitespace().map(str::parse).collect();
         let places = places.map_err(|_| Fault::new(format!("tools/live asks what isn't known: {line}")))?;
         Ok(match (word, &places[..]) {
+            ("state", []) => <[OwnedFd; OF_STATE]>::try_from(self.take(OF_STATE)?).ok().map(Request::State),
             ("open", _) => Some(Request::Open(Handed { sockets: self.take(OF_RADIO + places.len())?, wires: places })),
             ("wire", [place]) => self.take(1)?.pop().map(|socket| Request::Wire(*place, socket)),
             ("tables", []) => Some(Request::Tables),
-            ("dismiss", []) => Some(Request::Dismiss),
+            ("dismiss", _) => Some(Request::Dismiss(places)),
             _ => None,
         })
     }
@@ -160,8 +165,11 @@ mod tests {
         other.write_all(b"tables\nhello\ndis").unwrap();
         assert!(matches!(requests.next(), Ok(Some(Request::Tables))));
         assert!(matches!(requests.next(), Ok(None)));
-        other.write_all(b"miss\ntables\n").unwrap();
-        assert!(matches!(requests.next(), Ok(Some(Request::Dismiss))));
+        other.write_all(b"miss 0 2\ntables\n").unwrap();
+        match requests.next() {
+            Ok(Some(Request::Dismiss(places))) => assert_eq!(places, [0, 2]),
+            found => panic!("{found:?}"),
+        }
         assert!(matches!(requests.next(), Ok(Some(Request::Tables))));
         drop(other);
         assert!(matches!(requests.next(), Ok(Some(Request::End))));
@@ -175,17 +183,19 @@ mod tests {
         let all: Vec<OwnedFd> = (0..5).map(|_| nothing()).collect();
         hand(&other, b"open 0 2\n", &all).unwrap();
         hand(&other, b"wire 1\n", &[nothing()]).unwrap();
+        hand(&other, b"state\n", &[nothing(), nothing()]).unwrap();
         match requests.next() {
             Ok(Some(Request::Open(handed))) => assert_eq!((handed.sockets.len(), &handed.wires[..]), (5, &[0, 2][..])),
             found => panic!("{found:?}"),
         }
         assert!(matches!(requests.next(), Ok(Some(Request::Wire(1, _)))));
+        assert!(matches!(requests.next(), Ok(Some(Request::State(_)))));
         assert!(matches!(requests.next(), Ok(None)));
     }
 
     #[test]
     fn what_lacks_its_descriptors_or_has_no_end_is_told() {
-        for line in [&b"open 0\n"[..], b"wire 1\n", b"wire x\n", &[b'x'; 3000]] {
+        for line in [&b"open 0\n"[..], b"wire 1\n", b"state\n", b"dismiss x\n", b"wire x\n", &[b'x'; 3000]] {
             let (input, mut other) = UnixStream::pair().unwrap();
             let mut requests = Requests::new(input);
             other.write_all(line).unwrap();

@@ -58,6 +58,7 @@ mod flight;
 mod frames;
 mod gathering;
 mod hashing;
+mod keeping;
 mod lanes;
 mod log;
 mod meaning;
@@ -70,6 +71,7 @@ mod program;
 mod radiotap;
 mod rates;
 mod receiving;
+mod restoring;
 mod rights;
 mod roster;
 #[cfg(test)]
@@ -94,6 +96,7 @@ use clients::Clients;
 use control::{say, Handed, Notice, Requests};
 use faults::Fault;
 use program::{Program, Record};
+use restoring::Setting;
 use rights::Bounds;
 use sending::Sender;
 use sockets::{inherited, inherited_listener, OfSocket, PacketSocket};
@@ -129,9 +132,7 @@ fn run(words: &Words) -> Result<(), Fault> {
     let bounds = words.bounds.map(|memory| Bounds::of(&words.program, &words.config, memory)).transpose()?;
     let (program, feeder) = Program::start(&words.program, &words.config, words.face, bounds, record)?;
     let manner = Manner {
-        phy: words.phy.clone(),
-        channel: words.channel,
-        interval: words.interval,
+        setting: Setting { phy: words.phy.clone(), channel: words.channel, interval: words.interval },
         most_silence: Some(Nanos::from(words.idle) * SECOND).filter(|silence| *silence > 0),
         tells_alive: words.tells_alive,
     };

@@ -7,7 +7,8 @@ use crate::own_frames::{
     deauthentication, departure, disassociation, is_null_of_network, null, number_beside, INACTIVITY, LEAVING,
 };
 use crate::radiotap::{Outcome, Reception};
-use crate::roster::{Forgotten, Member, News, Roster, State};
+use crate::restoring::Restored;
+use crate::roster::{Forgotten, Kept, Member, News, Roster, State};
 use crate::sending::Network;
 use crate::silence::{Silence, Step};
 use crate::time::{Nanos, SECOND};
@@ -38,6 +39,8 @@ pub struct Operating {
     listen: Vec<bool>,
     /// The networks whose stations have still to be told that they have to join again.
     to_dismiss: Vec<usize>,
+    /// Of each network whether its stations are or were told so.
+    is_dismissed: Vec<bool>,
 }
 
 impl Operating {
@@ -51,6 +54,7 @@ impl Operating {
             numbers: vec![0; bssids.len()],
             listen: vec![false; bssids.len()],
             to_dismiss: Vec::new(),
+            is_dismissed: vec![false; bssids.len()],
             bssids,
         }
     }
@@ -121,9 +125,44 @@ impl Operating {
         Ok(errands)
     }
 
-    /// All stations are to be told that they have to join again, each behind the next beacon of its network.
-    pub fn dismiss(&mut self) {
-        self.to_dismiss = (0..self.bssids.len()).collect();
+    /// All stations of the networks of these places are to be told that they have to join again, behind the next beacon.
+    pub fn dismiss(&mut self, places: &[usize]) {
+        for place in places.iter().filter(|place| **place < self.bssids.len()) {
+            self.to_dismiss.push(*place);
+            self.is_dismissed[*place] = true;
+        }
+    }
+
+    /// What a new program has to know of the stations of the network of this place: of those that aren't told to join
+    /// again.
+    pub fn kept(&self, place: usize) -> Vec<Kept> {
+        if self.is_dismissed[place] {
+            return Vec::new();
+        }
+        self.roster.kept(place)
+    }
+
+    /// How often changed what a new program has to know.
+    pub fn changes(&self) -> u64 {
+        self.roster.changes()
+    }
+
+    /// For how many stations of the network of this place units were kept when its last beacon was sent.
+    pub fn told_of(&self, place: usize) -> usize {
+        self.roster.told_of(place)
+    }
+
+    /// A new program knows stations as the one before did; answers what is to be done for the others.
+    pub fn restore(&mut self, restored: &Restored, now: Nanos) -> Vec<Errand> {
+        for (member, kept) in &restored.stay {
+            self.roster.restore(*member, kept, now);
+        }
+        let leave = restored.leave.iter().map(|(place, station)| Errand::Say(departure(self.bssids[*place], *station)));
+        let again = restored.again.iter().map(|(place, station)| {
+            let frame = deauthentication(self.bssids[*place], *station, LEAVING, self.number(*place));
+            Errand::Send { place: *place, frame, retries: WORD_RETRIES }
+        });
+        leave.chain(again).collect()
     }
 
     /// Whether stations of a network have still to be told so.
@@ -325,7 +364,7 @@ mod tests {
     #[test]
     fn all_are_told_behind_the_next_beacon() {
         let mut operating = joined();
-        operating.dismiss();
+        operating.dismiss(&[0, 1]);
         let frame = deauthentication(OURS, Address::BROADCAST, LEAVING, 2051);
         assert_eq!(operating.answered(OURS, &beacon(3), 0), [Errand::Send { place: 1, frame, retries: 0 }]);
         assert!(operating.dismisses());

@@ -208,6 +208,13 @@ impl Feeder {
         }
     }
 
+    /// Writes a comment into the record, where there is one.
+    pub fn remark(&mut self, text: &str) {
+        if let Some(record) = &mut self.record {
+            record.remark(text);
+        }
+    }
+
     /// Writes what the pipe takes, and answers whether that was all. What is said to a program that has ended is lost.
     pub fn flush(&mut self) -> Result<bool, Fault> {
         let mut written = 0;
@@ -284,6 +291,13 @@ impl Record {
         }
     }
 
+    /// A comment of this text, a line.
+    fn remark(&mut self, text: &str) {
+        if self.file.is_some() {
+            self.pending.extend(format!("# {text}\n").as_bytes());
+        }
+    }
+
     /// Writes the lines that wait.
     fn flush(&mut self) {
         let mut done = 0;
@@ -338,10 +352,11 @@ mod tests {
         for event in [Event::Tick, Event::Tables, Event::Air(&[1, 2])] {
             record.write(event);
         }
+        record.remark("a word");
         assert_eq!(std::fs::read_to_string(&path).unwrap(), "");
         record.flush();
-        assert_eq!(std::fs::read_to_string(&path).unwrap(), "T\n# I\nA 0102\n");
-        assert_eq!((record.written(), record.fault()), (13, None));
+        assert_eq!(std::fs::read_to_string(&path).unwrap(), "T\n# I\nA 0102\n# a word\n");
+        assert_eq!((record.written(), record.fault()), (22, None));
         std::fs::remove_file(path).unwrap();
     }
 

@@ -101,8 +101,32 @@ pub struct Station {
     pub is_leaving: bool,
     /// Its turn among all: the order in which they were entered.
     pub turn: u64,
-    listen: u16,
+    /// Its listen interval, where it is associated.
+    pub listen: u16,
+    /// Whether it has dozed since it was associated.
+    pub has_dozed: bool,
+    /// The association request by which it was associated last, where it is.
+    pub joined_by: Option<Vec<u8>>,
     wanted_listen: u16,
+    /// Its association request that wasn't answered yet.
+    asks_by: Option<Vec<u8>>,
+}
+
+/// What a new program has to know of a station that is associated.
+#[derive(Debug, Clone, PartialEq, Eq)]
+pub struct Kept {
+    /// Its address.
+    pub address: Address,
+    /// Its identifier.
+    pub aid: u16,
+    /// Its listen interval.
+    pub listen: u16,
+    /// Whether it dozes.
+    pub dozes: bool,
+    /// Whether it has dozed since it was associated.
+    pub has_dozed: bool,
+    /// The association request by which it was associated last.
+    pub request: Vec<u8>,
 }
 
 /// The stations of all networks.
@@ -121,6 +145,8 @@ pub struct Roster {
     entered: Vec<Member>,
     news: Vec<(Member, News)>,
     turns: u64,
+    /// How often the stations changed that are associated, or what a new program has to know of them.
+    changes: u64,
 }
 
 impl Roster {
@@ -138,7 +164,47 @@ impl Roster {
             entered: Vec::new(),
             news: Vec::new(),
             turns: 0,
+            changes: 0,
         }
+    }
+
+    /// A station that joined before the program began anew: it is associated, by this request, and nothing is told of it.
+    pub fn restore(&mut self, member: Member, kept: &Kept, now: Nanos) {
+        self.authenticate(member, now);
+        self.set_state(member, State::Associated(kept.aid), now);
+        if let Some(station) = self.stations[member.0].get_mut(&member.1) {
+            station.listen = kept.listen;
+            (station.dozes, station.has_dozed) = (kept.dozes, kept.dozes);
+            station.joined_by = Some(kept.request.clone());
+        }
+    }
+
+    /// What a new program has to know of the stations that are associated with a network, in the order of their
+    /// identifiers.
+    pub fn kept(&self, place: usize) -> Vec<Kept> {
+        let stations = self.stations[place].iter().filter(|(_, station)| !station.is_leaving);
+        let mut found: Vec<Kept> = stations
+            .filter_map(|(address, station)| {
+                let (aid, request) = match (station.state, &station.joined_by) {
+                    (State::Associated(aid), Some(request)) => (aid, request.clone()),
+                    _ => return None,
+                };
+                let Station { listen, dozes, has_dozed, .. } = *station;
+                Some(Kept { address: *address, aid, listen, dozes, has_dozed, request })
+            })
+            .collect();
+        found.sort_by_key(|kept| kept.aid);
+        found
+    }
+
+    /// How often the stations changed that are associated.
+    pub fn changes(&self) -> u64 {
+        self.changes
+    }
+
+    /// For how many stations of a network units were kept when its last beacon was sent.
+    pub fn told_of(&self, place: usize) -> usize {
+        self.told_of[place].len()
     }
 
     /// A frame was heard that is for a network.
@@ -170,17 +236,20 @@ impl Roster {
             Some((member, said(frame, self.bssids[member.0])?))
         });
         if let Some((member, what)) = found {
-            self.take_said(member, what, octets.len(), now);
+            self.take_said(member, what, octets, now);
         }
     }
 
-    fn take_said(&mut self, member: Member, what: Said, length: usize, now: Nanos) {
+    fn take_said(&mut self, member: Member, what: Said, octets: &[u8], now: Nanos) {
         let station = match self.stations[member.0].get_mut(&member.1) {
             Some(station) => station,
             None => return,
         };
         match (what, station.state) {
-            (Said::Association { listen }, _) => station.wanted_listen = listen,
+            (Said::Association { listen }, _) => {
+                station.wanted_listen = listen;
+                station.asks_by = Some(octets.to_vec());
+            }
             (Said::Disassociation { reason }, State::Associated(_)) => {
                 self.set_state(member, State::Authenticated, now);
                 self.news.push((member, News::Leaves { reason }));
@@ -194,8 +263,12 @@ impl Roster {
             }
             (Said::Data { dozes, is_unit }, State::Associated(aid)) => {
                 station.dozes = dozes;
+                if dozes && !station.has_dozed {
+                    station.has_dozed = true;
+                    self.changes += 1;
+                }
                 if is_unit {
-                    station.from.count(length);
+                    station.from.count(octets.len());
                 }
                 self.told_of[member.0].remove(&aid);
             }
@@ -214,7 +287,10 @@ impl Roster {
             Answered::Authentication { status: 0 } => self.authenticate(member, now),
             Answered::Authentication { status } => self.refuse(member, status, false),
             Answered::Association { status: 0, aid } => self.associate(member, aid, now),
-            Answered::Association { status, .. } => self.refuse(member, status, true),
+            Answered::Association { status, .. } => {
+                self.station_mut(&member).and_then(|station| station.asks_by.take());
+                self.refuse(member, status, true);
+            }
             Answered::SentAway { reason } => self.news.push((member, News::SentAway { reason })),
             Answered::Unit => {
                 if let Some(station) = self.stations[member.0].get_mut(&member.1) {
@@ -337,7 +413,10 @@ impl Roster {
             is_leaving: false,
             turn: self.turns,
             listen: 0,
+            has_dozed: false,
+            joined_by: None,
             wanted_listen: 0,
+            asks_by: None,
         };
         self.stations[member.0].insert(member.1, station);
         self.unassociated[member.0].insert((now, member.1));
@@ -351,6 +430,7 @@ impl Roster {
         self.set_state(member, State::Associated(aid), now);
         if let Some(station) = self.stations[member.0].get_mut(&member.1) {
             station.listen = station.wanted_listen;
+            station.joined_by = station.asks_by.take();
             (station.to, station.from) = (Traffic::default(), Traffic::default());
             self.news.push((member, News::Joins { aid, listen: station.listen }));
         }
@@ -367,9 +447,10 @@ impl Roster {
         if let Some(station) = self.stations[member.0].get_mut(&member.1) {
             station.state = state;
             station.since = now;
-            station.dozes = false;
+            (station.dozes, station.has_dozed, station.joined_by) = (false, false, None);
             match state {
                 State::Associated(aid) => {
+                    self.changes += 1;
                     self.associated.insert((member.0, aid), member.1);
                 }
                 State::Authenticated => {
@@ -383,6 +464,7 @@ impl Roster {
     fn leave_state(&mut self, member: Member) {
         match self.station(&member).map(|station| (station.state, station.since)) {
             Some((State::Associated(aid), _)) => {
+                self.changes += 1;
                 self.told_of[member.0].remove(&aid);
                 if self.associated.get(&(member.0, aid)) == Some(&member.1) {
                     self.associated.remove(&(member.0, aid));
@@ -547,6 +629,61 @@ mod tests {
         roster.said(&departure(OURS, STATION), SECOND);
         assert_eq!(roster.station(&FIRST), None);
         assert_eq!(roster.take_news(), []);
+    }
+
+    /// What a new program has to know is what the station said last, and what the network answered.
+    #[test]
+    fn what_stations_joined_by_is_kept_while_they_are_associated() {
+        let mut roster = roster();
+        authenticated(&mut roster, STATION, 0);
+        assert_eq!((roster.kept(0), roster.changes()), (vec![], 0));
+        associated(&mut roster, STATION, 0, 1);
+        let request = frame([0, 0], OURS, STATION, &[1, 0, 2, 0]);
+        let plain =
+            Kept { address: STATION, aid: 1, listen: 2, dozes: false, has_dozed: false, request: request.clone() };
+        assert_eq!((roster.kept(0), roster.changes()), (vec![plain.clone()], 1));
+        roster.said(&frame([0x48, 0x11], OURS, STATION, &[]), 0);
+        roster.said(&frame([0x48, 0x11], OURS, STATION, &[]), 0);
+        let dozing = Kept { dozes: true, has_dozed: true, ..plain.clone() };
+        assert_eq!((roster.kept(0), roster.changes()), (vec![dozing.clone()], 2));
+        roster.said(&frame([0x48, 0x01], OURS, STATION, &[]), 0);
+        assert_eq!(roster.kept(0), [Kept { dozes: false, ..dozing }]);
+        // A request that is refused changes nothing, and one that is accepted takes the place of the one before.
+        roster.said(&frame([0, 0], OURS, STATION, &[1, 0, 7, 0]), 0);
+        roster.answered(0, &frame([0x10, 0], STATION, OURS, &[1, 0, 17, 0, 0, 0]), 0);
+        assert_eq!(roster.kept(0)[0].request, request);
+        roster.said(&frame([0x20, 0], OURS, STATION, &[1, 0, 9, 0, 0, 0, 0, 0, 0, 0]), 0);
+        roster.answered(0, &frame([0x30, 0], STATION, OURS, &[1, 0, 0, 0, 1, 0xc0]), 0);
+        let again = frame([0x20, 0], OURS, STATION, &[1, 0, 9, 0, 0, 0, 0, 0, 0, 0]);
+        assert_eq!(roster.kept(0), [Kept { listen: 9, request: again, ..plain }]);
+        roster.said(&frame([0xa0, 0], OURS, STATION, &[8, 0]), 0);
+        assert_eq!(roster.kept(0), []);
+        assert!(roster.kept(1).is_empty());
+    }
+
+    #[test]
+    fn who_is_forgotten_is_kept_no_more() {
+        let mut roster = joined();
+        assert_eq!(roster.kept(0).len(), 1);
+        roster.forget(FIRST, Forgotten::Kicked, SECOND);
+        assert_eq!(roster.kept(0), []);
+    }
+
+    #[test]
+    fn who_is_restored_is_there_as_before_without_a_word() {
+        let before = joined().kept(0);
+        let mut roster = roster();
+        let dozing = Kept { dozes: true, ..before[0].clone() };
+        roster.restore(FIRST, &dozing, 9 * SECOND);
+        let found = roster.station(&FIRST).unwrap();
+        assert_eq!((found.state, found.listen, found.dozes), (State::Associated(1), 2, true));
+        assert_eq!((roster.take_news(), roster.take_entered()), (vec![], vec![FIRST]));
+        assert_eq!(roster.kept(0), [Kept { has_dozed: true, ..dozing }]);
+        for _ in 0..3 {
+            beacon(&mut roster, 0x02);
+        }
+        assert_eq!(roster.told_of(0), 1);
+        assert_eq!(roster.take_news(), [(FIRST, News::DozesTooLong { beacons: 3, listen: 2 })]);
     }
 
     #[test]

@@ -15,7 +15,15 @@ pub const STRANGER: Address = Address::of([2, 0xbb, 0, 0, 0, 1]);
 
 /// A network of this address, without a wire.
 pub fn network(bssid: Address) -> Network {
-    Network { bssid, rates: vec![0x82], max_known: 100, wire: None, weight: 1 }
+    Network {
+        bssid,
+        ssid: b"lab".to_vec(),
+        rates: vec![0x82],
+        max_stations: 100,
+        max_known: 100,
+        wire: None,
+        weight: 1,
+    }
 }
 
 /// A frame with a header of three addresses: of data from a station to one of our networks unless said otherwise.

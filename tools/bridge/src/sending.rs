@@ -24,8 +24,12 @@ pub const BEACON: u8 = 0x80;
 pub struct Network {
     /// Its address.
     pub bssid: Address,
+    /// Its SSID.
+    pub ssid: Vec<u8>,
     /// Its rates, as the octets of its elements: units of 500 kb/s, with the highest bit where a rate is basic.
     pub rates: Vec<u8>,
+    /// How many stations are associated with it at most.
+    pub max_stations: u16,
     /// How many stations it knows at most.
     pub max_known: u16,
     /// The interface of its wire, if it has one.
@@ -358,6 +362,11 @@ impl<P: Port> Sender<P> {
         if let Some(place) = self.place_of(&frame.receiver()) {
             self.air.heard(place, frame);
         }
+    }
+
+    /// A station is associated with the network of this place, by this request, since before this bridge began.
+    pub fn restore(&mut self, place: Place, request: Frame<'_>) {
+        self.air.restore(place, request);
     }
 
     /// When `expire` has something to do.

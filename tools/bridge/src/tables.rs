@@ -46,6 +46,13 @@ pub struct Tables {
     came: u64,
 }
 
+impl Table {
+    /// The count of this name.
+    pub fn count(&self, name: &str) -> Option<u64> {
+        self.counts.iter().find(|(found, _)| found == name).map(|(_, number)| *number)
+    }
+}
+
 impl Tables {
     /// None came yet of so many networks.
     pub fn new(networks: usize) -> Tables {

@@ -252,6 +252,14 @@ impl<P: Port> Transmitter<P> {
         self.stations.hear(place, frame);
     }
 
+    /// A station is associated, by this request, since before this bridge began.
+    pub fn restore(&mut self, place: Place, request: Frame<'_>) {
+        self.stations.hear(place, request);
+        if let Some(address) = request.transmitter() {
+            self.join(place, address);
+        }
+    }
+
     /// A network sends a frame, at this time.
     pub fn send(&mut self, place: Place, octets: Vec<u8>, now: Nanos) {
         let (address, kind) = match Frame::of(&octets) {

@@ -12,7 +12,7 @@ use crate::shares::MOST_WEIGHT;
 /// How it is called.
 pub const USAGE: &str = "bridge --face text|octets --phy NAME --channel NUMBER --monitor NAME --interval UNITS \
                          [--idle SECONDS] [--socket DESCRIPTOR] [--alive] [--record DESCRIPTOR:NAME] [--bounds OCTETS] \
-                         --network BSSID/RATES/KNOWN/SHARE[/WIRE]... PROGRAM CONFIG";
+                         --network BSSID/SSID/RATES/STATIONS/KNOWN/SHARE[/WIRE]... PROGRAM CONFIG";
 
 /// What the words ask for.
 #[derive(Debug, Clone, PartialEq, Eq)]
@@ -132,26 +132,30 @@ fn read_record(text: &str) -> Result<(RawFd, String), NotWords> {
 fn read_network(text: &str) -> Result<Network, NotWords> {
     let mut parts = text.split('/');
     let bssid: Option<Address> = parts.next().and_then(|part| part.parse().ok());
-    let rates = parts.next().and_then(|part| hex::decode(part).ok()).filter(|rates| !rates.is_empty());
-    let max_known: Option<u16> = parts.next().and_then(|part| part.parse().ok()).filter(|number| *number > 0);
+    let mut octets = || parts.next().and_then(|part| hex::decode(part).ok()).filter(|octets| !octets.is_empty());
+    let (ssid, rates) = (octets(), octets());
+    let mut number = || parts.next().and_then(|part| part.parse().ok()).filter(|number: &u16| *number > 0);
+    let (max_stations, max_known) = (number(), number());
     let weight: Option<u8> = parts.next().and_then(|part| part.parse().ok()).filter(|weight| WEIGHTS.contains(weight));
     let wire = parts.next().map(str::to_owned);
-    match (bssid, rates, max_known, weight, parts.next()) {
-        (Some(bssid), Some(rates), Some(max_known), Some(weight), None) => {
-            Ok(Network { bssid, rates, max_known, wire, weight })
+    let read =
+        bssid.zip(ssid).zip(rates).zip(max_stations.zip(max_known)).zip(weight).filter(|_| parts.next().is_none());
+    match read {
+        Some(((((bssid, ssid), rates), (max_stations, max_known)), weight)) => {
+            Ok(Network { bssid, ssid, rates, max_stations, max_known, wire, weight })
         }
-        _ => Err(NotWords(format!("{text} is no BSSID/RATES/KNOWN/SHARE[/WIRE]"))),
+        None => Err(NotWords(format!("{text} is no BSSID/SSID/RATES/STATIONS/KNOWN/SHARE[/WIRE]"))),
     }
 }
 
 #[cfg(test)]
 mod tests {
     use super::*;
-    use crate::samples::{OTHER, OURS};
+    use crate::samples::{network, OTHER, OURS};
 
     const GOOD: &str = "--face octets --phy phy0 --channel 6 --monitor mon0 --interval 100 --idle 60 --socket 5 \
-                        --alive --record 6:r:1 --bounds 2000000 --network 02:00:00:00:01:01/8284/256/1/wire1 --network \
-                        02:00:00:00:01:02/16/10000/16 apctl config";
+                        --alive --record 6:r:1 --bounds 2000000 --network 02:00:00:00:01:01/6c6162/8284/64/256/1/wire1 --network \
+                        02:00:00:00:01:02/20/16/2007/10000/16 apctl config";
 
     fn read(text: &str) -> Result<Words, NotWords> {
         Words::read(text.split_whitespace().map(str::to_owned))
@@ -160,8 +164,21 @@ mod tests {
     #[test]
     fn good_words_are_read() {
         let networks = vec![
-            Network { bssid: OURS, rates: vec![0x82, 0x84], max_known: 256, wire: Some("wire1".into()), weight: 1 },
-            Network { bssid: OTHER, rates: vec![0x16], max_known: 10_000, wire: None, weight: 16 },
+            Network {
+                rates: vec![0x82, 0x84],
+                max_stations: 64,
+                max_known: 256,
+                wire: Some("wire1".into()),
+                ..network(OURS)
+            },
+            Network {
+                ssid: b" ".to_vec(),
+                rates: vec![0x16],
+                max_stations: 2007,
+                max_known: 10_000,
+                weight: 16,
+                ..network(OTHER)
+            },
         ];
         let wanted = Words {
             face: Face::Octets,
@@ -199,12 +216,16 @@ mod tests {
             ("--interval 100", ""),
             ("8284", ""),
             ("8284", "82g4"),
+            ("6c6162", ""),
+            ("6c6162", "6"),
+            ("/64/", "/0/"),
+            ("/64/", "/"),
             ("256", "0"),
             ("256", "x"),
             ("6:r:1", "r"),
             ("2000000", "2000"),
             ("6:r:1", "2:r"),
-            ("256/1/wire1", ""),
+            ("64/256/1/wire1", ""),
             ("/10000/16", ""),
             ("10000/16", "10000"),
             ("10000/16", "10000/17"),

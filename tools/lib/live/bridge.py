@@ -17,12 +17,14 @@ from live.telling import tell
 SECONDS_TO_END, SECONDS_TO_DISMISS = 60, 5
 FIRST = ("nice", "-n", "-15")  # before this machine's other programs: stations wait for what these two send
 ENDING = (signal.SIGINT, signal.SIGTERM)
-OPEN, WIRE, TABLES, DISMISS = "open", "wire", "tables", "dismiss"
+STATE, OPEN, WIRE, TABLES, DISMISS = "state", "open", "wire", "tables", "dismiss"
+PROGRAM_ENDED = "the program ended by itself"
+FORBIDDEN_CALL = 128 + signal.SIGSYS  # the status of a program that made a call that it may not make
 
 
 class Notice:
-    """The first words of what the bridge tells, a line each; it is asked by the lines OPEN, WIRE, TABLES and DISMISS, of
-    which the first two hand sockets over."""
+    """The first words of what the bridge tells, a line each; it is asked by the lines STATE, OPEN, WIRE, TABLES and
+    DISMISS, of which the first three hand descriptors over."""
 
     READY, SENDING, ALIVE, DOWN, DISMISSED = "ready", "sending", "alive", "down", "dismissed"
     STATUS, FAULT = "status", "fault"
@@ -69,8 +71,8 @@ class Signals:
 
 def network_word(network: Network, wires: dict[bytes, str], shares: dict[bytes, int]) -> str:
     """What the bridge is told of a network."""
-    parts = [address_text(network.bssid), network.rates.hex(), str(network.max_known),
-             str(shares.get(network.bssid, 1))]
+    parts = [address_text(network.bssid), network.ssid.hex(), network.rates.hex(), str(network.max_stations),
+             str(network.max_known), str(shares.get(network.bssid, 1))]
     return "/".join(parts + [wires[network.bssid]] if network.bssid in wires else parts)
 
 
@@ -127,22 +129,21 @@ class Bridge:
         """Ends it by a signal."""
         end(self.process, self.rights.user, signal.SIGKILL)
 
-    def ask(self, request: str, sockets: Iterable[socket.socket] = ()) -> None:
-        """Asks it for something, and hands sockets over; one that has ended is asked for nothing."""
-        descriptors = [handed.fileno() for handed in sockets]
+    def ask(self, request: str, descriptors: Iterable[int] = ()) -> None:
+        """Asks it for something, and hands descriptors over; one that has ended is asked for nothing."""
         try:
-            socket.send_fds(self.control, [f"{request}\n".encode()], descriptors)
+            socket.send_fds(self.control, [f"{request}\n".encode()], list(descriptors))
         except (BrokenPipeError, ConnectionResetError):
             pass
 
     def open(self, radio: list[socket.socket], wires: dict[int, socket.socket]) -> None:
         """Lets frames go by the sockets of the radio and of those wires that are there, by the places of their networks."""
-        self.ask(" ".join((OPEN, *map(str, wires))), (*radio, *wires.values()))
+        self.ask(" ".join((OPEN, *map(str, wires))), [handed.fileno() for handed in (*radio, *wires.values())])
 
     def take_wires(self, wires: dict[int, socket.socket]) -> None:
         """Lets frames go by wires that are there now."""
         for place, wire in wires.items():
-            self.ask(f"{WIRE} {place}", (wire,))
+            self.ask(f"{WIRE} {place}", [wire.fileno()])
 
     def wait(self, seconds: float | None) -> None:
         """Waits until it tells something, a signal comes, or the time is over; then takes what was told."""
@@ -185,15 +186,15 @@ class Bridge:
         while self.has_to_go_on() and not self.is_ready:
             self.wait(None)
 
-    def dismiss(self) -> None:
-        """Has all stations told that they have to join again."""
-        self.ask(DISMISS)
+    def dismiss(self, places: list[int]) -> None:
+        """Has all stations of the networks of these places told that they have to join again."""
+        self.ask(" ".join((DISMISS, *map(str, places))))
         until = time.monotonic() + SECONDS_TO_DISMISS
         while not (self.was_dismissed or self.is_over or self.fault) and time.monotonic() < until:
             self.wait(until - time.monotonic())
 
-    def end(self, afterwards: str = "taking down what was set up") -> None:
-        """Ends it: the program's tables and the counts come, and its status. A fault where it told one, or was ended."""
+    def await_end(self) -> int:
+        """Waits until it has ended, which it is asked for; its status."""
         with suppress(OSError):
             self.control.shutdown(socket.SHUT_WR)
         until = time.monotonic() + SECONDS_TO_END
@@ -201,7 +202,21 @@ class Bridge:
             self.wait(until - time.monotonic())
         if not self.is_over:
             self.send_kill()
-        status = self.process.wait()
+        return self.process.wait()
+
+    def reason_to_begin_anew(self) -> str | None:
+        """Why another one takes its place, where it or the program has ended by itself; nothing where all ends: it told
+        another fault, or one of them made a call that it may not make, as one does that a stranger has taken over."""
+        status = self.await_end()
+        if self.fault == PROGRAM_ENDED and self.status != FORBIDDEN_CALL:
+            return f"the program ended by itself, with status {self.status}"
+        if self.fault is None and status < 0 and status != -signal.SIGSYS:
+            return f"the bridge ended by itself, {reason_of(status)}"
+        return None
+
+    def end(self, afterwards: str = "taking down what was set up") -> None:
+        """Ends it: the program's tables and the counts come, and its status. A fault where it told one, or was ended."""
+        status = self.await_end()
         if self.status is not None:
             tell(f"the program ended with status {self.status}; {afterwards}")
         if self.fault is not None or status != 0:

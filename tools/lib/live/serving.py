@@ -2,15 +2,17 @@
 configuration that is read again, and what is taken down."""
 import os
 import signal
+import socket
 import subprocess
 import time
 from contextlib import ExitStack
 
 from live import asking
-from live.bridge import TABLES, Bridge, Signals, words_of
+from live.bridge import STATE, TABLES, Bridge, Signals, words_of
 from live.changes import Changes
 from live.checks import Plan, Wanted, check, check_again, check_rights, missing_wires
 from live.faults import Fault
+from live.keeping import StateFiles, changed_networks
 from live.packets import open_radio
 from live.record import make_record
 from live.rights import MOST_MEMORY, end, page_user_of, rights_of
@@ -22,6 +24,8 @@ from live.wires import Wires
 TOOLS = os.path.dirname(os.path.dirname(os.path.dirname(os.path.realpath(__file__))))
 LOOK_SECONDS = 1.0  # how often one looks for wires that are missing
 STATUS_PROGRAM = os.path.join(TOOLS, "status")
+# Where so many bridges in a row, or their programs, have ended so soon after they were opened, no other one is begun.
+MOST_EARLY, EARLY_SECONDS = 3, 2.0
 
 
 class AccessPoint:
@@ -39,8 +43,15 @@ class AccessPoint:
         self.page_user = page_user_of(wanted)
         group = os.getegid() if self.page_user is None else self.page_user.pw_gid
         self.listening = asking.listen(wanted.phy, group, stack)
+        self.state = StateFiles(wanted.phy, stack)
         self.setting_up = SettingUp(wanted, made, stack)
         self.wires = Wires(self.setting_up)
+        stack.callback(self.wires.close)
+        self.radio: list[socket.socket] = []
+        self.frequency: int | None = None  # of the sockets of the radio
+        stack.callback(self.close_radio)
+        self.opened = 0.0  # when the last bridge was opened
+        self.early = 0  # how many in a row ended soon after that
         self.page: subprocess.Popen[bytes] | None = None
         self.bridge = self.start(self.plan)
 
@@ -79,25 +90,29 @@ class AccessPoint:
             self.bridge.end()
 
     def open(self) -> None:
-        """Sets up what the plan takes, and lets frames go."""
+        """Sets up what the plan takes, and lets frames go. What a bridge before has left of stations, and the sockets that
+        it had, are handed over; what came by these meanwhile waits there."""
         self.setting_up.follow(self.plan, missing_wires(self.plan))
-        with ExitStack() as ours:
-            radio = [ours.enter_context(opened) for opened in open_radio(self.wanted.monitor)]
-            wires = self.wires.open(self.plan)
-            for opened in wires.values():
-                ours.enter_context(opened)
-            self.bridge.open(radio, wires)
+        if self.frequency != self.plan.settings.frequency:
+            self.close_radio()
+            self.radio = open_radio(self.wanted.monitor)
+            self.frequency = self.plan.settings.frequency
+        self.bridge.ask(STATE, self.state.descriptors)
+        self.bridge.open(self.radio, self.wires.open(self.plan))
+        self.opened = time.monotonic()
+
+    def close_radio(self) -> None:
+        """Closes the radio's sockets."""
+        for opened in self.radio:
+            opened.close()
+        self.radio, self.frequency = [], None
 
     def look_at_wires(self) -> None:
         """Hands over the wires that are there again."""
         for place in self.bridge.down:
             self.wires.went_down(place)
         self.bridge.down.clear()
-        with ExitStack() as ours:
-            wires = self.wires.look()
-            for opened in wires.values():
-                ours.enter_context(opened)
-            self.bridge.take_wires(wires)
+        self.bridge.take_wires(self.wires.look())
 
     def serve(self) -> None:
         """Lets frames go, and does what signals ask for."""
@@ -105,7 +120,7 @@ class AccessPoint:
         look = time.monotonic() + LOOK_SECONDS
         has_told = None
         alive = 0
-        while self.bridge.has_to_go_on():
+        while self.bridge.has_to_go_on() or self.begin_anew():
             self.bridge.wait(self.seconds_to(due if self.wanted.tables else None))
             if self.bridge.down or self.wires.are_missing and time.monotonic() >= look:
                 look = time.monotonic() + LOOK_SECONDS
@@ -127,6 +142,23 @@ class AccessPoint:
                 self.signals.reload_asked = False
                 self.reload()
 
+    def begin_anew(self) -> bool:
+        """Where the bridge or the program has ended by itself, another bridge with another program takes its place: the
+        interfaces and their sockets stay meanwhile, and stations notice nothing. Whether that is so."""
+        if self.signals.is_ending:
+            return False
+        reason = self.bridge.reason_to_begin_anew()
+        self.early = self.early + 1 if time.monotonic() < self.opened + EARLY_SECONDS else 0
+        if reason is None or self.signals.is_ending or self.early >= MOST_EARLY:
+            return False
+        tell(f"{reason}; it begins anew", WARNING)
+        self.bridge = self.start(self.plan)
+        self.bridge.await_networks()
+        if not self.bridge.has_to_go_on():
+            return False
+        self.open()
+        return True
+
     def seconds_to(self, due: float | None) -> float | None:
         """For how long one waits at most: for what is due, and for wires that are missing."""
         waits = [] if due is None else [max(0.0, due - time.monotonic())]
@@ -143,7 +175,8 @@ class AccessPoint:
 
     def reload(self) -> None:
         """Reads the configuration again: where it has a fault, or the program doesn't take it, all stays as it is; else
-        stations are told to join again, and the program starts anew."""
+        the program starts anew. Stations of networks that are others now, or gone, are told to join again; all others
+        notice nothing."""
         self.service.reloading()
         tell(f"reading {self.wanted.config} again")
         try:
@@ -157,7 +190,9 @@ class AccessPoint:
             tell(f"all stays as it is: {fault}", ERROR)
             self.service.ready("the configuration that was read last has a fault; the one before is served")
             return
-        self.bridge.dismiss()
+        changed = changed_networks(self.plan, plan)
+        if changed:
+            self.bridge.dismiss(changed)
         predecessor, self.bridge, self.plan = self.bridge, successor, plan
         try:
             predecessor.end("it begins anew")

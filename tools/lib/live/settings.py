@@ -9,17 +9,20 @@ BASIC = 0x80
 JAPANESE_CHANNEL, JAPANESE_FREQUENCY = 14, 2484
 MOST_EVENTS = 1_000_000
 MOST_KNOWN = 10_000
+MOST_STATIONS = 2007
 
 
 @dataclass(frozen=True)
 class Network:
-    """One network: its BSSID, its rates as the octets of its elements, how many stations it knows at most, and how many
-    events `run` takes of it."""
+    """One network: its BSSID, its rates as the octets of its elements, how many stations it knows at most, how many
+    events `run` takes of it, its SSID, and how many stations are associated with it at most."""
 
     bssid: bytes
     rates: bytes
     max_known: int = MOST_KNOWN
     max_events: int = MOST_EVENTS
+    ssid: bytes = b""
+    max_stations: int = MOST_STATIONS
 
     @property
     def sending_rate(self) -> int:
@@ -53,7 +56,8 @@ def read_settings(path: str) -> Settings:
         with open(path, "rb") as file:
             text = tomllib.load(file)
         networks = tuple(Network(address_of(table["bssid"]), bytes.fromhex(table["rates"]), table["max_known"],
-                                 table["max_events"]) for table in text["network"])
+                                 table["max_events"], table["ssid"].encode(), table["max_stations"])
+                         for table in text["network"])
         return Settings(text["channel"], text["interval"], networks)
-    except (OSError, ValueError, KeyError, TypeError) as fault:
+    except (OSError, ValueError, KeyError, TypeError, AttributeError) as fault:
         raise Fault(f"{path}: not read as a configuration: {fault}") from None
