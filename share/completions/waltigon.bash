@@ -8,8 +8,8 @@ _waltigon() {
     waltigon-config-from-hostapd) ;;
     waltigon-explain) options='--program --said' offered='check run play live' ;;
     waltigon-live)
-        options='--phy --wire --wires --share --monitor --country --idle --program --bridge --record --tables --status --as-root'
-        offered='kick status check-networks'
+        options='--phy --wire --wires --share --monitor --country --idle --program --bridge --record --tables --status --as-root --json --watch'
+        offered='kick reload status check-networks'
         ;;
     waltigon-picture) options='--out --from --to --station --network --overview --stations' ;;
     waltigon-report-to-json) options='--without-frames' ;;

@@ -258,7 +258,7 @@ class Reload(Part):
         case = self.case
         self.begins("reload: the bridge begins, and a station joins each of three networks", self.set_up)
         case("a configuration with a fault changes nothing, and no ping is lost", self.fault)
-        case(f"one of three networks changes: the others' stations ping again within {RELOAD_SECONDS} s", self.change)
+        case("one of three networks changes: the others' stations stay", self.change)
         case("reload: `run` on the first record gives what the program wrote before", self.agrees_before)
         self.cases.leave_all()
         self.cases.case("reload: the bridge ends, and takes down what it set up", self.end_start)
@@ -337,8 +337,10 @@ class Reload(Part):
             raise Failed(f"the others' pings came after {seconds:.1f} seconds")
         dismissed = [frame for frame in map(captured, self.start.observed.packets_so_far()) if frame
                      and Frame(frame.frame).is_management(DEAUTHENTICATION) and frame.frame[4:10] == BROADCAST]
-        if len(dismissed) != 3:
+        if [frame.frame[10:16] for frame in dismissed] != [address_of(DEVICES)]:
             raise Failed(f"{len(dismissed)} deauthentications of all were heard")
+        if "1 stations of 02:00:00:00:01:01 stay" not in self.start.told():
+            raise Failed(f"no station stays: {self.start.told()[-500:]}")
         return f"the program anew after {anew:.1f}, the others' pings after {seconds:.1f} seconds"
 
 

@@ -9,6 +9,7 @@ import struct
 import subprocess
 import time
 from collections import defaultdict
+from contextlib import suppress
 from dataclasses import dataclass, field
 
 from frames import (DATA, DEAUTHENTICATION, DISASSOCIATION, MANAGEMENT, NULL, PROBE_RESPONSE, Frame, address_of,
@@ -49,6 +50,8 @@ COMPILED = os.path.join(TOP, "build", "bridge", "release", "bridge")
 RECORD_HEADER = struct.Struct("<c6sH")  # of a record of octets: its kind, a BSSID, how many octets follow
 KINDS = {b"A": "air", b"W": "wire"}
 BRIDGES_REASONS = (3, 4)  # leaving, and inactivity
+# Between these comments of a record stands what a new program was told of stations that joined before.
+RESTORED_FROM, RESTORED_TO = "# restored: of the lines", "# restored: up to here"
 DURATION, RECEIVER, RETRY, TIMESTAMP = slice(2, 4), slice(4, 10), 0x08, slice(24, 32)
 
 
@@ -332,18 +335,17 @@ class Start:
         if left:
             raise Failed(f"the bridge left {left}")
 
-    def kill_program(self) -> None:
-        """Kills the program itself: that has to be told."""
+    def kill_again_and_again(self, executable: str) -> None:
+        """Kills what runs this file as soon as it runs: in the end that is given up."""
         self.was_killed = True
-        os.kill(process_of(self.program), signal.SIGKILL)
+        until = time.monotonic() + SECONDS_TO_END
+        while self.is_running() and time.monotonic() < until:
+            for process in processes_of(executable):
+                with suppress(ProcessLookupError):
+                    os.kill(process, signal.SIGKILL)
+            time.sleep(0.02)
         self.ended(1)
-        self.has_told("the program ended by itself")
-
-    def kill_compiled(self) -> None:
-        """Kills the compiled bridge: that has to be told, and the program ends with it."""
-        os.kill(process_of(COMPILED), signal.SIGKILL)
-        self.ended(1)
-        self.has_told("the bridge ended by itself, by the signal SIGKILL")
+        self.has_told("; it begins anew")
         wait_for("the program ends", 20, lambda: not processes_of(self.program))
 
     def has_told(self, text: str) -> None:
@@ -395,6 +397,12 @@ class Start:
             raise Failed("the guests' network heard nothing of its own")
         return f"{taken_out} of {len(self.recorded())} lines taken out"
 
+    def swallowed(self) -> dict[str, Section]:
+        """What the program answered to what it was told of stations that joined before it began: that isn't sent."""
+        lines = self.recorded()
+        ends = [place for place, line in enumerate(lines) if line.startswith(RESTORED_TO)]
+        return self.rerun(lines[:ends[0]]) if ends else defaultdict(Section)
+
     def agrees_with_observed(self) -> str:
         """What another radio heard of each network has to be what the program wrote for it: for each receiver the same
         frames in the same order, where one that was sent again counts once."""
@@ -409,8 +417,9 @@ class Start:
                 if not frame.retry or last.get(way) != frame.sequence_control:
                     heard[bssids[frame.transmitter].bssid].append(comparable(frame.octets))
                 last[way] = frame.sequence_control
-        wrote = read_answers(self.answered())
+        wrote, swallowed = read_answers(self.answered()), self.swallowed()
         for net in self.networks:
+            del wrote[net.bssid].air[:len(swallowed[net.bssid].air)]
             same(f"{self.name}: heard of {net.ssid}", sorted(heard[net.bssid], key=receiver_of),
                  sorted((comparable(bytes.fromhex(octets)) for octets in wrote[net.bssid].air), key=receiver_of))
         return f"{sum(map(len, heard.values()))} frames heard"

@@ -287,7 +287,7 @@ class CompletionOfTools(ToolTest):
         self.assertEqual(self.completed("waltigon-explain", "--"), ["--program", "--said", "--help", "--version"])
         self.assertEqual(sorted(self.completed("waltigon-picture", "")), ["a.trace", "my.toml"])
         self.assertEqual(sorted(self.completed("waltigon-live", "")),
-                         ["a.trace", "check-networks", "kick", "my.toml", "status"])
+                         ["a.trace", "check-networks", "kick", "my.toml", "reload", "status"])
         self.assertEqual(self.completed("waltigon-live", "ki"), ["kick"])
         self.assertEqual(sorted(self.completed("waltigon-explain", "my.toml", "")), ["a.trace", "my.toml"])
         self.assertEqual(self.completed("waltigon-trace-from-capture", "--fcs", "a"), ["auto"])
@@ -329,7 +329,7 @@ class Completion(ToolTest):
             with open(self.path(name), "w", encoding="ascii"):
                 pass
         self.completed("waltigon-report-to-json --w", "waltigon-report-to-json --without-frames")
-        self.completed("waltigon-live ", "kick", "status", "check-networks", "my.toml")
+        self.completed("waltigon-live ", "kick", "reload", "status", "check-networks", "my.toml")
         self.completed("waltigon-explain ", "check", "run", "play", "live", "my.toml", "a.trace")
         self.completed("waltigon-trace-from-capture --fcs ", "auto", "yes", "no")
         self.completed("waltigon-picture --", "--station", "--stations", "at most so many of a network")

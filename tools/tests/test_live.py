@@ -21,8 +21,8 @@ from dataclasses import replace
 from unittest import mock
 
 from frames import BROADCAST, address_of
-from live import (asking, changes, checks, keeping, machine, radiotap, record, rights, serving, setting_up, telling,
-                  wires)
+from live import (asking, changes, checks, keeping, machine, radiotap, record, rights, running, serving, setting_up,
+                  showing, telling, wires)
 from live.bridge import Bridge, Signals
 from live.changes import Change, Changes
 from live.checks import (Plan, Wanted, check_abilities, check_bridge, check_config, check_left, check_names, check_port,
@@ -34,6 +34,7 @@ from live.record import make_record
 from live.rights import Rights
 from live.service import Service
 from live.settings import Network, Settings, read_settings
+from statuses import document, network, only_known, station
 
 TOOLS = os.path.dirname(os.path.dirname(os.path.realpath(__file__)))
 OURS, OTHER = address_of("02:00:00:00:01:01"), address_of("02:00:00:00:01:02")
@@ -653,7 +654,7 @@ class FilesAndPrograms(WithFiles):
         phy = [self.config, "--phy", "phy0"]
         for words in ([], [self.config], [*phy, "--wire", "x=y"], [*phy, "--tables", "0"], [*phy, "--idle", "-1"],
                       [*phy, "--country", "Germany"], [*phy, "--status", "70000"], ["kick"], ["kick", "x", "y"],
-                      ["status", "more"]):
+                      ["status", "more"], ["status", "--json", "--watch"], ["reload", "more"]):
             self.assertEqual(subprocess.run([tool, *words], capture_output=True, check=False).returncode, 2, words)
         done = subprocess.run([tool, self.config, "--phy", "phy0", "--program", os.path.join(self.folder, "apctl")],
                               capture_output=True, text=True, check=False)
@@ -915,6 +916,97 @@ class WhatStays(WithFiles):
             self.assertEqual(keeping.changed_networks(before, Plan(settings, (), "octets")), [0, 1])
 
 
+class Reloaded(WithFiles):
+    """The word `reload`, and what an access point that runs tells of itself for it."""
+
+    def setUp(self):
+        super().setUp()
+        self.stack = ExitStack()
+        self.addCleanup(self.stack.close)
+        self.stack.enter_context(mock.patch.object(changes, "RUN", self.folder))
+        self.program = self.write("apctl", "#!/bin/sh\ngrep -q 'channel = 6$' $2 || { echo 'fault C4' >&2; exit 1; }\n",
+                                  0o755)
+        self.wanted = Wanted(self.config, self.program, "bridge", "phy0", "mon0", (), None, None)
+        self.asked = []
+
+    def run_with(self, fault=None):
+        """An access point runs that answers the signal so."""
+        told = running.RunFile(self.wanted, self.stack)
+        self.stack.callback(signal.signal, signal.SIGHUP, signal.getsignal(signal.SIGHUP))
+
+        def reload(*_):
+            self.asked.append("reload")
+            threading.Timer(0.2, told.reloaded, (fault,)).start()
+        signal.signal(signal.SIGHUP, reload)
+        return told
+
+    def test_served(self):
+        """It is asked, and what came of it is told."""
+        told = self.run_with()
+        self.assertEqual(stat.S_IMODE(os.stat(told.path).st_mode), 0o600)
+        self.assertEqual(running.reload_running("phy0"), f"{os.path.realpath(self.config)} was read again, and is served")
+        self.assertEqual(running.read_run("phy0")["reloads"], 1)
+        self.stack.close()
+        self.assertFalse(os.path.exists(told.path))
+
+    def test_fault_of_the_configuration(self):
+        """It is told in the words of `explain`, and the access point isn't asked."""
+        self.run_with()
+        self.write("radio.toml", CONFIG.replace("channel = 6", "channel = 66"))
+        with self.assertRaisesRegex(Fault, "fault C4\n.*channel"):
+            running.reload_running("phy0")
+        self.assertEqual(self.asked, [])
+
+    def test_refused(self):
+        """What the access point refuses is told."""
+        self.run_with("phy0: this radio allows 2 interfaces")
+        with self.assertRaisesRegex(Fault, "all stays as it is: phy0: this radio allows 2 interfaces"):
+            running.reload_running("phy0")
+
+    def test_none_runs(self):
+        """There is no file, it isn't whole, or its process has ended."""
+        ended = subprocess.Popen(["true"])
+        ended.wait()
+        for text in (None, "{", "{}", json.dumps({"pid": ended.pid})):
+            if text is not None:
+                self.write("phy0.run", text)
+            with self.assertRaisesRegex(Fault, "phy0: no access point runs that .*phy0.run tells of"):
+                running.reload_running("phy0")
+
+
+class Shown(unittest.TestCase):
+    """The status in columns."""
+
+    DOCUMENT = document(
+        network(1, b"guests", [station(1), station(12, dozes=True, kept=3, octets_to=1_234_567, signal=None),
+                               only_known(3)]),
+        network(2, b"", counts=None, wire=None, wire_down=65.0),
+        faults=[{"seconds": 3725, "text": "fault memory line 7"}])
+
+    def test_columns(self):
+        """Networks and their stations, each column below its head."""
+        lines = showing.text_of(self.DOCUMENT).splitlines()
+        self.assertEqual(lines[0], "phy0, channel 6, for 0:00:12, of e4965d3; 1234 beacons, 7.9 ms late at worst, 0 missed")
+        self.assertEqual(lines[2], '02:00:00:00:01:01 guests: 3 stations, wire wire1, 1 kept, 2 lost, 3 unread')
+        self.assertEqual(lines[3:7], [
+            "  address            state          aid  mode      since  heard   signal  Mb/s to  from     sent  received  kept",
+            "  02:aa:00:00:00:01  associated       1  active  0:01:42  0.2 s  -30 dBm       54   5.5  10.2 kB      9 kB     0",
+            "  02:aa:00:00:00:0c  associated      12  dozes   0:01:42  0.2 s        -       54   5.5  1.23 MB      9 kB     3",
+            "  02:aa:00:00:00:03  authenticated    -  -       0:01:42  0.2 s        -        -     -      0 B       0 B     -"])
+        self.assertEqual(lines[8], "02:00:00:00:01:02 (no name): 0 stations, wire none, down for 0:01:05")
+        self.assertEqual(lines[10], "1:02:05 ago: fault memory line 7")
+
+    def test_watched(self):
+        """Each second until Ctrl-C, also while nobody answers."""
+        answers = [self.DOCUMENT, Fault("no bridge answers"), KeyboardInterrupt()]
+        told = io.StringIO()
+        with (mock.patch.object(showing, "ask", side_effect=answers), mock.patch.object(showing, "WATCH_SECONDS", 0),
+              contextlib.redirect_stdout(told)):
+            showing.show_status(None, True)
+        self.assertEqual(told.getvalue().split(showing.CLEAR)[1:],
+                         [showing.text_of(self.DOCUMENT) + "\n", "no bridge answers\n"])
+
+
 class Running(WithFiles):
     """A bridge of a few lines, started and ended as the compiled one is."""
 
@@ -933,7 +1025,7 @@ class Running(WithFiles):
         wires = ((OURS, "wire1"),)
         wanted = Wanted(self.config, "apctl", path, "phy0", "mon0", wires, self.path("a.trace"), tables,
                         status=port)
-        self.followed = []
+        self.followed, self.outcomes = [], []
         setting_up = mock.Mock(follow=lambda plan, missing: self.followed.append(plan))
         with ExitStack() as stack:
             for where, name, value in (
@@ -944,6 +1036,7 @@ class Running(WithFiles):
                     (serving, "check", lambda *_: Plan(read_settings(self.config), wires, "octets")),
                     (serving, "check_again", lambda _, before: self.check_again(before))):
                 stack.enter_context(mock.patch.object(where, name, value))
+            stack.enter_context(mock.patch.object(running.RunFile, "reloaded", lambda _, fault: self.outcomes.append(fault)))
             timer = threading.Timer(0.5, later)
             timer.start()
             try:
@@ -1011,6 +1104,7 @@ class Running(WithFiles):
             self.end()
         self.run_bridge(later)
         self.assertEqual(self.read("asked"), "state\nopen\nstate\nopen\n")
+        self.assertEqual(self.outcomes, [None])
 
     def test_begins_anew(self):
         """A bridge that is killed, or whose program ends, is followed by another one; what it left is handed on."""
@@ -1052,6 +1146,8 @@ class Running(WithFiles):
         self.run_bridge(later)
         self.assertEqual((self.read("asked"), len(self.followed)), ("state\nopen\n", 1))
         self.assertIn("all stays as it is", self.told.getvalue())
+        self.assertEqual(len(self.outcomes), 1)
+        self.assertIn("not read as a configuration", self.outcomes[0])
 
     def test_reload_that_does_not_begin(self):
         """Where the program doesn't begin with the new configuration, the one before goes on."""

@@ -122,6 +122,7 @@ struct Running<P> {
     beacons: Lateness,
     /// Until when the first beacon has to be seen as sent, while none was.
     beacon_due: Option<Nanos>,
+    has_told_sending: bool,
     given: Given,
     left_out: BTreeMap<(Way, LeftOut), u64>,
     has_told_drops: bool,
@@ -259,6 +260,7 @@ impl<P: OfSocket> Bridge<P> {
         self.feed()?;
         self.send()?;
         self.take_acknowledged()?;
+        self.tell_sending()?;
         self.keep(false);
         Ok(())
     }
@@ -426,9 +428,11 @@ impl<P: OfSocket> Bridge<P> {
             }
         }
         if let Some(port) = sender.acknowledged() {
-            // What an earlier bridge has let through is heard by the monitor interface's own socket again.
+            // It hears nothing yet, and what waits here is of frames of an earlier bridge.
             let outcome = port.set_filter(&nothing_filter());
             outcome.map_err(|fault| Fault::of(format!("{}: no filter", port.interface()), &fault))?;
+            self.batch.ask_for(AT_A_TIME);
+            while matches!(port.receive(&mut self.batch), Ok(AT_A_TIME)) {}
             self.poller.add(port.descriptor(), Token::Acknowledged, false, false)?;
         }
         if let Some(clients) = &self.clients {
@@ -587,7 +591,6 @@ impl<P: OfSocket> Bridge<P> {
         if ready.can_write {
             running.unblock(ready.token);
         }
-        let was_waited_for = running.beacon_due.is_some();
         if ready.can_read && self.phase == Phase::Running {
             let outcome = running.receive(ready.token, &mut self.batch, self.time);
             match (outcome, ready.token) {
@@ -598,11 +601,19 @@ impl<P: OfSocket> Bridge<P> {
                 (outcome, _) => outcome?,
             }
         }
-        if was_waited_for && running.beacon_due.is_none() {
-            say(&Notice::Sending);
-            self.filter_outcomes()?;
-        }
         Ok(())
+    }
+
+    /// Tells `tools/live` once that the first beacon was seen as sent.
+    fn tell_sending(&mut self) -> Result<(), Fault> {
+        match &mut self.running {
+            Some(running) if running.beacon_due.is_none() && !running.has_told_sending => {
+                running.has_told_sending = true;
+                say(&Notice::Sending);
+                self.filter_outcomes()
+            }
+            _ => Ok(()),
+        }
     }
 
     /// The radio sends: from now on of the frames that it shows as sent only their outcomes come, and those that were
@@ -852,6 +863,7 @@ impl<P: Port> Running<P> {
             look_due: start,
             beacons: Lateness::default(),
             beacon_due: Some(start + TO_BEACON),
+            has_told_sending: false,
             given: Given::default(),
             left_out: BTreeMap::new(),
             has_told_drops: false,

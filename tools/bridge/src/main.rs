@@ -35,11 +35,17 @@
 //! (`gathering`).
 //!
 //! It leaves every decision on a frame to the program, and leaves to `tools/live` all that takes rights: it has none of
-//! its own (`rights`). It speaks with that by lines of a Unix socket: it reads `open PLACE...`, once the interfaces are
-//! there, with their sockets, `wire PLACE`, with the socket of a wire that is there again, `tables`, and `dismiss`, by
-//! which all stations are told to join again; the end of its input ends it. It writes `ready`, once the networks are open,
+//! its own (`rights`). It speaks with that by lines of a Unix socket: it reads `state`, with the files by which stations
+//! stay, `open PLACE...`, once the interfaces are there, with their sockets, `wire PLACE`, with the socket of a wire that
+//! is there again, `tables`, and `dismiss PLACE...`, by which all stations of these networks are told to join again; the
+//! end of its input ends it. It writes `ready`, once the networks are open,
 //! `sending`, once the first beacon was seen as sent, `alive` while the program answers, `down PLACE` where a wire ended,
 //! `dismissed`, `status N` with the status of the program, and `fault TEXT`, after which it ends with status 1.
+//!
+//! Where a bridge takes the place of another one, stations stay (`restoring`). The state that the one before has left in
+//! the files says who is associated, and by which request. The new program is told of these before anything else, and the
+//! record marks that by comments. What it answers to these events is swallowed: that alone of its answers isn't sent. Each
+//! second in which something changed, and at its end, the bridge leaves such a state itself (`keeping`).
 //!
 //! By itself (`operating`) it watches which stations there are, tells what happens to them, and asks those that have
 //! fallen silent whether they are there; for one that isn't, or that doesn't associate where a network is nearly full,

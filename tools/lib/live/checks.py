@@ -136,14 +136,19 @@ def check_program(program: str) -> None:
 
 def check_config(wanted: Wanted) -> Settings:
     """The program has to find no fault in the configuration."""
+    return check_config_of(wanted.program, wanted.config)
+
+
+def check_config_of(program: str, config: str) -> Settings:
+    """A program has to find no fault in a configuration."""
     try:
-        done = subprocess.run([wanted.program, "check", wanted.config], capture_output=True, text=True, check=False)
+        done = subprocess.run([program, "check", config], capture_output=True, text=True, check=False)
     except OSError as fault:
-        raise Fault(f"{wanted.program} can't be run: {fault.strerror}") from None
+        raise Fault(f"{program} can't be run: {fault.strerror}") from None
     if done.returncode != 0:
-        said, *reasons = explain_config(wanted.config, done.stderr.strip())
-        raise Fault("\n".join([f"{wanted.config}: {said}", *reasons]))
-    return read_settings(wanted.config)
+        said, *reasons = explain_config(config, done.stderr.strip())
+        raise Fault("\n".join([f"{config}: {said}", *reasons]))
+    return read_settings(config)
 
 
 def face_of(wanted: Wanted) -> str:

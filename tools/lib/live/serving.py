@@ -16,6 +16,7 @@ from live.keeping import StateFiles, changed_networks
 from live.packets import open_radio
 from live.record import make_record
 from live.rights import MOST_MEMORY, end, page_user_of, rights_of
+from live.running import RunFile
 from live.service import Service
 from live.setting_up import SettingUp
 from live.telling import ERROR, WARNING, tell
@@ -43,6 +44,7 @@ class AccessPoint:
         self.page_user = page_user_of(wanted)
         group = os.getegid() if self.page_user is None else self.page_user.pw_gid
         self.listening = asking.listen(wanted.phy, group, stack)
+        self.told = RunFile(wanted, stack)
         self.state = StateFiles(wanted.phy, stack)
         self.setting_up = SettingUp(wanted, made, stack)
         self.wires = Wires(self.setting_up)
@@ -188,6 +190,7 @@ class AccessPoint:
                 raise Fault(successor.fault or "the program didn't begin with it")
         except Fault as fault:
             tell(f"all stays as it is: {fault}", ERROR)
+            self.told.reloaded(str(fault))
             self.service.ready("the configuration that was read last has a fault; the one before is served")
             return
         changed = changed_networks(self.plan, plan)
@@ -199,6 +202,7 @@ class AccessPoint:
         except Fault as fault:
             tell(str(fault), WARNING)
         self.open()
+        self.told.reloaded(None)
 
     def serve_page(self) -> None:
         """Starts the page that shows what is going on, which goes on as a user who may do nothing else."""
