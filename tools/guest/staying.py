@@ -6,6 +6,7 @@ import re
 import shutil
 import signal
 import time
+from contextlib import suppress
 from dataclasses import replace
 
 from parts import Part, join
@@ -285,7 +286,7 @@ class Stays(Part):
             raise Failed(f"{self.guests_by_identifier()} of {members}")
         self.set_most(highest - 1)
         self.reload()
-        wait_for("the last one joins again", 60, lambda: set(self.guests_by_identifier().values()) == set(members.values()))
+        wait_for("the last one joins again", 60, lambda: len(self.guests_by_identifier()) == len(members))
         found = self.guests_by_identifier()
         others = {aid: station for aid, station in members.items() if aid != highest}
         if {aid: found[aid] for aid in others} != others or max(found) >= highest:
@@ -337,7 +338,8 @@ class Stays(Part):
         """All are killed, the script last, so that nothing is taken back."""
         pids = [self.start.process.pid, process_of(COMPILED), process_of(self.start.program)]
         for process in pids:
-            os.kill(process, signal.SIGKILL)
+            with suppress(ProcessLookupError):
+                os.kill(process, signal.SIGKILL)
         self.start.process.wait()
         wait_for("all have ended", 20, lambda: not processes_of(COMPILED) + processes_of(self.start.program))
         self.start.take_down()

@@ -25,22 +25,25 @@ class RunFile:
 
     def __init__(self, wanted: Wanted, stack: ExitStack) -> None:
         self.path = run_path(wanted.phy)
-        self.told = {"pid": os.getpid(), "config": os.path.realpath(wanted.config),
-                     "program": os.path.realpath(wanted.program), "reloads": 0, "fault": None}
+        self.wanted = wanted
+        self.reloads = 0
+        self.fault: str | None = None
         stack.callback(self.remove)
         self.write()
 
     def reloaded(self, fault: str | None) -> None:
         """The configuration was read again; why all stayed as it was, where it did."""
-        self.told["reloads"] += 1
-        self.told["fault"] = fault
+        self.reloads += 1
+        self.fault = fault
         self.write()
 
     def write(self) -> None:
         """Writes it anew, so that it is whole at any moment."""
         with open(os.open(f"{self.path}.new", os.O_WRONLY | os.O_CREAT | os.O_TRUNC | os.O_NOFOLLOW, MODE), "w",
                   encoding="utf-8") as file:
-            json.dump(self.told, file)
+            json.dump({"pid": os.getpid(), "config": os.path.realpath(self.wanted.config),
+                       "program": os.path.realpath(self.wanted.program), "reloads": self.reloads,
+                       "fault": self.fault}, file)
         os.replace(f"{self.path}.new", self.path)
 
     def remove(self) -> None:
