@@ -41,8 +41,8 @@ def links(**changed):
         found |= {link.name: link for link in (
             Link(f"br-{name}", "bridge", addresses=("10.0.0.1/24",)),
             Link(f"wire-{name}", "veth", other_end=f"port-{name}"),
-            Link(f"port-{name}", "veth", master=f"br-{name}", other_end=f"wire-{name}"),
-            Link(f"lan-{name}", "vlan", master=f"br-{name}"))}
+            Link(f"port-{name}", "veth", master=f"br-{name}", other_end=f"wire-{name}", is_isolated=name != "office"),
+            Link(f"lan-{name}", "vlan", master=f"br-{name}", is_isolated=name != "office"))}
     for name, changes in changed.items():
         name = name.replace("_", "-")
         found[name] = replace(found.get(name, Link(name)), **changes)
@@ -144,6 +144,11 @@ class Findings(ToolTest):
         self.found("br-guests sends back to port-guests", "`bridge link set dev port-guests hairpin off`",
                    Behind(links(port_guests={"is_sent_back": True})))
         self.assertEqual(told(Behind(links(port_office={"is_sent_back": True})))[1], 0)
+        self.found("br-guests passes frames between port-guests and lan-guests",
+                   "`bridge link set dev port-guests isolated on`, which", Behind(links(port_guests={"is_isolated": False})))
+        self.found("br-guests passes frames between port-guests and lan-guests",
+                   "`bridge link set dev port-guests isolated on; bridge link set dev lan-guests isolated on`",
+                   Behind(links(port_guests={"is_isolated": False}, lan_guests={"is_isolated": False})))
         self.found("eth2 has no carrier", "plugged in", Behind(links(eth2={"has_carrier": False})),
                    wires=NAMED | {OFFICE: "eth2"})
 
@@ -186,7 +191,7 @@ class Reading(ToolTest):
         """Each is of a network, and a network has one."""
         own = bytes.fromhex(GUESTS.replace(":", ""))
         self.assertEqual(check_named(NETWORKS, ((own, "eth1"),)), {GUESTS: "eth1"})
-        with self.assertRaisesRegex(Fault, "no network has this BSSID"):
+        with self.assertRaisesRegex(Fault, "no network of the configuration has this BSSID"):
             check_named(NETWORKS, ((bytes(6), "eth1"),))
         with self.assertRaisesRegex(Fault, "has the wire eth1 already"):
             check_named(NETWORKS, ((own, "eth1"), (own, "eth2")))

@@ -34,7 +34,7 @@ class Network:
 @dataclass(frozen=True)
 class Link:
     """An interface, as `ip` tells of it: a veth has the other end's name, or none where that is in another namespace; a
-    port of a bridge has the bridge, and whether that sends back to it."""
+    port of a bridge has the bridge, whether that sends back to it, and whether it is kept from other such ports."""
 
     name: str
     kind: str = ""
@@ -45,6 +45,7 @@ class Link:
     master: str | None = None
     other_end: str | None = None
     is_sent_back: bool = False
+    is_isolated: bool = False
     filters_vlans: bool = False
 
 
@@ -120,7 +121,8 @@ def check_named(networks: tuple[Network, ...], wires: Wires) -> dict[str, str]:
     for octets, name in wires:
         bssid = address_text(octets)
         if bssid not in [network.bssid for network in networks]:
-            raise Fault(f"{bssid}={name}: no network has this BSSID: leave it out, or write the network's")
+            raise Fault(f"{bssid}={name}: no network of the configuration has this BSSID: leave this wire out, or write the "
+                        "network's, as into PHY.wires")
         if bssid in named:
             raise Fault(f"{bssid}={name}: this network has the wire {named[bssid]} already: leave one out")
         named[bssid] = name
@@ -164,6 +166,7 @@ def link_of(row: dict) -> Link:
         tuple(f"{address['local']}/{address['prefixlen']}" for address in row.get("addr_info", []) if address),
         row.get("master") if info.get("info_slave_kind") == "bridge" else None,
         row.get("link") if kind == "veth" else None, bool(info.get("info_slave_data", {}).get("hairpin")),
+        bool(info.get("info_slave_data", {}).get("isolated")),
         kind == "bridge" and bool(info.get("info_data", {}).get("vlan_filtering")))
 
 
@@ -218,13 +221,16 @@ def findings(case: Case, network: Network) -> Iterator[Finding]:
         return
     if name not in case.behind.links:
         yield Finding(f"{name}: there is no such interface", None,
-                      f"`ip link` lists them; {PAGE} makes one by systemd-networkd, and by hand it is `ip link add "
-                      f"{name} type veth peer name {free_name(case)}`")
+                      f"`ip link` lists them; where systemd-networkd makes it ({PAGE}), `systemctl restart "
+                      f"systemd-networkd`, and by hand `ip link add {name} type veth peer name {free_name(case)}`")
         return
     yield from of_others(case, network, name)
     yield from of_interface(case, case.behind.links[name])
-    yield from of_other_networks(case, network, name)
+    meetings = list(of_other_networks(case, network, name))
+    yield from meetings
     yield from of_other_end(case, network, case.behind.links[name])
+    if not network.relays and not meetings and list(case.wires.values()).count(name) == 1:
+        yield from of_isolation(case, case.behind.links[name])
     yield from of_running(case, network, name)
 
 
@@ -353,6 +359,27 @@ def of_other_end(case: Case, network: Network, link: Link) -> Iterator[Finding]:
     if other.is_sent_back and not network.relays:
         yield Finding(f"{other.master} sends back to {other.name} what came from it, so stations reach each other in "
                       "spite of `relay = false`", None, f"`bridge link set dev {other.name} hairpin off`")
+
+
+def of_isolation(case: Case, link: Link) -> Iterator[Finding]:
+    """Whether the bridge keeps the wire's port from its other ports."""
+    other = case.behind.links.get(link.other_end or "")
+    if other is None:
+        return
+    for port in ports_beside(case, other):
+        mend = "; ".join(f"bridge link set dev {end.name} isolated on" for end in (other, port) if not end.is_isolated)
+        if mend:
+            yield Finding(f"{other.master} passes frames between {other.name} and {port.name}, so stations reach who is "
+                          "behind that in spite of `relay = false`", None,
+                          f"`{mend}`, which systemd-networkd has as `Isolated=yes`")
+
+
+def ports_beside(case: Case, port: Link) -> Iterator[Link]:
+    """The other ports of its bridge to which the bridge may pass a frame of it on."""
+    reached = segment(case.behind, port.name)
+    for link in case.behind.links.values():
+        if port.master and link.master == port.master and link.name != port.name and ("link", link.name) in reached:
+            yield link
 
 
 def of_running(case: Case, network: Network, name: str) -> Iterator[Finding]:
