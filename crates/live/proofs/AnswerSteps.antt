@@ -1,6 +1,6 @@
 -- What is said is answered, one after the other.
 use Rattle.std.specs.Prelude.{◌⊎◌}
-use Rattle.std.proofs.Common.{inl, inr, ◌≡◌, ℕ, ◌+◌, ◌≤◌, ◌<◌, ◌^◌, List, [], ◌∷◌, ◌++◌, Option, Some, None, Result, Ok, Err, map, refl, sym, ap, subst, ◌∙◌, arith, append-nil, codes}
+use Rattle.std.proofs.Common.{inl, inr, ◌≡◌, ℕ, ◌+◌, ◌≤◌, ◌<◌, ◌^◌, List, [], ◌∷◌, ◌++◌, Option, Some, None, Ok, Err, map, refl, sym, ap, subst, ◌∙◌, arith, append-nil}
 use Rattle.std.specs.List.{AllByRecursion}
 use Rattle.network.specs.NetworkView.{NetworkState, new_network}
 use Rattle.ap_config.specs.declared.config.NetConfig.{NetConfig}
@@ -12,13 +12,11 @@ use Rattle.trace.specs.Buffers.{CanWrite, Puts, watch}
 use Rattle.trace.specs.declared.fault.LineFault.{LineFault}
 use Rattle.text_io.specs.declared.buffer.Buffered.{Buffered}
 use Rattle.trace.specs.BufferLaws.{Puts-then, Puts-nothing, Puts-same}
-use Rattle.trace.specs.Texts.{ended}
-use Rattle.live_answers.specs.AnswerText.{fault_words}
 use Rattle.live_answers.specs.Asked.{Asked, HasFault, ForTables, Brings, Says}
 use Rattle.live_answers.specs.Answers.{Answer, MayAnswer, after_line_from, after_answer, Answers, Faulty, MayReplyFrom, Replies}
 use Rattle.live_answers.specs.Dispatch.{event_at}
 use Rattle.live_answers.specs.MoreAnswers.{MoreAnswers}
-use Rattle.live_answers.specs.Moments.{Moment, one_line_more, bssid_of, bssids_at, Reply, taken_if, after_if}
+use Rattle.live_answers.specs.Moments.{Moment, bssid_of, bssids_at, Reply, taken_if, after_if}
 use Rattle.live.specs.Networks.{IsMoment}
 use Rattle.live.specs.Output.{AreAnswered, through}
 use Rattle.live.specs.Readings.{IsReading}
@@ -26,7 +24,6 @@ use Rattle.live_output.specs.Written.{written_answer}
 use Rattle.live.specs.declared.reading.Reading.{Reading}
 use Rattle.live.specs.declared.reading.Reading.TheVariants as reading
 use Rattle.live_output.specs.declared.face.Face.{Face}
-use Rattle.live_output.specs.declared.face.Face.TheVariants.{Lines}
 use Rattle.live.proofs.MoreWritten.{texts-join}
 
 -- ---- one after the other

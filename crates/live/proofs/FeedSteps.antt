@@ -1,17 +1,14 @@
 -- Lines that end in a piece, one after the other.
-use Rattle.std.proofs.Common.{◌≡◌, ℕ, ◌+◌, ◌-◌, ◌<◌, ◌≤◌, Bool, true, false, List, [], ◌∷◌, ◌++◌, Option, Some}
-use Rattle.std.proofs.Common.{refl, sym, ap, subst, ◌∙◌, arith, append-nil, append_assoc, take, drop, length, length-append, length-drop, length-take}
+use Rattle.std.proofs.Common.{◌≡◌, ℕ, ◌+◌, ◌-◌, ◌^◌, ◌<◌, ◌≤◌, Bool, true, false, List, [], ◌∷◌, ◌++◌, Option}
+use Rattle.std.proofs.Common.{refl, sym, ap, subst, ◌∙◌, arith, append-nil, append_assoc, take, length, length-append, length-take}
 use Rattle.std.specs.Prelude.{nat_lt, ◌==◌, slice_index, if◌then◌else◌}
-use Rattle.std.specs.List.{position}
 use Rattle.std.specs.Str.Lines.{strip_carriage_return}
 use Rattle.std.proofs.lemmas.Bool.{ltb-true, lt-ltb}
 use Rattle.std.proofs.lemmas.List.{map-append}
-use Rattle.std.proofs.lemmas.List.Quantifiers.{position-Some}
-use Rattle.trace.specs.Texts.{is_line_feed, LacksLineFeed}
+use Rattle.trace.specs.Texts.{LacksLineFeed, ended}
 use Rattle.trace.specs.Buffers.{CanWrite, watch}
 use Rattle.text_io.specs.declared.buffer.Buffered.{Buffered}
-use Rattle.trace.specs.TextLaws.{prefix_lacks}
-use Rattle.live.specs.Output.{AreAnswered, through}
+use Rattle.live.specs.Output.{AreAnswered, AnswersLines, LinesRemain, through}
 use Rattle.live.specs.PartialLine.{ended_with, whole_with, IsUnended}
 use Rattle.live_answers.specs.Asked.{Asked, asked_by, asked_in, asked_by_all}
 use Rattle.live_answers.specs.Answers.{Answer, Answers}
@@ -55,30 +52,19 @@ ended-after (Octets octets) end lacks none = by (nat_lt (max_line + 1) (length o
         ap (λ (b : TextLine). ended_with b []) (partial-on octets end lacks none few)
         ∙ ap (λ (l : List ℕ). line_with (strip_carriage_return l)) (append-nil (octets ++ end))
 
--- ---- the first LF of a piece
-
-pub line-lacks : (piece : List ℕ) (n : ℕ) → position is_line_feed piece ≡ Some n → LacksLineFeed (take n piece)
-line-lacks piece n is = prefix_lacks piece n (position-Some is_line_feed piece n 0 is).2
-
 -- ---- the lines so far
 
--- Of the lines that end in a piece some are answered, and the others end in its rest, which this partial line begins.
-pub record FeedSoFar {W : Type 0} (taken : W → Option (List ℕ)) (failed : W → ℕ) (m now : Moment) (old new : Buffered W)
-    (partial partial' : TextLine) (piece rest : List ℕ) : Type 0 where
-  pub lines : List TextLine
-  pub answered : AreAnswered (through Lines (watch taken failed) old new) m now (asked_in m lines)
-  pub all : lines_in partial piece ≡ lines ++ lines_in partial' rest
-  pub next : partial_after partial piece ≡ partial_after partial' rest
-  pub few : now.lines + length rest ≤ m.lines + length piece
-
 pub feed-none : {W : Type 0} (taken : W → Option (List ℕ)) (failed : W → ℕ) (m : Moment) (w : Buffered W)
-    (partial : TextLine) (piece : List ℕ) → CanWrite failed w → FeedSoFar taken failed m m w w partial partial piece piece
-feed-none taken failed m w partial piece can = record {
+    (partial : TextLine) (piece : List ℕ) → m.lines + length piece < 2 ^ 62 → CanWrite failed w
+    → LinesRemain taken failed m m w w partial partial piece piece
+feed-none taken failed m w partial piece count can = record {
   lines = [];
   answered = answered-none taken failed Lines m w can;
   all = refl;
   next = refl;
   few = omega arith;
+  countable = count;
+  can_write = can;
 }
 
 -- lines say the same at a later moment
@@ -89,17 +75,17 @@ asked-later laws m now said answers lines h =
 
 -- one line more
 pub feed-more : MoreAnswers → {W : Type 0} (taken : W → Option (List ℕ)) (failed : W → ℕ) (m now next : Moment) (old mid new : Buffered W)
-    (partial partial' line : TextLine) (piece rest : List ℕ) (n : ℕ)
-    → FeedSoFar taken failed m now old mid partial partial' piece rest → IsUnended partial'
-    → position is_line_feed rest ≡ Some n → line ≡ ended_with partial' (take n rest)
-    → AreAnswered (through Lines (watch taken failed) mid new) now next (asked_in now (line ∷ []))
-    → FeedSoFar taken failed m next old new partial (Octets []) piece (drop (n + 1) rest)
-feed-more laws taken failed m now next old mid new partial partial' line piece rest n s lacks is same a =
+    (partial partial' partial'' : TextLine) (piece end later : List ℕ)
+    → LinesRemain taken failed m now old mid partial partial' piece (ended end ++ later) → IsUnended partial'
+    → LacksLineFeed end → partial'' ≡ Octets []
+    → AreAnswered (through Lines (watch taken failed) mid new) now next (asked_in now (ended_with partial' end ∷ []))
+    → LinesRemain taken failed m next old new partial partial'' piece later
+feed-more laws taken failed m now next old mid new partial partial' partial'' piece end later s begun lacks begins a =
+    let line : TextLine = ended_with partial' end in
     let count : next.lines ≡ now.lines + 1 = laws.lines now (asked_in now (line ∷ [])) a.answers next a.answered in
-    let within : n < length rest = (position-Some is_line_feed rest n 0 is).0 in
-    let few : now.lines + length rest ≤ m.lines + length piece = s.few in
-    let long : length (drop (n + 1) rest) ≡ length rest - (n + 1) = length-drop (n + 1) rest in
-    record {
+    let few : now.lines + length (ended end ++ later) ≤ m.lines + length piece = s.few in
+    subst (λ (p : TextLine). LinesRemain taken failed m next old new partial p piece later) (sym begins)
+    (record {
       lines = s.lines ++ line ∷ [];
       answered =
           subst (λ (said : List Asked). AreAnswered (through Lines (watch taken failed) old new) m next said)
@@ -109,22 +95,29 @@ feed-more laws taken failed m now next old mid new partial partial' line piece r
           (asked-later laws m now (asked_in m s.lines) s.answered.answers (line ∷ []) s.answered.answered) a));
       all =
           s.all
-          ∙ ap (λ (ls : List TextLine). s.lines ++ ls) (first-line partial' rest n lacks is)
-          ∙ ap (λ (l : TextLine). s.lines ++ l ∷ lines_in (Octets []) (drop (n + 1) rest)) (sym same)
-          ∙ sym (append_assoc s.lines (line ∷ []) (lines_in (Octets []) (drop (n + 1) rest)));
-      next = s.next ∙ first-partial partial' rest n lacks is;
-      few = omega (arith, count, within, few, long);
-    }
+          ∙ ap (λ (ls : List TextLine). s.lines ++ ls) (first-line partial' end later begun lacks)
+          ∙ sym (append_assoc s.lines (line ∷ []) (lines_in (Octets []) later));
+      next = s.next ∙ first-partial partial' end later begun lacks;
+      few = omega (arith, count, few, length-append (ended end) later, length-append end (10 ∷ []));
+      countable = s.countable;
+      can_write = a.puts.can_write;
+    })
 
 -- no LF is left
 pub feed-all : {W : Type 0} (taken : W → Option (List ℕ)) (failed : W → ℕ) (m now : Moment) (old new : Buffered W)
-    (partial partial' : TextLine) (piece rest : List ℕ)
-    → FeedSoFar taken failed m now old new partial partial' piece rest → IsUnended partial' → LacksLineFeed rest
-    → AreAnswered (through Lines (watch taken failed) old new) m now (asked_in m (lines_in partial piece))
-feed-all taken failed m now old new partial partial' piece rest s lacks none =
+    (partial partial' partial'' : TextLine) (piece rest : List ℕ)
+    → LinesRemain taken failed m now old new partial partial' piece rest → IsUnended partial' → LacksLineFeed rest
+    → partial'' ≡ partial_after partial' rest → AnswersLines taken failed m now old new partial partial'' piece
+feed-all taken failed m now old new partial partial' partial'' piece rest s begun lacks after =
     let all : lines_in partial piece ≡ s.lines =
-    s.all ∙ ap (λ (ls : List TextLine). s.lines ++ ls) (no-line partial' rest lacks none) ∙ append-nil s.lines in
-    subst (λ (ls : List TextLine). AreAnswered (through Lines (watch taken failed) old new) m now (asked_in m ls)) (sym all) s.answered
+    s.all ∙ ap (λ (ls : List TextLine). s.lines ++ ls) (no-line partial' rest begun lacks) ∙ append-nil s.lines in
+    let few : now.lines + length rest ≤ m.lines + length piece = s.few in
+    record {
+      answered =
+          subst (λ (ls : List TextLine). AreAnswered (through Lines (watch taken failed) old new) m now (asked_in m ls)) (sym all) s.answered;
+      next = after ∙ sym s.next;
+      few = omega (arith, few);
+    }
 
 -- ---- the last line
 

@@ -1,13 +1,12 @@
 -- A partial line, and more octets of it.
-use Rattle.std.proofs.Common.{◌≡◌, ℕ, ◌+◌, ◌<◌, ◌≤◌, List, [], ◌∷◌, ◌++◌, length, map, take, drop, Some}
-use Rattle.std.proofs.Common.{Bool, true, false, refl, sym, ap, subst, ◌∙◌, arith, length-append}
+use Rattle.std.proofs.Common.{◌≡◌, ℕ, ◌+◌, ◌<◌, ◌≤◌, List, [], ◌∷◌, ◌++◌, length, map}
+use Rattle.std.proofs.Common.{Bool, true, false, refl, sym, ap, subst, ◌∙◌, arith, append_assoc, length-append}
 use Rattle.std.specs.Prelude.{nat_lt, if◌then◌else◌}
-use Rattle.std.specs.List.{position}
 use Rattle.std.proofs.lemmas.Bool.{ltb-true, lt-ltb}
 use Rattle.std.proofs.lemmas.List.Elements.{All-append}
-use Rattle.trace.specs.Texts.{is_line_feed, LacksLineFeed}
-use Rattle.trace.specs.LineLaws.{whole_lines_more, unfinished_line_more, whole_lines_none, unfinished_line_none}
-use Rattle.trace.specs.LineLaws.{whole_lines_first, unfinished_line_first}
+use Rattle.trace.specs.Texts.{LacksLineFeed, ended}
+use Rattle.trace.specs.LineLaws.{whole_lines_line, unfinished_line_line, whole_lines_none, unfinished_line_none}
+use Rattle.trace.specs.Pieces.{whole_lines}
 use Rattle.live.specs.PartialLine.{ended_with, IsUnended}
 use Rattle.live_answers.specs.TextLines.{TextLine, Octets, TooLong, max_line, line_with, partial_with, partial_in, lines_in}
 use Rattle.live_answers.specs.TextLines.{with_first_too_long, unless_ended, partial_after}
@@ -43,17 +42,25 @@ partial-on some octets h k few =
 
 -- ---- a piece with an LF: a line ends, and the next begins
 
-pub first-line : (partial : TextLine) (piece : List ℕ) (n : ℕ) → IsUnended partial → position is_line_feed piece ≡ Some n
-    → lines_in partial piece ≡ ended_with partial (take n piece) ∷ lines_in (Octets []) (drop (n + 1) piece)
-first-line (Octets octets) piece n lacks is = ap (map line_with) (whole_lines_more octets piece n lacks is)
-first-line TooLong piece n lacks is = ap (λ ls. with_first_too_long (map line_with ls)) (whole_lines_first piece n is)
+no-octet : LacksLineFeed []
+no-octet k d within = absurd (omega arith)
 
-pub first-partial : (partial : TextLine) (piece : List ℕ) (n : ℕ) → IsUnended partial → position is_line_feed piece ≡ Some n
-    → partial_after partial piece ≡ partial_after (Octets []) (drop (n + 1) piece)
-first-partial (Octets octets) piece n lacks is = ap partial_with (unfinished_line_more octets piece n lacks is)
-first-partial TooLong piece n lacks is =
-    ap (λ ls. unless_ended (map line_with ls) (partial_in piece)) (whole_lines_first piece n is)
-    ∙ ap partial_with (unfinished_line_first piece n is)
+pub first-line : (partial : TextLine) (end later : List ℕ) → IsUnended partial → LacksLineFeed end
+    → lines_in partial (ended end ++ later) ≡ ended_with partial end ∷ lines_in (Octets []) later
+first-line (Octets octets) end later begun lacks =
+    ap (λ (t : List ℕ). map line_with (whole_lines t)) (sym (append_assoc octets (ended end) later))
+    ∙ ap (map line_with) (whole_lines_line octets end later begun lacks)
+first-line TooLong end later begun lacks =
+    ap (λ ls. with_first_too_long (map line_with ls)) (whole_lines_line [] end later no-octet lacks)
+
+pub first-partial : (partial : TextLine) (end later : List ℕ) → IsUnended partial → LacksLineFeed end
+    → partial_after partial (ended end ++ later) ≡ partial_after (Octets []) later
+first-partial (Octets octets) end later begun lacks =
+    ap partial_in (sym (append_assoc octets (ended end) later))
+    ∙ ap partial_with (unfinished_line_line octets end later begun lacks)
+first-partial TooLong end later begun lacks =
+    ap (λ ls. unless_ended (map line_with ls) (partial_in (ended end ++ later))) (whole_lines_line [] end later no-octet lacks)
+    ∙ ap partial_with (unfinished_line_line [] end later no-octet lacks)
 
 -- none ends where there is no LF
 pub no-line : (partial : TextLine) (piece : List ℕ) → IsUnended partial → LacksLineFeed piece → lines_in partial piece ≡ []

@@ -1,20 +1,22 @@
 -- What is put into the output about what is said, and what becomes of the networks meanwhile.
-use Rattle.std.specs.Prelude.{◌≡◌, ℕ, ◌+◌, ◌≤◌, List, ◌++◌, Option, Some, length, map}
+use Rattle.std.specs.Prelude.{◌≡◌, ℕ, ◌+◌, ◌^◌, ◌<◌, ◌≤◌, List, ◌++◌, Option, Some, length, map}
 use Rattle.std.specs.List.{AllByRecursion}
 use Rattle.network.specs.NetworkView.{NetworkState}
 use Rattle.events.specs.declared.event.Event.{Event}
 use Rattle.events.specs.declared.line.Line.{Line}
-use Rattle.trace.specs.Buffers.{Puts, Watch}
+use Rattle.trace.specs.Buffers.{CanWrite, Puts, Watch, watch}
 use Rattle.text_io.specs.declared.buffer.Buffered.{Buffered}
 use Rattle.access_point.specs.Takes.{Change}
 use Rattle.live_answers.specs.Answers.{Answer, Answers, MayReplyFrom, after_line_from}
 use Rattle.live_answers.specs.Moments.{Moment, Reply, MayReply, taken_if, after_if, bssid_of, bssids_at}
-use Rattle.live_answers.specs.Asked.{Asked}
+use Rattle.live_answers.specs.Asked.{Asked, asked_in}
 use Rattle.live.specs.Inputs.{IsSaidIn, saying}
+use Rattle.live_answers.specs.TextLines.{TextLine, lines_in, partial_after}
 use Rattle.live_answers.specs.Records.{IsPartialRecord, IsRecord, all_octets, records_ask}
 use Rattle.live_output.specs.Written.{written_reply, written_replies, written_after}
 use Rattle.live.specs.declared.partial_input.PartialInput.{PartialInput}
 use Rattle.live_output.specs.declared.face.Face.{Face}
+use Rattle.live_output.specs.declared.face.Face.TheVariants.{Lines}
 
 -- ---- a call that puts what it answers
 
@@ -90,3 +92,22 @@ pub record AnswersRecords {W : Type 0} (o : Through W) (old new : Waiting) : Typ
   pub is_partial : IsPartialRecord new.partial
   pub answered : AreAnswered o old.moment new.moment (records_ask (bssids_at old.moment) records)
   pub few : new.moment.lines + length new.rest ≤ old.moment.lines + length old.rest
+
+-- Of the lines that end in a piece some were answered, and the others end in this rest of it, which this partial line
+-- begins. Fewer than 2^62 lines can have ended.
+pub record LinesRemain {W : Type 0} (taken : W → Option (List ℕ)) (failed : W → ℕ) (m now : Moment) (old new : Buffered W)
+    (partial partial' : TextLine) (piece rest : List ℕ) : Type 0 where
+  pub lines : List TextLine
+  pub answered : AreAnswered (through Lines (watch taken failed) old new) m now (asked_in m lines)
+  pub all : lines_in partial piece ≡ lines ++ lines_in partial' rest
+  pub next : partial_after partial piece ≡ partial_after partial' rest
+  pub few : now.lines + length rest ≤ m.lines + length piece
+  pub countable : m.lines + length piece < 2 ^ 62
+  pub can_write : CanWrite failed new
+
+-- The lines that end in a piece were answered, and this partial line comes after them.
+pub record AnswersLines {W : Type 0} (taken : W → Option (List ℕ)) (failed : W → ℕ) (m now : Moment) (old new : Buffered W)
+    (partial partial' : TextLine) (piece : List ℕ) : Type 0 where
+  pub answered : AreAnswered (through Lines (watch taken failed) old new) m now (asked_in m (lines_in partial piece))
+  pub next : partial' ≡ partial_after partial piece
+  pub few : now.lines ≤ m.lines + length piece

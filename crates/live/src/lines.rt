@@ -4,7 +4,7 @@ ghost use Rattle.std.specs.Prelude.{◌≡◌, ◌<◌, ◌≤◌, ◌+◌, ◌^
 ghost use Rattle.trace.specs.Buffers.{CanWrite, watch};
 ghost use Rattle.trace.specs.Texts.{LacksLineFeed};
 ghost use Rattle.live_answers.specs.Asked.{asked_in};
-ghost use Rattle.live.specs.Output.{AreAnswered, through};
+ghost use Rattle.live.specs.Output.{AnswersLines, AreAnswered, LinesRemain, through};
 ghost use Rattle.live.specs.PartialLine.{IsUnended, ended_with};
 ghost use Rattle.live_answers.specs.TextLines.{Octets, partial_after, last_line, lines_in};
 ghost use Rattle.live_output.specs.declared.face.Face.TheVariants as faces;
@@ -12,7 +12,8 @@ ghost use Rattle.live_output.specs.declared.face.Face.TheVariants as faces;
 use crate::networks::Networks;
 use crate::partial::{PartialLine, ended_line};
 use live_answers::answers_to_more;
-use trace::{Buffered, Sink, place_of};
+use std::convert::Infallible;
+use trace::{Buffered, Sink, TakeText, cut_text};
 
 /// Answers the lines that end in a piece.
 pub fn answer_lines<W: Sink>(
@@ -28,13 +29,38 @@ pub fn answer_lines<W: Sink>(
     ensures partial { partial.new ≡ partial_after partial.old piece.now }
     ensures lines { networks.new.lines ≤ networks.old.lines + length piece.now }
 {
-    answers_to_more();
-    let mut rest = piece;
-    while let Some(end) = place_of(b'\n', rest) {
-        answer_ended(networks, partial, &rest[..end], out);
-        rest = &rest[end + 1..];
+    match cut_text(partial, piece, networks, out) {
+        Ok(()) => {}
+        Err(never) => match never {},
     }
-    partial.add(rest);
+}
+
+impl<W: Sink> TakeText<Networks, Buffered<'_, W>> for PartialLine {
+    type Fault = Infallible;
+
+    ghost remains = { λ first was held piece partial networks out rest.
+        LinesRemain W.taken W.failed was networks held out first partial piece rest };
+
+    ghost ends = { λ first was held piece _ partial networks out.
+        AnswersLines W.taken W.failed was networks held out first partial piece };
+
+    #[inline(always)]
+    fn end_line(
+        &mut self,
+        octets: &[u8],
+        networks: &mut Networks,
+        out: &mut Buffered<'_, W>,
+    ) -> Result<(), Infallible> {
+        answers_to_more();
+        answer_ended(networks, self, octets, out);
+        Ok(())
+    }
+
+    #[inline(always)]
+    fn hold_on(&mut self, octets: &[u8]) -> Result<(), Infallible> {
+        self.add(octets);
+        Ok(())
+    }
 }
 
 /// Answers the line that these octets and an LF end; where nothing came of it before them, without a copy.

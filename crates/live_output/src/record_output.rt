@@ -28,25 +28,26 @@ const TOLD: u8 = b'N';
 const MAX_OCTETS: usize = 65_535;
 
 /// No BSSID.
-const NOBODY: &[u8] = &[0; 6];
+const NOBODY: [u8; 6] = [0; 6];
 
 /// Puts what stands before the octets of a record.
 #[inline]
-fn put_header<W: Sink>(out: &mut Buffered<'_, W>, kind: u8, bssid: &[u8], count: usize)
+fn put_header<W: Sink>(out: &mut Buffered<'_, W>, kind: u8, bssid: [u8; 6], count: usize)
     requires few { count ≤ 65535 }
     requires can_write { CanWrite W.failed out.old }
-    ensures { Puts (watch W.taken W.failed) out.old out.new (record_header kind bssid.now count) }
+    ensures { Puts (watch W.taken W.failed) out.old out.new (record_header kind bssid count) }
 {
-    out.put(&[kind]);
-    out.put(bssid);
-    out.put(&[(count % 256) as u8, (count / 256) as u8]);
+    let [a, b, c, d, e, f] = bssid;
+    let low = (count % 256) as u8;
+    let high = (count / 256) as u8;
+    out.put(&[kind, a, b, c, d, e, f, low, high]);
 }
 
 /// Puts a record of these octets, unless they are too many for one.
 #[inline]
-fn put_record<W: Sink>(out: &mut Buffered<'_, W>, kind: u8, bssid: &[u8], octets: &[u8])
+fn put_record<W: Sink>(out: &mut Buffered<'_, W>, kind: u8, bssid: [u8; 6], octets: &[u8])
     requires { CanWrite W.failed out.old }
-    ensures { Puts (watch W.taken W.failed) out.old out.new (record_of kind bssid.now octets.now) }
+    ensures { Puts (watch W.taken W.failed) out.old out.new (record_of kind bssid octets.now) }
 {
     if octets.len() > MAX_OCTETS {
         return;
@@ -169,16 +170,21 @@ pub fn put_sent<W: Sink>(out: &mut Buffered<'_, W>, bssid: MacAddr, sent: &Sent)
 {
     let bssid = bssid.octets();
     let (first, others) = sent.air.parts();
-    put_frame_if(out, AIR, &bssid, first);
-    put_frames(out, AIR, &bssid, others);
-    put_frame_if(out, WIRE, &bssid, sent.wire.as_ref());
+    put_frame_if(out, AIR, bssid, first);
+    put_frames(out, AIR, bssid, others);
+    put_frame_if(out, WIRE, bssid, sent.wire.as_ref());
 }
 
 /// Puts the record of a frame, if there is one.
-fn put_frame_if<W: Sink>(out: &mut Buffered<'_, W>, kind: u8, bssid: &[u8], frame: Option<&Octets>)
+fn put_frame_if<W: Sink>(
+    out: &mut Buffered<'_, W>,
+    kind: u8,
+    bssid: [u8; 6],
+    frame: Option<&Octets>,
+)
     requires { CanWrite W.failed out.old }
     ensures { Puts (watch W.taken W.failed) out.old out.new
-        (frames_octets kind bssid.now (option_to_list (option_map (λ octets. octets.now) frame.entry))) }
+        (frames_octets kind bssid (option_to_list (option_map (λ octets. octets.now) frame.entry))) }
 {
     if let Some(octets) = frame {
         put_record(out, kind, bssid, octets.as_slice());
@@ -186,9 +192,9 @@ fn put_frame_if<W: Sink>(out: &mut Buffered<'_, W>, kind: u8, bssid: &[u8], fram
 }
 
 /// Puts the records of frames.
-fn put_frames<W: Sink>(out: &mut Buffered<'_, W>, kind: u8, bssid: &[u8], frames: &[Octets])
+fn put_frames<W: Sink>(out: &mut Buffered<'_, W>, kind: u8, bssid: [u8; 6], frames: &[Octets])
     requires { CanWrite W.failed out.old }
-    ensures { Puts (watch W.taken W.failed) out.old out.new (frames_octets kind bssid.now frames.now) }
+    ensures { Puts (watch W.taken W.failed) out.old out.new (frames_octets kind bssid frames.now) }
 {
     for frame in frames {
         put_record(out, kind, bssid, frame.as_slice());

@@ -1,19 +1,15 @@
--- Texts of digits: many at a time, or one after another with spaces among them.
-use Rattle.std.proofs.Common.{◌≡◌, ◌≢◌, ◌∙◌, ◌+◌, ◌*◌, ◌%◌, ◌≤◌, ◌<◌, ℕ, Bool, true, false, List, [], ◌∷◌, ◌++◌, length, take, set, Option}
-use Rattle.std.proofs.Common.{Some, None, Result, Ok, Err, refl, sym, ap, min, append_assoc, append-nil, inl, inr, arith, length-append}
+-- Texts of digits, with spaces among them or none.
+use Rattle.std.proofs.Common.{◌≡◌, ◌≢◌, ◌∙◌, ◌+◌, ◌%◌, ◌≤◌, ◌<◌, ◌-◌, ℕ, Bool, true, false, List, [], ◌∷◌, length, take, drop}
+use Rattle.std.proofs.Common.{Result, Ok, Err, refl, sym, ap, subst, min, inl, inr, arith}
 use Rattle.std.specs.List.{AllPass}
-use Rattle.std.specs.Prelude.{nat_lt, if◌then◌else◌, ok_or}
-use Rattle.std.specs.Option.{option_to_list}
+use Rattle.std.specs.Prelude.{nat_lt, not, IsErr, slice_index, if◌then◌else◌}
 use Rattle.std.proofs.lemmas.Bool.{cases_eq, ne_eqb, lt-ltb, eq-eqb}
-use Rattle.std.proofs.lemmas.List.{take_more_set, length-take, length-take-le}
-use Rattle.std.proofs.lemmas.List.Elements.{All-head, All-tail}
-use Rattle.hex.specs.Hex.{decode_of, decode_pairs, digit_or_error, hex_digit_value, is_hex_digit, ◌>>=◌}
+use Rattle.std.proofs.lemmas.List.{length-take, take_rest}
+use Rattle.std.proofs.lemmas.List.Elements.{All-cons, All-head, All-nil, All-tail}
+use Rattle.hex.specs.Hex.{decode_of, is_hex_digit}
 use Rattle.hex.specs.declared.error.FromHexError.{FromHexError}
-use Rattle.hex.proofs.HexLemmas.{decode_of-even, decode_of-odd, decode_of-ok, decode_pairs-ok}
-use Rattle.trace.specs.Pairs.{octet_of, octet_before, octets_of_pairs, with_others, read_on}
+use Rattle.hex.proofs.HexLemmas.{decode_of-odd, decode_of-ok, decode_of-digits}
 use Rattle.trace.specs.TraceText.{is_space, digits_of, octets_of, within_limit}
-use Rattle.trace.specs.declared.line_buffer.Pairs.{Pairs}
-use Rattle.trace.specs.declared.fault.LineFault.{LineFault}
 use Rattle.trace.specs.declared.fault.LineFault.TheVariants.{NotHexadecimal, TooMany}
 
 -- ---- digits alone
@@ -60,56 +56,7 @@ pub spelled_front : (text memory : List ℕ) (n : ℕ) → decode_of text ≡ Ok
 spelled_front text memory n e few =
     spelled text (take n memory) e (min_bound n (length memory) (take n memory) few (length-take n memory))
 
--- ---- pairs of digits
-
--- the octets, where they are read
-abbrev read_as : Result (List ℕ) FromHexError → Option (List ℕ)
-read_as (Ok octets) = Some octets
-read_as (Err fault) = None
-
-pair_as : (a b i : ℕ) (high low : Option ℕ) (rest : Result (List ℕ) FromHexError)
-    → read_as ((digit_or_error a i high >>= λ h. digit_or_error b (i + 1) low >>= λ l. Ok (h * 16 + l)) >>= λ byte. rest >>= λ bytes. Ok (byte ∷ bytes))
-    ≡ octet_before (octet_of high low) (read_as rest)
-pair_as a b i (Some h) (Some l) (Ok rest) = refl
-pair_as a b i (Some h) (Some l) (Err e) = refl
-pair_as a b i (Some h) None rest = refl
-pair_as a b i None low rest = refl
-
-pairs_as : (i : ℕ) (text : List ℕ) → read_as (decode_pairs i text) ≡ octets_of_pairs text
-unfolding decode_pairs
-pairs_as i [] = refl
-pairs_as i (digit ∷ []) = refl
-pairs_as i (a ∷ b ∷ rest) =
-    pair_as a b i (hex_digit_value a) (hex_digit_value b) (decode_pairs (i + 2) rest)
-    ∙ ap (octet_before (octet_of (hex_digit_value a) (hex_digit_value b))) (pairs_as (i + 2) rest)
-
--- an odd number of digits is no pairs
-odd_as : (text : List ℕ) (read : Result (List ℕ) FromHexError) → length text % 2 ≡ 1 → decode_pairs 0 text ≡ read
-    → None ≡ read_as read
-odd_as text (Ok octets) odd is =
-    let len = (decode_pairs-ok 0 text octets is).1 in
-    absurd (omega (arith, len))
-odd_as text (Err fault) odd is = refl
-
-decoded_as : (text : List ℕ) → read_as (decode_of text) ≡ octets_of_pairs text
-decoded_as text =
-    elim (cases_eq (length text % 2) 1) [
-      | inl odd ↦ ap read_as (decode_of-odd text odd) ∙ odd_as text (decode_pairs 0 text) odd refl ∙ pairs_as 0 text
-      | inr even ↦ ap read_as (decode_of-even text (omega arith)) ∙ pairs_as 0 text
-    ]
-
-within_as : (read : Result (List ℕ) FromHexError) → within_limit read ≡ with_others (read_as read) false []
-within_as (Ok octets) = refl
-within_as (Err fault) = refl
-
--- ---- one after another
-
--- before the first
-pub read_none : (text memory : List ℕ)
-    → octets_of text ≡ read_on memory (record { len = 0; high = None; too_many = false }) (digits_of text)
-read_none text memory =
-    within_as (decode_of (digits_of text))
-    ∙ ap (λ (o : Option (List ℕ)). with_others o false []) (decoded_as (digits_of text))
+-- ---- spaces among digits
 
 -- a space is none
 pub no_digit : (character : ℕ) (rest : List ℕ) → character ≡ 32 → digits_of (character ∷ rest) ≡ digits_of rest
@@ -120,74 +67,91 @@ pub one_digit : (character : ℕ) (rest : List ℕ) → character ≢ 32
     → digits_of (character ∷ rest) ≡ character ∷ digits_of rest
 one_digit character rest other = rw (ne_eqb character 32 other) refl
 
+-- ---- more digits than a line may have
+
 over_limit : (over : Bool) (octets : List ℕ) → over ≡ true → (if over then Err TooMany else Ok octets) ≡ Err TooMany
 over_limit true octets is = refl
 over_limit false octets is = cc is
 
--- an octet where there are as many as there may be
-too_many_more : (octets : List ℕ) (octet : ℕ) (others : Option (List ℕ)) (too_many : Bool) → length octets ≡ 4096
-    → with_others (octet_before (Some octet) others) too_many octets ≡ with_others others true octets
-too_many_more octets octet None too_many full = refl
-too_many_more octets octet (Some others) true full = refl
-too_many_more octets octet (Some others) false full =
-    let count : length (octets ++ octet ∷ others) ≡ 4096 + length (octet ∷ others) =
-    length-append octets (octet ∷ others) ∙ ap (λ n. n + length (octet ∷ others)) full in
-    over_limit (nat_lt 4096 (length (octets ++ octet ∷ others))) (octets ++ octet ∷ others)
-    (lt-ltb 4096 (length (octets ++ octet ∷ others)) (omega (arith, count)))
+-- what a text spells of which not all are digits, or whose digits are an odd number
+pub no_octets : (text : List ℕ) → IsErr (decode_of (digits_of text)) → octets_of text ≡ Err NotHexadecimal
+no_octets text err = refused (decode_of (digits_of text)) err
+  where
+    refused : (read : Result (List ℕ) FromHexError) → IsErr read → within_limit read ≡ Err NotHexadecimal
+    refused (Ok octets) err = cc err
+    refused (Err fault) err = refl
 
--- an octet after others
-one_more : (octets : List ℕ) (octet : ℕ) (others : Option (List ℕ)) (too_many : Bool)
-    → with_others (octet_before (Some octet) others) too_many octets
-    ≡ with_others others too_many (octets ++ octet ∷ [])
-one_more octets octet None too_many = refl
-one_more octets octet (Some others) true = refl
-one_more octets octet (Some others) false =
-    ap (λ (all : List ℕ). within_limit (Ok all)) (sym (append_assoc octets (octet ∷ []) others))
+-- A text was looked at up to this rest of it: all that came are digits, of an odd number or not.
+pub record LookedAt (text rest : List ℕ) (is_odd : Bool) : Type 0 where
+  pub digits : AllPass is_hex_digit (digits_of rest) → AllPass is_hex_digit (digits_of text)
+  pub back : AllPass is_hex_digit (digits_of text) → AllPass is_hex_digit (digits_of rest)
+  pub count : length (digits_of text) % 2 ≡ (length (digits_of rest) + (if is_odd then 1 else 0)) % 2
 
--- the octet of two digits
-pub octet_is : (octet : Option ℕ) (x : ℕ) (answer : Result ℕ LineFault) → answer ≡ ok_or octet NotHexadecimal
-    → answer ≡ Ok x → octet ≡ Some x
-octet_is (Some octet) x answer is ok = ap (λ o. Some o) (cc (sym is ∙ ok))
-octet_is None x answer is ok = cc (sym is ∙ ok)
+pub look_none : (text : List ℕ) → LookedAt text text false
+look_none text = record { digits = λ all. all; back = λ all. all; count = omega arith }
 
--- the octet of these two comes before the others
-pair_first : (memory : List ℕ) (pairs : Pairs) (high character octet : ℕ) (later : List ℕ) → pairs.high ≡ Some high
-    → octet_of (hex_digit_value high) (hex_digit_value character) ≡ Some octet
-    → read_on memory pairs (character ∷ later)
-    ≡ with_others (octet_before (Some octet) (octets_of_pairs later)) pairs.too_many (take pairs.len memory)
-pair_first memory pairs high character octet later first is =
-    ap
-    (λ (h : Option ℕ).
-    with_others (octets_of_pairs (option_to_list h ++ character ∷ later)) pairs.too_many (take pairs.len memory))
-    first
-    ∙ ap (λ (o : Option ℕ). with_others (octet_before o (octets_of_pairs later)) pairs.too_many (take pairs.len memory)) is
+pub look_past : (text : List ℕ) (character : ℕ) (rest : List ℕ) (is_odd : Bool) → LookedAt text (character ∷ rest) is_odd
+    → character ≡ 32 → LookedAt text rest is_odd
+look_past text character rest is_odd s is =
+    let same = no_digit character rest is in
+    record {
+      digits = λ all. s.digits (subst (AllPass is_hex_digit) (sym same) all);
+      back = λ all. subst (AllPass is_hex_digit) same (s.back all);
+      count = s.count ∙ ap (λ (ds : List ℕ). (length ds + (if is_odd then 1 else 0)) % 2) same;
+    }
 
-pub octet_over : (memory : List ℕ) (pairs : Pairs) (high character octet : ℕ) (later : List ℕ) → pairs.high ≡ Some high
-    → octet_of (hex_digit_value high) (hex_digit_value character) ≡ Some octet
-    → pairs.len ≡ 4096 → length memory ≡ 4096
-    → read_on memory pairs (character ∷ later)
-    ≡ read_on memory (record { len = pairs.len; high = None; too_many = true }) later
-octet_over memory pairs high character octet later first is len whole =
-    pair_first memory pairs high character octet later first is
-    ∙ too_many_more (take pairs.len memory) octet (octets_of_pairs later) pairs.too_many
-    (length-take-le pairs.len memory (omega (arith, len, whole)) ∙ len)
+pub look_more : (text : List ℕ) (character : ℕ) (rest : List ℕ) (is_odd : Bool) → LookedAt text (character ∷ rest) is_odd
+    → character ≢ 32 → is_hex_digit character ≡ true → LookedAt text rest (not is_odd)
+look_more text character rest is_odd s other digit =
+    let same = one_digit character rest other in
+    record {
+      digits = λ all.
+          s.digits (subst (AllPass is_hex_digit) (sym same) (All-cons digit_holds character (digits_of rest) digit all));
+      back = λ all.
+          All-tail digit_holds character (digits_of rest) (subst (AllPass is_hex_digit) same (s.back all));
+      count = s.count ∙ ap (λ (ds : List ℕ). (length ds + (if is_odd then 1 else 0)) % 2) same ∙ next is_odd;
+    }
+  where
+    next : (b : Bool) → (length (character ∷ digits_of rest) + (if b then 1 else 0)) % 2
+        ≡ (length (digits_of rest) + (if not b then 1 else 0)) % 2
+    next true = omega arith
+    next false = omega arith
 
-pub octet_put : (memory : List ℕ) (pairs : Pairs) (high character octet : ℕ) (later : List ℕ) → pairs.high ≡ Some high
-    → octet_of (hex_digit_value high) (hex_digit_value character) ≡ Some octet → pairs.len < length memory
-    → read_on memory pairs (character ∷ later)
-    ≡ read_on (set memory pairs.len octet) (record { len = pairs.len + 1; high = None; too_many = pairs.too_many }) later
-octet_put memory pairs high character octet later first is within =
-    pair_first memory pairs high character octet later first is
-    ∙ one_more (take pairs.len memory) octet (octets_of_pairs later) pairs.too_many
-    ∙ ap
-    (λ (all : List ℕ). with_others (octets_of_pairs later) pairs.too_many all)
-    (sym (take_more_set memory pairs.len octet within))
+-- a character that is no digit
+pub look_other : (text : List ℕ) (character : ℕ) (rest : List ℕ) (is_odd : Bool) → LookedAt text (character ∷ rest) is_odd
+    → character ≢ 32 → is_hex_digit character ≡ false → octets_of text ≡ Err NotHexadecimal
+look_other text character rest is_odd s other lacks = no_octets text (by (decode_of (digits_of text)) refl)
+  where
+    by : (read : Result (List ℕ) FromHexError) → decode_of (digits_of text) ≡ read → IsErr read
+    by (Ok octets) is =
+        let all = s.back (decode_of-ok (digits_of text) octets is).1 in
+        let here = All-head digit_holds character (digits_of rest)
+        (subst (AllPass is_hex_digit) (one_digit character rest other) all) in
+        cc (sym lacks ∙ here)
+    by (Err fault) is = refl
 
--- after the last, with none that waits
-pub read_all : (memory : List ℕ) (pairs : Pairs) → pairs.high ≡ None → pairs.too_many ≡ false → pairs.len ≤ 4096
-    → read_on memory pairs [] ≡ Ok (take pairs.len memory)
-read_all memory pairs none within few =
-    ap (λ (h : Option ℕ). with_others (octets_of_pairs (option_to_list h ++ [])) pairs.too_many (take pairs.len memory)) none
-    ∙ ap (λ (over : Bool). with_others (Some []) over (take pairs.len memory)) within
-    ∙ ap (λ (all : List ℕ). within_limit (Ok all)) (append-nil (take pairs.len memory))
-    ∙ few_octets (take pairs.len memory) (min_bound pairs.len (length memory) (take pairs.len memory) few (length-take pairs.len memory))
+-- all were looked at
+pub look_odd : (text : List ℕ) → LookedAt text [] true → octets_of text ≡ Err NotHexadecimal
+look_odd text s =
+    let count = s.count in
+    ap within_limit (decode_of-odd (digits_of text) (omega (arith, count)))
+
+pub look_even : (text rest : List ℕ) (is_odd : Bool) → LookedAt text rest is_odd → length rest < 1 → is_odd ≡ false
+    → 8192 < length (digits_of text) → octets_of text ≡ Err TooMany
+look_even text [] true s end even many = cc even
+look_even text [] false s end even many =
+    let count = s.count in
+    let read = decode_of-digits (digits_of text) (omega (arith, count)) (s.digits (All-nil digit_holds)) in
+    let twice = (decode_of-ok (digits_of text) read.0 read.1).2 in
+    ap within_limit read.1
+    ∙ over_limit (nat_lt 4096 (length read.0)) read.0 (lt-ltb 4096 (length read.0) (omega (arith, many, twice)))
+look_even text (x ∷ xs) is_odd s end even many = absurd (omega (arith, end))
+
+-- a digit is the first of what is left
+pub look_first : (text rest : List ℕ) (is_odd : Bool) → LookedAt text rest is_odd → 1 ≤ length rest
+    → slice_index rest 0 ≢ 32 → is_hex_digit (slice_index rest 0) ≡ true
+    → LookedAt text (take (length rest - 1) (drop 1 rest)) (not is_odd)
+look_first text [] is_odd s some other digit = absurd (omega (arith, some))
+look_first text (x ∷ xs) is_odd s some other digit =
+    subst (λ (r : List ℕ). LookedAt text r (not is_odd)) (sym (take_rest (x ∷ xs) 1))
+    (look_more text x xs is_odd s other digit)

@@ -1,20 +1,20 @@
 -- What the steps of reading a piece rest on.
-use Rattle.std.proofs.Common.{◌≡◌, ℕ, ◌+◌, Bool, true, false, List, [], ◌∷◌, ◌++◌, length, take, drop, Option, Some, Result, Ok, Err, None, IsOkAnd, MatchOption, MatchResult, OnOk, length-append, refl, ap, sym, subst, ◌∙◌, append_assoc, append-nil, arith}
+use Rattle.std.proofs.Common.{◌≡◌, ℕ, ◌+◌, Bool, true, false, List, [], ◌∷◌, ◌++◌, length, Option, Some, Result, Ok, Err, None, IsOkAnd, MatchOption, MatchResult, OnOk, OnErr, length-append, refl, ap, sym, subst, ◌∙◌, append_assoc, append-nil, arith}
 use Rattle.std.specs.Prelude.{nat_lt, ◌&&◌}
-use Rattle.std.specs.List.{position}
 use Rattle.std.specs.Option.{option_to_list}
+use Rattle.std.proofs.lemmas.List.Elements.{All-append}
 use Rattle.std.specs.Str.Lines.{strip_carriage_return}
 use Rattle.ap_config.specs.declared.config.RadioConfig.{RadioConfig}
 use Rattle.events.specs.declared.line.Line.{Line}
 use Rattle.text_io.specs.Faults.{◌>>=◌, read_ending}
-use Rattle.text_io.specs.Texts.{is_line_feed, LacksLineFeed, ended}
+use Rattle.text_io.specs.Texts.{LacksLineFeed, ended}
 use Rattle.trace.specs.TraceText.{max_lines, bssids_of, line_of, lines_from, lines_of}
-use Rattle.trace.specs.Pieces.{ReaderView, HasRead, Takes, TakesMore, AreTaken, AreTakenSoFar, after_line, as_list, new_reader, whole_lines, unfinished_line, before_line, said_in, said_after, answer_to, answer_to_end, after_piece, past}
+use Rattle.trace.specs.Pieces.{ReaderView, HasRead, Takes, TakesMore, AreTaken, AreTakenSoFar, Remains, EndsPiece, after_line, as_list, new_reader, whole_lines, unfinished_line, before_line, said_in, said_after, answer_to, answer_to_end, after_piece, past}
 use Rattle.text_io.specs.Endings.{Gives, IsFaultOf}
 use Rattle.text_io.specs.EndingLaws.{same_fault}
 use Rattle.text_io.specs.declared.read_fault.ReadFault.{ReadFault}
 use Rattle.trace.specs.declared.fault.TraceFault.{TraceFault}
-use Rattle.trace.specs.LineLaws.{first_line, lacks_both, whole_lines_line, unfinished_line_line, whole_lines_none, unfinished_line_none}
+use Rattle.trace.specs.LineLaws.{whole_lines_line, unfinished_line_line, whole_lines_none, unfinished_line_none}
 use Rattle.trace.proofs.PieceLaws.{limited, lines_from-append, read-end, read-fault, read-more, read-nothing, said_after-none}
 use Rattle.ap_config.specs.Samples.{radio}
 
@@ -201,16 +201,6 @@ pub line_past : (r : ReaderView) (end text : List ℕ) → LacksLineFeed r.unfin
 line_past r end text before after =
     next-past r end text (r.ended_lines + 1 + length (whole_lines text)) before after refl
 
--- A reader took, of a piece, what came before the rest, and these lines were taken.
-pub record Remains (first : ReaderView) (piece : List ℕ) (now : ReaderView) (rest : List ℕ)
-    (was is : RadioConfig → List Line → Type 0) : Type 0 where
-  pub said : List Line
-  pub says : said_in first (first.unfinished ++ piece) ≡ said_after said (said_in now (now.unfinished ++ rest))
-  pub goes : past now (now.unfinished ++ rest) ≡ past first (first.unfinished ++ piece)
-  pub took : TakesMore said was is
-  pub same : now ≡ record first { ended_lines = now.ended_lines; unfinished = now.unfinished }
-  pub lacks : LacksLineFeed now.unfinished
-
 -- an answer, where there is one
 answer_is : (answer : Result (List Line) TraceFault) (P : List Line → Type 0) → IsOkAnd answer P
     → (said : List Line) × (answer ≡ Ok said) × P said
@@ -242,37 +232,25 @@ remains_none r piece was lacks = record {
   lacks = lacks;
 }
 
--- the first line of the rest, and what stands after it
-parted : (u rest : List ℕ) (n : ℕ) → position is_line_feed rest ≡ Some n
-    → u ++ rest ≡ u ++ ended (take n rest) ++ drop (n + 1) rest
-parted u rest n e =
-    ap (λ (t : List ℕ). u ++ t) (first_line rest n e).0 ∙ sym (append_assoc u (ended (take n rest)) (drop (n + 1) rest))
-
-pub remains_more : (first : ReaderView) (piece : List ℕ) (now : ReaderView) (rest : List ℕ) (n : ℕ) (next : ReaderView)
-    (was is is' : RadioConfig → List Line → Type 0) → Remains first piece now rest was is
-    → position is_line_feed rest ≡ Some n
-    → IsOkAnd (as_list (line_of now.bssids (now.ended_lines + 1) (strip_carriage_return (now.unfinished ++ take n rest))))
+pub remains_more : (first : ReaderView) (piece : List ℕ) (now : ReaderView) (end later : List ℕ) (next : ReaderView)
+    (was is is' : RadioConfig → List Line → Type 0) → Remains first piece now (ended end ++ later) was is
+    → LacksLineFeed end
+    → IsOkAnd (as_list (line_of now.bssids (now.ended_lines + 1) (strip_carriage_return (now.unfinished ++ end))))
     (λ more. TakesMore more is is')
-    → next ≡ after_line now → Remains first piece next (drop (n + 1) rest) was is'
-remains_more first piece now rest n next was is is' s found takes same =
-    let lacks = (first_line rest n found).1 in
-    let a = line_is (line_of now.bssids (now.ended_lines + 1) (strip_carriage_return (now.unfinished ++ take n rest))) (λ more. TakesMore more is is') takes in
+    → next ≡ after_line now → Remains first piece next later was is'
+remains_more first piece now end later next was is is' s lacks takes same =
+    let parted = sym (append_assoc now.unfinished (ended end) later) in
+    let a = line_is (line_of now.bssids (now.ended_lines + 1) (strip_carriage_return (now.unfinished ++ end))) (λ more. TakesMore more is is') takes in
     subst
-    (λ (r : ReaderView). Remains first piece r (drop (n + 1) rest) was is')
+    (λ (r : ReaderView). Remains first piece r later was is')
     (sym same)
     (record {
       said = s.said ++ option_to_list a.0;
       says =
           s.says
-          ∙ ap
-          (said_after s.said)
-          (ap (said_in now) (parted now.unfinished rest n found)
-          ∙ line_then now (take n rest) (drop (n + 1) rest) a.0 s.lacks lacks a.1)
-          ∙ said_after-assoc s.said (option_to_list a.0) (said_in (after_line now) (drop (n + 1) rest));
-      goes =
-          line_past now (take n rest) (drop (n + 1) rest) s.lacks lacks
-          ∙ ap (past now) (sym (parted now.unfinished rest n found))
-          ∙ s.goes;
+          ∙ ap (said_after s.said) (ap (said_in now) parted ∙ line_then now end later a.0 s.lacks lacks a.1)
+          ∙ said_after-assoc s.said (option_to_list a.0) (said_in (after_line now) later);
+      goes = line_past now end later s.lacks lacks ∙ ap (past now) (sym parted) ∙ s.goes;
       took = λ c said h.
           subst
           (λ (all : List Line). is' c all)
@@ -282,50 +260,78 @@ remains_more first piece now rest n next was is is' s found takes same =
       lacks = λ k d low e. absurd (omega (arith, low));
     })
 
-pub remains_fault : (first : ReaderView) (piece : List ℕ) (now : ReaderView) (rest : List ℕ) (n : ℕ)
-    (was is : RadioConfig → List Line → Type 0) (fault : ReadFault TraceFault) → Remains first piece now rest was is
-    → position is_line_feed rest ≡ Some n
-    → IsFaultOf (as_list (line_of now.bssids (now.ended_lines + 1) (strip_carriage_return (now.unfinished ++ take n rest)))) (read_ending fault)
-    → IsFaultOf (said_in first (first.unfinished ++ piece)) (read_ending fault)
-remains_fault first piece now rest n was is fault s found h =
+pub remains_fault : (first : ReaderView) (piece : List ℕ) (now : ReaderView) (end later : List ℕ) (next : ReaderView)
+    (was is is' : RadioConfig → List Line → Type 0) (fault : ReadFault TraceFault)
+    → Remains first piece now (ended end ++ later) was is → LacksLineFeed end
+    → IsFaultOf (as_list (line_of now.bssids (now.ended_lines + 1) (strip_carriage_return (now.unfinished ++ end)))) (read_ending fault)
+    → next ≡ record now { ended_lines = next.ended_lines; unfinished = next.unfinished }
+    → EndsPiece (Err fault) first piece next was is'
+remains_fault first piece now end later next was is is' fault s lacks h same =
     let line : Result (Option Line) TraceFault =
-    line_of now.bssids (now.ended_lines + 1) (strip_carriage_return (now.unfinished ++ take n rest)) in
-    same_fault (as_list line) (said_in first (first.unfinished ++ piece)) fault h
-    (λ met e.
-    s.says
-    ∙ ap
-    (said_after s.said)
-    (ap (said_in now) (parted now.unfinished rest n found)
-    ∙ line_refused now (take n rest) (drop (n + 1) rest) met s.lacks (first_line rest n found).1 (line_fault line met e)))
+    line_of now.bssids (now.ended_lines + 1) (strip_carriage_return (now.unfinished ++ end)) in
+    record {
+      takes =
+          same_fault (as_list line) (said_in first (first.unfinished ++ piece)) fault h
+          (λ met e.
+          s.says
+          ∙ ap
+          (said_after s.said)
+          (ap (said_in now) (sym (append_assoc now.unfinished (ended end) later))
+          ∙ line_refused now end later met s.lacks lacks (line_fault line met e)));
+      goes = tt;
+      same =
+          same
+          ∙ ap (λ (r : ReaderView). record r { ended_lines = next.ended_lines; unfinished = next.unfinished }) s.same;
+    }
+
+-- either
+pub remains_or : (first : ReaderView) (piece : List ℕ) (now : ReaderView) (end later : List ℕ) (next : ReaderView)
+    (was is is' : RadioConfig → List Line → Type 0) (result : Result Unit (ReadFault TraceFault))
+    → Remains first piece now (ended end ++ later) was is → LacksLineFeed end
+    → Takes result (as_list (line_of now.bssids (now.ended_lines + 1) (strip_carriage_return (now.unfinished ++ end)))) is is'
+    → OnOk result (next ≡ after_line now)
+    → next ≡ record now { ended_lines = next.ended_lines; unfinished = next.unfinished }
+    → MatchResult result (λ _. Remains first piece next later was is')
+    (λ fault. EndsPiece (Err fault) first piece next was is')
+remains_or first piece now end later next was is is' (Ok u) s lacks takes ok same =
+    remains_more first piece now end later next was is is' s lacks takes ok
+remains_or first piece now end later next was is is' (Err fault) s lacks takes ok same =
+    remains_fault first piece now end later next was is is' fault s lacks takes same
 
 -- no line ends in the rest
-pub remains_end : (first : ReaderView) (piece : List ℕ) (now : ReaderView) (rest : List ℕ)
+abbrev HasKept : ReaderView → ReaderView → Type 0
+HasKept first now = now ≡ record first { ended_lines = now.ended_lines; unfinished = now.unfinished }
+
+pub remains_end : (first : ReaderView) (piece : List ℕ) (now : ReaderView) (rest : List ℕ) (next : ReaderView)
     (was is : RadioConfig → List Line → Type 0) (result : Result Unit (ReadFault TraceFault))
-    → Remains first piece now rest was is → position is_line_feed rest ≡ None
+    → Remains first piece now rest was is → LacksLineFeed rest
     → Gives (λ _. []) read_ending result (before_line (now.ended_lines + 1) (now.unfinished ++ rest) [])
-    → Takes result (said_in first (first.unfinished ++ piece)) was is
-remains_end first piece now rest was is (Ok u) s none gives =
-    let held = held_says now (now.unfinished ++ rest) (lacks_both now.unfinished rest s.lacks none) in
+    → OnOk result (next ≡ record now { unfinished = now.unfinished ++ rest }) → OnErr result (next ≡ now)
+    → EndsPiece result first piece next was is
+remains_end first piece now rest next was is (Ok u) s lacks gives ok err =
+    let none = All-append (λ octet. octet ≡ 10 → ⊥) now.unfinished rest s.lacks lacks in
+    let held = held_says now (now.unfinished ++ rest) none in
     let all : said_in first (first.unfinished ++ piece) ≡ Ok s.said =
     s.says ∙ ap (said_after s.said) (held ∙ gives) ∙ ap (λ (ls : List Line). Ok ls) (append-nil s.said) in
-    subst
-    (λ (read : Result (List Line) TraceFault). IsOkAnd read (λ more. TakesMore more was is))
-    (sym all)
-    s.took
-remains_end first piece now rest was is (Err fault) s none gives =
-    let held = held_says now (now.unfinished ++ rest) (lacks_both now.unfinished rest s.lacks none) in
-    same_fault (before_line (now.ended_lines + 1) (now.unfinished ++ rest) []) (said_in first (first.unfinished ++ piece))
-    fault gives
-    (λ met e. s.says ∙ ap (said_after s.said) (held ∙ e))
-
-pub remains_past : (first : ReaderView) (piece : List ℕ) (now : ReaderView) (rest : List ℕ) (next : ReaderView)
-    (was is : RadioConfig → List Line → Type 0) (result : Result Unit (ReadFault TraceFault))
-    → Remains first piece now rest was is → position is_line_feed rest ≡ None
-    → OnOk result (next ≡ record now { unfinished = now.unfinished ++ rest })
-    → OnOk result (next ≡ past first (first.unfinished ++ piece))
-remains_past first piece now rest next was is (Ok u) s none is_next =
-    is_next ∙ held_past now (now.unfinished ++ rest) (lacks_both now.unfinished rest s.lacks none) ∙ s.goes
-remains_past first piece now rest next was is (Err fault) s none is_next = tt
+    record {
+      takes =
+          subst (λ (read : Result (List Line) TraceFault). IsOkAnd read (λ more. TakesMore more was is)) (sym all) s.took;
+      goes = ok ∙ held_past now (now.unfinished ++ rest) none ∙ s.goes;
+      same =
+          subst (HasKept first) (sym ok)
+          (ap (λ (r : ReaderView). record r { unfinished = now.unfinished ++ rest }) s.same);
+    }
+remains_end first piece now rest next was is (Err fault) s lacks gives ok err =
+    let none = All-append (λ octet. octet ≡ 10 → ⊥) now.unfinished rest s.lacks lacks in
+    let held = held_says now (now.unfinished ++ rest) none in
+    record {
+      takes =
+          same_fault (before_line (now.ended_lines + 1) (now.unfinished ++ rest) []) (said_in first (first.unfinished ++ piece))
+          fault gives
+          (λ met e. s.says ∙ ap (said_after s.said) (held ∙ e));
+      goes = tt;
+      same = subst (HasKept first) (sym err) s.same;
+    }
 
 -- ---- lines that are kept
 

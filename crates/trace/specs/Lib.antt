@@ -1,7 +1,6 @@
 -- All that stands here is the profile's.
 pub mod TraceText
 pub mod Pieces
-pub mod Pairs
 pub mod LineLaws
 pub use Rattle.text_io.specs.Texts
 pub use Rattle.text_io.specs.TextLaws

@@ -1,13 +1,13 @@
 -- A trace text that comes in pieces, cut anywhere: what a reader of its lines answers to each piece, and to the end.
 use Rattle.std.specs.Prelude.{ℕ, ◌+◌, ◌≡◌, ◌&&◌, nat_lt, List, [], ◌∷◌, ◌++◌, length, map, Option, Some, None, Result}
-use Rattle.std.specs.Prelude.{Ok, Err, IsOkAnd, if◌then◌else◌}
+use Rattle.std.specs.Prelude.{Ok, Err, IsOkAnd, OnOk, if◌then◌else◌}
 use Rattle.std.specs.Option.{option_to_list}
 use Rattle.std.specs.Str.Lines.{strip_carriage_return}
 use Rattle.ap_config.specs.declared.config.RadioConfig.{RadioConfig}
 use Rattle.events.specs.declared.line.Line.{Line}
 use Rattle.text_io.specs.Endings.{IsFaultOf}
 use Rattle.text_io.specs.Faults.{◌>>=◌, read_ending}
-use Rattle.text_io.specs.Texts.{cut}
+use Rattle.text_io.specs.Texts.{cut, LacksLineFeed}
 use Rattle.trace.specs.TraceText.{max_lines, fault_in, bssids_of, line_of, lines_from, lines_of}
 use Rattle.trace.specs.declared.fault.TraceFault.{TraceFault}
 use Rattle.trace.specs.declared.fault.LineFault.TheVariants.{TooMany}
@@ -152,6 +152,23 @@ Takes (Err fault) read was is = IsFaultOf read (read_ending fault)
 abbrev pub said_after : List Line → Result (List Line) TraceFault → Result (List Line) TraceFault
 said_after before (Ok later) = Ok (before ++ later)
 said_after before (Err met) = Err met
+
+-- A reader took, of a piece, what came before this rest, and these lines were taken.
+pub record Remains (first : ReaderView) (piece : List ℕ) (now : ReaderView) (rest : List ℕ)
+    (was is : RadioConfig → List Line → Type 0) : Type 0 where
+  pub said : List Line
+  pub says : said_in first (first.unfinished ++ piece) ≡ said_after said (said_in now (now.unfinished ++ rest))
+  pub goes : past now (now.unfinished ++ rest) ≡ past first (first.unfinished ++ piece)
+  pub took : TakesMore said was is
+  pub same : now ≡ record first { ended_lines = now.ended_lines; unfinished = now.unfinished }
+  pub lacks : LacksLineFeed now.unfinished
+
+-- A reader took a piece, and these lines were taken; or it answers the fault of the piece, or memory ran out.
+pub record EndsPiece (result : Result Unit (ReadFault TraceFault)) (first : ReaderView) (piece : List ℕ) (now : ReaderView)
+    (was is : RadioConfig → List Line → Type 0) : Type 0 where
+  pub takes : Takes result (said_in first (first.unfinished ++ piece)) was is
+  pub goes : OnOk result (now ≡ past first (first.unfinished ++ piece))
+  pub same : now ≡ record first { ended_lines = now.ended_lines; unfinished = now.unfinished }
 
 -- what is answered to pieces, one after another, and to the end, up to the first fault
 abbrev pub answer_to_all : ReaderView → List (List ℕ) → Result (List Line) TraceFault

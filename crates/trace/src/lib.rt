@@ -16,6 +16,7 @@ mod line_buffer;
 mod line_reader;
 mod read;
 mod take_lines;
+mod take_text;
 
 pub use config_text::{ConfigTextFault, read_config};
 pub use fault::{LineFault, TraceFault, TraceTextFault};
@@ -31,6 +32,7 @@ pub use report::{
     write_report,
 };
 pub use take_lines::TakeLines;
+pub use take_text::{TakeText, cut_text};
 pub use text_io::{
     Buffered, Counted, Failed, PutItem, ReadFault, ReportFault, Sink, Source, place_of,
     without_carriage_return, write_all, write_each,

@@ -3,14 +3,14 @@
 //! A [`LineReader`] lends the lines that end in each piece; the pieces may be cut anywhere.
 
 ghost use Rattle.std.specs.Prelude.{◌≡◌, ◌+◌, ◌<◌, ◌≤◌, ◌++◌, List, [], ℕ, length, Err, IfOk};
-ghost use Rattle.std.specs.Prelude.{IfSome, MatchResult, OnOk, OnErr, drop};
+ghost use Rattle.std.specs.Prelude.{IfSome, MatchResult, OnOk, OnErr};
 ghost use Rattle.std.specs.Str.Lines.{strip_carriage_return};
 ghost use Rattle.text_io.specs.Endings.{Gives, IsFaultOf};
 ghost use Rattle.text_io.specs.Faults.{read_ending};
 ghost use Rattle.text_io.specs.Texts.{LacksLineFeed};
 ghost use Rattle.trace.specs.TraceText.{bssids_of, line_of, lines_of};
 ghost use Rattle.trace.specs.Pieces.{new_reader, before_line, said_in, said_last, as_list, Takes, after_line};
-ghost use Rattle.trace.specs.Pieces.{AreTakenSoFar, AreTaken};
+ghost use Rattle.trace.specs.Pieces.{AreTakenSoFar, AreTaken, Remains, EndsPiece};
 ghost use Rattle.ap_config.specs.declared.config.RadioConfig.{RadioConfig};
 ghost use Rattle.trace.specs.Pieces.{answer_to, answer_to_end, after_piece, after_end, past, past_end, Leaves, keeping};
 
@@ -18,12 +18,13 @@ use crate::fault::{LineFault, TraceFault, TraceTextFault};
 use crate::line::read_line;
 use crate::line_buffer::LineBuffer;
 use crate::take_lines::{OwnedLines, TakeLines};
+use crate::take_text::{TakeText, cut_text};
 use ap_config::RadioConfig;
 use events::Line;
 use mac_frame::{MacAddr, NoMemory};
 use std::alloc::Global;
 use std::marker::Model;
-use text_io::{ReadFault, place_of, without_carriage_return};
+use text_io::{ReadFault, without_carriage_return};
 
 /// The most lines of a text.
 const MAX_LINES: u32 = 1_000_000;
@@ -240,12 +241,7 @@ impl LineReader {
         ensures keeps { self.new ≡ record self.old
             { ended_lines = self.new.ended_lines; unfinished = self.new.unfinished } }
     {
-        let mut rest = piece;
-        while let Some(end) = place_of(b'\n', rest) {
-            self.take_ended(&rest[..end], lines)?;
-            rest = text_after(rest, end);
-        }
-        self.hold(rest)
+        cut_text(self, piece, lines, &mut ())
     }
 
     /// Lends what the unfinished line says, which ends with these octets and an LF. The reader goes on to the line
@@ -388,14 +384,24 @@ impl LineReader {
     }
 }
 
-/// What stands after the octet at a place.
-#[inline(always)]
-fn text_after(text: &[u8], place: usize) -> &[u8]
-    requires { place < length text.now }
-    ensures rest { result.now ≡ drop (place + 1) text.now }
-    ensures shorter { length result.now < length text.now }
-{
-    &text[place + 1..]
+impl<T: TakeLines> TakeText<T, ()> for LineReader {
+    type Fault = TraceTextFault;
+
+    ghost remains = { λ first was _ piece reader is _ rest. Remains first piece reader rest
+        (λ c said. T.has_taken c said was) (λ c said. T.has_taken c said is) };
+
+    ghost ends = { λ first was _ piece result reader is _. EndsPiece result first piece reader
+        (λ c said. T.has_taken c said was) (λ c said. T.has_taken c said is) };
+
+    #[inline(always)]
+    fn end_line(&mut self, octets: &[u8], lines: &mut T, _: &mut ()) -> Result<(), TraceTextFault> {
+        self.take_ended(octets, lines)
+    }
+
+    #[inline(always)]
+    fn hold_on(&mut self, octets: &[u8]) -> Result<(), TraceTextFault> {
+        self.hold(octets)
+    }
 }
 
 /// Lends what the line of a number says.

@@ -7,12 +7,12 @@ use Rattle.live_output.proofs.record_output.put_frame_if.Goals as goal
 
 pub returns-in-Some : goal.returns-in-Some
 returns-in-Some g c =
-    let r = record_of c.args.kind c.args.bssid.now in
+    let r = record_of c.args.kind c.args.bssid in
     Puts-same
     (ap r c.as_slice.ensures
     ∙ sym (append-nil (r c.in-Some.octets.now))
     ∙ sym
     (ap
-    (λ o. frames_octets c.args.kind c.args.bssid.now (option_to_list (option_map (λ octets. octets.now) o)))
+    (λ o. frames_octets c.args.kind c.args.bssid (option_to_list (option_map (λ octets. octets.now) o)))
     c.in-Some.is))
     c.put_record.ensures

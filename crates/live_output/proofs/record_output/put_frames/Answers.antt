@@ -11,7 +11,7 @@ put_record-requires g c = c.loop-frame.invariant.can_write
 
 pub loop-frame-preserved : goal.loop-frame-preserved
 loop-frame-preserved g c =
-    let r = record_of c.args.kind c.args.bssid.now in
+    let r = record_of c.args.kind c.args.bssid in
     Puts-item r c.args.frames.now c.loop-frame.frame-index c.frame-item.result c.loop-frame-test.true
     c.frame-item.is
     c.loop-frame.invariant
@@ -19,6 +19,6 @@ loop-frame-preserved g c =
 
 pub returns : goal.returns
 returns g c =
-    Puts-items (record_of c.args.kind c.args.bssid.now) c.args.frames.now c.loop-frame.frame-index
+    Puts-items (record_of c.args.kind c.args.bssid) c.args.frames.now c.loop-frame.frame-index
     c.loop-frame-test.false
     c.loop-frame.invariant

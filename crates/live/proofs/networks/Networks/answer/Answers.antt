@@ -1,4 +1,4 @@
-use Rattle.std.proofs.Common.{◌≡◌, ◌<◌, ◌+◌, ◌∷◌, [], ap, subst, refl, arith}
+use Rattle.std.proofs.Common.{◌≡◌, ◌<◌, ◌∷◌, [], ap, subst, arith}
 use Rattle.trace.specs.Buffers.{watch}
 use Rattle.live.specs.Output.{AreAnswered, through}
 use Rattle.live_answers.specs.Moments.{Moment}

@@ -1,4 +1,4 @@
-use Rattle.std.proofs.Common.{◌≡◌, ◌<◌, ◌∙◌, ◌+◌, List, [], ◌∷◌, ℕ, ap, arith, refl, subst}
+use Rattle.std.proofs.Common.{◌≡◌, ◌<◌, ◌∙◌, List, [], ◌∷◌, ℕ, ap, arith, subst}
 use Rattle.std.specs.Prelude.{option_map}
 use Rattle.trace.specs.Buffers.{watch}
 use Rattle.live_answers.specs.Asked.{Asked, asked_by}
