@@ -1,6 +1,7 @@
 """The air that loses frames, as the cases use it, and the two access points that are set beside each other on it."""
 import os
 import re
+import signal
 import subprocess
 from dataclasses import dataclass
 
@@ -163,11 +164,25 @@ class Hostapd:
             run("ip", "link", "set", name, "addrgenmode", "none")
         run("ip", "link", "set", self.host.port, "master", BRIDGE, "up")
         run("ip", "link", "set", BRIDGE, "up")
+        self.begin_process()
+
+    def begin_process(self) -> None:
+        """Begins hostapd alone; all else is there."""
         with open(self.log, "wb") as log:
             self.process = subprocess.Popen(["hostapd", self.config], stdin=subprocess.DEVNULL, stdout=log, stderr=log)
-        wait_for("hostapd begins", 30, lambda: "AP-ENABLED" in self.told() or self.process.poll() is not None)
+        wait_for("hostapd begins", 30, lambda: "AP-ENABLED" in self.told() or self.process.poll() is not None, 0.02)
         if self.process.poll() is not None:
             raise Failed(f"hostapd didn't begin: {self.told()}")
+
+    def begin_again(self) -> None:
+        """It is killed, and begun again at once."""
+        self.process.kill()
+        self.process.wait()
+        self.begin_process()
+
+    def reload(self) -> None:
+        """It reads its configuration again."""
+        self.process.send_signal(signal.SIGHUP)
 
     def told(self) -> str:
         """What it has told so far."""

@@ -264,12 +264,19 @@ class Reload(Part):
         self.cases.case("reload: the bridge ends, and takes down what it set up", self.end_start)
         self.cases.case("reload: `run` on the second record gives what the program wrote after",
                         self.start.agrees_with_run)
+        self.cases.case("reload: another radio heard what both wrote, but for what was swallowed", self.agrees_with_observed)
 
     def agrees_before(self) -> str:
         """Of the program before the change."""
         if self.before is None:
             self.change()
         return self.before.agrees_with_run()
+
+    def agrees_with_observed(self) -> str:
+        """Of both programs."""
+        if self.before is None:
+            raise Failed("the configuration was not read again")
+        return self.start.agrees_with_observed((self.before,))
 
     def write_wires(self, networks: tuple[Net, ...]) -> None:
         """The wires stand in a file, which is read again too."""

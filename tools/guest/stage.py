@@ -403,10 +403,15 @@ class Start:
         ends = [place for place, line in enumerate(lines) if line.startswith(RESTORED_TO)]
         return self.rerun(lines[:ends[0]]) if ends else defaultdict(Section)
 
-    def agrees_with_observed(self) -> str:
-        """What another radio heard of each network has to be what the program wrote for it: for each receiver the same
-        frames in the same order, where one that was sent again counts once."""
-        bssids = {address_of(net.bssid): net for net in self.networks}
+    def sent_on_air(self, bssid: str) -> list[str]:
+        """What the program wrote for a network on the air and the bridge sent: all but what was swallowed."""
+        return read_answers(self.answered())[bssid].air[len(self.swallowed()[bssid].air):]
+
+    def agrees_with_observed(self, earlier: "tuple[Start, ...]" = ()) -> str:
+        """What another radio heard of each network has to be what the program wrote for it, and the earlier ones before
+        it: for each receiver the same frames in the same order, where one that was sent again counts once."""
+        starts = (*earlier, self)
+        bssids = {address_of(net.bssid): net for start in starts for net in start.networks}
         heard: dict[str, list[bytes]] = defaultdict(list)
         last: dict[tuple[bytes, bytes], int] = {}
         for packet in self.observed.packets():
@@ -417,11 +422,10 @@ class Start:
                 if not frame.retry or last.get(way) != frame.sequence_control:
                     heard[bssids[frame.transmitter].bssid].append(comparable(frame.octets))
                 last[way] = frame.sequence_control
-        wrote, swallowed = read_answers(self.answered()), self.swallowed()
-        for net in self.networks:
-            del wrote[net.bssid].air[:len(swallowed[net.bssid].air)]
+        for net in bssids.values():
+            wrote = [octets for start in starts for octets in start.sent_on_air(net.bssid)]
             same(f"{self.name}: heard of {net.ssid}", sorted(heard[net.bssid], key=receiver_of),
-                 sorted((comparable(bytes.fromhex(octets)) for octets in wrote[net.bssid].air), key=receiver_of))
+                 sorted((comparable(bytes.fromhex(octets)) for octets in wrote), key=receiver_of))
         return f"{sum(map(len, heard.values()))} frames heard"
 
 

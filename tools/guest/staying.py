@@ -9,6 +9,7 @@ import time
 from contextlib import suppress
 from dataclasses import replace
 
+from airing import Hostapd
 from parts import Part, join
 from stage import RESTORED_FROM, RESTORED_TO, COMPILED, Net, Start, process_of, processes_of, read_answers
 from stations import Failed, Station, run, wait_for
@@ -99,6 +100,9 @@ class Stays(Part):
         self.alone("a state that is damaged, old, or of another radio or configuration is told and not used", self.unused)
         self.cases.leave_all()
         self.start.take_down()
+        self.alone("hostapd reads its configuration again, and is killed and begun again", self.beside_hostapd)
+        self.end_flows()
+        self.cases.leave_all()
 
     def host_of(self, place: int):
         """The host of the network of this place."""
@@ -372,6 +376,45 @@ class Stays(Part):
         if any(name.startswith(f"{self.cases.phy}.state") for name in os.listdir("/run/waltigon")):
             raise Failed("a state is left")
         return ", ".join(told)
+
+
+    def beside_hostapd(self) -> str:
+        """What twenty stations make of it, in one network; nothing is wanted of it."""
+        host = self.host_of(0)
+        point = Hostapd(self.start.folder, self.cases.phy, GUESTS, "guests", host)
+        point.begin()
+        try:
+            for number, station in enumerate(self.stations, FIRST_STAYING):
+                join(station, host, number, "guests", GUESTS)
+            for station in self.stations:
+                station.joined(180, GUESTS)
+            for number, station in enumerate(self.stations):
+                log = os.path.join(point.folder, f"ping-{station.name}")
+                self.flows.append(Flow(station, host.address, EVERY if number < len(OF_NETWORKS) else OTHERS_EVERY, log))
+            self.all_go_on(60)
+            return "; ".join(f"{name}: {self.count_beside(change)}" for name, change in (
+                ("read again", point.reload), ("killed and begun again", point.begin_again)))
+        finally:
+            point.end()
+
+    def count_beside(self, change) -> str:
+        """How many pings are missing, and how many stations joined again."""
+        flows, connected = self.fast(), self.connected()
+        before = [flow.last() for flow in flows]
+        change()
+        time.sleep(1)
+        self.all_go_on(60)
+        time.sleep(1)
+        missing = [flow.missing(first, flow.last()) for first, flow in zip(before, flows)]
+        return f"{max(missing)} pings missing, {self.connected() - connected} joined"
+
+    def connected(self) -> int:
+        """How often the stations' own programs told so far that they joined."""
+        found = 0
+        for station in self.stations:
+            with open(os.path.join(station.folder, "log"), encoding="utf-8", errors="replace") as file:
+                found += file.read().count("CTRL-EVENT-CONNECTED")
+        return found
 
 
 def generation_of(start: Start, number: int) -> Start:

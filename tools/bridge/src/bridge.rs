@@ -1457,6 +1457,24 @@ done
 "#;
     const ANSWER: &str = "b000000002aa000000010200000001010200000001011000000002000000";
 
+    /// A program in which one station authenticates and associates, and then stands in its table.
+    const JOINING: &str = r#"#!/bin/bash
+echo 'ok 1'
+while read -r word rest; do
+    case $word in
+    T) echo 'air 02:00:00:00:01:01 BEACON' ;;
+    A) case ${rest:0:2} in
+        b0) echo 'air 02:00:00:00:01:01 ANSWER' ;;
+        00) echo 'air 02:00:00:00:01:01 JOINED'; joined=yes ;;
+        esac ;;
+    I) printf '%s\n' 'network 02:00:00:00:01:01 ssid 6c' 'events 7 clock 1 unread 0 lost 0 kept 2'
+        [ -z "$joined" ] || echo 'station 02:aa:00:00:00:01 associated aid 1 listen 5 active kept 0'
+        echo end ;;
+    esac
+done
+"#;
+    const JOINED: &str = "1000000002aa00000001020000000101020000000101200001000000 01c0";
+
     /// A program of two networks: a beacon of each for each tick, each frame heard the same on the network's wire, and
     /// tables.
     const TWO: &str = r#"#!/bin/bash
@@ -1612,6 +1630,8 @@ done
         record: Option<&'static str>,
         /// Whether the second network's wire is there at the start.
         has_other_wire: bool,
+        /// The beginning of the names of the files of the state, where there are some.
+        state: Option<&'static str>,
     }
 
     impl Default for Surroundings {
@@ -1624,8 +1644,16 @@ done
                 networks: 1,
                 record: None,
                 has_other_wire: true,
+                state: None,
             }
         }
+    }
+
+    /// The files of a state.
+    fn files_of(state: &str) -> [OwnedFd; 2] {
+        let mut options = fs::OpenOptions::new();
+        options.read(true).write(true).create(true);
+        [0, 1].map(|number| options.open(format!("{state}.{number}")).unwrap().into())
     }
 
     fn run_with(
@@ -1669,6 +1697,9 @@ done
             let name = surroundings.record.map_or_else(|| stage.folder.join("record"), PathBuf::from);
             let record = Record::new("record", fs::File::create(name).unwrap());
             scope.spawn(|| {
+                if let Some(state) = surroundings.state {
+                    hand(&stage.requests, b"state\n", &files_of(state)).unwrap();
+                }
                 // A bridge whose program has ended at once reads it no more.
                 let _ = hand(&stage.requests, b"open\n", &[nothing(), nothing(), nothing()]);
                 thread::sleep(Duration::from_millis(400));
@@ -1769,6 +1800,74 @@ done
         assert!(stage.record().contains(&format!("A {}", hex::encode(departure(OURS, STATION)))));
         let told = [&sending_header(2, 3)[..], &deauthentication(OURS, STATION, INACTIVITY, 2049)].concat();
         assert!(stage.sent.lock().unwrap().contains(&told));
+    }
+
+    /// What the next bridge's program answers to what it is told of the station isn't sent, and the record marks it. A third
+    /// one has what the second left.
+    #[test]
+    fn a_station_stays_from_one_bridge_to_the_next() {
+        let state: &str = Box::leak(format!("{}/state-{}", std::env::temp_dir().display(), std::process::id()).into());
+        let program = JOINING.replace("ANSWER", ANSWER).replace("JOINED", &JOINED.replace(' ', ""));
+        let with_state = Surroundings { state: Some(state), ..Surroundings::default() };
+        let request = own_request();
+        let (outcome, first) = run_with(Face::Text, &program, with_state, |stage| {
+            stage.hear(&Unit { control: [0xb0, 0], body: vec![0, 0, 1, 0, 0, 0], ..Unit::default() }.octets());
+            thread::sleep(Duration::from_millis(100));
+            stage.hear(&request);
+            thread::sleep(Duration::from_millis(300));
+            end(stage);
+        });
+        let answers = |stage: &Stage| {
+            let sent = stage.sent.lock().unwrap();
+            let kinds = sent.iter().filter_map(|frame| frame.get(sending_header(2, 0).len()));
+            kinds.filter(|kind| **kind != super::BEACON).copied().collect::<Vec<u8>>()
+        };
+        assert_eq!((outcome, answers(&first)), (Ok(()), vec![0xb0, 0x10]));
+        for _ in 0..2 {
+            let mut status = String::new();
+            let (outcome, stage) = run_with(Face::Text, &program, with_state, |stage| {
+                wait_until(|| !stage.sent.lock().unwrap().is_empty());
+                status = ask(stage, "status");
+                end(stage);
+            });
+            assert_eq!((outcome, answers(&stage)), (Ok(()), vec![]));
+            assert!(status.contains(r#""address":"02:aa:00:00:00:01","state":"associated","aid":1"#), "{status}");
+            let said = crate::own_frames::authentication(OURS, STATION);
+            let wanted = [format!("A {}", hex::encode(said)), format!("A {}", hex::encode(&request)), "# I".into()];
+            let lines = stage.record();
+            assert_eq!(lines[0], format!("# {RESTORED_FROM}"));
+            assert_eq!((&lines[1..4], &lines[4]), (&wanted[..], &format!("# {RESTORED_TO}")));
+        }
+        for number in [0, 1] {
+            fs::remove_file(format!("{state}.{number}")).unwrap();
+        }
+    }
+
+    /// The association request of our station.
+    fn own_request() -> Vec<u8> {
+        let mut octets = crate::own_frames::association_request(&network(OURS), STATION);
+        octets[26] = 5;
+        octets
+    }
+
+    /// A state that isn't whole is told, and stations join as ever.
+    #[test]
+    fn a_state_that_is_damaged_is_not_used() {
+        let state: &str = Box::leak(format!("{}/bad-{}", std::env::temp_dir().display(), std::process::id()).into());
+        fs::write(format!("{state}.0"), "state 1 and nothing else\n").unwrap();
+        let with_state = Surroundings { state: Some(state), ..Surroundings::default() };
+        let (outcome, stage) = run_with(Face::Text, LINES, with_state, |stage| {
+            thread::sleep(Duration::from_millis(300));
+            end(stage);
+        });
+        assert_eq!(outcome, Ok(()));
+        assert!(!stage.record().iter().any(|line| line.contains("restored")));
+        let left: Vec<String> =
+            [0, 1].iter().map(|number| fs::read_to_string(format!("{state}.{number}")).unwrap()).collect();
+        assert!(left.iter().any(|text| text.contains(" last 1 ")), "{left:?}");
+        for number in [0, 1] {
+            fs::remove_file(format!("{state}.{number}")).unwrap();
+        }
     }
 
     /// While one client writes newlines and never reads, another one is answered and beacons go.
