@@ -1123,6 +1123,27 @@ class Running(WithFiles):
                 os.unlink(os.path.join(self.folder, name))
             self.told.truncate(0)
 
+    def test_begins_anew_with_what_changed(self):
+        """The next program reads the configuration as it is then, and so does the script."""
+        does = (f"[ \"$request\" != open ] || {{ [ -e {self.folder}/second ] || {{ touch {self.folder}/second; "
+                "sleep 0.3; kill -9 $$; }; echo sending; }")
+        changed = threading.Timer(0.2, self.write, ("radio.toml", CONFIG.replace("channel = 6", "channel = 11")))
+        changed.start()
+        self.run_bridge(lambda: self.end_once_told("networks are on channel"), does=does)
+        changed.join()
+        self.assertEqual([plan.settings.channel for plan in self.followed], [6, 11])
+        self.assertIn("has changed since it was read, and is read again", self.told.getvalue())
+
+    def test_does_not_begin_anew_with_a_fault(self):
+        """A configuration that has a fault by then is told, and all ends."""
+        does = "[ \"$request\" != open ] || { sleep 0.5; kill -9 $$; }"
+        changed = threading.Timer(0.2, self.write, ("radio.toml", "channel = "))
+        changed.start()
+        with self.assertRaisesRegex(Fault, "the bridge ended by itself, by the signal SIGKILL"):
+            self.run_bridge(does=does)
+        changed.join()
+        self.assertIn("it doesn't begin: ", self.told.getvalue())
+
     def test_does_not_begin_anew(self):
         """Three in a row that end at once, and one that made a call that it may not make, end all."""
         with self.assertRaisesRegex(Fault, "the bridge ended by itself, by the signal SIGKILL"):

@@ -39,6 +39,7 @@ class AccessPoint:
         self.signals = Signals(stack)
         made = Changes(wanted.phy)
         stack.callback(made.close)
+        self.stamp = stamp_of(wanted.config)  # of the configuration, when it was read
         self.plan = check(wanted, made, stack)
         self.rights = rights_of(wanted)
         self.page_user = page_user_of(wanted)
@@ -154,12 +155,24 @@ class AccessPoint:
         if reason is None or self.signals.is_ending or self.early >= MOST_EARLY:
             return False
         tell(f"{reason}; it begins anew", WARNING)
-        self.bridge = self.start(self.plan)
+        try:
+            if self.stamp != stamp_of(self.wanted.config):
+                tell(f"{self.wanted.config} has changed since it was read, and is read again", WARNING)
+                self.plan = self.read_again()
+            self.bridge = self.start(self.plan)
+        except Fault as fault:
+            tell(f"it doesn't begin: {fault}", ERROR)
+            return False
         self.bridge.await_networks()
         if not self.bridge.has_to_go_on():
             return False
         self.open()
         return True
+
+    def read_again(self) -> Plan:
+        """The plan of the configuration as it is now."""
+        self.stamp = stamp_of(self.wanted.config)
+        return check_again(self.wanted, self.plan)
 
     def seconds_to(self, due: float | None) -> float | None:
         """For how long one waits at most: for what is due, and for wires that are missing."""
@@ -181,14 +194,16 @@ class AccessPoint:
         notice nothing."""
         self.service.reloading()
         tell(f"reading {self.wanted.config} again")
+        before = self.stamp
         try:
-            plan = check_again(self.wanted, self.plan)
+            plan = self.read_again()
             successor = self.start(plan)
             successor.await_networks()
             if not successor.has_to_go_on():
                 successor.kill()
                 raise Fault(successor.fault or "the program didn't begin with it")
         except Fault as fault:
+            self.stamp = before
             tell(f"all stays as it is: {fault}", ERROR)
             self.told.reloaded(str(fault))
             self.service.ready("the configuration that was read last has a fault; the one before is served")
@@ -225,6 +240,15 @@ class AccessPoint:
         if self.page is not None and self.page.poll() is not None:
             tell(f"--status {self.wanted.status}: the page ended with status {self.page.returncode}", WARNING)
             self.page = None
+
+
+def stamp_of(path: str) -> tuple[int, ...]:
+    """By which one sees whether a file was changed; nothing of one that isn't there."""
+    try:
+        found = os.stat(path)
+    except OSError:
+        return ()
+    return found.st_ino, found.st_size, found.st_mtime_ns
 
 
 def serve(wanted: Wanted) -> None:
