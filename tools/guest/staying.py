@@ -214,11 +214,17 @@ class Stays(Part):
 
     def kill_often(self, executable: str, most: int) -> str:
         """It is killed at drawn moments."""
-        counted = []
+        counted, repeated = [], self.repeated()
         for _ in range(KILLS):
             time.sleep(2 + self.random.random())
             counted.append(self.count_missing(lambda: self.kill(executable), 20, most))
-        return f"{sorted(counted)} pings missing, 0 stations joined"
+        return (f"{sorted(counted)} pings missing, 0 stations joined, {self.repeated() - repeated} frames dropped by "
+                "stations as repeated")
+
+    def repeated(self) -> int:
+        """How many frames the stations' kernels have dropped as repeated."""
+        told = "".join(station.run("ethtool", "-S", station.interface) for station in self.stations)
+        return sum(map(int, re.findall(r"rx_duplicates: (\d+)", told)))
 
     def kill(self, executable: str) -> None:
         """Kills what runs this, and waits for the next."""
