@@ -340,9 +340,10 @@ class Stays(Part):
         stay = sum(int(number) for number in re.findall(r"(\d+) stations of \S+ stay", again.told()))
         if not stay:
             raise Failed(f"none stays: {again.told()}")
-        for station, place in self.members():
+        there = [(station, place) for station, place in self.members() if station.supplicant is not None]
+        for station, place in there:
             station.joined(60, self.three[place].bssid)
-        return f"{stay} stations were known at once"
+        return f"{stay} of {len(there)} stations were known at once, {again.told().count(' joins ')} joined again"
 
     def kill_and_leave(self) -> None:
         """All are killed, the script last, so that nothing is taken back."""
