@@ -161,6 +161,8 @@ pub struct Bridge<P> {
     keeping: Option<Keeping>,
     /// What is said of them to the program, and the interfaces meanwhile.
     restoring: Option<(Restoring, Sender<P>)>,
+    /// What was asked for meanwhile.
+    deferred: Vec<Request>,
     tables_asked: bool,
     dismissing: bool,
     waits_for_room: bool,
@@ -198,6 +200,7 @@ impl<P: OfSocket> Bridge<P> {
             handed: None,
             keeping: None,
             restoring: None,
+            deferred: Vec::new(),
             tables_asked: false,
             dismissing: false,
             waits_for_room: false,
@@ -323,26 +326,35 @@ impl<P: OfSocket> Bridge<P> {
     fn take_requests(&mut self) -> Result<(), Fault> {
         while let Some(request) = self.requests.next()? {
             match (request, self.phase) {
-                (Request::State(files), _) => self.keeping = Some(Keeping::new(files)),
-                (Request::Open(handed), _) => self.handed = Some(handed),
-                (Request::Wire(place, socket), Phase::Running) => {
-                    if let Some(running) = &mut self.running {
-                        let port = P::of(&running.wire_of(place)?, socket);
-                        running.take_wire(place, port, &self.poller)?;
-                    }
-                }
-                (Request::Tables, Phase::Running) => self.tables_asked = true,
-                (Request::Dismiss(places), Phase::Running) => {
-                    self.dismissing = true;
-                    self.running.iter_mut().for_each(|running| running.operating.dismiss(&places));
-                }
                 (Request::End, _) => {
                     self.poller.remove(self.requests.descriptor())?;
                     self.phase = Phase::Ending;
                     return Ok(());
                 }
-                _ => {}
+                (request, Phase::Restoring(_)) => self.deferred.push(request),
+                (request, _) => self.take_request(request)?,
             }
+        }
+        Ok(())
+    }
+
+    /// Does what `tools/live` asks for, but for the end.
+    fn take_request(&mut self, request: Request) -> Result<(), Fault> {
+        match (request, self.phase) {
+            (Request::State(files), _) => self.keeping = Some(Keeping::new(files)),
+            (Request::Open(handed), _) => self.handed = Some(handed),
+            (Request::Wire(place, socket), Phase::Running) => {
+                if let Some(running) = &mut self.running {
+                    let port = P::of(&running.wire_of(place)?, socket);
+                    running.take_wire(place, port, &self.poller)?;
+                }
+            }
+            (Request::Tables, Phase::Running) => self.tables_asked = true,
+            (Request::Dismiss(places), Phase::Running) => {
+                self.dismissing = true;
+                self.running.iter_mut().for_each(|running| running.operating.dismiss(&places));
+            }
+            _ => {}
         }
         Ok(())
     }
@@ -397,7 +409,8 @@ impl<P: OfSocket> Bridge<P> {
         if let Some(running) = &mut self.running {
             running.restore(&restored, self.time);
         }
-        Ok(())
+        let deferred = std::mem::take(&mut self.deferred);
+        deferred.into_iter().try_for_each(|request| self.take_request(request))
     }
 
     /// Leaves for the next bridge what it has to know of stations, where it is time, or at the end.
@@ -1825,8 +1838,12 @@ done
         assert_eq!((outcome, answers(&first)), (Ok(()), vec![0xb0, 0x10]));
         for _ in 0..2 {
             let mut status = String::new();
-            let (outcome, stage) = run_with(Face::Text, &program, with_state, |stage| {
+            // What is asked for while the program is told of the station is done afterwards.
+            let slow = program.replace("b0) echo", "b0) sleep 0.6; echo");
+            let (outcome, stage) = run_with(Face::Text, &slow, with_state, |stage| {
+                stage.requests.write_all(b"tables\n").unwrap();
                 wait_until(|| !stage.sent.lock().unwrap().is_empty());
+                wait_until(|| fs::read_to_string(stage.folder.join("record")).unwrap().matches("# I").count() == 2);
                 status = ask(stage, "status");
                 end(stage);
             });
@@ -1837,6 +1854,7 @@ done
             let lines = stage.record();
             assert_eq!(lines[0], format!("# {RESTORED_FROM}"));
             assert_eq!((&lines[1..4], &lines[4]), (&wanted[..], &format!("# {RESTORED_TO}")));
+            assert!(lines[5..].contains(&"# I".to_owned()), "{lines:?}");
         }
         for number in [0, 1] {
             fs::remove_file(format!("{state}.{number}")).unwrap();
