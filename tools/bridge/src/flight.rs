@@ -161,6 +161,12 @@ impl<W> Flight<W> {
         })
     }
 
+    /// Whether the radio has sent a frame for this receiver, and it isn't known what became of that.
+    pub fn is_unknown(&self, place: Place, receiver: Address) -> bool {
+        let mut done = self.frames.iter().take_while(|given| given.state == State::Done);
+        done.any(|given| given.name.receiver == receiver && given.name.place == place)
+    }
+
     /// Whether `settle` has something to do at this time.
     pub fn is_doubtful(&self, now: Nanos) -> bool {
         self.frames.front().map_or(false, |given| given.state == State::Out && given.overdue < now)

@@ -22,6 +22,8 @@ const SPREAD: [u8; 4] = [2, 4, 11, 22];
 const BITS: f64 = 8.0 * 1200.0;
 /// The weight of one try in a share.
 const WEIGHT: f64 = 1.0 / 8.0;
+/// Where so large a share of tries is acknowledged, a unit that all of its tries lose is one in millions.
+const SURE_SHARE: f64 = 0.9;
 /// A share below this is none: the rate is sampled, and not used.
 const LEAST_SHARE: f64 = 0.05;
 /// How often a sample is sent again where no acknowledgement comes, and a unit to a station that seems to be gone.
@@ -157,6 +159,11 @@ impl Rates {
     /// Whether the last unit was lost, so that the next one waits until it is known what becomes of this one.
     pub fn is_in_doubt(&self) -> bool {
         self.failures > 0
+    }
+
+    /// Whether units come through as good as surely: what became of one needn't be known before the next one goes.
+    pub fn are_sure(&self) -> bool {
+        self.failures == 0 && self.rates[self.best].known.share() >= SURE_SHARE
     }
 
     /// What became of a unit that was sent at a rate: so many tries, the last of which was acknowledged, or none.
@@ -373,6 +380,20 @@ mod tests {
         assert_eq!(last, Choice { rate: 2, retries: GONE_RETRIES, is_sample: false });
         rates.told(2, 1, true, false);
         assert_eq!(rates.again().retries, MOST_RETRIES);
+    }
+
+    #[test]
+    fn units_come_through_surely_where_hardly_a_try_is_lost() {
+        let mut rates = Rates::common(&ALL, &ALL).unwrap();
+        assert!(rates.are_sure());
+        (0..40).for_each(|_| rates.told(2, 1, true, false));
+        assert!(rates.are_sure());
+        rates.told(2, 2, true, false);
+        assert!(!rates.are_sure());
+        (0..8).for_each(|_| rates.told(2, 1, true, false));
+        assert!(rates.are_sure());
+        rates.told(2, 7, false, false);
+        assert!(!rates.are_sure());
     }
 
     #[test]

@@ -180,6 +180,11 @@ impl Stations {
         self.networks[place].stations.get(&address).map_or(0, |station| station.goes_since)
     }
 
+    /// Whether what is sent to a station comes through as good as surely, as far as one knows.
+    pub fn is_sure(&self, place: Place, address: Address) -> bool {
+        self.networks[place].stations.get(&address).map_or(true, |station| station.rates.are_sure())
+    }
+
     /// At which rate the next frame goes to a station, unless it is a sample.
     pub fn expected_rate(&self, place: Place, address: Address, is_unit: bool) -> u8 {
         let station = self.networks[place].stations.get(&address).filter(|_| is_unit && self.is_told());

@@ -464,7 +464,7 @@ impl<P: Port> Transmitter<P> {
             let address = frame.address;
             if self.is_late(place, frame, now) {
                 self.drop_first(place, receiver, Unsent::Late);
-            } else if matches!(receiver, Receiver::Station(_)) && self.flight.is_overdue(place, address, now) {
+            } else if matches!(receiver, Receiver::Station(_)) && self.awaits(place, address, now) {
                 self.shares.hold(place, receiver);
             } else {
                 let is_unit = matches!(frame.kind, Kind::Unit | Kind::Again);
@@ -480,6 +480,13 @@ impl<P: Port> Transmitter<P> {
             }
         }
         false
+    }
+
+    /// Whether what comes next for a station waits for what became of a frame before: of one that takes long, and of one
+    /// that may be lost, since a unit is sent once more only where nothing went to its station since.
+    fn awaits(&self, place: Place, address: Address, now: Nanos) -> bool {
+        self.flight.is_overdue(place, address, now)
+            || self.flight.is_unknown(place, address) && !self.stations.is_sure(place, address)
     }
 
     /// Takes the frame that goes next, and gives it to the radio.
