@@ -126,7 +126,7 @@ impl<W> Flight<W> {
         let Given { what, reckoned, since, overdue, .. } = self.frames.remove(found)?;
         self.reckoned -= reckoned;
         if overdue < now {
-            self.wait_anew(found, now);
+            self.wait_anew(found, name, now);
         }
         let step = now.saturating_sub(since.max(self.last_told)).min(MOST_STEP);
         self.last_told = self.last_told.max(now);
@@ -136,12 +136,14 @@ impl<W> Flight<W> {
         Some(what)
     }
 
-    /// A frame took longer than was reckoned: those that the radio got after it have their time from now on.
-    fn wait_anew(&mut self, from: usize, now: Nanos) {
+    /// A frame took longer than was reckoned: those for others that the radio got after it have their time from now on.
+    fn wait_anew(&mut self, from: usize, late: Name, now: Nanos) {
         let (pace, mut reckoned) = (self.pace, 0);
         for given in self.frames.iter_mut().skip(from) {
             reckoned += given.reckoned;
-            given.overdue = given.overdue.max(now + 2 * at_pace(pace, reckoned).max(reckoned));
+            if (given.name.place, given.name.receiver) != (late.place, late.receiver) {
+                given.overdue = given.overdue.max(now + 2 * at_pace(pace, reckoned).max(reckoned));
+            }
         }
     }
 
@@ -321,10 +323,13 @@ mod tests {
     #[test]
     fn a_frame_behind_one_that_takes_long_has_its_time_once_that_was_told_of() {
         let (mut flight, late) = (of_two(), 20 * MILLISECOND);
+        flight.give(name(3), (), MILLISECOND, 0);
         assert!(flight.is_overdue(0, STATION, late) && !flight.is_overdue(0, OTHER, late));
         flight.told(name(1), late, |_| late);
         let due = late + 2 * MILLISECOND;
         assert!(!flight.is_overdue(0, OTHER, due) && flight.is_overdue(0, OTHER, due + 1));
+        flight.forget(Name { receiver: OTHER, ..name(2) });
+        assert!(flight.is_overdue(0, STATION, late));
     }
 
     #[test]
