@@ -224,7 +224,10 @@ class Stays(Part):
     def repeated(self) -> int:
         """How many frames the stations' kernels have dropped as repeated."""
         told = "".join(station.run("ethtool", "-S", station.interface) for station in self.stations)
-        return sum(map(int, re.findall(r"rx_duplicates: (\d+)", told)))
+        found = re.findall(r"rx_duplicates: (\d+)", told)
+        if len(found) != len(self.stations):
+            raise Failed(f"of {len(self.stations)} stations {len(found)} tell what they dropped")
+        return sum(map(int, found))
 
     def kill(self, executable: str) -> None:
         """Kills what runs this, and waits for the next."""
