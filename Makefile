@@ -121,7 +121,7 @@ test-live: apctl ## tests the bridge with real stations in a guest; takes root
 	@tools/bridge/build test
 	@tools/guest/air/build test
 	@tools/test live
-	@ATTACKS=yes tools/test Confined
+	@ATTACKS=yes tools/test Confined Staying
 	@tools/test-live
 	@tools/test-live service
 	@tools/test-live networks

@@ -17,6 +17,7 @@ FIFTH = ["02:aa:00:00:00:05", 1, False]
 ALL = "ff:ff:ff:ff:ff:ff"
 
 
+@unittest.skipUnless(os.environ.get("ATTACKS"), "ATTACKS isn't set, as make test-live sets it")
 @unittest.skipUnless(os.geteuid() == 0 and can_try(), "it takes root, and namespaces")
 @unittest.skipUnless(os.path.exists(BRIDGE), "the bridge isn't there (make bridge builds it)")
 @unittest.skipUnless(os.path.exists(PROGRAM), "build/apctl isn't there (make apctl builds it)")
