@@ -354,7 +354,7 @@ class Reload(Part):
 class ByHand:
     """The commands of docs/LIVE.md, 'By hand', as they stand there but for the radios' names."""
 
-    SECTION, NEXT = "\n## By hand\n", "\n### "
+    SECTION, NEXT = "\n## By hand\n", "\n## "
     BLOCK = re.compile(r"^```(?:toml|bash)\n(.*?)^```$", re.MULTILINE | re.DOTALL)
 
     def __init__(self, folder: str, program: str) -> None:

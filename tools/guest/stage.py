@@ -77,7 +77,7 @@ class Section:
 
 
 def text_of(answers: bytes) -> str:
-    """What the program wrote, as lines of text, whichever face it has (docs/LIVE.md); a record that was cut is left
+    """What the program wrote, as lines of text, whichever face it has (docs/PROTOCOL.md); a record that was cut is left
     out."""
     if not answers.startswith(b"O"):
         return answers.decode("ascii")

@@ -2,8 +2,8 @@
 //!
 //! They show, in both faces, what no contract says: that calls succeed where there is memory, that each answer is with
 //! the sink when the source is asked for more, and readers and writers that fail after each octet. Each row of the
-//! tables of docs/LIVE.md on records is met, and each fault but for memory that is refused, which `tests/octets` shows,
-//! and the end of the clock. They stand beside that crate since a crate with tests is proved twice.
+//! tables of docs/PROTOCOL.md on records is met, and each fault but for memory that is refused, which `tests/octets`
+//! shows, and the end of the clock. They stand beside that crate since a crate with tests is proved twice.
 #![tactic(auto)]
 
 #[cfg(test)]

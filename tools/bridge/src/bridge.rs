@@ -696,7 +696,7 @@ impl<P: OfSocket> Bridge<P> {
                 if running.beacon_due.map_or(false, |due| time > due) {
                     return Err(Fault::new(format!(
                         "this radio does not send beside its interfaces: no beacon was seen as sent within {} second \
-                         (docs/LIVE.md, 'A USB radio')",
+                         (docs/OPERATING.md, 'The radio')",
                         TO_BEACON / SECOND
                     )));
                 }

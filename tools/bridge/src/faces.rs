@@ -1,5 +1,5 @@
 //! What is said to the program and what it answers, in either of its faces: lines of text, with frames in digits, or
-//! records of octets (docs/LIVE.md). All else of the bridge knows events and answers alone.
+//! records of octets (docs/PROTOCOL.md). All else of the bridge knows events and answers alone.
 use std::fmt;
 
 use crate::digits;

@@ -1,5 +1,5 @@
 //! The bridge between the program's word `live` and a Linux machine's radio and wired ports: the way of a frame.
-//! `tools/live` checks all, sets the interfaces up, starts this, and takes down what it set up; docs/LIVE.md tells how.
+//! `tools/live` checks all, sets the interfaces up, starts this, and takes down what it set up; docs/BRIDGE.md tells how.
 //!
 //! ```text
 //!      what comes                                                                        the program

@@ -13,7 +13,7 @@ from live.telling import WARNING, tell
 USER, PAGE_USER = "waltigon", "waltigon-status"
 NOBODY = "nobody"
 # The most address space of the program: below what the unit leaves to all parts, so that want of memory is an answer of
-# the program (docs/LIVE.md, 'As a service').
+# the program (docs/OPERATING.md, 'As a service').
 MOST_MEMORY = 1 << 30
 MAKE_USER = "`useradd --system --user-group --no-create-home --shell /usr/sbin/nologin {}` makes it, as `make install` does"
 CREATE_RULESET, TELL_VERSION = 444, 1  # landlock_create_ruleset(2)
