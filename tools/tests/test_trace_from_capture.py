@@ -4,11 +4,11 @@ import os
 import subprocess
 import tomllib
 
-from captures import (PLAIN_80211, RADIOTAP, RadioTap, fcs_of, read_air, read_capture, read_wire, write_pcap,
-                      write_pcapng)
+from captures.files import (PLAIN_80211, RADIOTAP, RadioTap, fcs_of, read_air, read_capture, read_wire, write_pcap,
+                            write_pcapng)
+from captures.hearing import beacon_ticks, even_ticks, interval_length
 from common import (DEVICES, GUEST, OFFICE, THREE, ToolTest, input_of, needs_program, run_program, tool, with_report)
 from frames import BEACON, CONTROL, PS_POLL, Frame
-from hearing import beacon_ticks, even_ticks, interval_length
 from texts import read_origins, read_text, read_trace
 
 SAMPLE = os.path.join(THREE, "air.pcapng")
