@@ -10,7 +10,6 @@ import shutil
 import signal
 import socket
 import stat
-import struct
 import subprocess
 import tempfile
 import threading
@@ -20,9 +19,9 @@ from contextlib import ExitStack
 from dataclasses import replace
 from unittest import mock
 
-from frames import BROADCAST, address_of
-from live import (asking, changes, checks, keeping, machine, radiotap, record, rights, running, serving, setting_up,
-                  showing, telling, wires)
+from frames import address_of
+from live import (asking, changes, checks, keeping, machine, record, rights, running, serving, setting_up, showing,
+                  telling, wires)
 from live.bridge import Bridge, Signals
 from live.changes import Change, Changes
 from live.checks import (Plan, Wanted, check_abilities, check_bridge, check_config, check_left, check_names, check_port,
@@ -38,7 +37,7 @@ from statuses import document, network, only_known, station
 
 TOOLS = os.path.dirname(os.path.dirname(os.path.realpath(__file__)))
 OURS, OTHER = address_of("02:00:00:00:01:01"), address_of("02:00:00:00:01:02")
-STATION, STRANGER = address_of("02:aa:00:00:00:01"), address_of("02:bb:00:00:00:01")
+STRANGER = address_of("02:bb:00:00:00:01")
 CONFIG = """version = 1
 channel = 6
 interval = 100
@@ -103,55 +102,6 @@ COUNTED = """\tSupported interface modes:
 \t\t * #{ managed, monitor } <= 3,
 \t\t   total <= 3, #channels <= 1
 """
-
-
-def data(transmitter=STATION, receiver=OURS, control=b"\x08\x01", sequence=0x10, body=b"body"):
-    """A frame of data, to the access point unless said otherwise."""
-    return control + bytes(2) + receiver + transmitter + BROADCAST + sequence.to_bytes(2, "little") + body
-
-
-def with_radiotap(frame, flags=0, present=1 << 1, fields=None):
-    """A frame as a monitor interface gives it."""
-    fields = bytes([flags]) if fields is None else fields
-    return struct.pack("<BBHI", 0, 0, 8 + len(fields), present) + fields + frame
-
-
-class Radiotap(unittest.TestCase):
-    """Headers of radiotap."""
-
-    def test_plain(self):
-        """A frame is what follows the header."""
-        found = radiotap.captured(with_radiotap(data()))
-        self.assertEqual(found, radiotap.Captured(data(), False, False))
-
-    def test_frame_check_sequence_is_taken_off_where_flags_say_so(self):
-        """Flags 0x10: the last four octets are a check sequence."""
-        self.assertEqual(radiotap.captured(with_radiotap(data() + b"\1\2\3\4", 0x10)).frame, data())
-        self.assertEqual(radiotap.captured(with_radiotap(data() + b"\1\2\3\4")).frame, data() + b"\1\2\3\4")
-
-    def test_damaged(self):
-        """Flags 0x40, and the RX flag of a bad PLCP."""
-        self.assertTrue(radiotap.captured(with_radiotap(data(), 0x40)).is_damaged)
-        fields = b"\x00\x00" + b"\x02\x00"
-        self.assertTrue(radiotap.captured(with_radiotap(data(), present=1 << 1 | 1 << 14, fields=fields)).is_damaged)
-
-    def test_fields_are_aligned(self):
-        """A timestamp of eight octets begins at a multiple of eight, behind a second word of fields."""
-        words = struct.pack("<II", 1 << 31 | 1 | 1 << 1 | 1 << 15, 0)
-        fields = bytes(4) + b"\xff" * 8 + b"\x10" + bytes(1) + bytes(2)
-        header = struct.pack("<BBH", 0, 0, 4 + len(words) + len(fields)) + words + fields
-        found = radiotap.captured(header + data() + bytes(4))
-        self.assertEqual(found, radiotap.Captured(data(), False, True))
-
-    def test_no_header(self):
-        """Too short, another version, a length beyond the packet: no frame."""
-        for packet in (b"", bytes(7), b"\1" + with_radiotap(data())[1:], struct.pack("<BBHI", 0, 0, 99, 0) + bytes(8),
-                       struct.pack("<BBHI", 0, 0, 4, 0) + bytes(8)):
-            self.assertIsNone(radiotap.captured(packet), packet.hex())
-
-    def test_cut_header(self):
-        """Fields that don't fit the header's length are not read."""
-        self.assertEqual(radiotap.captured(with_radiotap(data(), present=0xFFFF, fields=bytes(2))).frame, data())
 
 
 class Radios(unittest.TestCase):
