@@ -155,6 +155,7 @@ uninstall: ## takes away what was installed below PREFIX
 	@DESTDIR="$(DESTDIR)" share/install --uninstall "$(PREFIX)"
 
 # Packs the program that stands built, with the bridge, as build/waltigon_VERSION_amd64.deb. Takes Debian's packages
-# debhelper and lintian, and those of `make bridge`, and installs those that are missing. It proves nothing.
-deb: bridge ## packs build/apctl, bridge and tools as a package for Debian
+# debhelper and lintian, and those of `make bridge`, and installs those that are missing. It proves no program, and says
+# at once where none is built.
+deb: ## packs build/apctl, bridge and tools as a package for Debian
 	@share/deb

@@ -11,6 +11,7 @@ import signal
 import socket
 import stat
 import subprocess
+import sys
 import tempfile
 import threading
 import time
@@ -102,6 +103,13 @@ COUNTED = """\tSupported interface modes:
 \t\t * #{ managed, monitor } <= 3,
 \t\t   total <= 3, #channels <= 1
 """
+
+
+def setUpModule():
+    """Lines are told by the name of what is tested."""
+    called_so = mock.patch.object(sys, "argv", ["tools/live"])
+    called_so.start()
+    unittest.addModuleCleanup(called_so.stop)
 
 
 class Radios(unittest.TestCase):
@@ -1022,7 +1030,7 @@ class Running(WithFiles):
             self.end()
         self.run_bridge(later)
         self.assertRegex(self.read("words"),
-                         "^--face octets --phy phy0 --channel 6 --monitor mon0 --interval 100 --idle 300 --socket [0-9]+ "
+                         "^--name live --face octets --phy phy0 --channel 6 --monitor mon0 --interval 100 --idle 300 --socket [0-9]+ "
                          f"--record [0-9]+:{self.path('a.trace')} --bounds [0-9]+ --network 02:00:00:00:01:01/6c6162/82840b16/8/16/1/wire1 apctl {self.config}\n$")
         self.assertEqual(self.read("asked"), "state\nopen\ntables\n")
         self.assertRegex(self.told.getvalue(), "^live: 1 networks are on channel 6; Ctrl-C ends it, .*\nlive: the program "
@@ -1139,6 +1147,7 @@ class Running(WithFiles):
             self.run_bridge(self.end, port=9617)
         self.assertEqual(self.read("page-words"), f"9617 {self.folder}/phy0.sock\n")
         self.assertIn(" --alive ", self.read("words"))
+        self.assertIn("--name live --face ", self.read("words"))
         self.write("page", "#!/bin/sh\nexit 3\n", 0o755)
         does = SENDS + "; [ $request = open ] && (sleep 0.3; echo alive)"
         with mock.patch.object(serving, "STATUS_PROGRAM", page):

@@ -4,6 +4,7 @@ use std::fmt;
 use std::io::{self, Write};
 use std::os::unix::fs::MetadataExt;
 use std::sync::atomic::{AtomicU8, Ordering};
+use std::sync::{Mutex, PoisonError};
 
 use crate::time::{wall_now, Nanos, SECOND};
 
@@ -14,6 +15,10 @@ const MOST_OF_NETWORK: u64 = 50;
 const MOST_A_SECOND: u64 = 200;
 const SECONDS_A_DAY: u64 = 86_400;
 
+/// By which name a person has begun this, once that is known.
+static NAME: Mutex<Option<String>> = Mutex::new(None);
+/// The name as long as it isn't.
+pub const UNNAMED: &str = "bridge";
 /// What standard error is.
 static STREAM: AtomicU8 = AtomicU8::new(UNKNOWN);
 const UNKNOWN: u8 = 0;
@@ -45,13 +50,13 @@ impl Level {
 /// Writes a line of this bridge. Where nobody reads it any more, nothing is to be done.
 pub fn write(level: Level, text: impl fmt::Display) {
     let start = if is_journal() { format!("<{}>", level.number()) } else { String::new() };
-    write_line(&format!("{start}live: {text}\n"));
+    write_line(&format!("{start}{}: {text}\n", name()));
 }
 
 /// Writes a line of what happened now.
 pub fn write_event(level: Level, text: impl fmt::Display) {
     let start = if is_journal() { format!("<{}>", level.number()) } else { format!("{} ", date(wall_now())) };
-    write_line(&format!("{start}live: {text}\n"));
+    write_line(&format!("{start}{}: {text}\n", name()));
 }
 
 /// Writes a line of the program as it stands.
@@ -75,9 +80,15 @@ fn is_journal() -> bool {
     }
 }
 
-/// Learns what standard error is.
-pub fn begin() {
+/// Learns what standard error is, and by which name lines are told from now on.
+pub fn begin(name: &str) {
     is_journal();
+    *NAME.lock().unwrap_or_else(PoisonError::into_inner) = Some(name.to_owned());
+}
+
+/// The name that a line begins with.
+fn name() -> String {
+    NAME.lock().unwrap_or_else(PoisonError::into_inner).clone().unwrap_or_else(|| UNNAMED.to_owned())
 }
 
 /// Whether the variable names the device and inode of standard error.

@@ -3,6 +3,7 @@ import difflib
 import os
 import stat
 
+import called
 from explaining.answers import Fault
 from explaining.source import Finding, quoted
 
@@ -43,7 +44,7 @@ def of_words(fault: Fault, words: list[str]) -> list[Finding]:
     if os.path.exists(first):
         form = f"run {first} TRACE" if rest else f"check {first}"
         return [Finding(f"a file's name, {quoted(first)}, is no first word", None,
-                        f"write `{form}`, or `build/apctl < {first}` where it is a configuration and a trace")]
+                        f"write `{form}`, or `{called.program()} < {first}` where it is a configuration and a trace")]
     return [Finding(f"the program has no word {quoted(first)}", None, f"its words are {FORMS}")]
 
 
@@ -81,7 +82,7 @@ def of_file(fault: Fault, words: list[str]) -> list[Finding]:
     name = fault.file or ""
     if name == "-" and "-" not in words:
         return [Finding("standard input can't be read: it is closed, or a folder", None,
-                        "give a text by `build/apctl < my.input`, or `live CONFIG < LINES`")]
+                        f"give a text by `{called.program()} < my.input`, or `live CONFIG < LINES`")]
     advice = "`-` names a file here, and not standard input" if name == "-" else None
     if name == "":
         return [Finding("the name of a file is empty", None, "a variable of the shell may be unset")]

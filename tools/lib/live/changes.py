@@ -7,6 +7,7 @@ import shutil
 import subprocess
 from dataclasses import astuple, dataclass
 
+import called
 from live import machine
 from live.faults import Fault
 from live.machine import Interface
@@ -84,7 +85,7 @@ class Changes:
             fcntl.flock(self.lock, fcntl.LOCK_EX | fcntl.LOCK_NB)
         except OSError:
             self.close()
-            raise Fault(f"{phy}: another tools/live serves this radio") from None
+            raise Fault(f"{phy}: another {called.fellow('live')} serves this radio") from None
         try:
             self.left = self.read()
         except Fault:
@@ -103,7 +104,7 @@ class Changes:
         except FileNotFoundError:
             return []
         except (OSError, ValueError, TypeError) as fault:
-            raise Fault(f"{self.path}: not read: {fault}; take it away where no tools/live runs") from None
+            raise Fault(f"{self.path}: not read: {fault}; take it away where no {called.fellow('live')} runs") from None
 
     def write(self) -> None:
         """Writes the file anew, so that it is whole at any moment; without changes there is none."""

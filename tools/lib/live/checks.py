@@ -8,6 +8,7 @@ import time
 from contextlib import ExitStack
 from dataclasses import dataclass, replace
 
+import called
 from explaining.whole import explain_config
 from frames import address_of, address_text
 from live import changes, machine
@@ -129,7 +130,7 @@ def check_bridge(bridge: str) -> None:
 def check_program(program: str) -> None:
     """The program has to be built."""
     if not os.path.isfile(program):
-        raise Fault(f"{program} isn't there: `make apctl` builds it as build/apctl")
+        raise Fault(f"{program} isn't there: {called.program_comes()}")
     if not os.access(program, os.X_OK):
         raise Fault(f"{program} can't be run: it isn't executable")
 
@@ -228,8 +229,7 @@ def check_wire(interface: Interface) -> None:
         raise Fault(f"{name}: is no interface of Ethernet")
     if interface.users:
         users = ", ".join(interface.users)
-        raise Fault(f"{name}: serves {users}: what this machine sends by it would reach no station (docs/LIVE.md, "
-                    "'The wired ports')")
+        raise Fault(f"{name}: serves {users}: what this machine sends by it would reach no station")
     if interface.addresses:
         raise Fault(f"{name}: has the address {interface.addresses[0]}, so it serves this machine: take its addresses "
                     f"off by `ip link set {name} addrgenmode none` and `ip address flush dev {name}`, or give another")
