@@ -2,6 +2,7 @@
 import difflib
 import os
 import stat
+from collections.abc import Callable
 
 import called
 from explaining.answers import Fault
@@ -13,7 +14,8 @@ FORMS = ("check CONFIG, run CONFIG TRACE, play CONFIG TRACE..., live CONFIG and 
          "reads standard input")
 OCTETS = "--octets"
 MOST_TRACES, MOST_FILES = 64, 4
-LIKE = 0.75  # how much a file's name has to be like the one that was given, for it to be meant
+# How much a file's name has to be like the one that was given, for it to be meant: all of it, and it without its ending.
+LIKE, STEM_LIKE = 0.75, 0.65
 
 
 def explain(fault: Fault, words: list[str]) -> list[Finding]:
@@ -123,13 +125,20 @@ def missing_file(name: str, advice: str | None, reason: OSError) -> Finding:
     if not os.path.isdir(folder):
         return Finding(f"{quoted(name)} isn't there: there is no folder {quoted(folder)}", None, advice)
     try:
-        close = difflib.get_close_matches(os.path.basename(name), os.listdir(folder), 1, LIKE)
+        files = list(filter(like(name), os.listdir(folder)))
+        close = difflib.get_close_matches(os.path.basename(name), files, 1, LIKE)
     except OSError:
         close = []
     if close and not advice:
         advice = f"`{os.path.join(os.path.dirname(name), close[0])}` is there, and may be meant"
     where = f"the folder {os.path.realpath(folder)} has none of this name"
     return Finding(f"{quoted(name)} isn't there: {where}", None, advice)
+
+
+def like(name: str) -> Callable[[str], bool]:
+    """Whether a file may be meant by a name, by what stands before its ending: many files share that."""
+    stem = os.path.splitext(os.path.basename(name))[0]
+    return lambda file: difflib.SequenceMatcher(None, stem, os.path.splitext(file)[0]).ratio() >= STEM_LIKE
 
 
 def of_sources(fault: Fault, words: list[str]) -> list[Finding]:
