@@ -5,6 +5,9 @@ use std::io::{self, Write};
 use std::os::unix::fs::MetadataExt;
 use std::sync::atomic::{AtomicU8, Ordering};
 use std::sync::{Mutex, PoisonError};
+use std::time::{Duration, UNIX_EPOCH};
+
+use humantime::format_rfc3339_seconds;
 
 use crate::time::{wall_now, Nanos, SECOND};
 
@@ -13,7 +16,6 @@ const MOST_OF_NETWORK: u64 = 50;
 /// How many lines are written in a second at most that stations can cause, of all networks: where there are more than
 /// four, each has an equal part of these. So no other network's lines keep those of one out.
 const MOST_A_SECOND: u64 = 200;
-const SECONDS_A_DAY: u64 = 86_400;
 
 /// By which name a person has begun this, once that is known.
 static NAME: Mutex<Option<String>> = Mutex::new(None);
@@ -101,23 +103,7 @@ fn looks_like_journal() -> bool {
 
 /// A moment of the wall clock, as `2026-11-25T22:30:50Z`.
 fn date(moment: Nanos) -> String {
-    let (days, second) = (moment / SECOND / SECONDS_A_DAY, moment / SECOND % SECONDS_A_DAY);
-    let (year, month, day) = civil(days);
-    let (hour, minute, second) = (second / 3600, second / 60 % 60, second % 60);
-    format!("{year:04}-{month:02}-{day:02}T{hour:02}:{minute:02}:{second:02}Z")
-}
-
-/// Year, month and day of so many days after the first of January 1970 (the Gregorian calendar repeats after 146,097
-/// days; here a year begins with March, so that its odd day comes last).
-fn civil(days: u64) -> (u64, u64, u64) {
-    let shifted = days + 719_468;
-    let (era, day_of_era) = (shifted / 146_097, shifted % 146_097);
-    let year_of_era = (day_of_era - day_of_era / 1460 + day_of_era / 36_524 - day_of_era / 146_096) / 365;
-    let day_of_year = day_of_era - (365 * year_of_era + year_of_era / 4 - year_of_era / 100);
-    let shifted_month = (5 * day_of_year + 2) / 153;
-    let day = day_of_year - (153 * shifted_month + 2) / 5 + 1;
-    let month = if shifted_month < 10 { shifted_month + 3 } else { shifted_month - 9 };
-    (era * 400 + year_of_era + u64::from(month <= 2), month, day)
+    format_rfc3339_seconds(UNIX_EPOCH + Duration::from_nanos(moment)).to_string()
 }
 
 /// Bounds the lines that stations can cause, for each network by itself: what is more is counted, and told once the

@@ -63,7 +63,6 @@ mod filter;
 mod flight;
 mod frames;
 mod gathering;
-mod hashing;
 mod keeping;
 mod lanes;
 mod log;

@@ -12,8 +12,7 @@ use std::fmt::{self, Write};
 
 use crate::digits;
 use crate::faces::{Answer, Event};
-use crate::frames::{Address, Frame};
-use crate::hashing::AddressMap;
+use crate::frames::{Address, AddressMap, Frame};
 use crate::meaning::{answered, said, Answered, Said};
 use crate::own_frames::{association_request, authentication, departure, mode_of_station};
 use crate::roster::{Kept, Member};

@@ -5,8 +5,7 @@
 //! may hold one more: where an answer was on its way while the station left.
 use std::collections::{BTreeMap, BTreeSet, HashMap};
 
-use crate::frames::{Address, Frame};
-use crate::hashing::AddressMap;
+use crate::frames::{Address, AddressMap, Frame};
 use crate::meaning::{answered, said, Answered, Said, Tim};
 use crate::radiotap::{Outcome, Reception};
 use crate::time::Nanos;

@@ -11,7 +11,8 @@ use crate::sending::Network;
 use crate::shares::MOST_WEIGHT;
 
 /// How it is called.
-pub const USAGE: &str = "bridge [--name NAME] --face text|octets --phy NAME --channel NUMBER --monitor NAME --interval UNITS \
+pub const USAGE: &str =
+    "bridge [--name NAME] --face text|octets --phy NAME --channel NUMBER --monitor NAME --interval UNITS \
                          [--idle SECONDS] [--socket DESCRIPTOR] [--alive] [--record DESCRIPTOR:NAME] [--bounds OCTETS] \
                          --network BSSID/SSID/RATES/STATIONS/KNOWN/SHARE[/WIRE]... PROGRAM CONFIG";
 
@@ -202,7 +203,8 @@ mod tests {
             config: "config".into(),
         };
         assert_eq!(read(GOOD), Ok(wanted));
-        let fewer = read(&GOOD.replace("--idle 60 --socket 5 --alive", "").replace("--name waltigon-live", "")).unwrap();
+        let fewer =
+            read(&GOOD.replace("--idle 60 --socket 5 --alive", "").replace("--name waltigon-live", "")).unwrap();
         assert_eq!((fewer.idle, fewer.socket, fewer.tells_alive), (300, None, false));
         assert_eq!(fewer.name, "bridge");
     }

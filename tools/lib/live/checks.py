@@ -28,7 +28,8 @@ LOCAL = "127.0.0.1"
 WRONG_WORDS = 2
 # Of a checkout of the source; an installation has none.
 MAKEFILE = os.path.join(os.path.dirname(os.path.realpath(__file__)), "..", "..", "..", "Makefile")
-CARGO, PACKAGES = "/usr/bin/cargo", "cargo librust-hex-dev librust-libc-dev librust-nix-dev"
+CARGO = "/usr/bin/cargo"
+PACKAGES = "cargo librust-ahash-dev librust-hex-dev librust-humantime-dev librust-libc-dev librust-nix-dev"
 
 
 @dataclass(frozen=True)
