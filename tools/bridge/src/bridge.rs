@@ -840,21 +840,8 @@ fn tell_not_used(reason: NotUsed) {
     );
 }
 
-/// Units that were kept are lost with the program that kept them.
 fn tell_of_units(state: &State) {
-    for OfNetwork { bssid, units, waiting, .. } in &state.networks {
-        match units {
-            Some(0) => {}
-            Some(units) => {
-                log::write_event(Level::Notice, format_args!("{units} units that {bssid} kept for stations are lost"));
-            }
-            None if *waiting > 0 => log::write_event(
-                Level::Notice,
-                format_args!("the units that {bssid} kept for {waiting} stations are lost"),
-            ),
-            None => {}
-        }
-    }
+    state.networks.iter().filter_map(OfNetwork::lost_units).for_each(|text| log::write_event(Level::Notice, text));
 }
 
 impl<P: Port> Running<P> {
@@ -1886,6 +1873,24 @@ done
         for number in [0, 1] {
             fs::remove_file(format!("{state}.{number}")).unwrap();
         }
+    }
+
+    /// The newer one of two whole states is used, and the next bridge writes over the older one first.
+    #[test]
+    fn the_newer_state_stays_until_another_is_whole() {
+        let state = format!("{}/two-{}", std::env::temp_dir().display(), std::process::id());
+        let text = |written, is_last| State { setting: setting(100), written, is_last, networks: Vec::new() }.text();
+        for newer in [0, 1] {
+            fs::write(format!("{state}.{newer}"), text(9 * SECOND, true)).unwrap();
+            fs::write(format!("{state}.{}", 1 - newer), text(8 * SECOND, false)).unwrap();
+            let mut keeping = Keeping::new(files_of(&state));
+            let found = left_state(&mut keeping, &setting(100), 10 * SECOND).unwrap();
+            assert_eq!((found.written, found.is_last), (9 * SECOND, true));
+            assert!(left_state(&mut keeping, &setting(101), 10 * SECOND).is_none());
+            keeping.write(b"begun and not whole", 1, 10 * SECOND);
+            assert_eq!(left_state(&mut keeping, &setting(100), 10 * SECOND), Some(found));
+        }
+        [0, 1].iter().for_each(|number| fs::remove_file(format!("{state}.{number}")).unwrap());
     }
 
     /// While one client writes newlines and never reads, another one is answered and beacons go.
