@@ -673,7 +673,7 @@ mod tests {
     #[test]
     fn who_is_kept_stands_in_the_order_of_identifiers_and_each_change_counts() {
         let mut roster = roster();
-        let stations = [9, 3, 7, 1, 5].map(|number| (number, Address::of([2, 0xaa, 0, 0, 1, number])));
+        let stations = [9, 3, 7, 1, 5].map(|number| (number, Address::of([2, 0xaa, 0, 0, 1, 3 * number % 10])));
         for (count, (aid, station)) in stations.iter().enumerate() {
             authenticated(&mut roster, *station, 0);
             associated(&mut roster, *station, 0, *aid);
