@@ -101,11 +101,11 @@ documents: ## checks links, paths and names in the documents
 library: ## tries the programs of docs/LIBRARY.md, without any proof
 	@tests/library
 
-# Tests the tools of tools/, as the gate does. Takes Debian's packages of tools/install, and installs those that are
+# Tests the tools of tools/, as the gate does. Takes Debian's packages of tools/dev/install, and installs those that are
 # missing. The last line is 'N passed, M failed'.
 test-tools: ## tests the tools of tools/
-	@tools/install
-	@tools/test
+	@tools/dev/install
+	@tools/dev/test
 
 # The bridge of tools/live, build/bridge/release/bridge, by Debian's own cargo. Takes Debian's packages that
 # tools/bridge/build names, and installs those that are missing.
@@ -120,26 +120,26 @@ bridge: ## builds the bridge of tools/live, by Debian's cargo
 test-live: apctl ## tests the bridge with real stations in a guest; takes root
 	@tools/bridge/build test
 	@tools/guest/air/build test
-	@tools/test live
-	@ATTACKS=yes tools/test Confined Staying
-	@tools/test-live
-	@tools/test-live service
-	@tools/test-live networks
+	@tools/dev/test live
+	@ATTACKS=yes tools/dev/test Confined Staying
+	@tools/dev/test-live
+	@tools/dev/test-live service
+	@tools/dev/test-live networks
 	@share/deb
-	@tools/test-live package
-	@tools/test-live air
-	@tools/test-live shares
+	@tools/dev/test-live package
+	@tools/dev/test-live air
+	@tools/dev/test-live shares
 
 # Draws the example of three networks, the picture of README.md, and those of docs/EXAMPLES.md.
 picture: ## draws the pictures of README.md and docs/
-	@tools/install
+	@tools/dev/install
 	@tools/picture $(THREE)/input $(THREE)/stdout --out docs/three_networks.svg
 	@for name in $(DRAWN); do \
 	    tools/picture examples/$$name/input examples/$$name/stdout --out docs/$$name.svg || exit 1; done
 
 # Makes the captures beside the example of three networks.
 captures: ## makes the captures beside the example of three networks
-	@tools/install
+	@tools/dev/install
 	@tools/capture-from-run $(THREE)/input $(THREE)/stdout --clutter --out $(THREE)
 
 THREE = examples/three_networks_over_some_intervals
@@ -155,6 +155,7 @@ uninstall: ## takes away what was installed below PREFIX
 	@DESTDIR="$(DESTDIR)" share/install --uninstall "$(PREFIX)"
 
 # Packs the program that stands built, with the bridge, as build/waltigon_VERSION_amd64.deb. Takes Debian's packages
-# debhelper and lintian, and those of `make bridge`, and installs those that are missing. It proves nothing.
-deb: bridge ## packs build/apctl, bridge and tools as a package for Debian
+# debhelper and lintian, and those of `make bridge`, and installs those that are missing. It proves no program, and says
+# at once where none is built.
+deb: ## packs build/apctl, bridge and tools as a package for Debian
 	@share/deb

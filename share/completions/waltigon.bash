@@ -1,7 +1,8 @@
 # shellcheck shell=bash
-# Completion of the words of the tools, each waltigon-NAME, for bash: options, and then files.
+# Completion of the words of the tools, each waltigon-NAME, for bash: options, and then files, but for the words of
+# waltigon-live that take none.
 _waltigon() {
-    local word=${COMP_WORDS[COMP_CWORD]} before=${COMP_WORDS[COMP_CWORD - 1]} options='' offered=''
+    local word=${COMP_WORDS[COMP_CWORD]} before=${COMP_WORDS[COMP_CWORD - 1]} options='' offered='' takes_files=yes
     case ${1##*/} in
     waltigon-capture-from-report) options='--network --out' ;;
     waltigon-capture-from-run) options='--clutter --out' ;;
@@ -10,7 +11,15 @@ _waltigon() {
     waltigon-live)
         options='--phy --wire --wires --share --monitor --country --idle --program --bridge --record --tables --status --as-root --json --watch'
         offered='kick reload status check-networks'
+        if [ "$COMP_CWORD" != 1 ]; then
+            case ${COMP_WORDS[1]} in
+            kick | reload) options='--phy' takes_files='' ;;
+            status) options='--phy --json --watch' takes_files='' ;;
+            check-networks) options='--wire --wires --program' ;;
+            esac
+        fi
         ;;
+    waltigon-live-demo) options='--program --stay' takes_files='' ;;
     waltigon-picture) options='--out --from --to --station --network --overview --stations' ;;
     waltigon-report-to-json) options='--without-frames' ;;
     waltigon-trace-from-capture)
@@ -28,10 +37,10 @@ _waltigon() {
             mapfile -t COMPREPLY < <(compgen -W "$options --help --version" -- "$word")
         else
             [ "$COMP_CWORD" = 1 ] || offered=''
-            mapfile -t COMPREPLY < <(compgen -W "$offered" -- "$word"; compgen -f -- "$word")
+            mapfile -t COMPREPLY < <(compgen -W "$offered" -- "$word"; [ -z "$takes_files" ] || compgen -f -- "$word")
         fi
         ;;
     esac
 }
 complete -o filenames -F _waltigon waltigon-capture-from-report waltigon-capture-from-run waltigon-config-from-hostapd \
-    waltigon-explain waltigon-live waltigon-picture waltigon-report-to-json waltigon-trace-from-capture
+    waltigon-explain waltigon-live waltigon-live-demo waltigon-picture waltigon-report-to-json waltigon-trace-from-capture

@@ -12,8 +12,8 @@ import subprocess
 import time
 
 from frames import BROADCAST, DATA, DEAUTHENTICATION, DISASSOCIATION, NULL, Frame, address_of
-from live.radiotap import captured
 from parts import IN_REACH, OUT_OF_REACH, Part, join, set_reach
+from radiotap import captured
 from stage import COMPILED, Net, Start
 from stations import Failed, Station, load_radios, run, unload_radios, wait_for
 

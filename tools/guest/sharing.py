@@ -10,8 +10,8 @@ from dataclasses import dataclass, field
 
 from airing import Air
 from frames import Frame, address_of
-from live.radiotap import captured
 from points import Point, Served
+from radiotap import captured
 from stage import PCAP_HEADER, PCAP_RECORD, Observer
 from stations import Failed, Host, Station, load_radios, run, unload_radios, wait_for
 

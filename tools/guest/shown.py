@@ -9,9 +9,9 @@ import urllib.request
 from dataclasses import dataclass
 
 from frames import DATA, NULL, Frame, address_of
-from live.radiotap import captured
 from operating import ask
 from parts import IN_REACH, OUT_OF_REACH, Part, join, set_reach
+from radiotap import captured
 from stage import Net
 from stations import Failed, Station, wait_for
 

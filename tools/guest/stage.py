@@ -14,7 +14,7 @@ from dataclasses import dataclass, field
 
 from frames import (DATA, DEAUTHENTICATION, DISASSOCIATION, MANAGEMENT, NULL, PROBE_RESPONSE, Frame, address_of,
                     address_text, is_group, number)
-from live.radiotap import captured
+from radiotap import captured
 from stations import Failed, Radio, run, wait_for
 
 PCAP_HEADER, PCAP_RECORD = 24, struct.Struct("<IIII")

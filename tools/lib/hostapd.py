@@ -4,6 +4,7 @@ import re
 from collections.abc import Callable
 from dataclasses import dataclass
 
+import called
 from explaining.values import rates_of_megabits
 
 UNIT = 100  # hostapd's rates are in units of 100 kb/s
@@ -110,7 +111,7 @@ REFUSED = (
 LEFT_OUT = (
     rule("interface", "the radio is named by `--phy` of waltigon-live; `iw dev` shows of which this interface is"),
     rule("bridge", "the wire is named in the file of wires: one end of a veth, whose other end is a port of this "
-         "bridge (docs/NETWORKS.md)"),
+         f"bridge ({called.document('NETWORKS.md')})"),
     rule("driver", "there is one way to a radio, by its monitor interface"),
     rule("ctrl_interface.*", "`waltigon-live status` and `kick` ask in its place"),
     rule("logger_.*|dump_file", "the log goes to standard error, or to the journal"),

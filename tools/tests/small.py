@@ -9,10 +9,10 @@ from common import ROOT, ToolTest
 
 SECONDS = 60
 TOOLCHAIN = "rattle-kit-test logic 0"
-COPIED = (".ci", "share", "tools/lib", "tools/systemd", "docs", "tests/check", "tests/cases", "README.md",
-          "CHANGELOG.md", "HANDLES")
+COPIED = (".ci", "share", "tools/lib", "tools/systemd", "docs", "examples", "tests/check", "tests/cases",
+          "tests/several_networks", "tests/play", "README.md", "CHANGELOG.md", "HANDLES")
 # Parts of the gate that look at the machine and at this repository's tools: there they say that all is well.
-QUIET = (".ci/packages", ".ci/lint", "tools/test")
+QUIET = (".ci/packages", ".ci/lint", "tools/dev/test")
 # The toolchain stands in the small repository's own folder. Each of its commands fails where a file `fails` is there, and
 # waits where a file `waits` is; the program that they build has the text of the crate's source. The prover writes down
 # which crates it was called for, and says what a proved crate's verdict is, but where a file `says_nothing` is there.

@@ -4,7 +4,7 @@ import os
 import subprocess
 import tempfile
 
-from captures import read_capture
+from captures.files import read_capture
 from common import DEVICES, GUEST, THREE, ToolTest, input_of, report_of, tool, with_report
 from frames import Frame
 from reading import unit_from_wire, wired_form

@@ -340,7 +340,9 @@ class Mistakes(ToolTest):
     def test_files_far_from_a_name_are_not_suggested(self):
         """Of the files of a folder one is meant that is written nearly as the name."""
         self.folder_with_files()
-        for name, other, is_meant in (("radio.tml", "radio.toml", True), ("notes.txt", "tests.toml", False)):
+        for name, other, is_meant in (("radio.tml", "radio.toml", True), ("my.tom", "my.toml", True),
+                                      ("lab.toml", "lba.toml", True), ("notes.txt", "tests.toml", False),
+                                      ("xyz.toml", "zw.toml", False), ("a.trace", "b.trace", False)):
             self.write(other, b"")
             advice = missing_file(self.path(name), None, FileNotFoundError()).advice
             self.assertEqual(bool(advice and other in advice), is_meant, (name, advice))

@@ -17,8 +17,13 @@ from small import SmallRepository
 SECONDS = 60
 BELL = "\a"
 COMMANDS = {f"waltigon-{name}": name for name in ("capture-from-report", "capture-from-run",
-                                                  "config-from-hostapd", "explain", "live", "picture",
+                                                  "config-from-hostapd", "explain", "live", "live-demo", "picture",
                                                   "report-to-json", "trace-from-capture")}
+# Words of each that lead to a fault: none of these files is there.
+FAULTS = {"capture-from-report": ["none"], "capture-from-run": ["none", "none", "--out", "made"],
+          "config-from-hostapd": ["none"], "explain": ["--program", "none", "check", "none"],
+          "live": ["none", "--phy", "phy0"], "live-demo": ["--program", "none"], "picture": ["none", "none"],
+          "report-to-json": ["none"], "trace-from-capture": ["none"]}
 OPTION = re.compile(r"(?<![\w-])--[a-z][a-z-]*")
 
 
@@ -126,11 +131,39 @@ class WhatIsInstalled(SmallRepository):
         apctl = self.read("share/man/man1/apctl.1").replace("\\-", "-")
         self.assertIn("waltigon-explain", apctl.partition(".SH EXIT STATUS")[2].partition(".SH EXAMPLES")[0])
         for command in commands:
-            section = 8 if command == "waltigon-live" else 1
+            section = 8 if command.startswith("waltigon-live") else 1
             self.assertTrue(os.path.exists(self.path(f"usr/share/man/man{section}/{command}.{section}")), command)
             self.assertIn(f"{command} ({section})", apctl.partition(".SH SEE ALSO")[2], command)
             self.assertIn("_waltigon", self.read(f"share/bash-completion/completions/{command}"), command)
         self.assertIn("#compdef", self.read("share/zsh/site-functions/_waltigon"))
+
+    def test_each_command_speaks_by_its_name(self):
+        """Help, a wrong word and a fault begin with the name by which a command was called, and name nothing of a checkout."""
+        self.install()
+        for path in glob.glob(self.path("usr/*bin/waltigon-*")):
+            command = os.path.basename(path)
+            for words in (["--help"], ["--no-such-word"], FAULTS[COMMANDS[command]]):
+                done = subprocess.run([path, *words], capture_output=True, text=True, check=False, cwd=self.folder)
+                begins = f"usage: {command} " if words[0].startswith("--") and len(words) == 1 else f"{command}: "
+                said = done.stdout + done.stderr
+                self.assertTrue(said.startswith(begins), f"{words}: {said}")
+                for checkouts in ("build/apctl", "tools/live", "tools/explain", "make apctl", "sudo tools"):
+                    self.assertNotIn(checkouts, said.replace(self.path("usr/lib/waltigon/build/apctl"), ""), f"{command} {words}")
+
+    def test_runs_that_documents_name_are_there(self):
+        """Each folder of examples/ and tests/ that docs/EXAMPLES.md names is installed, file by file, and what who changes
+        the sources reads alone isn't."""
+        self.install()
+        documents = "share/doc/waltigon"
+        named = set(re.findall(r"`((?:examples|tests/[a-z_]+)/[a-z_]+)[`/ ]", self.read(f"{documents}/docs/EXAMPLES.md")))
+        self.assertGreater(len(named), 10)
+        for name in named:
+            for file in os.listdir(os.path.join(ROOT, name)):
+                with open(os.path.join(ROOT, name, file), "rb") as ours, \
+                        open(self.path(f"usr/{documents}/{name}/{file}"), "rb") as theirs:
+                    self.assertEqual(ours.read(), theirs.read(), f"{name}/{file}")
+        for name in ("PERF.md", "WRONG_BODIES.md"):
+            self.assertFalse(os.path.exists(self.path(f"usr/{documents}/docs/{name}")), name)
 
     def test_documents_have_their_pictures(self):
         """Each picture that an installed document shows is installed."""
@@ -149,6 +182,22 @@ class WhatIsInstalled(SmallRepository):
         for path in glob.glob(os.path.join(ROOT, "share", "networks", "*")):
             with open(path, encoding="utf-8") as file:
                 self.assertEqual(self.read(f"share/doc/waltigon/examples/networks/{os.path.basename(path)}"), file.read())
+
+    def test_package_is_refused_at_once(self):
+        """Where no program is built, or nothing tells of what, packing says so before it builds anything."""
+        self.write("tools/bridge/build", "#!/bin/sh\n: >begun\n")
+        os.chmod(self.path_of("tools/bridge/build"), 0o755)
+        os.remove(self.path_of("build/apctl.origin"))
+        self.assertIn("does not tell of what", self.refused_package())
+        os.remove(self.path_of("build/apctl"))
+        self.assertIn("'make apctl' proves and builds it", self.refused_package())
+
+    def refused_package(self):
+        """Why no package is packed."""
+        status, said = self.run_there("share/deb")
+        self.assertEqual(status, 1, said)
+        self.assertFalse(os.path.exists(self.path_of("begun")), said)
+        return said
 
     def test_unit_follows_the_prefix(self):
         """The unit begins the command of the same prefix, and nothing else of it changes."""
@@ -220,7 +269,7 @@ class Pages(ToolTest):
         for command, name in COMMANDS.items():
             helped = subprocess.run([os.path.join(TOOLS, name), "--help"], capture_output=True, text=True, check=True)
             options = set(OPTION.findall(helped.stdout))
-            page = os.path.join(ROOT, "share", "man", f"man{8 if name == 'live' else 1}", f"{command}.*")
+            page = os.path.join(ROOT, "share", "man", f"man{8 if name.startswith('live') else 1}", f"{command}.*")
             named = self.page(glob.glob(page)[0]).stdout.partition("\nOPTIONS\n")[2].partition("\nEXIT STATUS\n")[0]
             self.assertEqual(set(OPTION.findall(named.partition("\nSIGNALS\n")[0])), options, command)
             for shell, text in completions.items():
@@ -230,7 +279,7 @@ class Pages(ToolTest):
     def test_pages_have_no_warning(self):
         """`man` renders each page without a warning, with all sections that a page of its kind has."""
         pages = glob.glob(os.path.join(ROOT, "share", "man", "man*", "*"))
-        self.assertEqual(len(pages), 10)
+        self.assertEqual(len(pages), 11)
         for page in pages:
             done = self.page(page)
             self.assertEqual((done.returncode, done.stderr), (0, ""), page)
@@ -293,6 +342,20 @@ class CompletionOfTools(ToolTest):
         self.assertEqual(self.completed("waltigon-trace-from-capture", "--fcs", "a"), ["auto"])
         self.assertEqual(self.completed("waltigon-picture", "--from", ""), [])
 
+    def test_words_without_files_are_offered_none(self):
+        """Behind `kick`, `reload` and `status` no file is offered, and the options are theirs."""
+        for name in ("my.toml", "a.trace"):
+            with open(self.path(name), "w", encoding="ascii"):
+                pass
+        for words in (["kick"], ["kick", "02:00:00:00:01:01"], ["reload"], ["status"]):
+            self.assertEqual(self.completed("waltigon-live", *words, ""), [], words)
+        self.assertEqual(self.completed("waltigon-live", "kick", "--"), ["--phy", "--help", "--version"])
+        self.assertEqual(self.completed("waltigon-live", "status", "--"),
+                         ["--phy", "--json", "--watch", "--help", "--version"])
+        self.assertEqual(sorted(self.completed("waltigon-live", "check-networks", "")), ["a.trace", "my.toml"])
+        self.assertEqual(sorted(self.completed("waltigon-live", "./kick", "")), ["a.trace", "my.toml"])
+        self.assertEqual(self.completed("waltigon-live-demo", ""), [])
+
 
 @unittest.skipUnless(shutil.which("zsh"), "zsh isn't there: apt-get install zsh")
 class Completion(ToolTest):
@@ -330,6 +393,10 @@ class Completion(ToolTest):
                 pass
         self.completed("waltigon-report-to-json --w", "waltigon-report-to-json --without-frames")
         self.completed("waltigon-live ", "kick", "reload", "status", "check-networks", "my.toml")
+        for typed in ("kick ", "kick 02:00:00:00:01:01 ", "reload ", "status "):
+            self.assertNotIn("my.toml", self.completed(f"waltigon-live {typed}", BELL), typed)
+        self.completed("waltigon-live check-networks ", "my.toml")
+        self.completed("waltigon-live status --j", "waltigon-live status --json")
         self.completed("waltigon-explain ", "check", "run", "play", "live", "my.toml", "a.trace")
         self.completed("waltigon-trace-from-capture --fcs ", "auto", "yes", "no")
         self.completed("waltigon-picture --", "--station", "--stations", "at most so many of a network")

@@ -8,12 +8,12 @@ from collections import Counter
 from typing import NamedTuple
 
 import long_run
+from PIL import Image, ImageFont
 from common import (CASES, DEVICES, GUEST, OFFICE, PROGRAM, ROOT, THREE, ToolTest, heard, input_of, needs_program,
                     report_of, run_program, tool, with_report)
-from columns import Clock
-from fields import fields_on_air, fields_on_wire
-from overview import stretches_of
-from PIL import Image, ImageFont
+from drawing.columns import Clock
+from drawing.fields import fields_on_air, fields_on_wire
+from drawing.overview import stretches_of
 from story import stories
 from texts import Line, Origin, read_config, read_report, read_text, read_trace
 

@@ -4,6 +4,10 @@ use std::fmt;
 use std::io::{self, Write};
 use std::os::unix::fs::MetadataExt;
 use std::sync::atomic::{AtomicU8, Ordering};
+use std::sync::{Mutex, PoisonError};
+use std::time::{Duration, UNIX_EPOCH};
+
+use humantime::format_rfc3339_seconds;
 
 use crate::time::{wall_now, Nanos, SECOND};
 
@@ -12,8 +16,11 @@ const MOST_OF_NETWORK: u64 = 50;
 /// How many lines are written in a second at most that stations can cause, of all networks: where there are more than
 /// four, each has an equal part of these. So no other network's lines keep those of one out.
 const MOST_A_SECOND: u64 = 200;
-const SECONDS_A_DAY: u64 = 86_400;
 
+/// By which name a person has begun this, once that is known.
+static NAME: Mutex<Option<String>> = Mutex::new(None);
+/// The name as long as it isn't.
+pub const UNNAMED: &str = "bridge";
 /// What standard error is.
 static STREAM: AtomicU8 = AtomicU8::new(UNKNOWN);
 const UNKNOWN: u8 = 0;
@@ -45,13 +52,13 @@ impl Level {
 /// Writes a line of this bridge. Where nobody reads it any more, nothing is to be done.
 pub fn write(level: Level, text: impl fmt::Display) {
     let start = if is_journal() { format!("<{}>", level.number()) } else { String::new() };
-    write_line(&format!("{start}live: {text}\n"));
+    write_line(&format!("{start}{}: {text}\n", name()));
 }
 
 /// Writes a line of what happened now.
 pub fn write_event(level: Level, text: impl fmt::Display) {
     let start = if is_journal() { format!("<{}>", level.number()) } else { format!("{} ", date(wall_now())) };
-    write_line(&format!("{start}live: {text}\n"));
+    write_line(&format!("{start}{}: {text}\n", name()));
 }
 
 /// Writes a line of the program as it stands.
@@ -75,9 +82,15 @@ fn is_journal() -> bool {
     }
 }
 
-/// Learns what standard error is.
-pub fn begin() {
+/// Learns what standard error is, and by which name lines are told from now on.
+pub fn begin(name: &str) {
     is_journal();
+    *NAME.lock().unwrap_or_else(PoisonError::into_inner) = Some(name.to_owned());
+}
+
+/// The name that a line begins with.
+fn name() -> String {
+    NAME.lock().unwrap_or_else(PoisonError::into_inner).clone().unwrap_or_else(|| UNNAMED.to_owned())
 }
 
 /// Whether the variable names the device and inode of standard error.
@@ -90,23 +103,7 @@ fn looks_like_journal() -> bool {
 
 /// A moment of the wall clock, as `2026-11-25T22:30:50Z`.
 fn date(moment: Nanos) -> String {
-    let (days, second) = (moment / SECOND / SECONDS_A_DAY, moment / SECOND % SECONDS_A_DAY);
-    let (year, month, day) = civil(days);
-    let (hour, minute, second) = (second / 3600, second / 60 % 60, second % 60);
-    format!("{year:04}-{month:02}-{day:02}T{hour:02}:{minute:02}:{second:02}Z")
-}
-
-/// Year, month and day of so many days after the first of January 1970 (the Gregorian calendar repeats after 146,097
-/// days; here a year begins with March, so that its odd day comes last).
-fn civil(days: u64) -> (u64, u64, u64) {
-    let shifted = days + 719_468;
-    let (era, day_of_era) = (shifted / 146_097, shifted % 146_097);
-    let year_of_era = (day_of_era - day_of_era / 1460 + day_of_era / 36_524 - day_of_era / 146_096) / 365;
-    let day_of_year = day_of_era - (365 * year_of_era + year_of_era / 4 - year_of_era / 100);
-    let shifted_month = (5 * day_of_year + 2) / 153;
-    let day = day_of_year - (153 * shifted_month + 2) / 5 + 1;
-    let month = if shifted_month < 10 { shifted_month + 3 } else { shifted_month - 9 };
-    (era * 400 + year_of_era + u64::from(month <= 2), month, day)
+    format_rfc3339_seconds(UNIX_EPOCH + Duration::from_nanos(moment)).to_string()
 }
 
 /// Bounds the lines that stations can cause, for each network by itself: what is more is counted, and told once the

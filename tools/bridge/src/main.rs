@@ -63,7 +63,6 @@ mod filter;
 mod flight;
 mod frames;
 mod gathering;
-mod hashing;
 mod keeping;
 mod lanes;
 mod log;
@@ -129,7 +128,7 @@ fn main() -> ExitCode {
 
 /// Runs the bridge until it is ended, or until a fault. It serves once it has given up what it doesn't need then.
 fn run(words: &Words) -> Result<(), Fault> {
-    log::begin();
+    log::begin(&words.name);
     rights::give_up_capabilities()?;
     let requests =
         std::io::stdin().as_fd().try_clone_to_owned().map_err(|fault| Fault::of("standard input", &fault))?;

@@ -2,8 +2,7 @@
 use std::collections::VecDeque;
 use std::fmt;
 
-use crate::frames::{is_tagged, Address, Frame, FrameType, LEAST, MOST};
-use crate::hashing::AddressMap;
+use crate::frames::{is_tagged, Address, AddressMap, Frame, FrameType, LEAST, MOST};
 use crate::radiotap::{captured, Outcome};
 
 /// Of how many senders a network knows the last sequence control.

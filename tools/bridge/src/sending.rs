@@ -4,8 +4,7 @@ use std::collections::{BTreeMap, VecDeque};
 use std::io::{self, ErrorKind};
 
 use crate::faults::Fault;
-use crate::frames::{is_tagged, Address, Frame};
-use crate::hashing::AddressMap;
+use crate::frames::{is_tagged, Address, AddressMap, Frame};
 use crate::radiotap::Outcome;
 use crate::shares::Place;
 use crate::sockets::{Port, AT_A_TIME};

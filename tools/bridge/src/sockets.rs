@@ -9,6 +9,8 @@ use std::os::unix::net::{UnixListener, UnixStream};
 use std::ptr;
 
 use libc::{c_int, c_void, iovec, mmsghdr, sock_filter, sockaddr_ll};
+use nix::sys::socket::getsockopt;
+use nix::sys::socket::sockopt::{AcceptConn, PeerCredentials};
 
 use crate::time::{Nanos, SECOND};
 
@@ -210,14 +212,7 @@ pub fn inherited(number: RawFd) -> io::Result<OwnedFd> {
 
 /// The listening socket that this process was started with.
 pub fn inherited_listener(number: RawFd) -> io::Result<UnixListener> {
-    let mut is_listening: c_int = 0;
-    let mut length = size_of_val(&is_listening) as u32;
-    // SAFETY: the kernel writes at most `length` octets into the number, which is as long.
-    unsafe {
-        let place: *mut c_int = &mut is_listening;
-        checked(libc::getsockopt(number, libc::SOL_SOCKET, libc::SO_ACCEPTCONN, place.cast(), &mut length))?;
-    }
-    if is_listening == 0 {
+    if !getsockopt(number, AcceptConn)? {
         return Err(io::Error::from_raw_os_error(libc::EINVAL));
     }
     Ok(inherited(number)?.into())
@@ -225,14 +220,7 @@ pub fn inherited_listener(number: RawFd) -> io::Result<UnixListener> {
 
 /// The user who connected a socket of this machine.
 pub fn user_of(socket: RawFd) -> io::Result<u32> {
-    let mut found = libc::ucred { pid: 0, uid: u32::MAX, gid: u32::MAX };
-    let mut length = size_of_val(&found) as u32;
-    // SAFETY: the kernel writes at most `length` octets into `found`, which is as long.
-    unsafe {
-        let place: *mut libc::ucred = &mut found;
-        checked(libc::getsockopt(socket, libc::SOL_SOCKET, libc::SO_PEERCRED, place.cast(), &mut length))?;
-    }
-    Ok(found.uid)
+    Ok(getsockopt(socket, PeerCredentials)?.uid())
 }
 
 /// Appends what a socket has to read, and the descriptors that come with it; answers how many octets came, and is

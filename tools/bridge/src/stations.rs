@@ -12,8 +12,7 @@ use std::collections::VecDeque;
 use std::rc::Rc;
 
 use crate::flight::MOST_OUT;
-use crate::frames::{Address, Frame, FrameType};
-use crate::hashing::AddressMap;
+use crate::frames::{Address, AddressMap, Frame, FrameType};
 use crate::radiotap::{Outcome, MOST_RETRIES};
 use crate::rates::{Choice, Rates};
 use crate::sending::Network;

@@ -16,8 +16,9 @@
 use std::collections::HashMap;
 use std::fmt;
 
+use ahash::RandomState;
+
 use crate::frames::{Address, Frame, FrameType};
-use crate::hashing::PairMap;
 use crate::time::{Nanos, MILLISECOND};
 
 /// How long a frame of data waits at most, and a probe request: a station that looks for networks listens on a channel
@@ -200,7 +201,7 @@ struct Queue {
     free: Vec<usize>,
     first: Option<usize>,
     last: Option<usize>,
-    flows: PairMap<OfFlow>,
+    flows: HashMap<Flow, OfFlow, RandomState>,
 }
 
 impl Queue {

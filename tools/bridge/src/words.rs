@@ -6,17 +6,21 @@ use std::str::FromStr;
 
 use crate::faces::Face;
 use crate::frames::Address;
+use crate::log;
 use crate::sending::Network;
 use crate::shares::MOST_WEIGHT;
 
 /// How it is called.
-pub const USAGE: &str = "bridge --face text|octets --phy NAME --channel NUMBER --monitor NAME --interval UNITS \
+pub const USAGE: &str =
+    "bridge [--name NAME] --face text|octets --phy NAME --channel NUMBER --monitor NAME --interval UNITS \
                          [--idle SECONDS] [--socket DESCRIPTOR] [--alive] [--record DESCRIPTOR:NAME] [--bounds OCTETS] \
                          --network BSSID/SSID/RATES/STATIONS/KNOWN/SHARE[/WIRE]... PROGRAM CONFIG";
 
 /// What the words ask for.
 #[derive(Debug, Clone, PartialEq, Eq)]
 pub struct Words {
+    /// By which name `tools/live` was called, which each line that is told begins with.
+    pub name: String,
     /// How the program is spoken to.
     pub face: Face,
     /// The radio.
@@ -69,11 +73,12 @@ impl Words {
         let mut words = words.into_iter();
         let (mut face, mut monitor, mut interval, mut record) = (None, None, None, None);
         let (mut phy, mut channel, mut idle, mut socket, mut tells_alive) = (None, None, IDLE, None, false);
-        let mut bounds = None;
+        let (mut name, mut bounds) = (log::UNNAMED.to_owned(), None);
         let (mut networks, mut rest) = (Vec::new(), Vec::new());
         while let Some(word) = words.next() {
             let mut value = || words.next().ok_or_else(|| NotWords(format!("{word} lacks its value")));
             match word.as_str() {
+                "--name" => name = value()?,
                 "--face" => face = Some(read_face(&value()?)?),
                 "--phy" => phy = Some(value()?),
                 "--channel" => channel = Some(read_number(&value()?, "channel", 1..=14)?),
@@ -94,6 +99,7 @@ impl Words {
             return Err(lacks("--network"));
         }
         Ok(Words {
+            name,
             face: face.ok_or_else(|| lacks("--face"))?,
             phy: phy.ok_or_else(|| lacks("--phy"))?,
             channel: channel.ok_or_else(|| lacks("--channel"))?,
@@ -153,7 +159,7 @@ mod tests {
     use super::*;
     use crate::samples::{network, OTHER, OURS};
 
-    const GOOD: &str = "--face octets --phy phy0 --channel 6 --monitor mon0 --interval 100 --idle 60 --socket 5 \
+    const GOOD: &str = "--name waltigon-live --face octets --phy phy0 --channel 6 --monitor mon0 --interval 100 --idle 60 --socket 5 \
                         --alive --record 6:r:1 --bounds 2000000 --network 02:00:00:00:01:01/6c6162/8284/64/256/1/wire1 --network \
                         02:00:00:00:01:02/20/16/2007/10000/16 apctl config";
 
@@ -181,6 +187,7 @@ mod tests {
             },
         ];
         let wanted = Words {
+            name: "waltigon-live".into(),
             face: Face::Octets,
             phy: "phy0".into(),
             channel: 6,
@@ -196,8 +203,10 @@ mod tests {
             config: "config".into(),
         };
         assert_eq!(read(GOOD), Ok(wanted));
-        let fewer = read(&GOOD.replace("--idle 60 --socket 5 --alive", "")).unwrap();
+        let fewer =
+            read(&GOOD.replace("--idle 60 --socket 5 --alive", "").replace("--name waltigon-live", "")).unwrap();
         assert_eq!((fewer.idle, fewer.socket, fewer.tells_alive), (300, None, false));
+        assert_eq!(fewer.name, "bridge");
     }
 
     #[test]

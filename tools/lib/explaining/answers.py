@@ -6,6 +6,8 @@ import stat
 import subprocess
 from dataclasses import dataclass
 
+import called
+
 ROOT = os.path.dirname(os.path.dirname(os.path.dirname(os.path.dirname(os.path.realpath(__file__)))))
 PROGRAM = os.path.join(ROOT, "build", "apctl")
 FAULT = re.compile(r"fault (?:(?P<code>[CLF]\d+|sources|words|memory|thread|output|clock)"
@@ -80,7 +82,7 @@ def run_program(program: str, words: list[str], given: bytes | None = None,
         done = subprocess.run([program, *words], capture_output=True, check=False, input=given, pass_fds=descriptors)
     except (OSError, ValueError) as fault:
         reason = getattr(fault, "strerror", None) or fault
-        raise NoProgram(f"{program} can't be run: {reason} (`make apctl` builds it)") from None
+        raise NoProgram(f"{program} can't be run: {reason} ({called.program_comes()})") from None
     errors = os.fsdecode(done.stderr)
     said = errors.removesuffix("\n")
     return Answer(done.returncode, done.stdout, read_fault(said), errors)

@@ -1,6 +1,7 @@
 """What a fault C2 to C13 of a configuration comes of: the key, its place, what was expected there and what to write."""
 from dataclasses import dataclass, field
 
+import called
 from explaining import values
 from explaining.answers import Fault
 from explaining.keys import (HOSTAPD, NETWORK_KEYS, NETWORK_LIMITS, OPTIONS, RADIO_KEYS, RADIO_LIMITS, SAMPLES,
@@ -155,7 +156,7 @@ def version_findings(config: Config) -> list[Finding]:
     if entry is None:
         if not config.top and not config.networks and not config.single:
             return [Finding("the configuration is empty", config.source.place(1),
-                            "it begins with `version = 2` (docs/PROTOCOL.md, \"Configuration\")")]
+                            f"it begins with `version = 2` ({called.document('PROTOCOL.md')}, \"Configuration\")")]
         return [missing(config, config.top, "version", "at the top", config.source.place(1))]
     if entry.value.kind != "integer":
         digits = str(entry.value.worth)

@@ -4,6 +4,7 @@ import difflib
 import re
 import tomllib
 
+import called
 from explaining import values
 from explaining.keys import (HOSTAPD, NETWORK_KEYS, NETWORK_LIMITS, OPTIONS, RADIO_KEYS, RADIO_LIMITS, SAMPLES,
                              TEXT_KEYS)
@@ -47,7 +48,7 @@ def other_file(source: Source) -> Finding | None:
     kind = next((kind for magic, kind in MAGICS if octets.startswith(magic)), None)
     if kind == "capture":
         return Finding(f"{source.name}: this is a capture, and no configuration", None,
-                       "tools/trace-from-capture makes a trace and a configuration of it")
+                       f"{called.fellow('trace-from-capture')} makes a trace and a configuration of it")
     if kind:
         names = {"gzip": "packed by gzip", "zip": "a zip archive", "program": "a program", "pdf": "a PDF",
                  "picture": "a picture"}
@@ -88,7 +89,8 @@ def other_text(source: Source) -> Finding | None:
         number = next(number for number, line in enumerate(source.lines, 1) if line.startswith(of_hostapd[0]))
         return Finding("this is a configuration of hostapd, and the program has its own keys, in TOML",
                        source.place(number, 1, len(of_hostapd[0])),
-                       "tools/config-from-hostapd writes one for it, and says of each line that it left out why")
+                       f"{called.fellow('config-from-hostapd')} writes one for it, and says of each line that it left out "
+                       "why")
     if "\n" not in source.text.strip() and "\r" in source.text.strip():
         return Finding("lines end with CR alone, and TOML's end with LF", source.at(*first_return(source)),
                        "`tr '\\r' '\\n'` writes such a text anew")
@@ -135,7 +137,7 @@ def of_trace(source: Source, place: Place, line: str, wants_trace: bool) -> Find
     if SEPARATOR_LIKE.fullmatch(line):
         if line == "---":
             return Finding("a line `---` and a trace aren't a part of a configuration's file", where,
-                           "such a text is for standard input: `build/apctl < " + source.name + "`")
+                           f"such a text is for standard input: `{called.program()} < {source.name}`")
         if line == "---\r":
             return Finding("this line ends with CR LF, so it isn't the line `---` between a configuration and its "
                            "trace", where, "`sed 's/\\r$//'` takes the CRs off")

@@ -4,6 +4,7 @@ from collections import Counter
 from collections.abc import Iterable, Iterator
 from dataclasses import dataclass, field
 
+import called
 from explaining import odd_config
 from explaining.check_sequences import FCS_LEN, LEAST_LEN, ends_with_fcs, octets_too_many
 from explaining.config import Config, NetworkTable, number_of
@@ -17,9 +18,10 @@ from reading import hears, unread_kind, wired_unread_kind
 from texts import Line, Section, frames_text, read_report, trace_line
 
 MOST_NAMED = 3
+MAKES_TRACES = called.fellow("trace-from-capture")
 TYPES = {bytes.fromhex(digits) for digits in ("0800", "0806", "86dd", "888e")}
 # What has its frame check sequence on, by the word of a line: where it was, and what to do.
-WITH_SEQUENCES = {"A": ("the air", "tools/trace-from-capture takes it off; a probe or an association request with it "
+WITH_SEQUENCES = {"A": ("the air", f"{MAKES_TRACES} takes it off; a probe or an association request with it "
                         "is unread, and a unit is passed on with it"),
                   "W": ("a wire", "leave it out: it is passed on as a part of the unit")}
 FIXED_BEFORE_ELEMENTS = {ASSOCIATION_REQUEST: 4, REASSOCIATION_REQUEST: 10}
@@ -129,7 +131,7 @@ def of_trace(lines: list[Line], hearings: list[Hearing], has_separator: bool, tr
     front = next((line for line in frames if has_radiotap(line.octets)), None)
     if front and sum(has_radiotap(line.octets) for line in frames) * 2 > len(frames):
         findings.append(Finding("the frames begin with the capture's own header (radiotap), and a trace has frames "
-                                "without it", place_of(traces, front), "tools/trace-from-capture takes it off"))
+                                "without it", place_of(traces, front), f"{MAKES_TRACES} takes it off"))
     else:
         findings += of_receivers(frames, hearings, traces) + of_ethernet(frames, hearings, traces)
     findings += of_check_sequences(lines, traces)
@@ -183,7 +185,7 @@ def of_untaken(frames: list[Line], hearings: list[Hearing], traces: list[Source]
     reasons = [f"Address 1 is neither a network's BSSID nor all: {receivers_text(whole)}"] * bool(whole)
     reasons += [f"fewer than {LEAST_LEN} octets: {len(untaken) - len(whole)}"] * (len(whole) < len(untaken))
     return [Finding(f"frames on the air that no network took: {len(untaken)} of {len(frames)} ({'; '.join(reasons)})",
-                    place_of(traces, untaken[0]), "`tools/trace-from-capture --heard-only` leaves such frames out")]
+                    place_of(traces, untaken[0]), f"`{MAKES_TRACES} --heard-only` leaves such frames out")]
 
 
 def of_ethernet(frames: list[Line], hearings: list[Hearing], traces: list[Source]) -> list[Finding]:
@@ -256,7 +258,7 @@ def of_network(hearing: Hearing, traces: list[Source]) -> list[Finding]:
     if again:
         findings.append(Finding(f"{hearing.name}: frames sent again: {len(again)} (with Retry 1 and the sequence "
                                 "number that came before: they are taken a second time)", place_of(traces, again[0]),
-                                "tools/trace-from-capture leaves them out"))
+                                f"{MAKES_TRACES} leaves them out"))
     return findings
 
 
@@ -365,5 +367,5 @@ def of_roaming(hearings: list[Hearing]) -> list[Finding]:
             if station.aid is not None:
                 places.setdefault(station.address, []).append(hearing.section.name)
     return [Finding(f"the station {address_text(address)} is associated in several networks: {', '.join(names)}", None,
-                    "no network knows of another: it left none of them (docs/EXAMPLES.md)")
+                    f"no network knows of another: it left none of them ({called.document('EXAMPLES.md')})")
             for address, names in places.items() if len(names) > 1][:MOST_NAMED]

@@ -2,6 +2,7 @@
 import difflib
 import re
 
+import called
 from explaining import values
 from explaining.answers import Fault
 from explaining.no_toml import MAGICS, REPORT_LINE, UTF_16
@@ -40,7 +41,7 @@ def other_file(source: Source) -> Finding | None:
     octets = source.octets
     if any(octets.startswith(magic) for magic, kind in MAGICS if kind == "capture"):
         return Finding(f"{source.name}: this is a capture, and no trace", None,
-                       "tools/trace-from-capture makes a trace of it")
+                       f"{called.fellow('trace-from-capture')} makes a trace of it")
     if octets.startswith(b"\x1f\x8b"):
         return Finding(f"{source.name}: this file is packed by gzip, and no text", None, "`gunzip` unpacks it")
     if octets.startswith(UTF_16):
@@ -110,7 +111,8 @@ def of_other_text(source: Source, number: int, line: str) -> Finding | None:
                        "a configuration stands before the line `---`, or in a file of its own: `run CONFIG TRACE`")
     if HEX_DUMP.match(line):
         return Finding("this is a line of a hex dump, and a trace has one line for each frame", place,
-                       "tools/trace-from-capture makes a trace of a capture; else write `A` and the frame's digits")
+                       f"{called.fellow('trace-from-capture')} makes a trace of a capture; else write `A` and the frame's "
+                       "digits")
     if re.fullmatch(r"[0-9A-Fa-f ]{8,}", line):
         return Finding("a line begins with its word: `A` for a frame on the air, `W` for one on the wire", place,
                        f"write {quoted('A ' + line)}")

@@ -2,6 +2,7 @@
 import os
 from dataclasses import dataclass, field
 
+import called
 from explaining import config, no_toml, octet_records, odd_config, runs, trace_lines, words
 from explaining.answers import Answer, Fault, read_fault
 from explaining.source import Finding, Source
@@ -11,7 +12,7 @@ from texts import TextError
 SEPARATOR = b"---"
 STANDARD_INPUT = "standard input"
 MOST_LIVE_FAULTS = 5
-NOTHING_FOUND = "no reason was found: docs/FAULTS.md says of each fault what to look at"
+NOTHING_FOUND = f"no reason was found: {called.document('FAULTS.md')} says of each fault what to look at"
 
 
 @dataclass

@@ -2,7 +2,9 @@
 import difflib
 import os
 import stat
+from collections.abc import Callable
 
+import called
 from explaining.answers import Fault
 from explaining.source import Finding, quoted
 
@@ -12,7 +14,8 @@ FORMS = ("check CONFIG, run CONFIG TRACE, play CONFIG TRACE..., live CONFIG and 
          "reads standard input")
 OCTETS = "--octets"
 MOST_TRACES, MOST_FILES = 64, 4
-LIKE = 0.75  # how much a file's name has to be like the one that was given, for it to be meant
+# How much a file's name has to be like the one that was given, for it to be meant: all of it, and it without its ending.
+LIKE, STEM_LIKE = 0.75, 0.65
 
 
 def explain(fault: Fault, words: list[str]) -> list[Finding]:
@@ -43,7 +46,7 @@ def of_words(fault: Fault, words: list[str]) -> list[Finding]:
     if os.path.exists(first):
         form = f"run {first} TRACE" if rest else f"check {first}"
         return [Finding(f"a file's name, {quoted(first)}, is no first word", None,
-                        f"write `{form}`, or `build/apctl < {first}` where it is a configuration and a trace")]
+                        f"write `{form}`, or `{called.program()} < {first}` where it is a configuration and a trace")]
     return [Finding(f"the program has no word {quoted(first)}", None, f"its words are {FORMS}")]
 
 
@@ -81,7 +84,7 @@ def of_file(fault: Fault, words: list[str]) -> list[Finding]:
     name = fault.file or ""
     if name == "-" and "-" not in words:
         return [Finding("standard input can't be read: it is closed, or a folder", None,
-                        "give a text by `build/apctl < my.input`, or `live CONFIG < LINES`")]
+                        f"give a text by `{called.program()} < my.input`, or `live CONFIG < LINES`")]
     advice = "`-` names a file here, and not standard input" if name == "-" else None
     if name == "":
         return [Finding("the name of a file is empty", None, "a variable of the shell may be unset")]
@@ -122,13 +125,20 @@ def missing_file(name: str, advice: str | None, reason: OSError) -> Finding:
     if not os.path.isdir(folder):
         return Finding(f"{quoted(name)} isn't there: there is no folder {quoted(folder)}", None, advice)
     try:
-        close = difflib.get_close_matches(os.path.basename(name), os.listdir(folder), 1, LIKE)
+        files = list(filter(like(name), os.listdir(folder)))
+        close = difflib.get_close_matches(os.path.basename(name), files, 1, LIKE)
     except OSError:
         close = []
     if close and not advice:
         advice = f"`{os.path.join(os.path.dirname(name), close[0])}` is there, and may be meant"
     where = f"the folder {os.path.realpath(folder)} has none of this name"
     return Finding(f"{quoted(name)} isn't there: {where}", None, advice)
+
+
+def like(name: str) -> Callable[[str], bool]:
+    """Whether a file may be meant by a name, by what stands before its ending: many files share that."""
+    stem = os.path.splitext(os.path.basename(name))[0]
+    return lambda file: difflib.SequenceMatcher(None, stem, os.path.splitext(file)[0]).ratio() >= STEM_LIKE
 
 
 def of_sources(fault: Fault, words: list[str]) -> list[Finding]:

@@ -7,6 +7,7 @@ import time
 from collections.abc import Iterable
 from contextlib import ExitStack, suppress
 
+import called
 from frames import address_text
 from live.checks import Plan, Wanted
 from live.faults import Fault
@@ -81,7 +82,7 @@ def words_of(wanted: Wanted, plan: Plan, descriptor: int, record: tuple[int, str
     """The words by which the bridge is started, with the descriptor of the socket by which it is asked, that of the record
     with its name, and how many octets of address space the program has, where it runs within bounds."""
     settings = plan.settings
-    words = [wanted.bridge, "--face", plan.face, "--phy", wanted.phy, "--channel", str(settings.channel),
+    words = [wanted.bridge, "--name", called.name(), "--face", plan.face, "--phy", wanted.phy, "--channel", str(settings.channel),
              "--monitor", wanted.monitor, "--interval", str(settings.interval), "--idle", str(wanted.idle),
              "--socket", str(descriptor)]
     if tells_alive:

@@ -8,6 +8,7 @@ import time
 from contextlib import ExitStack
 from dataclasses import dataclass, replace
 
+import called
 from explaining.whole import explain_config
 from frames import address_of, address_text
 from live import changes, machine
@@ -24,10 +25,12 @@ MOST_WEIGHT = 16
 MOST_NAME = 15
 COUNTRY_SECONDS = 3.0
 LOCAL = "127.0.0.1"
+SET_UP = 1  # the number of the way in which `setting_up` sets up a radio; another way has another number
 WRONG_WORDS = 2
 # Of a checkout of the source; an installation has none.
 MAKEFILE = os.path.join(os.path.dirname(os.path.realpath(__file__)), "..", "..", "..", "Makefile")
-CARGO, PACKAGES = "/usr/bin/cargo", "cargo librust-hex-dev librust-libc-dev librust-nix-dev"
+CARGO = "/usr/bin/cargo"
+PACKAGES = "cargo librust-ahash-dev librust-hex-dev librust-humantime-dev librust-libc-dev librust-nix-dev"
 
 
 @dataclass(frozen=True)
@@ -129,7 +132,7 @@ def check_bridge(bridge: str) -> None:
 def check_program(program: str) -> None:
     """The program has to be built."""
     if not os.path.isfile(program):
-        raise Fault(f"{program} isn't there: `make apctl` builds it as build/apctl")
+        raise Fault(f"{program} isn't there: {called.program_comes()}")
     if not os.access(program, os.X_OK):
         raise Fault(f"{program} can't be run: it isn't executable")
 
@@ -228,8 +231,7 @@ def check_wire(interface: Interface) -> None:
         raise Fault(f"{name}: is no interface of Ethernet")
     if interface.users:
         users = ", ".join(interface.users)
-        raise Fault(f"{name}: serves {users}: what this machine sends by it would reach no station (docs/OPERATING.md, "
-                    "'The wired ports')")
+        raise Fault(f"{name}: serves {users}: what this machine sends by it would reach no station")
     if interface.addresses:
         raise Fault(f"{name}: has the address {interface.addresses[0]}, so it serves this machine: take its addresses "
                     f"off by `ip link set {name} addrgenmode none` and `ip address flush dev {name}`, or give another")
@@ -241,14 +243,38 @@ def check_radio(wanted: Wanted, settings: Settings, made: Changes, stack: ExitSt
         raise Fault(f"{wanted.phy}: there is no such radio; there are: {' '.join(machine.radios()) or 'none'}")
     check_names(wanted, len(settings.networks))
     check_left(wanted, made.left_interfaces())
-    made.take_back_left()
+    if is_handed_on(wanted, settings, made):
+        made.go_on()
+        stack.callback(made.take_back_rest)
+    else:
+        made.take_back_left()
+    handed = made.handed_interfaces()
     for interface in machine.interfaces():
-        if interface.radio == wanted.phy and interface.is_up:
+        if interface.radio == wanted.phy and interface.is_up and interface.name not in handed:
             raise Fault(f"{wanted.phy} has the interface {interface.name}, which is up: keep NetworkManager from it by "
                         f"`nmcli device set {interface.name} managed no` where that runs, and then `ip link set "
                         f"{interface.name} down`")
     set_country(wanted.country, made, stack)
     check_abilities(wanted.phy, read_phy(machine.run("iw", "phy", wanted.phy, "info")), settings)
+
+
+def as_set_up(settings: Settings) -> str:
+    """How the radio is set up for these settings, in so far as its interfaces don't tell it themselves: a start that goes on
+    with them compares this."""
+    return f"{SET_UP} {settings.frequency}\n"
+
+
+def is_handed_on(wanted: Wanted, settings: Settings, made: Changes) -> bool:
+    """Whether the start before has handed on just the interfaces that these settings take, each as it would be made."""
+    names = {wanted.network_interface(place): network.bssid for place, network in enumerate(settings.networks)}
+    left = {change.name for change in made.left if change.kind == changes.INTERFACE}
+    if made.handed_on != as_set_up(settings) or left != {wanted.monitor, *names}:
+        return False
+    if any(change.kind == changes.COUNTRY for change in made.left) and wanted.country != machine.country():
+        return False
+    found = [Interface(name) for name in left]
+    return (all(interface.radio == wanted.phy and interface.is_up for interface in found)
+            and all(Interface(name).address == address_text(bssid) for name, bssid in names.items()))
 
 
 def check_names(wanted: Wanted, networks: int) -> None:
@@ -271,6 +297,10 @@ def check_left(wanted: Wanted, own: list[str]) -> None:
 def set_country(country: str | None, made: Changes, stack: ExitStack) -> None:
     """Sets the country whose rules of the air hold, until the end."""
     if country is None:
+        return
+    handed = made.take_over_country()
+    if handed is not None:
+        stack.callback(made.take_back, handed)
         return
     before = machine.country()
     if country == before:

@@ -9,6 +9,7 @@ from collections import deque
 from collections.abc import Callable, Iterable, Iterator
 from dataclasses import dataclass, field
 
+import called
 from explaining.source import Finding
 from frames import address_text
 from live import machine
@@ -18,7 +19,7 @@ from live.faults import Fault
 from live.machine import Interface
 from live.setting_up import RECEIVING, SENDING
 
-PAGE = "docs/NETWORKS.md"
+PAGE = called.document("NETWORKS.md")
 TOML, WIRES = ".toml", ".wires"
 
 

@@ -2,6 +2,8 @@
 import os
 import sys
 
+import called
+
 ERROR, WARNING, NOTICE, INFO = 3, 4, 5, 6
 
 
@@ -17,7 +19,7 @@ def is_journal() -> bool:
 def line_of(text: str, level: int) -> str:
     """A line of this program, or several; with its level before each where the journal reads it (sd-daemon(3))."""
     start = f"<{level}>" if is_journal() else ""
-    return "\n".join(start + line for line in f"live: {text}".split("\n"))
+    return "\n".join(start + line for line in f"{called.name()}: {text}".split("\n"))
 
 
 def tell(text: str, level: int = NOTICE) -> None:

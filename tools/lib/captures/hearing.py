@@ -1,9 +1,10 @@
 """Which captured frames become lines of a trace: what an access point heard, what came over its wires, and its beacon
 intervals."""
 from collections import Counter
+from fractions import Fraction
 from typing import NamedTuple
 
-import captures
+from captures.files import FCS_LEN, ends_with_fcs
 from frames import BEACON, BROADCAST, CONTROL, HEADER_LEN, PS_POLL, TIME_UNIT, Frame, address_text
 
 LEAST, MOST = 10, 4096
@@ -107,7 +108,7 @@ def has_fcs(frames, fcs):
     if fcs != "auto":
         return fcs == "yes"
     silent = [frame.octets for frame in frames if frame.has_fcs is None and frame.is_whole]
-    return 2 * sum(map(captures.ends_with_fcs, silent)) > len(silent)
+    return 2 * sum(map(ends_with_fcs, silent)) > len(silent)
 
 
 def whole_frame(frame, fcs, assumed):
@@ -116,10 +117,10 @@ def whole_frame(frame, fcs, assumed):
     octets = frame.octets
     if not frame.is_whole:
         return octets, CUT
-    if frame.is_damaged or ends and not captures.ends_with_fcs(octets):
+    if frame.is_damaged or ends and not ends_with_fcs(octets):
         return octets, MISSED
     if ends:
-        octets = octets[:-captures.FCS_LEN]
+        octets = octets[:-FCS_LEN]
     if len(octets) < LEAST:
         return octets, SHORT
     return octets, LONG if len(octets) > MOST else None
@@ -196,7 +197,7 @@ def even_ticks(first, last, interval):
 
 def interval_length(interval):
     """Seconds of a beacon interval of so many time units."""
-    return captures.Fraction(interval * TIME_UNIT, 1_000_000)
+    return Fraction(interval * TIME_UNIT, 1_000_000)
 
 
 def air_line(frame):

@@ -4,9 +4,9 @@ import bisect
 from collections import Counter
 from dataclasses import dataclass, field
 
+from drawing.svg import text_width
 from frames import TIME_UNIT
 from story import GROUP, WIRE
-from svg import text_width
 
 BEACONS, OTHERS = "beacons", "others"
 SMALL, LETTER_SIZE = 9.5, 10

@@ -4,12 +4,12 @@ as well."""
 import bisect
 from contextlib import nullcontext
 
-from colours import DARK, GREEN, GREY, GRID, ORANGE, PALE, PURPLE, RED, STATES, YELLOW
-from columns import (BEACON_KINDS, BEACONS, CIRCLE_SLOT, CIRCLED, OTHERS, PAD, SLOT, SMALL, Clock, Lane, columns_of,
-                     strips_of)
-from overview import Overview
+from drawing.colours import DARK, GREEN, GREY, GRID, ORANGE, PALE, PURPLE, RED, STATES, YELLOW
+from drawing.columns import (BEACON_KINDS, BEACONS, CIRCLE_SLOT, CIRCLED, OTHERS, PAD, SLOT, SMALL, Clock, Lane,
+                             columns_of, strips_of)
+from drawing.overview import Overview
+from drawing.svg import Canvas, text_width
 from story import ASSOCIATED, DOZING, GROUP, WIRE
-from svg import Canvas, text_width
 
 WIDTH, MARGIN, LEFT = 1000, 12, 146
 BODY = WIDTH - LEFT - MARGIN

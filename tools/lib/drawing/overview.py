@@ -6,10 +6,10 @@ from collections import Counter
 from dataclasses import dataclass, field
 from typing import NamedTuple
 
-from colours import BLUE, DARK, GREEN, GREY, GRID, LIGHT, LILAC, ORANGE, PALE, PURPLE, RED, STATES, YELLOW
+from drawing.colours import BLUE, DARK, GREEN, GREY, GRID, LIGHT, LILAC, ORANGE, PALE, PURPLE, RED, STATES, YELLOW
+from drawing.svg import text_width
 from frames import BEACON, DATA, Frame
 from story import ASSOCIATED, DATA_FRAMES, DOZING, FROM_WIRE, POLLS, REQUESTS, UNREAD
-from svg import text_width
 
 WIDTH, MARGIN, LEFT = 1000, 12, 230
 BODY = WIDTH - LEFT - MARGIN

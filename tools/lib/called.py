@@ -1,0 +1,37 @@
+"""How a tool names itself, its fellows, the program and the documents: itself by the name that it was called by, the
+others as `tools/live` and `build/apctl` in a checkout, and as `waltigon-live` and `apctl` where all is installed."""
+import os
+import sys
+
+TOP = os.path.dirname(os.path.dirname(os.path.dirname(os.path.realpath(__file__))))
+DOCUMENTS = os.path.join("..", "..", "share", "doc", "waltigon", "docs")  # from there, where it is installed
+
+
+def is_installed() -> bool:
+    """Whether this tool is one that share/install has put in its place."""
+    return not os.path.exists(os.path.join(TOP, "Makefile"))
+
+
+def name() -> str:
+    """The name by which this tool was called."""
+    return os.path.basename(sys.argv[0])
+
+
+def fellow(tool: str) -> str:
+    """What a person types for another tool."""
+    return f"waltigon-{tool}" if is_installed() else f"tools/{tool}"
+
+
+def program() -> str:
+    """What a person types for the program."""
+    return "apctl" if is_installed() else "build/apctl"
+
+
+def program_comes() -> str:
+    """Where the program comes from, for who has none."""
+    return "install Waltigon anew" if is_installed() else "`make apctl` builds it"
+
+
+def document(file: str) -> str:
+    """Where a document is."""
+    return os.path.normpath(os.path.join(TOP, DOCUMENTS, file)) if is_installed() else f"docs/{file}"
