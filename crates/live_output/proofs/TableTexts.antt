@@ -2,7 +2,7 @@
 use Rattle.std.proofs.Common.{◌≡◌, ℕ, List, [], ◌++◌, ap, ◌∙◌, append-nil}
 use Rattle.std.specs.Prelude.{codes, flat_map}
 use Rattle.network.specs.NetworkView.{NetworkState}
-use Rattle.trace.specs.Report.{as_text, heading_in}
+use Rattle.trace.specs.Forms.{as_text, heading_in}
 use Rattle.trace.specs.Texts.{ended}
 use Rattle.log_report.specs.Log.{table_in, told_network}
 use Rattle.live_answers.specs.AnswerText.{table_text, tables_text}

@@ -8,7 +8,7 @@ use Rattle.events.specs.declared.event.Event.{Event}
 use Rattle.events.specs.declared.line.Line.{Line}
 use Rattle.network.specs.Network.{table_of, counts_of}
 use Rattle.network.specs.NetworkView.{NetworkState}
-use Rattle.report.specs.Report.{Told, as_text, heading_in, section_in}
+use Rattle.report.specs.Forms.{Told, as_text, heading_in, section_in}
 use Rattle.access_point.specs.Log.{log_of}
 use Rattle.access_point.specs.declared.logged_network.LoggedNetwork.{LoggedNetwork}
 

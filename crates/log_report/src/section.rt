@@ -23,7 +23,7 @@ pub struct ReportedNetwork<'a> {
 }
 
 impl<'a> Model for ReportedNetwork<'a> {
-    ghost use Rattle.report.specs.Report.{Told};
+    ghost use Rattle.report.specs.Forms.{Told};
     ghost use Rattle.log_report.specs.Log.{told_network};
 
     ghost Value = { Told };

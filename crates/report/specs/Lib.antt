@@ -1,2 +1,3 @@
 -- All that stands here is the profile's.
 pub mod Report
+pub mod Forms

@@ -9,7 +9,6 @@ use Rattle.events.specs.declared.section.Counts.{Counts}
 use Rattle.events.specs.declared.section.Section.{Section}
 use Rattle.events.specs.declared.section.StationRow.{StationRow}
 use Rattle.text_io.specs.Texts.{ended}
-use Rattle.report.specs.declared.lines.Totals.{Totals}
 
 -- how many networks a configuration has
 unfoldable pub count_line : ℕ → List ℕ
@@ -33,16 +32,6 @@ counts_line events counts =
     ++ decimal counts.lost
     ++ codes " kept "
     ++ decimal counts.kept)
-
--- the counts that a line tells, as a section has them
-abbrev pub counts_in : Totals → Counts
-counts_in totals = record {
-  events = totals.events;
-  clock = totals.clock;
-  unread = totals.unread;
-  lost = totals.lost;
-  kept = totals.kept;
-}
 
 -- whether a station dozes
 abbrev pub mode_text : Bool → List ℕ
@@ -79,50 +68,20 @@ station_line row = standing_line row.standing row
 unfoldable pub frame_line : List ℕ → List ℕ → List ℕ
 frame_line word frame = ended (word ++ encode_lower frame)
 
--- ---- a network
-
--- what is told of a network
-pub record Told : Type 0 where
-  pub config : NetConfig
-  pub events : ℕ
-  pub counts : Counts
-  pub table : List StationRow
-  pub air : List (List ℕ)
-  pub wire : List (List ℕ)
-
--- before its frames: its name, its counts and its stations, each line written in a form
-abbrev pub heading_in : (List ℕ → List ℕ) → Told → List ℕ
-heading_in form told =
-    form (network_line told.config) ++ form (counts_line told.events told.counts)
-    ++ flat_map (λ row. form (station_line row)) told.table
-
--- what it did: its heading, then the frames that it sent on the air, then those on the wire
-abbrev pub section_in : (List ℕ → List ℕ) → Told → List ℕ
-section_in form told =
-    heading_in form told ++ flat_map (frame_line (codes "air ")) told.air
-    ++ flat_map (frame_line (codes "wire ")) told.wire
-    ++ form (ended (codes "end"))
-
--- each line as it stands
-abbrev pub as_text : List ℕ → List ℕ
-as_text line = line
-
 -- ---- sections
 
--- what is told of the network of a section, whose history says how many events it took
-abbrev pub told_of : Section → Told
-told_of section = record {
-  config = section.config;
-  events = length section.events;
-  counts = section.counts;
-  table = section.table;
-  air = section.air;
-  wire = section.wire;
-}
+-- before its frames: a network's name, how many events its history has and what it counted, and its stations
+abbrev pub heading_of : Section → List ℕ
+heading_of section =
+    network_line section.config ++ counts_line (length section.events) section.counts
+    ++ flat_map station_line section.table
 
--- a section as text
+-- then the frames that it sent on the air, those on the wire, and the line that ends it
 unfoldable pub section_text : Section → List ℕ
-section_text section = section_in as_text (told_of section)
+section_text section =
+    heading_of section ++ flat_map (frame_line (codes "air ")) section.air
+    ++ flat_map (frame_line (codes "wire ")) section.wire
+    ++ ended (codes "end")
 
 -- the sections, one after the other
 abbrev pub report_text : List Section → List ℕ

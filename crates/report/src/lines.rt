@@ -5,7 +5,8 @@ ghost use Rattle.std.specs.Prelude.{◌≡◌, ◌++◌, codes};
 ghost use Rattle.hex.specs.Hex.{encode_lower};
 ghost use Rattle.mac_frame.specs.Address.{IsAddress, address_text};
 ghost use Rattle.text_io.specs.Buffers.{CanWrite, Puts, watch};
-ghost use Rattle.report.specs.Report.{network_line, counts_line, counts_in, station_line, mode_text, frame_line};
+ghost use Rattle.report.specs.Report.{network_line, counts_line, station_line, mode_text, frame_line};
+ghost use Rattle.report.specs.Forms.{counts_in};
 ghost use Rattle.report.specs.Report.{authenticated_line, associated_line};
 ghost use Rattle.text_io.specs.Texts.{ended};
 

@@ -2,7 +2,8 @@
 
 ghost use Rattle.std.specs.Prelude.{◌≡◌, ◌<◌, ◌++◌, Some, codes, flat_map, length, slice_get};
 ghost use Rattle.text_io.specs.Buffers.{CanWrite, Puts, watch};
-ghost use Rattle.report.specs.Report.{Told, heading_in, section_in, told_of, counts_line, counts_in, station_line, frame_line};
+ghost use Rattle.report.specs.Report.{counts_line, station_line, frame_line};
+ghost use Rattle.report.specs.Forms.{Told, heading_in, section_in, told_of, counts_in};
 
 use crate::form::LineForm;
 use crate::lines::{

@@ -4,3 +4,4 @@ pub mod TraceSteps
 pub mod DigitTexts
 pub mod PieceLaws
 pub mod PieceSteps
+pub mod Blocks

@@ -14,3 +14,4 @@ pub use Rattle.text_io.specs.BufferLaws
 pub use Rattle.config_text.specs.ConfigurationText
 pub use Rattle.config_text.specs.OnLiterals
 pub use Rattle.report.specs.Report
+pub use Rattle.report.specs.Forms

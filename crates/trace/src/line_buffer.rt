@@ -1,21 +1,26 @@
 //! The octets of a line, in memory that is kept.
 
 ghost use Rattle.std.specs.Bool.{OnTrue};
-ghost use Rattle.std.specs.Prelude.{◌≡◌, ◌<◌, ◌≤◌, ◌/◌, false, length, take, Ok, Err, IsErr, MatchOption};
+ghost use Rattle.std.specs.Prelude.{◌≡◌, ◌<◌, ◌≤◌, ◌/◌, ◌+◌, ◌++◌, false, not, length, take, drop, Ok, Err, IsErr, MatchOption};
+ghost use Rattle.std.specs.List.{prefix_len};
 ghost use Rattle.hex.specs.Hex.{decode_of, is_hex_digit};
 ghost use Rattle.text_io.specs.Endings.{Gives, Refused};
-ghost use Rattle.trace.specs.TraceText.{digits_of, octets_of};
+ghost use Rattle.trace.specs.TraceText.{digits_of, is_space, octets_of};
 
 use crate::fault::LineFault;
 use mac_frame::NoMemory;
 use std::alloc::Global;
 use std::marker::Model;
+use std::simd::prelude::*;
 
 /// The most octets of a line.
 const MAX_OCTETS: usize = 4096;
 
 /// The most digits of a line.
 const MAX_DIGITS: usize = 8192;
+
+/// How many characters are looked at together.
+const BLOCK: usize = 16;
 
 /// Memory for the octets of one line after another, as many as a line may have, and for the digits of one with spaces
 /// among them (*profile*). It is taken once, so that reading a line takes none. Contracts see nothing of it.
@@ -79,7 +84,7 @@ fn read_octets<'a>(
 }
 
 /// The characters of a text that are no spaces, put into a piece of memory; `None` where they are more than a line may
-/// have.
+/// have. What stands between two spaces is put there many characters at a time, as long as there is room for so many.
 fn gather<'a>(text: &[u8], memory: &'a mut [u8]) -> Option<&'a [u8]>
     requires { length memory.old ≡ MAX_DIGITS }
     ensures { MatchOption result (MAX_DIGITS < length (digits_of text.now))
@@ -88,16 +93,58 @@ fn gather<'a>(text: &[u8], memory: &'a mut [u8]) -> Option<&'a [u8]>
     let mut len = 0;
     let mut rest = text;
     while let [character, others @ ..] = rest {
-        if *character != b' ' {
-            if len == MAX_DIGITS {
-                return None;
-            }
+        if *character == b' ' {
+            rest = others;
+        } else if rest.len() >= BLOCK && len + BLOCK <= MAX_DIGITS {
+            let run = put_run(rest, memory, len);
+            len += run;
+            rest = text_from(rest, run);
+        } else if len < MAX_DIGITS {
             memory[len] = *character;
             len += 1;
+            rest = others;
+        } else {
+            return None;
         }
-        rest = others;
     }
     Some(&memory[..len])
+}
+
+/// Puts the first characters of a text into a piece of memory from a place on, up to the first space of a block, and
+/// tells how many they are. What stands behind them in the memory is not specified.
+#[inline(always)]
+fn put_run(text: &[u8], memory: &mut [u8], at: usize) -> usize
+    requires text { BLOCK ≤ length text.now }
+    requires room { at + BLOCK ≤ length memory.old }
+    ensures run { result ≡ prefix_len (λ character. not (is_space character)) (take BLOCK text.now) }
+    ensures put { take (at + result) memory.new ≡ take at memory.old ++ take result text.now }
+    ensures same { length memory.new ≡ length memory.old }
+{
+    let block = u8x16::from_slice(text);
+    block.copy_to_slice(&mut memory[at..]);
+    before_space(block)
+}
+
+/// How many characters of a block come before its first space.
+#[inline(always)]
+fn before_space(block: u8x16) -> usize
+    requires { length block ≡ BLOCK }
+    ensures { result ≡ prefix_len (λ character. not (is_space character)) block }
+{
+    let spaces = block.simd_eq(u8x16::splat(b' ')).to_bitmask();
+    if spaces == 0 {
+        return BLOCK;
+    }
+    spaces.trailing_zeros() as usize
+}
+
+/// What stands from a place of a text on.
+#[inline(always)]
+fn text_from(text: &[u8], place: usize) -> &[u8]
+    requires { place ≤ length text.now }
+    ensures { result.now ≡ drop place text.now }
+{
+    &text[place..]
 }
 
 /// The fault of a text of more digits than a line may have, unless another character is among them or their number is

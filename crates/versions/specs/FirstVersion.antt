@@ -1,9 +1,10 @@
 -- Networks of the first version of the configuration, which has no options (profile): each unit of a station is
 -- delivered on the air, and none that is kept grows too old.
 --
--- This file is never to be changed again, since later versions are measured by it. So it stands by itself: what a
--- network does is all said here, once more. It shares with the definitions of today's networks the formats of frames,
--- which octets are a request, an answer, a beacon or a frame of the wire, and the types of data that these speak of.
+-- These definitions are never to be changed again, since later versions are measured by them. So they stand by
+-- themselves: what a network does is all said here, once more. They share with those of today's networks the formats of
+-- frames, which octets are a request, an answer, a beacon or a frame of the wire, and the types of data that these speak
+-- of. The gate refuses another text of what stands here or is shared (`.ci/first-version`); comments don't count.
 use Rattle.std.specs.Prelude.{ℕ, ◌+◌, ◌-◌, ◌%◌, ◌==◌, nat_eq, nat_lt, nat_le, Bool, true, false, not, ◌&&◌, ◌||◌, is_some}
 use Rattle.std.specs.Prelude.{List, [], ◌∷◌, ◌++◌, length, map, filter, find, Option, Some, None, unwrap_or, Result, Ok, Err}
 use Rattle.std.specs.Prelude.{if◌then◌else◌}

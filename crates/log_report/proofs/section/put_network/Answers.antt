@@ -1,6 +1,6 @@
 use Rattle.std.proofs.Common.{ap}
 use Rattle.text_io.specs.BufferLaws.{Puts-same}
-use Rattle.report.specs.Report.{as_text, section_in}
+use Rattle.report.specs.Forms.{as_text, section_in}
 use Rattle.log_report.proofs.section.put_network.Goals as goal
 
 pub returns : goal.returns

@@ -2,7 +2,8 @@
 use Rattle.std.proofs.Common.{sym, append_assoc}
 use Rattle.std.specs.Prelude.{codes, flat_map}
 use Rattle.text_io.specs.BufferLaws.{Puts-then, Puts-same}
-use Rattle.report.specs.Report.{Told, frame_line, heading_in}
+use Rattle.report.specs.Report.{frame_line}
+use Rattle.report.specs.Forms.{Told, heading_in}
 use Rattle.report.proofs.reported.put_section_in.Goals as goal
 
 pub returns : goal.returns

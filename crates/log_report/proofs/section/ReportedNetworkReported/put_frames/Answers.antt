@@ -2,7 +2,8 @@
 use Rattle.std.proofs.Common.{◌++◌, ap}
 use Rattle.std.specs.Prelude.{codes, flat_map}
 use Rattle.text_io.specs.BufferLaws.{Puts-then, Puts-same}
-use Rattle.report.specs.Report.{Told, frame_line}
+use Rattle.report.specs.Report.{frame_line}
+use Rattle.report.specs.Forms.{Told}
 use Rattle.log_report.proofs.section.ReportedNetworkReported.put_frames.Goals as goal
 
 pub returns : goal.returns
