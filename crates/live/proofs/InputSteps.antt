@@ -1,18 +1,18 @@
 -- What is said in an input that comes in pieces, in either face.
 use Rattle.std.proofs.Common.{◌≡◌, ℕ, List, [], ◌++◌, Option, Result, refl, sym, ap, subst, ◌∙◌}
 use Rattle.std.proofs.lemmas.List.{map-append}
-use Rattle.live_answers.specs.Asked.{Asked, asked_by, asked_by_all}
+use Rattle.live_rules.specs.Asked.{Asked, asked_by, asked_by_all}
 use Rattle.text_io.specs.declared.sink.Failed.{Failed}
-use Rattle.live_answers.specs.Answers.{Answers}
+use Rattle.live_rules.specs.Answers.{Answers}
 use Rattle.live.specs.LiveView.{Finishes, Takes, TakesEnd, TakesPiece, fed, running, state}
-use Rattle.live_answers.specs.Moments.{Moment}
+use Rattle.live_rules.specs.Moments.{Moment}
 use Rattle.live.specs.Inputs.{partial_line, empty_partial, face_of, IsUnfinished, IsSaidIn, last_said, IsSaid, IsAllSaid, saying}
-use Rattle.live_answers.specs.Records.{record_asks, records_ask, cut_record}
-use Rattle.live_answers.specs.TextLines.{ended_lines, partial_in, lines_in, last_line}
+use Rattle.live_rules.specs.Records.{record_asks, records_ask, cut_record}
+use Rattle.live_rules.specs.TextLines.{ended_lines, partial_in, lines_in, last_line}
 use Rattle.live.specs.declared.partial_input.PartialInput.{PartialInput}
 use Rattle.live.specs.declared.partial_input.PartialInput.TheVariants.{Line, Record}
-use Rattle.live_output.specs.declared.face.Face.{Face}
-use Rattle.live_output.specs.declared.face.Face.TheVariants.{Lines, Records}
+use Rattle.live.specs.declared.face.Face.{Face}
+use Rattle.live.specs.declared.face.Face.TheVariants.{Lines, Records}
 use Rattle.live.proofs.Pieces.{InPieces, LastLine}
 
 -- ---- in the face of lines

@@ -1,3 +1,6 @@
+pub mod LentFrames
+pub mod NoticeSteps
+pub mod TableTexts
 pub mod MoreWritten
 pub mod Pieces
 pub mod Rows

@@ -14,18 +14,18 @@ use Rattle.text_io.specs.declared.read_fault.ReadFault.TheVariants as reads
 use Rattle.text_io.specs.declared.report_fault.ReportFault.{ReportFault}
 use Rattle.text_io.specs.declared.report_fault.ReportFault.TheVariants as reports
 use Rattle.text_io.specs.declared.sink.Failed.{Failed}
-use Rattle.live_answers.specs.Answers.{Answer, Answers, answers_of}
-use Rattle.live_answers.specs.Asked.{Asked}
+use Rattle.live_rules.specs.Answers.{Answer, Answers, answers_of}
+use Rattle.live_rules.specs.Asked.{Asked}
 use Rattle.live.specs.Inputs.{IsAllSaid, IsSaidIn, face_of, last_said, empty_partial, saying}
 use Rattle.live.specs.LiveView.{Finishes, running}
-use Rattle.live_answers.specs.Moments.{Moment, first_moment, bssids_at}
-use Rattle.live_answers.specs.MoreAnswers.{MoreAnswers}
+use Rattle.live_rules.specs.Moments.{Moment, first_moment, bssids_at}
+use Rattle.live_rules.specs.MoreAnswers.{MoreAnswers}
 use Rattle.live.specs.Run.{AnswersAll, AnswersInput, Runs, StopsInPiece, StopsReading, Texts, Progress, progress, live_ending, setup}
 use Rattle.live.specs.Run.{max_reads, setup}
-use Rattle.live_output.specs.Written.{written_after, written_count, written_tables}
+use Rattle.live.specs.Written.{written_after, written_count, written_tables}
 use Rattle.live.specs.declared.partial_input.PartialInput.{PartialInput}
-use Rattle.live_output.specs.declared.face.Face.{Face}
-use Rattle.live_output.specs.declared.face.Face.TheVariants.{Lines, Records}
+use Rattle.live.specs.declared.face.Face.{Face}
+use Rattle.live.specs.declared.face.Face.TheVariants.{Lines, Records}
 use Rattle.live.specs.declared.fault.LiveFault.{LiveFault}
 use Rattle.live.specs.declared.fault.LiveFault.TheVariants.{Config, NoMemory, Read, Write}
 use Rattle.live.proofs.InputSteps.{said-none, said-all, said-ended, said-face}

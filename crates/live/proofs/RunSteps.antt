@@ -7,16 +7,16 @@ use Rattle.std.specs.Io.KnownBytes.{Appends, Consumes}
 use Rattle.trace.specs.Endings.{AppendsPrefix}
 use Rattle.trace.specs.Streams.{reads_after}
 use Rattle.text_io.specs.declared.sink.Failed.{Failed}
-use Rattle.live_answers.specs.Answers.{Answer, Answers}
-use Rattle.live_answers.specs.Asked.{Asked}
+use Rattle.live_rules.specs.Answers.{Answer, Answers}
+use Rattle.live_rules.specs.Asked.{Asked}
 use Rattle.live.specs.Inputs.{IsSaidIn, face_of, empty_partial, saying}
 use Rattle.live.specs.LiveView.{Takes, running}
-use Rattle.live_answers.specs.Moments.{Moment, bssids_at}
-use Rattle.live_answers.specs.MoreAnswers.{MoreAnswers}
+use Rattle.live_rules.specs.Moments.{Moment, bssids_at}
+use Rattle.live_rules.specs.MoreAnswers.{MoreAnswers}
 use Rattle.live.specs.Run.{AllAnswered, AnswersInput, Progress, max_reads}
-use Rattle.live_output.specs.Written.{written_after}
+use Rattle.live.specs.Written.{written_after}
 use Rattle.live.specs.declared.partial_input.PartialInput.{PartialInput}
-use Rattle.live_output.specs.declared.face.Face.{Face}
+use Rattle.live.specs.declared.face.Face.{Face}
 use Rattle.live.specs.declared.fault.LiveFault.TheVariants.{Write}
 use Rattle.live.proofs.InputSteps.{said-none, said-more, said-ended, said-face}
 use Rattle.live.proofs.MoreWritten.{texts-join}

@@ -1,12 +1,12 @@
 -- What comes in, in either face, cut anywhere: what is said in it, and the partial line or record at its end.
 use Rattle.std.specs.Prelude.{◌≡◌, ℕ, List, [], ◌++◌}
-use Rattle.live_answers.specs.Asked.{Asked, asked_by_all}
-use Rattle.live_answers.specs.Records.{AreRecords, IsPartialRecord, records_ask, cut_record}
-use Rattle.live_answers.specs.TextLines.{TextLine, Octets, ended_lines, lines_of_text, partial_after, last_line, lines_in}
+use Rattle.live_rules.specs.Asked.{Asked, asked_by_all}
+use Rattle.live_rules.specs.Records.{AreRecords, IsPartialRecord, records_ask, cut_record}
+use Rattle.live_rules.specs.TextLines.{TextLine, Octets, ended_lines, lines_of_text, partial_after, last_line, lines_in}
 use Rattle.live.specs.declared.partial_input.PartialInput.{PartialInput}
 use Rattle.live.specs.declared.partial_input.PartialInput.TheVariants.{Line, Record}
-use Rattle.live_output.specs.declared.face.Face.{Face}
-use Rattle.live_output.specs.declared.face.Face.TheVariants.{Lines, Records}
+use Rattle.live.specs.declared.face.Face.{Face}
+use Rattle.live.specs.declared.face.Face.TheVariants.{Lines, Records}
 
 -- ---- pieces
 

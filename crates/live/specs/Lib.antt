@@ -1,3 +1,6 @@
+pub mod AnswerOctets
+pub mod Frames
+pub mod Written
 pub mod PartialLine
 pub mod Readings
 pub mod Output

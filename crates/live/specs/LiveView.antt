@@ -3,13 +3,13 @@ use Rattle.std.specs.Prelude.{◌≡◌, ℕ, List, ◌++◌, Option, Result, Ok
 use Rattle.trace.specs.Endings.{Ends, ending_of}
 use Rattle.trace.specs.Sinks.{write_ending}
 use Rattle.text_io.specs.declared.sink.Failed.{Failed}
-use Rattle.live_answers.specs.AnswerText.{tables_text}
-use Rattle.live_answers.specs.Answers.{Answer, Answers}
-use Rattle.live_answers.specs.Asked.{Asked, asked_in}
+use Rattle.live_rules.specs.AnswerText.{tables_text}
+use Rattle.live_rules.specs.Answers.{Answer, Answers}
+use Rattle.live_rules.specs.Asked.{Asked, asked_in}
 use Rattle.live.specs.Inputs.{IsSaidIn, face_of, last_said, saying}
-use Rattle.live_answers.specs.Moments.{Moment, bssids_at}
-use Rattle.live_answers.specs.TextLines.{TextLine, partial_after, last_line, lines_in}
-use Rattle.live_output.specs.Written.{text_after, written_after, written_tables}
+use Rattle.live_rules.specs.Moments.{Moment, bssids_at}
+use Rattle.live_rules.specs.TextLines.{TextLine, partial_after, last_line, lines_in}
+use Rattle.live.specs.Written.{text_after, written_after, written_tables}
 use Rattle.live.specs.declared.partial_input.PartialInput.{PartialInput}
 use Rattle.live.specs.declared.partial_input.PartialInput.TheVariants.{Record}
 

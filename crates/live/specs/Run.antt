@@ -5,15 +5,15 @@ use Rattle.ap_config.specs.declared.config.RadioConfig.{RadioConfig}
 use Rattle.trace.specs.ConfigurationText.{configuration_of}
 use Rattle.trace.specs.Endings.{Ending, Refused, ReadFailed, WriteFailed, OutOfMemory, AppendsPrefix, ending_of}
 use Rattle.trace.specs.Streams.{Reads, SinkView, SourceView, Streams, changed}
-use Rattle.live_answers.specs.Answers.{Answer, Answers}
-use Rattle.live_answers.specs.Asked.{Asked}
+use Rattle.live_rules.specs.Answers.{Answer, Answers}
+use Rattle.live_rules.specs.Asked.{Asked}
 use Rattle.live.specs.Inputs.{IsSaid, IsAllSaid, IsSaidIn, face_of, empty_partial, saying}
-use Rattle.live_answers.specs.Moments.{Moment, first_moment, bssids_at}
-use Rattle.live_output.specs.Written.{written_count, written_after, written_tables}
+use Rattle.live_rules.specs.Moments.{Moment, first_moment, bssids_at}
+use Rattle.live.specs.Written.{written_count, written_after, written_tables}
 use Rattle.live.specs.declared.partial_input.PartialInput.{PartialInput}
 use Rattle.live.specs.declared.partial_input.PartialInput.TheVariants.{Record}
-use Rattle.live_output.specs.declared.face.Face.{Face}
-use Rattle.live_output.specs.declared.face.Face.TheVariants.{Lines, Records}
+use Rattle.live.specs.declared.face.Face.{Face}
+use Rattle.live.specs.declared.face.Face.TheVariants.{Lines, Records}
 use Rattle.live.specs.declared.fault.LiveFault.{LiveFault}
 use Rattle.live.specs.declared.fault.LiveFault.TheVariants.{Config, NoMemory, Read, Write}
 

@@ -7,15 +7,15 @@ ghost use Rattle.trace.specs.Endings.{failures_of};
 ghost use Rattle.trace.specs.Sinks.{MayFail, write_ending};
 ghost use Rattle.live.specs.Inputs.{IsUnfinished, empty_partial, face_of, last_said};
 ghost use Rattle.live.specs.LiveView.{Finishes, Takes, running};
-ghost use Rattle.live_answers.specs.Moments.{bssids_at, first_moment};
+ghost use Rattle.live_rules.specs.Moments.{bssids_at, first_moment};
 ghost use Rattle.live.specs.Output.{AnswersPiece, AreAnswered, through, reached};
 
+use crate::face::Face;
 use crate::lines::{answer_last_line, answer_lines};
 use crate::networks::Networks;
 use crate::partial_input::PartialInput;
 use crate::records::{answer_cut_record, answer_records};
 use ap_config::RadioConfig;
-use live_output::Face;
 use mac_frame::NoMemory;
 use std::alloc::Global;
 use trace::{Buffered, Failed, Sink};

@@ -11,7 +11,7 @@
 //! failed, a prefix of them; [`Live::end`] promises the same of the last line, and of the tables. [`LiveRecords`] is the
 //! access point in the face of records, with the same promises of records.
 //!
-//! What is answered is said by the definitions of the crate `live_answers`, whose laws speak of what is said, however it
+//! What is answered is said by the definitions of the crate `live_rules`, whose laws speak of what is said, however it
 //! came: [`isolation`] and those beside it, but for [`lines_come_in_pieces`] and [`records_come_in_pieces`], of one face
 //! each. `specs/` says what an input says in either face (`Inputs`), and how answers are written (`AnswerOctets`,
 //! `Written`). The answers to more that is said begin with those to the first of it ([`more_lines`]), and no answer is
@@ -21,12 +21,14 @@
 #![tactic(auto)]
 
 mod engine;
+mod face;
 mod fault;
 mod laws;
 mod lines;
 mod live_lines;
 mod live_records;
 mod networks;
+mod output;
 mod partial;
 mod partial_input;
 mod reading;
@@ -37,10 +39,10 @@ mod run;
 
 pub use fault::LiveFault;
 pub use laws::{answers_come_before_reads, more_lines};
-pub use live_answers::{
+pub use live_lines::Live;
+pub use live_records::LiveRecords;
+pub use live_rules::{
     as_replayed, either_face, enough_memory, isolation, lines_come_in_pieces,
     records_come_in_pieces, two_inputs,
 };
-pub use live_lines::Live;
-pub use live_records::LiveRecords;
 pub use run::{live, live_octets};

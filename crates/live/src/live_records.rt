@@ -5,11 +5,11 @@ ghost use Rattle.ap_config.specs.Configuration.{fault_of};
 ghost use Rattle.trace.specs.Endings.{failures_of};
 ghost use Rattle.trace.specs.Sinks.{MayFail, write_ending};
 ghost use Rattle.live.specs.LiveView.{Finishes, Takes, records_running};
-ghost use Rattle.live_answers.specs.Moments.{first_moment};
+ghost use Rattle.live_rules.specs.Moments.{first_moment};
 
 use crate::engine::Engine;
+use crate::face::Face;
 use ap_config::RadioConfig;
-use live_output::Face;
 use mac_frame::NoMemory;
 use std::alloc::Global;
 use std::marker::Model;

@@ -3,9 +3,9 @@
 ghost use Rattle.std.specs.Prelude.{◌≡◌, IfOk};
 ghost use Rattle.live.specs.Inputs.{empty_partial};
 
+use crate::face::Face;
 use crate::partial::PartialLine;
 use crate::record::PartialRecord;
-use live_output::Face;
 use mac_frame::NoMemory;
 use std::alloc::Global;
 

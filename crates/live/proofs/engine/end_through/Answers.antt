@@ -5,10 +5,10 @@ use Rattle.trace.specs.Endings.{failures_of}
 use Rattle.trace.specs.Sinks.{write_ending}
 use Rattle.trace.specs.BufferLaws.{Puts-then, Puts-flushed}
 use Rattle.live.specs.LiveView.{Finishes, running}
-use Rattle.live_output.specs.Written.{written_tables}
+use Rattle.live.specs.Written.{written_tables}
 use Rattle.std.proofs.Common.{ap}
 use Rattle.trace.specs.BufferLaws.{Puts-same}
-use Rattle.live_output.specs.declared.face.Face.{Face}
+use Rattle.live.specs.declared.face.Face.{Face}
 use Rattle.live.proofs.engine.end_through.Goals as goal
 
 pub returns-clause-finishes : goal.returns-clause-finishes
