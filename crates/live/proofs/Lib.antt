@@ -10,6 +10,7 @@ pub mod AnswerSteps
 pub mod FeedSteps
 pub mod RecordSteps
 pub mod InputSteps
+pub mod Flushed
 pub mod RunSteps
 pub mod RunEnds
 pub mod BeforeReads

@@ -3,9 +3,9 @@ pub mod Frames
 pub mod Written
 pub mod PartialLine
 pub mod Readings
-pub mod Output
 pub mod Networks
 pub mod Inputs
 pub mod LiveView
+pub mod Output
 pub mod Run
 pub mod BeforeReads

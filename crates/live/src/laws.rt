@@ -26,7 +26,7 @@ pub fn more_lines()
     answers_to_more();
 }
 
-/// Whatever runs an access point by the clauses of [`live`](crate::live) or [`live_octets`](crate::live_octets) holds no
+/// Whatever runs an access point by the clauses of [`LiveIn::run`](crate::LiveIn::run) holds no
 /// answer back: when it asks the source for more, the sink has taken the number of networks and the answers to all that
 /// ended in what was read before.
 ///
