@@ -18,12 +18,13 @@ mod play;
 mod tasks;
 
 use fault::{Fault, show_fault};
+use live::{InLines, InRecords};
 use std::env;
 use std::io::ErrorKind;
 use std::process::ExitCode;
 use std::sync::Wait;
 use std::thread::Threads;
-use tasks::{answer_lines, answer_records, check_config, play_traces, run_joined, run_trace};
+use tasks::{answer, check_config, play_traces, run_joined, run_trace};
 use trace::{Counted, ReportFault};
 use words::{Task, task_of};
 
@@ -56,8 +57,8 @@ fn run<T: Threads + Wait + Sync>(rt: &HostRuntime, threads: &T) -> Result<(), Fa
         Task::Check { config } => check_config(rt, config),
         Task::Run { config, trace } => run_trace(rt, config, trace),
         Task::Play { config, traces } => play_traces(rt, threads, config, traces.as_slice()),
-        Task::Live { config } => answer_lines(rt, config),
-        Task::LiveOctets { config } => answer_records(rt, config),
+        Task::Live { config } => answer::<InLines>(rt, config),
+        Task::LiveOctets { config } => answer::<InRecords>(rt, config),
     }
 }
 

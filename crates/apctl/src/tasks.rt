@@ -6,6 +6,7 @@ use crate::file_system::HostFiles;
 use crate::files::{open_file, read_file};
 use crate::input::{STANDARD_INPUT, run_input};
 use crate::play::play_files;
+use live::{InFace, LiveIn};
 use mac_frame::Octets;
 use replay::{check_text, run_stream};
 use std::mem;
@@ -55,23 +56,13 @@ pub(crate) fn play_traces<T: Threads + Wait + Sync>(
     )
 }
 
-/// Answers the lines of standard input as they come, on the configuration of a file.
-pub(crate) fn answer_lines(rt: &HostRuntime, config: &str) -> Result<(), Fault> {
+/// Answers the lines or records of standard input as they come, on the configuration of a file.
+pub(crate) fn answer<F: InFace>(rt: &HostRuntime, config: &str) -> Result<(), Fault> {
     let alloc = rt.alloc();
     let mut out = Counted::new(rt.stdout());
     let config = read_config(rt, config)?;
     let mut source = Counted::new(rt.stdin());
-    let answered = live::live(alloc, config.as_slice(), &mut source, &mut out);
-    answered.map_err(|fault| Fault::of_live(alloc, fault, STANDARD_INPUT))
-}
-
-/// Answers the records of standard input as they come, on the configuration of a file.
-pub(crate) fn answer_records(rt: &HostRuntime, config: &str) -> Result<(), Fault> {
-    let alloc = rt.alloc();
-    let mut out = Counted::new(rt.stdout());
-    let config = read_config(rt, config)?;
-    let mut source = Counted::new(rt.stdin());
-    let answered = live::live_octets(alloc, config.as_slice(), &mut source, &mut out);
+    let answered = LiveIn::<F>::run(alloc, config.as_slice(), &mut source, &mut out);
     answered.map_err(|fault| Fault::of_live(alloc, fault, STANDARD_INPUT))
 }
 

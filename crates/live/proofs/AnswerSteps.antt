@@ -12,18 +12,18 @@ use Rattle.trace.specs.Buffers.{CanWrite, Puts, watch}
 use Rattle.trace.specs.declared.fault.LineFault.{LineFault}
 use Rattle.text_io.specs.declared.buffer.Buffered.{Buffered}
 use Rattle.trace.specs.BufferLaws.{Puts-then, Puts-nothing, Puts-same}
-use Rattle.live_answers.specs.Asked.{Asked, HasFault, ForTables, Brings, Says}
-use Rattle.live_answers.specs.Answers.{Answer, MayAnswer, after_line_from, after_answer, Answers, Faulty, MayReplyFrom, Replies}
-use Rattle.live_answers.specs.Dispatch.{event_at}
-use Rattle.live_answers.specs.MoreAnswers.{MoreAnswers}
-use Rattle.live_answers.specs.Moments.{Moment, bssid_of, bssids_at, Reply, taken_if, after_if}
+use Rattle.live_rules.specs.Asked.{Asked, HasFault, ForTables, Brings, Says}
+use Rattle.live_rules.specs.Answers.{Answer, MayAnswer, after_line_from, after_answer, Answers, Faulty, MayReplyFrom, Replies}
+use Rattle.live_rules.specs.Dispatch.{event_at}
+use Rattle.live_rules.specs.MoreAnswers.{MoreAnswers}
+use Rattle.live_rules.specs.Moments.{Moment, bssid_of, bssids_at, Reply, taken_if, after_if}
 use Rattle.live.specs.Networks.{IsMoment}
 use Rattle.live.specs.Output.{AreAnswered, through}
 use Rattle.live.specs.Readings.{IsReading}
-use Rattle.live_output.specs.Written.{written_answer}
+use Rattle.live.specs.Written.{written_answer}
 use Rattle.live.specs.declared.reading.Reading.{Reading}
 use Rattle.live.specs.declared.reading.Reading.TheVariants as reading
-use Rattle.live_output.specs.declared.face.Face.{Face}
+use Rattle.live.specs.declared.face.Face.{Face}
 use Rattle.live.proofs.MoreWritten.{texts-join}
 
 -- ---- one after the other

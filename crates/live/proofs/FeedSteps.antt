@@ -10,12 +10,12 @@ use Rattle.trace.specs.Buffers.{CanWrite, watch}
 use Rattle.text_io.specs.declared.buffer.Buffered.{Buffered}
 use Rattle.live.specs.Output.{AreAnswered, AnswersLines, LinesRemain, through}
 use Rattle.live.specs.PartialLine.{ended_with, whole_with, IsUnended}
-use Rattle.live_answers.specs.Asked.{Asked, asked_by, asked_in, asked_by_all}
-use Rattle.live_answers.specs.Answers.{Answer, Answers}
-use Rattle.live_answers.specs.Moments.{Moment, bssids_at}
-use Rattle.live_answers.specs.MoreAnswers.{MoreAnswers}
-use Rattle.live_answers.specs.TextLines.{TextLine, Octets, TooLong, max_line, line_with, partial_after, lines_in, last_line}
-use Rattle.live_output.specs.declared.face.Face.TheVariants.{Lines}
+use Rattle.live_rules.specs.Asked.{Asked, asked_by, asked_in, asked_by_all}
+use Rattle.live_rules.specs.Answers.{Answer, Answers}
+use Rattle.live_rules.specs.Moments.{Moment, bssids_at}
+use Rattle.live_rules.specs.MoreAnswers.{MoreAnswers}
+use Rattle.live_rules.specs.TextLines.{TextLine, Octets, TooLong, max_line, line_with, partial_after, lines_in, last_line}
+use Rattle.live.specs.declared.face.Face.TheVariants.{Lines}
 use Rattle.live.proofs.AnswerSteps.{answered-none, answered-then}
 use Rattle.live.proofs.PartialSteps.{long-on, partial-over, partial-on, first-line, first-partial, no-line}
 

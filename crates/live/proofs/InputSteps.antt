@@ -1,50 +1,31 @@
 -- What is said in an input that comes in pieces, in either face.
-use Rattle.std.proofs.Common.{◌≡◌, ℕ, List, [], ◌++◌, Option, Result, refl, sym, ap, subst, ◌∙◌}
+use Rattle.std.proofs.Common.{◌≡◌, ℕ, List, [], ◌++◌, refl, sym, ap, subst, ◌∙◌}
 use Rattle.std.proofs.lemmas.List.{map-append}
-use Rattle.live_answers.specs.Asked.{Asked, asked_by, asked_by_all}
-use Rattle.text_io.specs.declared.sink.Failed.{Failed}
-use Rattle.live_answers.specs.Answers.{Answers}
-use Rattle.live.specs.LiveView.{Finishes, Takes, TakesEnd, TakesPiece, fed, running, state}
-use Rattle.live_answers.specs.Moments.{Moment}
-use Rattle.live.specs.Inputs.{partial_line, empty_partial, face_of, IsUnfinished, IsSaidIn, last_said, IsSaid, IsAllSaid, saying}
-use Rattle.live_answers.specs.Records.{record_asks, records_ask, cut_record}
-use Rattle.live_answers.specs.TextLines.{ended_lines, partial_in, lines_in, last_line}
+use Rattle.live_rules.specs.Asked.{Asked, asked_by, asked_by_all}
+use Rattle.live.specs.Inputs.{IsAllSaid, IsPartialIn, IsSaid, IsSaidIn, IsUnfinished, Saying, empty_partial, face_of, last_said, saying}
+use Rattle.live_rules.specs.Records.{record_asks, records_ask, cut_record}
+use Rattle.live_rules.specs.TextLines.{ended_lines, partial_in, lines_in, last_line}
 use Rattle.live.specs.declared.partial_input.PartialInput.{PartialInput}
 use Rattle.live.specs.declared.partial_input.PartialInput.TheVariants.{Line, Record}
-use Rattle.live_output.specs.declared.face.Face.{Face}
-use Rattle.live_output.specs.declared.face.Face.TheVariants.{Lines, Records}
+use Rattle.live.specs.declared.face.Face.{Face}
+use Rattle.live.specs.declared.face.Face.TheVariants.{Lines, Records}
 use Rattle.live.proofs.Pieces.{InPieces, LastLine}
 
--- ---- in the face of lines
+-- ---- the face in which it comes
 
-pub line-unfinished : (partial : PartialInput) → partial ≡ Line (partial_line partial) → IsUnfinished partial
-line-unfinished (Line partial) is = tt
-line-unfinished (Record partial) is = absurd cc
+pub empty-in : (face : Face) → IsPartialIn face (empty_partial face)
+empty-in Lines = record { same = refl; unfinished = tt }
+empty-in Records = record { same = refl; unfinished = tt }
 
-pub lines-take : (r : Result Unit Failed) (piece : List ℕ) (m next : Moment) (partial partial' : PartialInput)
-    (old new : Option (List ℕ)) → partial ≡ Line (partial_line partial)
-    → Takes r piece (running m partial old) (running next partial' new)
-    → (partial' ≡ Line (partial_line partial'))
-    × TakesPiece r piece (fed (state m (partial_line partial)) old) (fed (state next (partial_line partial')) new)
-lines-take r piece m next (Line partial) partial' old new is t = (
-  t.is_said.1 ∙ sym (ap (λ (b : PartialInput). Line (partial_line b)) t.is_said.1),
-  record {
-    answers = t.answers;
-    answered = subst (λ (said : List Asked). Answers m said t.answers next) t.is_said.0 t.answered;
-    partial = ap partial_line t.is_said.1;
-    written = t.written;
-  },
-)
-lines-take r piece m next (Record partial) partial' old new is t = absurd cc
+-- more of it comes in the same face
+pub more-in : (face : Face) (bssids : List (List ℕ)) (partial : PartialInput) (piece : List ℕ) (s : Saying)
+    → IsPartialIn face partial → IsSaidIn bssids partial piece s → IsPartialIn face s.next
+more-in face bssids (Line partial) piece s was h =
+    record { same = ap face_of h.1 ∙ was.same; unfinished = subst IsUnfinished (sym h.1) tt }
+more-in face bssids (Record partial) piece s was h =
+    record { same = ap face_of h.next_is ∙ was.same; unfinished = subst IsUnfinished (sym h.next_is) h.are.rest }
 
-pub lines-finish : (r : Result Unit Failed) (m : Moment) (partial : PartialInput) (old new : Option (List ℕ))
-    → partial ≡ Line (partial_line partial) → Finishes r (running m partial old) new
-    → TakesEnd r (fed (state m (partial_line partial)) old) new
-lines-finish r m (Line partial) old new is t =
-    record { answers = t.answers; last = t.last; answered = t.answered; written = t.written }
-lines-finish r m (Record partial) old new is t = absurd cc
-
--- ---- in either face
+-- ---- what is said
 
 pub said-none : (face : Face) (bssids : List (List ℕ)) → IsSaidIn bssids (empty_partial face) [] (saying [] (empty_partial face))
 said-none Lines bssids = (refl, refl)
@@ -102,11 +83,6 @@ said-all last Records bssids input said partial h = record {
       ap (λ (b : PartialInput). said ++ last_said bssids b) h.next_is
       ∙ ap (λ (s : List Asked). s ++ cut_record h.rest) h.ask;
 }
-
-pub said-unfinished : (face : Face) (bssids : List (List ℕ)) (input : List ℕ) (said : List Asked) (partial : PartialInput)
-    → IsSaidIn bssids (empty_partial face) input (saying said partial) → IsUnfinished partial
-said-unfinished Lines bssids input said partial h = subst IsUnfinished (sym h.1) tt
-said-unfinished Records bssids input said partial h = subst IsUnfinished (sym h.next_is) h.are.rest
 
 pub said-face : (face : Face) (bssids : List (List ℕ)) (input : List ℕ) (said : List Asked) (partial : PartialInput)
     → IsSaidIn bssids (empty_partial face) input (saying said partial) → face_of partial ≡ face

@@ -1,3 +1,6 @@
+pub mod LentFrames
+pub mod NoticeSteps
+pub mod TableTexts
 pub mod MoreWritten
 pub mod Pieces
 pub mod Rows
@@ -7,6 +10,7 @@ pub mod AnswerSteps
 pub mod FeedSteps
 pub mod RecordSteps
 pub mod InputSteps
+pub mod Flushed
 pub mod RunSteps
 pub mod RunEnds
 pub mod BeforeReads

@@ -1,11 +1,11 @@
 -- What is written of answers, and then of others.
 use Rattle.std.proofs.Common.{◌≡◌, ℕ, ◌+◌, List, [], ◌∷◌, ◌++◌, length, sym, ap, ◌∙◌, arith, append_assoc}
-use Rattle.live_answers.specs.Asked.{Asked}
-use Rattle.live_answers.specs.Moments.{Moment, bssids_at}
-use Rattle.live_answers.specs.Answers.{Answer, Answers}
-use Rattle.live_answers.specs.MoreAnswers.{MoreAnswers}
-use Rattle.live_output.specs.Written.{written_answer, written_answers, written_after}
-use Rattle.live_output.specs.declared.face.Face.{Face}
+use Rattle.live_rules.specs.Asked.{Asked}
+use Rattle.live_rules.specs.Moments.{Moment, bssids_at}
+use Rattle.live_rules.specs.Answers.{Answer, Answers}
+use Rattle.live_rules.specs.MoreAnswers.{MoreAnswers}
+use Rattle.live.specs.Written.{written_answer, written_answers, written_after}
+use Rattle.live.specs.declared.face.Face.{Face}
 
 texts-append : (face : Face) (bssids : List (List ℕ)) (number : ℕ) (some others : List Answer)
     → written_answers face bssids number (some ++ others)

@@ -8,8 +8,8 @@ use Rattle.trace.specs.Texts.{LacksLineFeed, ended}
 use Rattle.trace.specs.LineLaws.{whole_lines_line, unfinished_line_line, whole_lines_none, unfinished_line_none}
 use Rattle.trace.specs.Pieces.{whole_lines}
 use Rattle.live.specs.PartialLine.{ended_with, IsUnended}
-use Rattle.live_answers.specs.TextLines.{TextLine, Octets, TooLong, max_line, line_with, partial_with, partial_in, lines_in}
-use Rattle.live_answers.specs.TextLines.{with_first_too_long, unless_ended, partial_after}
+use Rattle.live_rules.specs.TextLines.{TextLine, Octets, TooLong, max_line, line_with, partial_with, partial_in, lines_in}
+use Rattle.live_rules.specs.TextLines.{with_first_too_long, unless_ended, partial_after}
 
 pub lacks-both : (some others : List ℕ) → LacksLineFeed some → LacksLineFeed others → LacksLineFeed (some ++ others)
 lacks-both some others h k = All-append (λ octet. octet ≡ 10 → ⊥) some others h k

@@ -1,7 +1,7 @@
 -- What the laws of pieces say, as the lemmas of an input take it.
 use Rattle.std.proofs.Common.{◌≡◌, ℕ, List, ◌++◌}
-use Rattle.live_answers.specs.Records.{AreRecords}
-use Rattle.live_answers.specs.TextLines.{lines_of_text, ended_lines, partial_in, lines_in, partial_after, last_line}
+use Rattle.live_rules.specs.Records.{AreRecords}
+use Rattle.live_rules.specs.TextLines.{lines_of_text, ended_lines, partial_in, lines_in, partial_after, last_line}
 
 -- a text, or records, and a piece more
 pub record InPieces : Type 0 where

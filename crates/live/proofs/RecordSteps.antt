@@ -6,12 +6,12 @@ use Rattle.std.proofs.lemmas.List.{map-append, nil_from_length}
 use Rattle.std.proofs.lemmas.List.Concat.{flat_map-append}
 use Rattle.trace.specs.Buffers.{CanWrite, watch}
 use Rattle.text_io.specs.declared.buffer.Buffered.{Buffered}
-use Rattle.live_answers.specs.Asked.{Asked}
-use Rattle.live_answers.specs.Moments.{Moment, bssids_at}
-use Rattle.live_answers.specs.MoreAnswers.{MoreAnswers}
+use Rattle.live_rules.specs.Asked.{Asked}
+use Rattle.live_rules.specs.Moments.{Moment, bssids_at}
+use Rattle.live_rules.specs.MoreAnswers.{MoreAnswers}
 use Rattle.live.specs.Output.{AnswersRecords, AreAnswered, through, waiting}
-use Rattle.live_answers.specs.Records.{IsPartialRecord, IsRecord, all_octets, record_asks, records_ask}
-use Rattle.live_output.specs.declared.face.Face.TheVariants.{Records}
+use Rattle.live_rules.specs.Records.{IsPartialRecord, IsRecord, all_octets, record_asks, records_ask}
+use Rattle.live.specs.declared.face.Face.TheVariants.{Records}
 use Rattle.live.proofs.AnswerSteps.{answered-none, answered-then}
 
 -- a list in two parts

@@ -13,12 +13,12 @@ use Rattle.trace.specs.Buffers.{CanWrite, Puts, Watch}
 use Rattle.text_io.specs.declared.buffer.Buffered.{Buffered}
 use Rattle.trace.specs.BufferLaws.{Puts-then, Puts-nothing}
 use Rattle.access_point.specs.Takes.{Takes, TakesIf, change, dispatch}
-use Rattle.live_answers.specs.Answers.{MayReplyFrom, after_line_from}
-use Rattle.live_answers.specs.Dispatch.{event_at}
-use Rattle.live_answers.specs.Moments.{Reply, Sends, Refuses, is_past_clock, sending, MayReply, MayReplyIf, taken_if, after_if, bssid_of}
+use Rattle.live_rules.specs.Answers.{MayReplyFrom, after_line_from}
+use Rattle.live_rules.specs.Dispatch.{event_at}
+use Rattle.live_rules.specs.Moments.{Reply, Sends, Refuses, is_past_clock, sending, MayReply, MayReplyIf, taken_if, after_if, bssid_of}
 use Rattle.live.specs.Output.{HasReplied, Through, through}
-use Rattle.live_output.specs.Written.{written_reply_if, written_replies}
-use Rattle.live_output.specs.declared.face.Face.{Face}
+use Rattle.live.specs.Written.{written_reply_if, written_replies}
+use Rattle.live.specs.declared.face.Face.{Face}
 
 -- a beacon interval is to begin that the clock can't count
 abbrev pub IsPast : NetworkState → Event → Type 0

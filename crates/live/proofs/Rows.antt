@@ -14,15 +14,15 @@ use Rattle.network.specs.declared.network.NetworkRefusal.TheVariants.{NoMemory, 
 use Rattle.ap_config.specs.Samples.{network, radio, setting}
 use Rattle.trace.specs.Report.{network_line, counts_line, station_line, frame_line}
 use Rattle.trace.specs.declared.fault.LineFault.TheVariants.{UnknownKind, UnknownNetwork}
-use Rattle.live_answers.specs.TextLines.{Octets, TooLong, line_with, lines_of_text, partial_in, lines_in, partial_after, last_line}
-use Rattle.live_answers.specs.Moments.{Moment, first_moment, Sends, Refuses, is_past_clock, reply_of, taken_if, after_if}
-use Rattle.live_answers.specs.Asked.{HasFault, ForTables, Brings, Says, asked_by}
-use Rattle.live_answers.specs.Answers.{Answer, Faulty, Replies, Tables, after_answer}
-use Rattle.live_answers.specs.AnswerText.{table_text}
-use Rattle.live_output.specs.AnswerOctets.{record_of, told}
-use Rattle.live_answers.specs.Records.{record_asks, record_len}
-use Rattle.live_output.specs.Written.{written_answer, written_count, live_text}
-use Rattle.live_output.specs.declared.face.Face.TheVariants.{Lines, Records}
+use Rattle.live_rules.specs.TextLines.{Octets, TooLong, line_with, lines_of_text, partial_in, lines_in, partial_after, last_line}
+use Rattle.live_rules.specs.Moments.{Moment, first_moment, Sends, Refuses, is_past_clock, reply_of, taken_if, after_if}
+use Rattle.live_rules.specs.Asked.{HasFault, ForTables, Brings, Says, asked_by}
+use Rattle.live_rules.specs.Answers.{Answer, Faulty, Replies, Tables, after_answer}
+use Rattle.live_rules.specs.AnswerText.{table_text}
+use Rattle.live.specs.AnswerOctets.{record_of, told}
+use Rattle.live_rules.specs.Records.{record_asks, record_len}
+use Rattle.live.specs.Written.{written_answer, written_count, live_text}
+use Rattle.live.specs.declared.face.Face.TheVariants.{Lines, Records}
 
 abbrev cr : List ℕ
 cr = 13 ∷ []

@@ -14,21 +14,21 @@ use Rattle.text_io.specs.declared.read_fault.ReadFault.TheVariants as reads
 use Rattle.text_io.specs.declared.report_fault.ReportFault.{ReportFault}
 use Rattle.text_io.specs.declared.report_fault.ReportFault.TheVariants as reports
 use Rattle.text_io.specs.declared.sink.Failed.{Failed}
-use Rattle.live_answers.specs.Answers.{Answer, Answers, answers_of}
-use Rattle.live_answers.specs.Asked.{Asked}
+use Rattle.live_rules.specs.Answers.{Answer, Answers, answers_of}
+use Rattle.live_rules.specs.Asked.{Asked}
 use Rattle.live.specs.Inputs.{IsAllSaid, IsSaidIn, face_of, last_said, empty_partial, saying}
-use Rattle.live.specs.LiveView.{Finishes, running}
-use Rattle.live_answers.specs.Moments.{Moment, first_moment, bssids_at}
-use Rattle.live_answers.specs.MoreAnswers.{MoreAnswers}
+use Rattle.live.specs.LiveView.{Finishes, Reached, reached, running}
+use Rattle.live_rules.specs.Moments.{Moment, first_moment, bssids_at}
+use Rattle.live_rules.specs.MoreAnswers.{MoreAnswers}
 use Rattle.live.specs.Run.{AnswersAll, AnswersInput, Runs, StopsInPiece, StopsReading, Texts, Progress, progress, live_ending, setup}
 use Rattle.live.specs.Run.{max_reads, setup}
-use Rattle.live_output.specs.Written.{written_after, written_count, written_tables}
+use Rattle.live.specs.Written.{written_after, written_count, written_tables}
 use Rattle.live.specs.declared.partial_input.PartialInput.{PartialInput}
-use Rattle.live_output.specs.declared.face.Face.{Face}
-use Rattle.live_output.specs.declared.face.Face.TheVariants.{Lines, Records}
+use Rattle.live.specs.declared.face.Face.{Face}
+use Rattle.live.specs.declared.face.Face.TheVariants.{Lines, Records}
 use Rattle.live.specs.declared.fault.LiveFault.{LiveFault}
 use Rattle.live.specs.declared.fault.LiveFault.TheVariants.{Config, NoMemory, Read, Write}
-use Rattle.live.proofs.InputSteps.{said-none, said-all, said-ended, said-face}
+use Rattle.live.proofs.InputSteps.{empty-in, said-all, said-ended, said-face, said-none}
 use Rattle.live.proofs.MoreWritten.{texts-join}
 use Rattle.live.proofs.Pieces.{LastLine}
 use Rattle.live.proofs.RunSteps.{counted-none, prefix-after, prefix-longer}
@@ -81,7 +81,7 @@ config-runs face reads.NoMemory ct source sink h = memory-runs face ct source si
 
 -- before anything is said
 abbrev pub first : Face → RadioConfig → Streams → Progress
-first face c streams = progress (first_moment c) (empty_partial face) streams
+first face c streams = progress (reached (first_moment c) (empty_partial face)) streams
 
 -- what is to be written, where these are the answers
 abbrev pub whole : Face → RadioConfig → List Answer → Moment → List ℕ
@@ -215,7 +215,7 @@ stops-reading face c ct input old mid new is count s =
 pub input-runs : EndLaws → (face : Face) (e : LiveFault) (c : RadioConfig) (ct : List ℕ) (old : SinkView) (mid new : Streams)
     (moment : Moment) (partial : PartialInput) → configuration_of ct ≡ Ok c
     → Appends old.taken mid.sink.taken (written_count face (length c.networks))
-    → AnswersInput face (Err e) (first face c mid) (progress moment partial new)
+    → AnswersInput face (Err e) (first face c mid) (progress (reached moment partial) new)
     → Runs (setup face ct) (Err e) (both mid.source old) new
 input-runs laws face Read c ct old mid new moment partial is count s = record {
   input = s.input;
@@ -255,7 +255,7 @@ input-runs laws face Write c ct old mid new moment partial is count s =
             (written_after face moment more ++ written_tables face rest.0.networks)
             (prefix-after (written_count face (length c.networks)) (written_after face (first_moment c) s.answers) count
             s.written));
-        stops = inr (stops-reading face c ct s.input old mid (progress moment partial new) is count (s.stops refl));
+        stops = inr (stops-reading face c ct s.input old mid (progress (reached moment partial) new) is count (s.stops refl));
       };
     }
 input-runs laws face NoMemory c ct old mid new moment partial is count s = absurd s.written
@@ -265,7 +265,7 @@ input-runs laws face (Config fault) c ct old mid new moment partial is count s =
 
 -- the end is written in the face of the partial line or record
 end-in : (face : Face) (r : Result Unit Failed) (moment : Moment) (partial : PartialInput) (old new : Option (List ℕ))
-    → face_of partial ≡ face → Finishes r (running moment partial old) new
+    → face_of partial ≡ face → Finishes r (running (reached moment partial) old) new
     → (answers : List Answer) × (last : Moment) × Answers moment (last_said (bssids_at moment) partial) answers last
     × Ends (ending_of write_ending r) (Ok (written_after face moment answers ++ written_tables face last.networks)) old new
 end-in face r moment partial old new same t = (
@@ -281,8 +281,8 @@ end-in face r moment partial old new same t = (
 pub end-runs : EndLaws → (face : Face) (e : Failed) (u : Unit {0}) (c : RadioConfig) (ct : List ℕ) (old : SinkView)
     (mid read : Streams) (new : SinkView) (moment : Moment) (partial : PartialInput) → configuration_of ct ≡ Ok c
     → Appends old.taken mid.sink.taken (written_count face (length c.networks))
-    → AnswersInput face (Ok u) (first face c mid) (progress moment partial read)
-    → Finishes (Err e) (running moment partial read.sink.taken) new.taken
+    → AnswersInput face (Ok u) (first face c mid) (progress (reached moment partial) read)
+    → Finishes (Err e) (running (reached moment partial) read.sink.taken) new.taken
     → Runs (setup face ct) (Err Write) (both mid.source old) (both read.source new)
 end-runs laws face e u c ct old mid read new moment partial is count s finished =
     let same : face_of partial ≡ face = said-face face (bssids_at (first_moment c)) s.input s.said partial s.is_said in
@@ -311,7 +311,7 @@ end-runs laws face e u c ct old mid read new moment partial is count s finished 
             part);
         stops =
             inr
-            (stops-reading face c ct s.input old mid (progress moment partial (both read.source new)) is count
+            (stops-reading face c ct s.input old mid (progress (reached moment partial) (both read.source new)) is count
             (record {
               before = s.input;
               piece = [];
@@ -333,8 +333,8 @@ end-runs laws face e u c ct old mid read new moment partial is count s finished 
 pub whole-runs : EndLaws → (face : Face) (u v w : Unit {0}) (c : RadioConfig) (ct : List ℕ) (old : SinkView)
     (mid read : Streams) (new : SinkView) (moment : Moment) (partial : PartialInput) → configuration_of ct ≡ Ok c
     → Appends old.taken mid.sink.taken (written_count face (length c.networks))
-    → AnswersInput face (Ok u) (first face c mid) (progress moment partial read)
-    → Finishes (Ok v) (running moment partial read.sink.taken) new.taken
+    → AnswersInput face (Ok u) (first face c mid) (progress (reached moment partial) read)
+    → Finishes (Ok v) (running (reached moment partial) read.sink.taken) new.taken
     → Runs (setup face ct) (Ok w) (both mid.source old) (both read.source new)
 whole-runs laws face u v w c ct old mid read new moment partial is count s finished =
     let same : face_of partial ≡ face = said-face face (bssids_at (first_moment c)) s.input s.said partial s.is_said in
@@ -360,22 +360,19 @@ whole-runs laws face u v w c ct old mid read new moment partial is count s finis
 
 -- ---- as the call has it
 
-face-same : (face : Face) → face_of (empty_partial face) ≡ face
-face-same Lines = refl
-face-same Records = refl
-
-pub from-first : (face : Face) (r : Result Unit LiveFault) (c : RadioConfig) (moment : Moment) (partial : PartialInput)
-    (mid : Streams) (end : Progress) → moment ≡ first_moment c → partial ≡ empty_partial face
-    → AnswersInput (face_of partial) r (progress moment partial mid) end → AnswersInput face r (first face c mid) end
-from-first face r c moment partial mid end at is s =
-    subst (λ (f : Face). AnswersInput f r (first face c mid) end) (face-same face)
-    (subst (λ (b : PartialInput). AnswersInput (face_of b) r (progress (first_moment c) b mid) end) is
-    (subst (λ (m : Moment). AnswersInput (face_of partial) r (progress m partial mid) end) at s))
+pub from-first : (face : Face) (r : Result Unit LiveFault) (c : RadioConfig) (live : Reached) (mid : Streams) (end : Progress)
+    → live ≡ reached (first_moment c) (empty_partial face) → AnswersInput (face_of live.partial) r (progress live mid) end
+    → AnswersInput face r (first face c mid) end
+from-first face r c live mid end is s =
+    subst (λ (f : Face). AnswersInput f r (first face c mid) end) (empty-in face).same
+    (subst (λ (l : Reached). AnswersInput (face_of l.partial) r (progress l mid) end) is s)
 
 -- it begins with nothing
-pub begins-so : (face : Face) (partial : PartialInput) → partial ≡ empty_partial face → partial ≡ empty_partial (face_of partial)
-begins-so face partial is =
-    is ∙ ap empty_partial (sym (face-same face)) ∙ ap (λ (b : PartialInput). empty_partial (face_of b)) (sym is)
+pub begins-so : (face : Face) (m : Moment) (live : Reached) → live ≡ reached m (empty_partial face)
+    → live.partial ≡ empty_partial (face_of live.partial)
+begins-so face m live is =
+    let none : live.partial ≡ empty_partial face = ap (λ (l : Reached). l.partial) is in
+    none ∙ ap empty_partial (sym (empty-in face).same) ∙ ap (λ (b : PartialInput). empty_partial (face_of b)) (sym none)
 
 pub counted : (face : Face) (count : ℕ) (c : RadioConfig) (old new : Option (List ℕ)) → count ≡ length c.networks
     → Appends old new (written_count face count) → Appends old new (written_count face (length c.networks))

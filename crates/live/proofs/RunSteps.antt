@@ -7,16 +7,16 @@ use Rattle.std.specs.Io.KnownBytes.{Appends, Consumes}
 use Rattle.trace.specs.Endings.{AppendsPrefix}
 use Rattle.trace.specs.Streams.{reads_after}
 use Rattle.text_io.specs.declared.sink.Failed.{Failed}
-use Rattle.live_answers.specs.Answers.{Answer, Answers}
-use Rattle.live_answers.specs.Asked.{Asked}
+use Rattle.live_rules.specs.Answers.{Answer, Answers}
+use Rattle.live_rules.specs.Asked.{Asked}
 use Rattle.live.specs.Inputs.{IsSaidIn, face_of, empty_partial, saying}
-use Rattle.live.specs.LiveView.{Takes, running}
-use Rattle.live_answers.specs.Moments.{Moment, bssids_at}
-use Rattle.live_answers.specs.MoreAnswers.{MoreAnswers}
+use Rattle.live.specs.LiveView.{Takes, reached, running}
+use Rattle.live_rules.specs.Moments.{Moment, bssids_at}
+use Rattle.live_rules.specs.MoreAnswers.{MoreAnswers}
 use Rattle.live.specs.Run.{AllAnswered, AnswersInput, Progress, max_reads}
-use Rattle.live_output.specs.Written.{written_after}
+use Rattle.live.specs.Written.{written_after}
 use Rattle.live.specs.declared.partial_input.PartialInput.{PartialInput}
-use Rattle.live_output.specs.declared.face.Face.{Face}
+use Rattle.live.specs.declared.face.Face.{Face}
 use Rattle.live.specs.declared.fault.LiveFault.TheVariants.{Write}
 use Rattle.live.proofs.InputSteps.{said-none, said-more, said-ended, said-face}
 use Rattle.live.proofs.MoreWritten.{texts-join}
@@ -125,8 +125,8 @@ piece-said laws pieces face m between input piece said more some mid next h is k
 pub input-more : MoreAnswers → InPieces → (face : Face) (count : ℕ) (old mid new : Progress) (piece : List ℕ) (u : Unit {0})
     → InputSoFar face count old mid → Consumes mid.streams.source.left new.streams.source.left piece
     → new.streams.source.reads ≡ reads_after mid.streams.source.reads 1 → length piece ≤ 4096
-    → Takes (Ok u) piece (running mid.moment mid.partial mid.streams.sink.taken)
-    (running new.moment new.partial new.streams.sink.taken)
+    → Takes (Ok u) piece (running (reached mid.moment mid.partial) mid.streams.sink.taken)
+    (running (reached new.moment new.partial) new.streams.sink.taken)
     → new.moment.lines ≤ mid.moment.lines + length piece → InputSoFar face (count + 1) old new
 input-more laws pieces face count old mid new piece u s took one few t lines =
     let same : face_of mid.partial ≡ face =
@@ -160,8 +160,8 @@ pub input-cut : MoreAnswers → InPieces → (face : Face) (count : ℕ) (old mi
     → Consumes mid.streams.source.left new.streams.source.left piece
     → new.streams.source.reads ≡ reads_after mid.streams.source.reads 1
     → new.streams.source.failed ≡ old.streams.source.failed → length piece ≤ 4096
-    → Takes (Err e) piece (running mid.moment mid.partial mid.streams.sink.taken)
-    (running new.moment new.partial new.streams.sink.taken)
+    → Takes (Err e) piece (running (reached mid.moment mid.partial) mid.streams.sink.taken)
+    (running (reached new.moment new.partial) new.streams.sink.taken)
     → AnswersInput face (Err Write) old new
 input-cut laws pieces face count old mid new piece e s within took one same short t =
     let known : face_of mid.partial ≡ face =

@@ -1,12 +1,12 @@
 -- What comes in, in either face, cut anywhere: what is said in it, and the partial line or record at its end.
 use Rattle.std.specs.Prelude.{◌≡◌, ℕ, List, [], ◌++◌}
-use Rattle.live_answers.specs.Asked.{Asked, asked_by_all}
-use Rattle.live_answers.specs.Records.{AreRecords, IsPartialRecord, records_ask, cut_record}
-use Rattle.live_answers.specs.TextLines.{TextLine, Octets, ended_lines, lines_of_text, partial_after, last_line, lines_in}
+use Rattle.live_rules.specs.Asked.{Asked, asked_by_all}
+use Rattle.live_rules.specs.Records.{AreRecords, IsPartialRecord, records_ask, cut_record}
+use Rattle.live_rules.specs.TextLines.{TextLine, Octets, ended_lines, lines_of_text, partial_after, last_line, lines_in}
 use Rattle.live.specs.declared.partial_input.PartialInput.{PartialInput}
 use Rattle.live.specs.declared.partial_input.PartialInput.TheVariants.{Line, Record}
-use Rattle.live_output.specs.declared.face.Face.{Face}
-use Rattle.live_output.specs.declared.face.Face.TheVariants.{Lines, Records}
+use Rattle.live.specs.declared.face.Face.{Face}
+use Rattle.live.specs.declared.face.Face.TheVariants.{Lines, Records}
 
 -- ---- pieces
 
@@ -20,25 +20,15 @@ abbrev pub face_of : PartialInput → Face
 face_of (Line partial) = Lines
 face_of (Record partial) = Records
 
--- the partial line, where lines come in; the octets of a partial record are as a line's
-abbrev pub partial_line : PartialInput → TextLine
-partial_line (Line partial) = partial
-partial_line (Record partial) = Octets partial
-
--- the octets of the partial record, where records come in
-abbrev pub partial_record : PartialInput → List ℕ
-partial_record (Line partial) = []
-partial_record (Record partial) = partial
-
--- it is a record, less than a whole one
-pub record IsPartOfRecord (partial : PartialInput) : Type 0 where
-  pub is : partial ≡ Record (partial_record partial)
-  pub is_partial : IsPartialRecord (partial_record partial)
-
 -- where it is a record, it is less than a whole one
 abbrev pub IsUnfinished : PartialInput → Type 0
 IsUnfinished (Line partial) = Unit {0}
 IsUnfinished (Record partial) = IsPartialRecord partial
+
+-- it came in this face, and a record is less than a whole one
+pub record IsPartialIn (face : Face) (partial : PartialInput) : Type 0 where
+  pub same : face_of partial ≡ face
+  pub unfinished : IsUnfinished partial
 
 -- what is said in a piece, and the partial line or record after it
 pub record Saying : Type 0 where

@@ -1,8 +1,11 @@
+pub mod AnswerOctets
+pub mod Frames
+pub mod Written
 pub mod PartialLine
 pub mod Readings
-pub mod Output
 pub mod Networks
 pub mod Inputs
 pub mod LiveView
+pub mod Output
 pub mod Run
 pub mod BeforeReads

@@ -7,16 +7,16 @@ use Rattle.events.specs.declared.line.Line.{Line}
 use Rattle.trace.specs.Buffers.{CanWrite, Puts, Watch, watch}
 use Rattle.text_io.specs.declared.buffer.Buffered.{Buffered}
 use Rattle.access_point.specs.Takes.{Change}
-use Rattle.live_answers.specs.Answers.{Answer, Answers, MayReplyFrom, after_line_from}
-use Rattle.live_answers.specs.Moments.{Moment, Reply, MayReply, taken_if, after_if, bssid_of, bssids_at}
-use Rattle.live_answers.specs.Asked.{Asked, asked_in}
+use Rattle.live_rules.specs.Answers.{Answer, Answers, MayReplyFrom, after_line_from}
+use Rattle.live_rules.specs.Moments.{Moment, Reply, MayReply, taken_if, after_if, bssid_of, bssids_at}
+use Rattle.live_rules.specs.Asked.{Asked, asked_in}
 use Rattle.live.specs.Inputs.{IsSaidIn, saying}
-use Rattle.live_answers.specs.TextLines.{TextLine, lines_in, partial_after}
-use Rattle.live_answers.specs.Records.{IsPartialRecord, IsRecord, all_octets, records_ask}
-use Rattle.live_output.specs.Written.{written_reply, written_replies, written_after}
-use Rattle.live.specs.declared.partial_input.PartialInput.{PartialInput}
-use Rattle.live_output.specs.declared.face.Face.{Face}
-use Rattle.live_output.specs.declared.face.Face.TheVariants.{Lines}
+use Rattle.live.specs.LiveView.{Reached}
+use Rattle.live_rules.specs.TextLines.{TextLine, lines_in, partial_after}
+use Rattle.live_rules.specs.Records.{IsPartialRecord, IsRecord, all_octets, records_ask}
+use Rattle.live.specs.Written.{written_reply, written_replies, written_after}
+use Rattle.live.specs.declared.face.Face.{Face}
+use Rattle.live.specs.declared.face.Face.TheVariants.{Lines}
 
 -- ---- a call that puts what it answers
 
@@ -58,15 +58,6 @@ pub record AreAnswered {W : Type 0} (o : Through W) (m next : Moment) (said : Li
   pub answers : List Answer
   pub answered : Answers m said answers next
   pub puts : PutsThrough o (written_after o.face m answers)
-
--- the moment after what has ended, and the partial line or record after it
-pub record Reached : Type 0 where
-  pub moment : Moment
-  pub partial : PartialInput
-
--- at this moment, with this partial line or record
-abbrev pub reached : Moment → PartialInput → Reached
-reached moment partial = record { moment = moment; partial = partial }
 
 -- What is said by a partial line or record and a piece was answered.
 pub record AnswersPiece {W : Type 0} (o : Through W) (old new : Reached) (piece : List ℕ) : Type 0 where

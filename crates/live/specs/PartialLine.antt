@@ -2,7 +2,7 @@
 use Rattle.std.specs.Prelude.{ℕ, List, ◌++◌, Option, Some, None}
 use Rattle.std.specs.Str.Lines.{strip_carriage_return}
 use Rattle.trace.specs.Texts.{LacksLineFeed}
-use Rattle.live_answers.specs.TextLines.{TextLine, Octets, TooLong, line_with}
+use Rattle.live_rules.specs.TextLines.{TextLine, Octets, TooLong, line_with}
 
 -- a line that ends with these octets and an LF
 abbrev pub ended_with : TextLine → List ℕ → TextLine

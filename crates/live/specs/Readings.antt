@@ -1,7 +1,7 @@
 -- What was read of a line or a record.
 use Rattle.std.specs.Prelude.{◌≡◌, ◌⊎◌, Some, None, Ok, Err}
 use Rattle.events.specs.LentEvents.{line_of}
-use Rattle.live_answers.specs.Asked.{Asked, HasFault, ForTables, Brings, Says}
+use Rattle.live_rules.specs.Asked.{Asked, HasFault, ForTables, Brings, Says}
 use Rattle.live.specs.declared.reading.Reading.{Reading}
 use Rattle.live.specs.declared.reading.Reading.TheVariants as reading
 

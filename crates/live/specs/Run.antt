@@ -5,15 +5,15 @@ use Rattle.ap_config.specs.declared.config.RadioConfig.{RadioConfig}
 use Rattle.trace.specs.ConfigurationText.{configuration_of}
 use Rattle.trace.specs.Endings.{Ending, Refused, ReadFailed, WriteFailed, OutOfMemory, AppendsPrefix, ending_of}
 use Rattle.trace.specs.Streams.{Reads, SinkView, SourceView, Streams, changed}
-use Rattle.live_answers.specs.Answers.{Answer, Answers}
-use Rattle.live_answers.specs.Asked.{Asked}
+use Rattle.live_rules.specs.Answers.{Answer, Answers}
+use Rattle.live_rules.specs.Asked.{Asked}
 use Rattle.live.specs.Inputs.{IsSaid, IsAllSaid, IsSaidIn, face_of, empty_partial, saying}
-use Rattle.live_answers.specs.Moments.{Moment, first_moment, bssids_at}
-use Rattle.live_output.specs.Written.{written_count, written_after, written_tables}
+use Rattle.live.specs.LiveView.{Reached, reached}
+use Rattle.live_rules.specs.Moments.{Moment, first_moment, bssids_at}
+use Rattle.live.specs.Written.{written_count, written_after, written_tables}
 use Rattle.live.specs.declared.partial_input.PartialInput.{PartialInput}
 use Rattle.live.specs.declared.partial_input.PartialInput.TheVariants.{Record}
-use Rattle.live_output.specs.declared.face.Face.{Face}
-use Rattle.live_output.specs.declared.face.Face.TheVariants.{Lines, Records}
+use Rattle.live.specs.declared.face.Face.{Face}
 use Rattle.live.specs.declared.fault.LiveFault.{LiveFault}
 use Rattle.live.specs.declared.fault.LiveFault.TheVariants.{Config, NoMemory, Read, Write}
 
@@ -52,9 +52,9 @@ pub record Progress : Type 0 where
   pub partial : PartialInput
   pub streams : Streams
 
--- at this moment, with this partial line or record, where the streams stand so
-abbrev pub progress : Moment → PartialInput → Streams → Progress
-progress moment partial streams = record { moment = moment; partial = partial; streams = streams }
+-- there, where the streams stand so
+abbrev pub progress : Reached → Streams → Progress
+progress live streams = record { moment = live.moment; partial = live.partial; streams = streams }
 
 -- The sink has taken, since then, the answers to all that ended in what was read of the source.
 pub record AllAnswered (first : Progress) (left taken : Option (List ℕ)) : Type 0 where
@@ -69,7 +69,7 @@ pub record AllAnswered (first : Progress) (left taken : Option (List ℕ)) : Typ
 
 -- an access point of no networks, whose input and output aren't known
 abbrev pub unknown : Progress
-unknown = progress (record { lines = 0; networks = [] }) (Record []) (streams (seen None 0 0) None 0)
+unknown = progress (reached (record { lines = 0; networks = [] }) (Record [])) (streams (seen None 0 0) None 0)
 
 -- A write failed, and reading stopped there: what was read are octets, the answers to what is said in which were
 -- written whole, and a piece of at most 4,096 octets.
@@ -193,11 +193,3 @@ pub record Runs (setup : Setup) (result : Result Unit LiveFault) (old new : Stre
   pub input : List ℕ
   pub reads : Reads (ending_of live_ending result) max_reads (changed old.source new.source) input
   pub end : EndsLive result (record { setup = setup; input = input }) old new
-
--- in the face of lines
-abbrev pub RunsLive : Result Unit LiveFault → List ℕ → Streams → Streams → Type 0
-RunsLive result config_text old new = Runs (setup Lines config_text) result old new
-
--- in the face of records
-abbrev pub RunsOctets : Result Unit LiveFault → List ℕ → Streams → Streams → Type 0
-RunsOctets result config_text old new = Runs (setup Records config_text) result old new

@@ -1,16 +1,16 @@
 //! What follows from the definitions, for whoever stands on them.
 
 ghost use Rattle.std.specs.Prelude.{◌≡◌, ◌++◌, List, Result};
-ghost use Rattle.live_answers.specs.Answers.{Answer, Answers, Begins, in_two};
-ghost use Rattle.live_answers.specs.Asked.{Asked};
-ghost use Rattle.live_answers.specs.Moments.{Moment};
+ghost use Rattle.live_rules.specs.Answers.{Answer, Answers, Begins, in_two};
+ghost use Rattle.live_rules.specs.Asked.{Asked};
+ghost use Rattle.live_rules.specs.Moments.{Moment};
 ghost use Rattle.live.specs.BeforeReads.{FailsAtRead, HasAnswered, RunStreams};
 ghost use Rattle.live.specs.Run.{Setup};
-ghost use Rattle.live_output.specs.Written.{written_after};
-ghost use Rattle.live_output.specs.declared.face.Face.{Face};
+ghost use Rattle.live.specs.Written.{written_after};
+ghost use Rattle.live.specs.declared.face.Face.{Face};
 ghost use Rattle.live.specs.declared.fault.LiveFault.{LiveFault};
 
-use live_answers::answers_to_more;
+use live_rules::answers_to_more;
 
 /// The answers to more that is said begin with the answers to the first of it, so that what holds of all answers holds
 /// after each line and each record; and so does what is written of them, in either face.
@@ -26,7 +26,7 @@ pub fn more_lines()
     answers_to_more();
 }
 
-/// Whatever runs an access point by the clauses of [`live`](crate::live) or [`live_octets`](crate::live_octets) holds no
+/// Whatever runs an access point by the clauses of [`LiveIn::run`](crate::LiveIn::run) holds no
 /// answer back: when it asks the source for more, the sink has taken the number of networks and the answers to all that
 /// ended in what was read before.
 ///

@@ -1,17 +1,17 @@
 //! The access point as it runs: each line or record is answered as it comes, and no history is kept (*profile*).
 //!
 //! It has two faces. In that of lines, frames come and go in digits, in that of records as octets, and all else is the
-//! same. [`live`] and [`live_octets`] run an access point over an input, from the octets of its configuration on: they
-//! promise that the output is the number of networks, the answers to all that is said in the input, in order, and the
-//! tables of the networks; and a prefix of that where a write failed. Where memory runs out after the first read,
-//! nothing ends: the answer says so.
+//! same. [`LiveIn`] is the access point in either face: [`Live`] in lines, [`LiveRecords`] in records.
 //!
-//! [`Live`] is the access point in the face of lines. [`Live::feed`] takes a piece of a text, which may be cut
-//! anywhere, and promises that the sink has gained exactly the answers to the lines that end in it, or, where a write
-//! failed, a prefix of them; [`Live::end`] promises the same of the last line, and of the tables. [`LiveRecords`] is the
-//! access point in the face of records, with the same promises of records.
+//! [`LiveIn::run`] runs it over an input, from the octets of its configuration on: it promises that the output is the
+//! number of networks, the answers to all that is said in the input, in order, and the tables of the networks; and a
+//! prefix of that where a write failed. Where memory runs out after the first read, nothing ends: the answer says so.
 //!
-//! What is answered is said by the definitions of the crate `live_answers`, whose laws speak of what is said, however it
+//! [`LiveIn::feed`] takes a piece of the input, which may be cut anywhere, and promises that the sink has gained exactly
+//! the answers to the lines or records that end in it, or, where a write failed, a prefix of them; [`LiveIn::end`]
+//! promises the same of a last line or record, and of the tables.
+//!
+//! What is answered is said by the definitions of the crate `live_rules`, whose laws speak of what is said, however it
 //! came: [`isolation`] and those beside it, but for [`lines_come_in_pieces`] and [`records_come_in_pieces`], of one face
 //! each. `specs/` says what an input says in either face (`Inputs`), and how answers are written (`AnswerOctets`,
 //! `Written`). The answers to more that is said begin with those to the first of it ([`more_lines`]), and no answer is
@@ -20,13 +20,13 @@
 //! Where the input comes from, and where the answers go, is left to the program.
 #![tactic(auto)]
 
-mod engine;
+mod face;
 mod fault;
 mod laws;
 mod lines;
-mod live_lines;
-mod live_records;
+mod live_in;
 mod networks;
+mod output;
 mod partial;
 mod partial_input;
 mod reading;
@@ -35,12 +35,11 @@ mod records;
 mod reply;
 mod run;
 
+pub use face::{Face, InFace, InLines, InRecords};
 pub use fault::LiveFault;
 pub use laws::{answers_come_before_reads, more_lines};
-pub use live_answers::{
+pub use live_in::{Live, LiveIn, LiveRecords};
+pub use live_rules::{
     as_replayed, either_face, enough_memory, isolation, lines_come_in_pieces,
     records_come_in_pieces, two_inputs,
 };
-pub use live_lines::Live;
-pub use live_records::LiveRecords;
-pub use run::{live, live_octets};

@@ -3,15 +3,15 @@
 ghost use Rattle.std.specs.Prelude.{◌≡◌, ◌<◌, ◌≤◌, ◌+◌, ◌^◌, ◌∷◌, [], length};
 ghost use Rattle.trace.specs.Buffers.{CanWrite, watch};
 ghost use Rattle.trace.specs.Texts.{LacksLineFeed};
-ghost use Rattle.live_answers.specs.Asked.{asked_in};
+ghost use Rattle.live_rules.specs.Asked.{asked_in};
 ghost use Rattle.live.specs.Output.{AnswersLines, AreAnswered, LinesRemain, through};
 ghost use Rattle.live.specs.PartialLine.{IsUnended, ended_with};
-ghost use Rattle.live_answers.specs.TextLines.{Octets, partial_after, last_line, lines_in};
-ghost use Rattle.live_output.specs.declared.face.Face.TheVariants as faces;
+ghost use Rattle.live_rules.specs.TextLines.{Octets, partial_after, last_line, lines_in};
+ghost use Rattle.live.specs.declared.face.Face.TheVariants as faces;
 
 use crate::networks::Networks;
 use crate::partial::{PartialLine, ended_line};
-use live_answers::answers_to_more;
+use live_rules::answers_to_more;
 use std::convert::Infallible;
 use trace::{Buffered, Sink, TakeText, cut_text};
 

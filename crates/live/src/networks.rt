@@ -4,20 +4,21 @@ ghost use Rattle.std.specs.Prelude.{◌≡◌, ◌+◌, ◌<◌, ◌^◌, ◌∷
 ghost use Rattle.std.specs.List.{AllByRecursion};
 ghost use Rattle.ap_config.specs.Configuration.{fault_of};
 ghost use Rattle.trace.specs.Buffers.{CanWrite, Puts, watch};
-ghost use Rattle.live_answers.specs.Asked.{Asked, asked_in};
-ghost use Rattle.live_answers.specs.Moments.{bssids_at, first_moment};
+ghost use Rattle.live_rules.specs.Asked.{Asked, asked_in};
+ghost use Rattle.live_rules.specs.Moments.{bssids_at, first_moment};
 ghost use Rattle.live.specs.Output.{AreAnswered, through};
 ghost use Rattle.live.specs.PartialLine.{line_in};
 ghost use Rattle.live.specs.Readings.{IsReading};
-ghost use Rattle.live_answers.specs.Records.{IsRecord, records_ask};
-ghost use Rattle.live_output.specs.Written.{written_tables};
-ghost use Rattle.live_output.specs.declared.face.Face.TheVariants as faces;
+ghost use Rattle.live_rules.specs.Records.{IsRecord, records_ask};
+ghost use Rattle.live.specs.Written.{written_tables};
+ghost use Rattle.live.specs.declared.face.Face.TheVariants as faces;
 
+use crate::face::Face;
+use crate::output::{put_fault, put_tables};
 use crate::reading::{Reading, read_line, read_record};
 use crate::reply::reply_all;
 use access_point::AccessPoint;
 use ap_config::RadioConfig;
-use live_output::{Face, put_fault, put_tables};
 use mac_frame::NoMemory;
 use network::Network;
 use std::alloc::Global;
@@ -33,7 +34,7 @@ pub struct Networks {
 }
 
 impl Model for Networks {
-    ghost use Rattle.live_answers.specs.Moments.{Moment};
+    ghost use Rattle.live_rules.specs.Moments.{Moment};
     ghost use Rattle.live.specs.Networks.{IsMoment};
 
     ghost Value = { Moment };

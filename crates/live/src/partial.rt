@@ -3,7 +3,7 @@
 ghost use Rattle.std.specs.Prelude.{◌≡◌, ◌↔◌, [], IfOk, IsTrue, option_map};
 ghost use Rattle.trace.specs.Texts.{LacksLineFeed};
 ghost use Rattle.live.specs.PartialLine.{IsUnended, ended_with, line_in, whole_with};
-ghost use Rattle.live_answers.specs.TextLines.{Octets, line_with, partial_after};
+ghost use Rattle.live_rules.specs.TextLines.{Octets, line_with, partial_after};
 
 use mac_frame::NoMemory;
 use std::alloc::Global;
@@ -27,7 +27,7 @@ pub struct PartialLine {
 impl Model for PartialLine {
     ghost use Rattle.std.specs.Prelude.{◌≤◌, length, vec_len, vec_capacity, if◌then◌else◌};
     ghost use Rattle.trace.specs.Texts.{LacksLineFeed};
-    ghost use Rattle.live_answers.specs.TextLines.{TextLine, Octets, TooLong};
+    ghost use Rattle.live_rules.specs.TextLines.{TextLine, Octets, TooLong};
 
     ghost Value = { TextLine };
 

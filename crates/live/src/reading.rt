@@ -2,10 +2,10 @@
 
 ghost use Rattle.std.specs.Prelude.{◌≡◌, ◌&&◌, ◌==◌, Some, codes, length, option_map};
 ghost use Rattle.std.specs.Str.{bytes_eq};
-ghost use Rattle.live_answers.specs.Asked.{asked_by};
+ghost use Rattle.live_rules.specs.Asked.{asked_by};
 ghost use Rattle.live.specs.PartialLine.{line_in};
 ghost use Rattle.live.specs.Readings.{IsReading};
-ghost use Rattle.live_answers.specs.Records.{IsRecord, air_record, kind_asks, nobody, record_asks, wire_record};
+ghost use Rattle.live_rules.specs.Records.{IsRecord, air_record, kind_asks, nobody, record_asks, wire_record};
 
 use crate::record::HEADER_LEN;
 use events::LentLine;

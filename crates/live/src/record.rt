@@ -1,7 +1,7 @@
 //! Records: where one ends, and what came of one that is not whole.
 
 ghost use Rattle.std.specs.Prelude.{◌≡◌, ◌↔◌, ◌+◌, ◌≤◌, ◌++◌, [], length, None, IfOk, IfSome, IsTrue};
-ghost use Rattle.live_answers.specs.Records.{IsPartialRecord, IsRecord, lacking, record_len};
+ghost use Rattle.live_rules.specs.Records.{IsPartialRecord, IsRecord, lacking, record_len};
 
 use mac_frame::NoMemory;
 use std::alloc::Global;

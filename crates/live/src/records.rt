@@ -3,14 +3,14 @@
 ghost use Rattle.std.specs.Prelude.{◌≡◌, ◌<◌, ◌≤◌, ◌+◌, ◌^◌, [], length};
 ghost use Rattle.trace.specs.Buffers.{CanWrite, watch};
 ghost use Rattle.live.specs.Output.{AnswersRecords, AreAnswered, through, waiting};
-ghost use Rattle.live_answers.specs.Records.{IsPartialRecord, IsRecord, cut_record};
-ghost use Rattle.live_output.specs.declared.face.Face.TheVariants as faces;
+ghost use Rattle.live_rules.specs.Records.{IsPartialRecord, IsRecord, cut_record};
+ghost use Rattle.live.specs.declared.face.Face.TheVariants as faces;
 
+use crate::face::Face;
 use crate::networks::Networks;
 use crate::reading::Reading;
 use crate::record::{PartialRecord, first_record};
-use live_answers::{answers_to_more, records_come_in_pieces};
-use live_output::Face;
+use live_rules::{answers_to_more, records_come_in_pieces};
 use trace::{Buffered, LineFault, Sink};
 
 /// Answers the records that end in a piece.

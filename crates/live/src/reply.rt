@@ -8,9 +8,10 @@ ghost use Rattle.network.specs.ReadEvents.{event_read};
 ghost use Rattle.access_point.specs.Takes.{change};
 ghost use Rattle.live.specs.Output.{HasReplied, HaveReplied, through};
 
+use crate::face::Face;
+use crate::output::{put_refusal, put_sent};
 use access_point::{AccessPoint, Deliver};
 use events::LentLine;
-use live_output::{Face, put_refusal, put_sent};
 use mac_frame::NoMemory;
 use network::{Network, ReadEvent, Spare};
 use trace::{Buffered, Sink};

@@ -5,15 +5,15 @@ ghost use Rattle.std.specs.Io.KnownBytes.{Consumes, IsAtEnd, Keeps};
 ghost use Rattle.trace.specs.Endings.{Ends, failures_of, ending_of};
 ghost use Rattle.trace.specs.Sinks.{MayFail, failed_reads, report_ending};
 ghost use Rattle.trace.specs.Streams.{reads_after};
-ghost use Rattle.live_output.specs.AnswerOctets.{count_record};
+ghost use Rattle.live.specs.AnswerOctets.{count_record};
 ghost use Rattle.live.specs.Inputs.{empty_partial, face_of};
-ghost use Rattle.live.specs.Run.{AllAnswered, AnswersInput, Runs, RunsLive, RunsOctets, live_ending, progress, seen, setup, streams};
-ghost use Rattle.live_output.specs.Written.{written_count};
+ghost use Rattle.live.specs.Run.{AllAnswered, AnswersInput, Runs, live_ending, progress, seen, setup, streams};
+ghost use Rattle.live.specs.Written.{written_count};
 
-use crate::engine::Engine;
+use crate::face::{Face, InFace};
 use crate::fault::LiveFault;
-use live_answers::{answers_to_more, enough_memory, lines_come_in_pieces, records_come_in_pieces};
-use live_output::Face;
+use crate::live_in::LiveIn;
+use live_rules::{answers_to_more, enough_memory, lines_come_in_pieces, records_come_in_pieces};
 use std::alloc::Global;
 use std::marker::Brand;
 use trace::{Failed, ReportFault, Sink, Source, read_config, write_all, write_count};
@@ -24,101 +24,58 @@ const PIECE_LEN: usize = 4096;
 /// The most reads.
 const MAX_READS: u64 = 1 << 46;
 
-/// Runs the access point of a configuration. It appends `ok N` and LF to what `out` has taken, N the number of its
-/// networks in decimal digits, and then, to each line that a source gives, the answer; a piece of it is read only when
-/// the lines that ended in the piece before are answered. At the source's end it appends the answer to what follows the
-/// last LF, if anything does, and the table of each network in order of place.
-///
-/// A fault of the configuration is the first one, and `NoMemory` comes where memory ran out before the first
-/// read; nothing is read or written then. Where it runs out later, nothing ends: the answer to the line says so.
-/// `Read` comes where a read of the source failed, or 2^46 were made; the lines that ended are answered then, and no
-/// table comes. `Write` comes exactly where a write of `out` failed, which has then taken a prefix of what is said of
-/// the text that was read; reading stops there.
-pub fn live<R: Source, W: Sink>(
-    alloc: Global,
-    config: &[u8],
-    input: &mut R,
-    out: &mut W,
-) -> Result<(), LiveFault>
-    requires input { MayFail (R.failed input.old) }
-    requires out { MayFail (W.failed out.old) }
-    ensures ends { RunsLive result config.now
-        (streams (seen (R.left input.old) (R.failed input.old) (R.reads input.old))
-        (W.taken out.old) (W.failed out.old))
-        (streams (seen (R.left input.new) (R.failed input.new) (R.reads input.new))
-        (W.taken out.new) (W.failed out.new)) }
-    ensures failures { W.failed out.new ≡ W.failed out.old + failures_of live_ending result }
-{
-    run(alloc, Face::Lines, config, input, out)
-}
-
-/// Runs the access point of a configuration in the face of records, as [`live`] runs it in the face of lines. It
-/// appends the record `O` of the number of its networks, and then, to each record that a source gives, the answer, in
-/// records; a piece of it is read only when the records that ended in the piece before are answered. At the source's
-/// end it appends `fault L2` for a record that is cut, of which nothing is taken, and the lines of each network's table
-/// in order of place.
-///
-/// It ends as [`live`] does, and each fault says the same, of records.
-pub fn live_octets<R: Source, W: Sink>(
-    alloc: Global,
-    config: &[u8],
-    input: &mut R,
-    out: &mut W,
-) -> Result<(), LiveFault>
-    requires input { MayFail (R.failed input.old) }
-    requires out { MayFail (W.failed out.old) }
-    ensures ends { RunsOctets result config.now
-        (streams (seen (R.left input.old) (R.failed input.old) (R.reads input.old))
-        (W.taken out.old) (W.failed out.old))
-        (streams (seen (R.left input.new) (R.failed input.new) (R.reads input.new))
-        (W.taken out.new) (W.failed out.new)) }
-    ensures failures { W.failed out.new ≡ W.failed out.old + failures_of live_ending result }
-{
-    run(alloc, Face::Records, config, input, out)
-}
-
-/// Runs the access point of a configuration in a face.
-fn run<R: Source, W: Sink>(
-    alloc: Global,
-    face: Face,
-    config: &[u8],
-    input: &mut R,
-    out: &mut W,
-) -> Result<(), LiveFault>
-    requires input { MayFail (R.failed input.old) }
-    requires out { MayFail (W.failed out.old) }
-    ensures ends { Runs (setup face config.now) result
-        (streams (seen (R.left input.old) (R.failed input.old) (R.reads input.old))
-        (W.taken out.old) (W.failed out.old))
-        (streams (seen (R.left input.new) (R.failed input.new) (R.reads input.new))
-        (W.taken out.new) (W.failed out.new)) }
-    ensures failures { W.failed out.new ≡ W.failed out.old + failures_of live_ending result }
-{
-    answers_to_more();
-    lines_come_in_pieces();
-    enough_memory();
-    let config = read_config(alloc, config)?;
-    let count = config.networks.as_slice().len();
-    let mut engine = Engine::new(alloc, face, config)?;
-    write_open(alloc, face, count, out)?;
-    answer_input::<Brand, R, W>(&mut engine, input, out)?;
-    engine.end(out)?;
-    Ok(())
+impl<F: InFace> LiveIn<F> {
+    /// Runs the access point of a configuration. It appends to what `out` has taken how many networks are open, `ok N`
+    /// and LF or the record `O`, and then the answer to each line or record that a source gives; a piece of it is read
+    /// only when what ended in the piece before is answered. At the source's end it appends the answer to what follows
+    /// the last LF, if anything does, or the fault of a record that is cut, of which nothing is taken, and the table of
+    /// each network in order of place.
+    ///
+    /// A fault of the configuration is the first one, and `NoMemory` comes where memory ran out before the first read;
+    /// nothing is read or written then. Where it runs out later, nothing ends: the answer says so. `Read` comes where a
+    /// read of the source failed, or 2^46 were made; what ended is answered then, and no table comes. `Write` comes
+    /// exactly where a write of `out` failed, which has then taken a prefix of what is said of all that was read;
+    /// reading stops there.
+    pub fn run<R: Source, W: Sink>(
+        alloc: Global,
+        config: &[u8],
+        input: &mut R,
+        out: &mut W,
+    ) -> Result<(), LiveFault>
+        requires input { MayFail (R.failed input.old) }
+        requires out { MayFail (W.failed out.old) }
+        ensures ends { Runs (setup F.face config.now) result
+            (streams (seen (R.left input.old) (R.failed input.old) (R.reads input.old))
+            (W.taken out.old) (W.failed out.old))
+            (streams (seen (R.left input.new) (R.failed input.new) (R.reads input.new))
+            (W.taken out.new) (W.failed out.new)) }
+        ensures failures { W.failed out.new ≡ W.failed out.old + failures_of live_ending result }
+    {
+        answers_to_more();
+        lines_come_in_pieces();
+        enough_memory();
+        let config = read_config(alloc, config)?;
+        let count = config.networks.as_slice().len();
+        let mut live = LiveIn::<F>::new(alloc, config)?;
+        write_open::<F, W>(alloc, count, out)?;
+        answer_input::<Brand, F, R, W>(&mut live, input, out)?;
+        live.end(out)?;
+        Ok(())
+    }
 }
 
 /// Writes how many networks are open.
-fn write_open<W: Sink>(
+fn write_open<F: InFace, W: Sink>(
     alloc: Global,
-    face: Face,
     count: usize,
     out: &mut W,
 ) -> Result<(), ReportFault>
     requires { MayFail (W.failed out.old) }
-    ensures ends { Ends (ending_of report_ending result) (Ok (written_count face count)) (W.taken out.old) (W.taken out.new) }
+    ensures ends { Ends (ending_of report_ending result) (Ok (written_count F.face count)) (W.taken out.old) (W.taken out.new) }
     ensures memory { result ≡ Err ReportFault.NoMemory → Keeps (W.taken out.old) (W.taken out.new) }
     ensures failures { W.failed out.new ≡ W.failed out.old + failures_of report_ending result }
 {
-    match face {
+    match F::face() {
         Face::Lines => write_count(alloc, count, out),
         Face::Records => write_count_record(count, out),
     }
@@ -170,27 +127,27 @@ fn read_more<B: Beginning, R: Source, W: Sink>(
 }
 
 /// Answers what ends in what a source has left, of a piece before the next is read.
-fn answer_input<B: Beginning, R: Source, W: Sink>(
-    engine: &mut Engine,
+fn answer_input<B: Beginning, F: InFace, R: Source, W: Sink>(
+    live: &mut LiveIn<F>,
     input: &mut R,
     out: &mut W,
 ) -> Result<(), LiveFault>
-    requires beginning { B.first ≡ progress engine.old.networks engine.old.partial
+    requires beginning { B.first ≡ progress live.old
         (streams (seen (R.left input.old) (R.failed input.old) (R.reads input.old))
         (W.taken out.old) (W.failed out.old)) }
-    requires empty { engine.old.partial ≡ empty_partial (face_of engine.old.partial) }
-    requires first { engine.old.networks.lines ≡ 0 }
+    requires empty { live.old.partial ≡ empty_partial (face_of live.old.partial) }
+    requires first { live.old.moment.lines ≡ 0 }
     requires input { MayFail (R.failed input.old) }
     requires out { MayFail (W.failed out.old) }
-    ensures answers { AnswersInput (face_of engine.old.partial) result
-        (progress engine.old.networks engine.old.partial
+    ensures answers { AnswersInput (face_of live.old.partial) result
+        (progress live.old
         (streams (seen (R.left input.old) (R.failed input.old) (R.reads input.old))
         (W.taken out.old) (W.failed out.old)))
-        (progress engine.new.networks engine.new.partial
+        (progress live.new
         (streams (seen (R.left input.new) (R.failed input.new) (R.reads input.new))
         (W.taken out.new) (W.failed out.new))) }
     ensures failures { W.failed out.new ≡ W.failed out.old + failures_of live_ending result }
-    ensures countable { OnOk result (engine.new.networks.lines < 2 ^ 62) }
+    ensures countable { OnOk result (live.new.moment.lines < 2 ^ 62) }
 {
     answers_to_more();
     lines_come_in_pieces();
@@ -203,7 +160,7 @@ fn answer_input<B: Beginning, R: Source, W: Sink>(
         if count == 0 {
             return Ok(());
         }
-        engine.feed(&piece[..count], out)?;
+        live.feed(&piece[..count], out)?;
     }
     Err(LiveFault::Read)
 }

@@ -1,6 +1,7 @@
 //! Lines of each kind, and what is written of them.
 
-use crate::samples::{Face, Sample};
+use crate::samples::Sample;
+use live::Face;
 use std::alloc::{AllocError, Global};
 
 /// Lines of each kind, of which the last has no end.

@@ -1,11 +1,12 @@
 //! Records of each kind, and what is written of them.
 
-use crate::samples::{Face, Sample};
+use crate::samples::Sample;
 use fixtures::lab::{
     ASSOCIATION_REQUEST, AUTHENTICATION_REQUEST, BSSID, PROBE_RESPONSE,
     SECOND_AUTHENTICATION_RESPONSE,
 };
 use fixtures::{PROBE_REQUEST, octets};
+use live::Face;
 use std::alloc::{AllocError, Global};
 use std::test::Fail;
 

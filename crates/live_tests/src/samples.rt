@@ -1,15 +1,7 @@
 //! What is said to an access point, and what is written of it.
 
+use live::Face;
 use std::alloc::{AllocError, Global};
-
-/// The two faces of the access point.
-#[derive(Clone, Copy)]
-pub(crate) enum Face {
-    /// Lines, with frames in digits.
-    Lines,
-    /// Records, with frames as octets.
-    Records,
-}
 
 /// An input, and what is written of it by when.
 #[derive(Drop)]

@@ -1,8 +1,8 @@
 //! A reader and a writer that fail where they are told to, and what becomes of a run over them.
 
-use crate::samples::{Face, Sample};
+use crate::samples::Sample;
 use fixtures::texts::CONFIGURATION;
-use live::{LiveFault, live, live_octets};
+use live::{Face, Live, LiveFault, LiveRecords};
 use std::alloc::Global;
 use std::cell::Cell;
 use std::io::{self, ErrorKind, Read, Write};
@@ -117,8 +117,8 @@ pub(crate) fn run(alloc: Global, sample: &Sample, streams: Streams) -> Outcome {
     });
     let config = CONFIGURATION.as_bytes();
     let answer = match sample.face {
-        Face::Lines => live(alloc, config, &mut source, &mut out),
-        Face::Records => live_octets(alloc, config, &mut source, &mut out),
+        Face::Lines => Live::run(alloc, config, &mut source, &mut out),
+        Face::Records => LiveRecords::run(alloc, config, &mut source, &mut out),
     };
     let failed_reads = source.failures();
     let failed_writes = out.failures();

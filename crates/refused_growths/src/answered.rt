@@ -25,7 +25,7 @@ pub(crate) fn answer_lines(
     };
     let mut live = Live::new(alloc, config)?;
     let fed = feed_each(alloc, asked.before, &mut live, trace, report);
-    if live.lines() >= MANY as u64 {
+    if live.ended() >= MANY as u64 {
         return Err(ANSWER);
     }
     if live.end(&mut Counted::new(report)).is_err() {
@@ -47,7 +47,7 @@ fn feed_each(
     for line in trace.split_inclusive('\n') {
         report.extend_from_slice(b"> ")?;
         report.extend_from_slice(line.as_bytes())?;
-        if live.lines() >= MANY as u64 || line.len() >= MANY {
+        if live.ended() >= MANY as u64 || line.len() >= MANY {
             return Err(ANSWER);
         }
         let mut out = Counted::new(&mut *report);

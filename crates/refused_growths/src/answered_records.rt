@@ -3,7 +3,7 @@
 use crate::asked::Asked;
 use crate::outcome::{AGAIN, ANSWER, Flaw, ROOM, grow};
 use events::Line;
-use live::{LiveFault, live_octets};
+use live::{LiveFault, LiveRecords};
 use mac_frame::{MacAddr, address_at};
 use std::alloc::Global;
 use trace::{Counted, address_text, read_config, read_trace};
@@ -45,7 +45,7 @@ fn is_refused(
     records: &[u8],
     answers: &mut Vec<u8>,
 ) -> Result<bool, Flaw> {
-    match live_octets(
+    match LiveRecords::run(
         alloc,
         config,
         &mut Counted::new(records),

@@ -84,7 +84,7 @@ fn trial<R: Threads + Wait + Sync>(
         "lines" => feed_pieces(alloc, asked, report),
         // `Live::feed` for each line, none of which is offered again, and `end`.
         "live" => answer_lines(alloc, asked, report),
-        // `live_octets` over the lines as records, none of which is offered again; made again where it read none.
+        // `LiveRecords::run` over the lines as records, none of which is offered again; made again where it read none.
         "records" => answer_records(alloc, asked, report),
         // The calls of these names that write a report, `play` with the trace as the only one.
         "report" | "text" | "stream" | "sections" | "streamed_sections" | "play" => {

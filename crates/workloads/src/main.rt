@@ -5,7 +5,7 @@
 //! words. `bench/run` compares the times of two builds; nothing in here looks at a clock.
 //!
 //! Nothing is promised here beyond what the libraries promise. What they are asked is that of a user: `run_stream`,
-//! `live`, `live_octets` and `play_text`.
+//! `Live::run`, `LiveRecords::run` and `play_text`.
 #![tactic(auto)]
 
 mod digest;
@@ -19,10 +19,9 @@ mod script;
 use digest::Digest;
 use input::Input;
 use job::{DAY, DOZE, GUESTS, Job, LINES, PLAY, RECORDS, SCAN};
-use live::{live, live_octets};
+use live::{Face, Live, LiveRecords};
 use mac_frame::{NoMemory, Octets};
 use networks::config_of;
-use piece::Face;
 use replay::run_stream;
 use replay_play::play_text;
 use script::Script;
@@ -122,8 +121,8 @@ fn answered(alloc: Global, job: &Job, face: Face, acts: u32, seed: u32) -> Resul
     let mut source = Counted::new(Input::new(script, acts));
     let mut out = Counted::new(Digest::new());
     let answer = match face {
-        Face::Lines => live(alloc, config.as_bytes(), &mut source, &mut out),
-        Face::Records => live_octets(alloc, config.as_bytes(), &mut source, &mut out),
+        Face::Lines => Live::run(alloc, config.as_bytes(), &mut source, &mut out),
+        Face::Records => LiveRecords::run(alloc, config.as_bytes(), &mut source, &mut out),
     };
     match answer {
         Ok(()) => Ok(out.into_inner()),

@@ -1,5 +1,6 @@
 //! Octets of frames, and how lines and records are put together of them.
 
+use live::Face;
 use mac_frame::NoMemory;
 use std::alloc::Global;
 
@@ -23,15 +24,6 @@ impl Piece {
             upper: hex::encode_upper(alloc, octets)?,
         })
     }
-}
-
-/// How frames are written.
-#[derive(Clone, Copy, PartialEq, Eq)]
-pub(crate) enum Face {
-    /// As lines.
-    Lines,
-    /// As records.
-    Records,
 }
 
 /// How the digits of a line are written.

@@ -3,7 +3,8 @@
 use crate::draw::Draw;
 use crate::job::{Act, Job};
 use crate::networks::{Network, Station, networks_of};
-use crate::piece::{Face, Out, Piece, Style};
+use crate::piece::{Out, Piece, Style};
+use live::Face;
 use mac_frame::NoMemory;
 use std::alloc::Global;
 

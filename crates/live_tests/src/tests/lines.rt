@@ -32,7 +32,7 @@ fn failing_writer(rt: HostRuntime) -> Result<(), Fail> {
 
 /// Whether a line that is fed is taken.
 fn is_fed(live: &mut Live, line: &str, out: &mut Counted<Shown<'_>>) -> bool {
-    live.lines() < MANY as u64
+    live.ended() < MANY as u64
         && line.len() < MANY
         && out.failures() == 0
         && live.feed(line.as_bytes(), out).is_ok()
@@ -56,7 +56,7 @@ fn fed_line_by_line(rt: &impl Abort, alloc: Global, sample: &Sample) -> Result<V
             "{line}"
         );
     }
-    assert!(rt; live.lines() < MANY as u64 && out.failures() == 0);
+    assert!(rt; live.ended() < MANY as u64 && out.failures() == 0);
     assert!(rt; live.end(&mut out).is_ok());
     Ok(out.into_inner().octets)
 }

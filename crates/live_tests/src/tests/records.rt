@@ -4,12 +4,12 @@ use super::{check_cuts, check_failing_reader, check_failing_writer, check_run, c
 use crate::records::{
     FRESH_TABLE, KINDS, NOBODY, OPEN, Written, conversation, octets_of, record, records_of, told,
 };
-use crate::samples::{Face, Sample};
+use crate::samples::Sample;
 use crate::streams::{MANY, Shown, Streams, WHOLE};
 use fixtures::lab::{BEACON, BSSID, PROBE_RESPONSE};
 use fixtures::texts::CONFIGURATION;
 use fixtures::{PROBE_REQUEST, octets};
-use live::LiveRecords;
+use live::{Face, LiveRecords};
 use std::alloc::Global;
 use std::cell::Cell;
 use std::process::Abort;
@@ -168,7 +168,7 @@ fn seventy_records_in_one_piece(rt: HostRuntime) -> Result<(), Fail> {
 
 /// Whether a piece of octets that is fed is taken.
 fn is_fed(live: &mut LiveRecords, piece: &[u8], out: &mut Counted<Shown<'_>>) -> bool {
-    live.records() < MANY as u64
+    live.ended() < MANY as u64
         && piece.len() < MANY
         && out.failures() == 0
         && live.feed(piece, out).is_ok()
@@ -204,7 +204,7 @@ fn fed_in_pieces(
             "after {given} octets in pieces of {len}"
         );
     }
-    assert!(rt; live.records() == 13);
+    assert!(rt; live.ended() == 13);
     assert!(rt; out.failures() == 0);
     assert!(rt; live.end(&mut out).is_ok());
     Ok(out.into_inner().octets)

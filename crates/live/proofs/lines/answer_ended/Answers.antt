@@ -1,10 +1,10 @@
 use Rattle.std.proofs.Common.{[], ◌∷◌, ◌∙◌, ap, subst}
 use Rattle.trace.specs.Buffers.{watch}
-use Rattle.live_answers.specs.Asked.{asked_in}
+use Rattle.live_rules.specs.Asked.{asked_in}
 use Rattle.live.specs.Output.{AreAnswered, through}
-use Rattle.live_output.specs.declared.face.Face.TheVariants.{Lines}
+use Rattle.live.specs.declared.face.Face.TheVariants.{Lines}
 use Rattle.live.specs.PartialLine.{ended_with}
-use Rattle.live_answers.specs.TextLines.{TextLine}
+use Rattle.live_rules.specs.TextLines.{TextLine}
 use Rattle.live.proofs.FeedSteps.{ended-after}
 use Rattle.live.proofs.lines.answer_ended.Goals as goal
 

@@ -1,9 +1,9 @@
 use Rattle.std.proofs.Common.{◌≡◌, ◌∙◌, List, [], ◌∷◌, ap, sym, subst}
 use Rattle.trace.specs.Buffers.{watch}
-use Rattle.live_answers.specs.Asked.{asked_in}
+use Rattle.live_rules.specs.Asked.{asked_in}
 use Rattle.live.specs.Output.{AreAnswered, through}
-use Rattle.live_output.specs.declared.face.Face.TheVariants.{Lines}
-use Rattle.live_answers.specs.TextLines.{TextLine, Octets}
+use Rattle.live.specs.declared.face.Face.TheVariants.{Lines}
+use Rattle.live_rules.specs.TextLines.{TextLine, Octets}
 use Rattle.live.proofs.FeedSteps.{last-whole}
 use Rattle.live.proofs.lines.answer_last_line.Goals as goal
 

@@ -1,10 +1,10 @@
 use Rattle.std.proofs.Common.{◌+◌, refl, ap, subst, None, Ok}
 use Rattle.trace.specs.BufferLaws.{Puts-nothing, Puts-same}
-use Rattle.live_answers.specs.Answers.{Nothing, Tables}
-use Rattle.live_answers.specs.Asked.{ForTables, Says}
+use Rattle.live_rules.specs.Answers.{Nothing, Tables}
+use Rattle.live_rules.specs.Asked.{ForTables, Says}
 use Rattle.events.specs.LentEvents.{line_of}
 use Rattle.live.specs.Readings.{IsReading}
-use Rattle.live_output.specs.Written.{written_tables}
+use Rattle.live.specs.Written.{written_tables}
 use Rattle.live.specs.declared.reading.Reading.{Reading}
 use Rattle.live.proofs.AnswerSteps.{answered-reading, answered-fault, answered-line}
 use Rattle.live.proofs.networks.answer_reading.Goals as goal

@@ -2,7 +2,7 @@ use Rattle.std.proofs.Common.{ℕ, List, drop, subst}
 use Rattle.std.specs.Prelude.{slice_index}
 use Rattle.std.proofs.lemmas.List.{take_rest}
 use Rattle.live.specs.Readings.{IsReading}
-use Rattle.live_answers.specs.Records.{kind_asks}
+use Rattle.live_rules.specs.Records.{kind_asks}
 use Rattle.live.proofs.reading.read_record.Goals as goal
 
 pub returns : goal.returns

@@ -1,9 +1,9 @@
 use Rattle.std.proofs.Common.{◌≤◌, ◌++◌, ℕ, List, [], ◌∷◌, length, arith, sym, subst}
 use Rattle.trace.specs.Buffers.{watch}
-use Rattle.live_answers.specs.Moments.{bssids_at}
+use Rattle.live_rules.specs.Moments.{bssids_at}
 use Rattle.live.specs.Output.{AreAnswered, through}
-use Rattle.live_answers.specs.Records.{IsPartialRecord, IsRecord, records_ask}
-use Rattle.live_output.specs.declared.face.Face.TheVariants.{Records}
+use Rattle.live_rules.specs.Records.{IsPartialRecord, IsRecord, records_ask}
+use Rattle.live.specs.declared.face.Face.TheVariants.{Records}
 use Rattle.live.proofs.RecordSteps.{parts-are, records-front, records-added, records-whole}
 use Rattle.live.proofs.records.answer_next.Goals as goal
 

@@ -2,7 +2,7 @@
 use Rattle.std.proofs.Common.{length}
 use Rattle.trace.specs.Buffers.{watch}
 use Rattle.live.specs.Output.{AnswersRecords, through, waiting}
-use Rattle.live_output.specs.declared.face.Face.TheVariants.{Records}
+use Rattle.live.specs.declared.face.Face.TheVariants.{Records}
 use Rattle.live.proofs.records.answer_records.Given as goal
 
 abbrev pub invariant-loop-rest : goal.invariant-loop-rest

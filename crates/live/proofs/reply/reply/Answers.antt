@@ -1,8 +1,8 @@
 use Rattle.std.proofs.Common.{ap}
 use Rattle.std.specs.Prelude.{option_to_list}
 use Rattle.network.specs.ReadEvents.{event_read}
-use Rattle.live_output.specs.Written.{written_reply}
-use Rattle.live_answers.specs.Moments.{Sends, Refuses}
+use Rattle.live.specs.Written.{written_reply}
+use Rattle.live_rules.specs.Moments.{Sends, Refuses}
 use Rattle.live.proofs.ReplySteps.{sends-may, refuses-may}
 use Rattle.trace.specs.BufferLaws.{Puts-same}
 use Rattle.live.proofs.reply.reply.Goals as goal

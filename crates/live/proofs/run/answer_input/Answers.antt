@@ -5,13 +5,12 @@ use Rattle.std.proofs.lemmas.List.{length-take-le}
 use Rattle.std.proofs.lemmas.Result.{err_from_is_err_and}
 use Rattle.std.specs.Io.KnownBytes.{Consumes}
 use Rattle.live.specs.Inputs.{face_of}
-use Rattle.live.proofs.InputSteps.{said-unfinished}
 use Rattle.live.proofs.RunSteps.{answered-so-far, counted-more, input-none, input-more, input-cut}
 use Rattle.live.proofs.run.answer_input.Goals as goal
 
 pub loop-init : goal.loop-init
 loop-init g c = record {
-  so_far = input-none (face_of c.args.engine.now.partial) _ c.requires.empty c.requires.first;
+  so_far = input-none (face_of c.args.live.now.partial) _ c.requires.empty c.requires.first;
   none_failed = refl;
   all_written = refl;
 }
@@ -20,10 +19,6 @@ pub feed-requires-clause-countable : goal.feed-requires-clause-countable
 feed-requires-clause-countable g c =
     let long = length-take-le c.in-Ok.count c.read_more.new.buffer c.in-Ok.ensures.prefix.0 in
     omega (arith, long, c.in-Ok.ensures.prefix.0, c.loop.invariant.so_far.lines)
-
-pub feed-requires-clause-unfinished : goal.feed-requires-clause-unfinished
-feed-requires-clause-unfinished g c =
-    let s = c.loop.invariant.so_far in said-unfinished (face_of c.args.engine.now.partial) _ s.input s.said _ s.is_said
 
 pub read_more-requires-clause-answered : goal.read_more-requires-clause-answered
 read_more-requires-clause-answered g c =
@@ -38,7 +33,7 @@ loop-preserved g c =
       so_far =
           input-more c.answers_to_more.ensures
           (record { ended = c.lines_come_in_pieces.ensures.ended; partial = c.lines_come_in_pieces.ensures.partial; records = c.records_come_in_pieces.ensures.pieces })
-          (face_of c.args.engine.now.partial) c.loop.counter _ _ _ piece _ c.loop.invariant.so_far c.in-Ok.ensures.prefix.1
+          (face_of c.args.live.now.partial) c.loop.counter _ _ _ piece _ c.loop.invariant.so_far c.in-Ok.ensures.prefix.1
           c.in-Ok.ensures.reads few
           c.in_ok-feed.ensures.takes
           c.in_ok-feed.ensures.lines;
@@ -115,7 +110,7 @@ returns-in_err-feed-clause-answers g c =
     rw (p.1, p.2)
     (input-cut c.answers_to_more.ensures
     (record { ended = c.lines_come_in_pieces.ensures.ended; partial = c.lines_come_in_pieces.ensures.partial; records = c.records_come_in_pieces.ensures.pieces })
-    (face_of c.args.engine.now.partial) c.loop.counter _ _ _ piece _ s within c.in-Ok.ensures.prefix.1 c.in-Ok.ensures.reads same few
+    (face_of c.args.live.now.partial) c.loop.counter _ _ _ piece _ s within c.in-Ok.ensures.prefix.1 c.in-Ok.ensures.reads same few
     c.in_err-feed.ensures.takes)
 
 pub returns-clause-answers : goal.returns-clause-answers

@@ -1,7 +1,7 @@
 use Rattle.std.proofs.Common.{◌≡◌, ◌<◌, ◌∷◌, [], ap, subst, arith}
 use Rattle.trace.specs.Buffers.{watch}
 use Rattle.live.specs.Output.{AreAnswered, through}
-use Rattle.live_answers.specs.Moments.{Moment}
+use Rattle.live_rules.specs.Moments.{Moment}
 use Rattle.live.proofs.AnswerSteps.{at, countable, moment-reading}
 use Rattle.live.proofs.networks.Networks.answer.Goals as goal
 

@@ -1,11 +1,11 @@
 use Rattle.std.proofs.Common.{◌≡◌, ◌<◌, ◌∙◌, List, [], ◌∷◌, ℕ, ap, arith, subst}
 use Rattle.std.specs.Prelude.{option_map}
 use Rattle.trace.specs.Buffers.{watch}
-use Rattle.live_answers.specs.Asked.{Asked, asked_by}
-use Rattle.live_answers.specs.Moments.{Moment, bssids_at}
+use Rattle.live_rules.specs.Asked.{Asked, asked_by}
+use Rattle.live_rules.specs.Moments.{Moment, bssids_at}
 use Rattle.live.specs.Output.{AreAnswered, through}
 use Rattle.live.specs.PartialLine.{line_in}
-use Rattle.live_output.specs.declared.face.Face.TheVariants.{Lines}
+use Rattle.live.specs.declared.face.Face.TheVariants.{Lines}
 use Rattle.live.proofs.AnswerSteps.{at, countable, moment-reading}
 use Rattle.live.proofs.networks.Networks.answer_line.Goals as goal
 

@@ -1,9 +1,9 @@
 use Rattle.std.proofs.Common.{◌≡◌, ◌∙◌, List, [], ◌∷◌, ℕ, ap, subst}
 use Rattle.trace.specs.Buffers.{watch}
-use Rattle.live_answers.specs.Moments.{bssids_at}
+use Rattle.live_rules.specs.Moments.{bssids_at}
 use Rattle.live.specs.Output.{AreAnswered, through}
-use Rattle.live_answers.specs.Records.{record_asks}
-use Rattle.live_output.specs.declared.face.Face.TheVariants.{Records}
+use Rattle.live_rules.specs.Records.{record_asks}
+use Rattle.live.specs.declared.face.Face.TheVariants.{Records}
 use Rattle.live.proofs.networks.Networks.answer_record.Goals as goal
 
 pub returns : goal.returns

@@ -1,0 +1,9 @@
+-- The lines of the frames so far were put.
+use Rattle.std.proofs.Common.{take}
+use Rattle.trace.specs.Buffers.{Puts, watch}
+use Rattle.live.specs.Frames.{frames_text}
+use Rattle.live.proofs.output.text.put_frames.Given as goal
+
+abbrev pub invariant-loop-frame : goal.invariant-loop-frame
+invariant-loop-frame g l =
+    Puts (watch g.W.Sink.taken g.W.Sink.failed) l.initial.out l.out (frames_text l.word l.bssid (take l.frame-index l.frames))

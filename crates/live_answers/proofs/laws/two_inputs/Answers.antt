@@ -1,5 +1,0 @@
-use Rattle.live_answers.proofs.IsolationLaws.{alike}
-use Rattle.live_answers.proofs.laws.two_inputs.Goals as goal
-
-pub returns : goal.returns
-returns c = alike c.isolation.ensures.alone

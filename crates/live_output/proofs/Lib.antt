@@ -1,3 +1,0 @@
-pub mod LentFrames
-pub mod NoticeSteps
-pub mod TableTexts

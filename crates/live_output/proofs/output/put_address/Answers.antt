@@ -1,5 +1,0 @@
-use Rattle.trace.specs.BufferLaws.{Puts-same}
-use Rattle.live_output.proofs.output.put_address.Goals as goal
-
-pub returns : goal.returns
-returns g c = Puts-same c.address_text.ensures c.put.ensures

@@ -1,3 +1,0 @@
-pub mod AnswerOctets
-pub mod Frames
-pub mod Written
