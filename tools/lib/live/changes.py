@@ -102,7 +102,7 @@ class Changes:
     def take_away_stay(self) -> str:
         """Takes the file PHY.stay away: what the start before has written into it, or nothing."""
         with suppress(FileNotFoundError):
-            with open(self.stay_path, encoding="utf-8") as file:
+            with open(self.stay_path, encoding="utf-8", errors="replace") as file:
                 text = file.read()
             os.unlink(self.stay_path)
             return text
