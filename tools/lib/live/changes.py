@@ -211,7 +211,8 @@ class Changes:
         left = [change for change in reversed(self.left) if change.is_left(self.phy)]
         if left:
             names = ", ".join(f"{change.kind} {change.name}" for change in left)
-            tell(f"an earlier start for {self.phy} was killed; taking back what it left: {names}")
+            why = "left its radio set up in another way" if self.handed_on else "was killed"
+            tell(f"an earlier start for {self.phy} {why}; taking back what it left: {names}")
         for change in left:
             change.take_back()
         self.left = []
