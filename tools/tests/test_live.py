@@ -468,6 +468,7 @@ class HandedOn(OnMachine):
             self.assertIn(f"iw phy phy9 interface add {wanted.monitor} type monitor flags control", done)
             self.assertIn(f"iw dev {wanted.monitor} del", ended)
             self.assertNotIn("going on with", told)
+            self.assertRegex(told, "an earlier start for phy9 (was killed|left its radio set up in another way); taking back")
             self.assertEqual(os.listdir(self.folder), ["phy9.lock"])
 
     def write(self, text):

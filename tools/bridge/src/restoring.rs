@@ -528,7 +528,7 @@ mod tests {
     #[test]
     fn a_state_that_says_what_can_t_be_is_damaged() {
         let good = sample();
-        let mut wrong: Vec<State> = (0..8).map(|_| good.clone()).collect();
+        let mut wrong: Vec<State> = (0..9).map(|_| good.clone()).collect();
         wrong[0].networks[0].stations.swap(0, 1);
         wrong[1].networks[0].stations[1].aid = 2;
         wrong[2].networks[0].stations[1].aid = 2008;
@@ -537,6 +537,7 @@ mod tests {
         wrong[5].networks[0].stations[0].address = STRANGER;
         wrong[6].networks[0].stations[0].request[0] = 0xb0;
         wrong[7].networks[1].stations = good.networks[0].stations.clone();
+        wrong[8].networks[0].stations[0].request[9] ^= 1;
         for (number, state) in wrong.iter().enumerate() {
             assert_eq!(State::read(&state.text()), None, "{number}");
         }

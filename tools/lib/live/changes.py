@@ -103,7 +103,7 @@ class Changes:
     def take_away_stay(self) -> str:
         """Takes the file PHY.stay away: what the start before has written into it, or nothing."""
         with suppress(FileNotFoundError):
-            with open(self.stay_path, encoding="utf-8") as file:
+            with open(self.stay_path, encoding="utf-8", errors="replace") as file:
                 text = file.read()
             os.unlink(self.stay_path)
             return text
@@ -212,7 +212,8 @@ class Changes:
         left = [change for change in reversed(self.left) if change.is_left(self.phy)]
         if left:
             names = ", ".join(f"{change.kind} {change.name}" for change in left)
-            tell(f"an earlier start for {self.phy} was killed; taking back what it left: {names}")
+            why = "left its radio set up in another way" if self.handed_on else "was killed"
+            tell(f"an earlier start for {self.phy} {why}; taking back what it left: {names}")
         for change in left:
             change.take_back()
         self.left = []
