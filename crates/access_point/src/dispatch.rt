@@ -1,18 +1,18 @@
 //! Each line to the networks that hear it.
 
-ghost use Rattle.std.specs.Prelude.{◌≡◌, ℕ, List, Bool, true, OnOk, OnErr, map};
+ghost use Rattle.std.specs.Prelude.{◌≡◌, ◌<◌, ◌≤◌, ℕ, List, [], Bool, true, false, OnOk, OnErr, length, map};
+ghost use Rattle.std.specs.Prelude.{slice_index_or};
 ghost use Rattle.std.specs.List.{AllByRecursion};
 ghost use Rattle.events.specs.LentEvents.{event_of, line_of};
 ghost use Rattle.events.specs.Lines.{event_for, event_of_line};
 ghost use Rattle.events.specs.declared.event.Event.{Event};
 ghost use Rattle.events.specs.declared.line.Line.{Line};
 ghost use Rattle.network.specs.ReadEvents.{event_read};
-ghost use Rattle.access_point.specs.Audiences.{IsAudience};
+ghost use Rattle.events.specs.Audiences.{IsAudience, is_in};
 ghost use Rattle.access_point.specs.Takes.{Change, Takes, TakesIf, change, dispatch};
 
-use crate::audience::Audience;
 use association::ReceivedFrame;
-use events::{LentEvent, LentLine};
+use events::{Audience, LentEvent, LentLine};
 use mac_frame::{MacAddr, NoMemory};
 use network::{Network, ReadEvent, Spare};
 
@@ -89,7 +89,7 @@ pub(crate) fn take_line<N: Addressed, O, D: Deliver<N, O>>(
     let audience = Audience::of(line);
     let lent = line.event();
     let event = read_for(&audience, lent);
-    let (first, end) = audience.places(bssids);
+    let (first, end) = places(&audience, bssids);
     for place in first..end {
         take_at(
             how,
@@ -103,6 +103,28 @@ pub(crate) fn take_line<N: Addressed, O, D: Deliver<N, O>>(
         )?;
     }
     Ok(())
+}
+
+/// Two places between which all networks of an audience stand, of networks with these addresses: one before which none
+/// stands, and one from which on none does. Those with an address are not looked for: that takes longer than to ask each
+/// of few.
+#[inline(always)]
+fn places(audience: &Audience, bssids: &[MacAddr]) -> (usize, usize)
+    ensures order { result.0 ≤ result.1 }
+    ensures few { result.1 ≤ length bssids.now }
+    ensures before { (place : ℕ) → place < result.0
+        → is_in audience.now place (slice_index_or bssids.now place []) ≡ false }
+    ensures after { (place : ℕ) → result.1 ≤ place → place < length bssids.now
+        → is_in audience.now place (slice_index_or bssids.now place []) ≡ false }
+{
+    match audience {
+        Audience::Nobody => (0, 0),
+        Audience::All | Audience::Addressed(_) => (0, bssids.len()),
+        Audience::At(named) => {
+            let first = (*named).min(bssids.len());
+            (first, named.saturating_add(1).min(bssids.len()))
+        }
+    }
 }
 
 /// An event for the networks that hear it: what is the same for each is read once, where more than one may hear it.

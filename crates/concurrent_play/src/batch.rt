@@ -9,8 +9,7 @@ ghost use Rattle.concurrent_play.specs.Lines.{StandFrom, lines_of};
 
 use crate::name::PlayName;
 use crate::source::Source;
-use access_point::Audience;
-use events::LentLine;
+use events::{Audience, LentLine};
 use line_log::LineLog;
 use mac_frame::{MacAddr, NoMemory};
 use network::ReadEvent;
@@ -27,7 +26,7 @@ pub(crate) struct ReadLine<'a> {
 
 impl<'a> Model for ReadLine<'a> {
     ghost use Rattle.std.specs.Prelude.{◌≡◌};
-    ghost use Rattle.access_point.specs.Audiences.{IsAudience};
+    ghost use Rattle.events.specs.Audiences.{IsAudience};
     ghost use Rattle.events.specs.LentEvents.{line_of};
     ghost use Rattle.events.specs.Lines.{event_of_line};
     ghost use Rattle.events.specs.declared.line.Line.{Line};
