@@ -12,7 +12,7 @@ use Rattle.network.proofs.Histories.{history-sound, history-push, sent_by-outcom
 use Rattle.network.proofs.SentFrames.{air-push}
 use Rattle.network.proofs.bss.Bss.take.Goals as goal
 
--- the network is the one that its history made, also once it has looked up whose units may be too old
+-- the network is the one that its history made, also once it has looked up which stations may have too old units
 kept : (es : List Event) (m n : NetworkState) (wired : List (List ℕ)) → n ≡ m → IsAfterHistory es m wired → IsAfterHistory es n wired
 kept es m n wired same h = subst (λ (k : NetworkState). IsAfterHistory es k wired) (sym same) h
 

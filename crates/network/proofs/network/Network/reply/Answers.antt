@@ -5,7 +5,7 @@ use Rattle.association.specs.Request.{request_of}
 use Rattle.network.specs.Network.{step}
 use Rattle.network.specs.Replies.{Replied, outcome}
 use Rattle.network.specs.NetworkView.{NetworkState, IsNetwork}
-use Rattle.network.specs.ReadEvents.{event_read}
+use Rattle.network.specs.ReceivedEvents.{event_received}
 use Rattle.events.specs.declared.event.Event.TheVariants.{Air, Wire}
 use Rattle.network.proofs.Clocks.{answered, wired}
 use Rattle.network.proofs.Histories.{still-follows, tick-follows}
@@ -33,7 +33,7 @@ returns-in-Air-clause-step c =
     let asked = request_of n.setting.network.bssid c.in-Air.frame in
     of_all c.answer.result
     (λ polled fits is.
-    ap (λ e. step n.setting n.network (event_read e)) c.in-Air.is
+    ap (λ e. step n.setting n.network (event_received e)) c.in-Air.is
     ∙ (still-follows c.stays_sound.ensures n (Air c.in-Air.frame) (outcome polled c.answer.new.reply) kept.accepted kept.sound fits is (answered n.setting asked n.network) kept.clock).1)
     c.answer.ensures.fitting c.answer.ensures.answer
 
@@ -51,7 +51,7 @@ returns-in_ok-answer_wired-in-Wire-clause-step c =
     let kept : IsNetwork c.self.inside.roster n = subst (IsNetwork c.self.inside.roster) c.self.view_is c.self.invariant in
     let read = ethernet_of c.in-Wire.frame.now in
     let said = c.in_ok-answer_wired-in-Wire.ensures in
-    ap (λ e. step n.setting n.network (event_read e)) c.in-Wire.is
+    ap (λ e. step n.setting n.network (event_received e)) c.in-Wire.is
     ∙ (still-follows c.stays_sound.ensures n (Wire c.in-Wire.frame.now) (Replied c.answer_wired.new.reply) kept.accepted kept.sound said.fitting said.answer (wired n.setting read n.network) kept.clock).1
 
 pub returns-in_ok-tick-in-Tick-clause-follows : goal.returns-in_ok-tick-in-Tick-clause-follows
@@ -59,12 +59,12 @@ returns-in_ok-tick-in-Tick-clause-follows c =
     let n : NetworkState = c.args.self.now in
     let kept : IsNetwork c.self.inside.roster n = subst (IsNetwork c.self.inside.roster) c.self.view_is c.self.invariant in
     let said = c.in_ok-tick-in-Tick.ensures in
-    (tick-follows c.stays_sound.ensures n c.tick.new.reply kept.accepted kept.sound said.still said.fitting said.answer said.begins (c.requires.ticks (ap event_read c.in-Tick.is))).0
+    (tick-follows c.stays_sound.ensures n c.tick.new.reply kept.accepted kept.sound said.still said.fitting said.answer said.begins (c.requires.ticks (ap event_received c.in-Tick.is))).0
 
 pub returns-in_ok-tick-in-Tick-clause-step : goal.returns-in_ok-tick-in-Tick-clause-step
 returns-in_ok-tick-in-Tick-clause-step c =
     let n : NetworkState = c.args.self.now in
     let kept : IsNetwork c.self.inside.roster n = subst (IsNetwork c.self.inside.roster) c.self.view_is c.self.invariant in
     let said = c.in_ok-tick-in-Tick.ensures in
-    ap (λ e. step n.setting n.network (event_read e)) c.in-Tick.is
-    ∙ (tick-follows c.stays_sound.ensures n c.tick.new.reply kept.accepted kept.sound said.still said.fitting said.answer said.begins (c.requires.ticks (ap event_read c.in-Tick.is))).1
+    ap (λ e. step n.setting n.network (event_received e)) c.in-Tick.is
+    ∙ (tick-follows c.stays_sound.ensures n c.tick.new.reply kept.accepted kept.sound said.still said.fitting said.answer said.begins (c.requires.ticks (ap event_received c.in-Tick.is))).1
