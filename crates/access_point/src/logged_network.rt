@@ -4,7 +4,7 @@ ghost use Rattle.std.specs.Prelude.{◌≡◌, ◌++◌, List, [], true, OnOk, o
 ghost use Rattle.ap_config.specs.declared.setting.Setting.{Setting};
 ghost use Rattle.events.specs.declared.event.Event.{Event};
 ghost use Rattle.network.specs.ReceivedEvents.{event_received};
-ghost use Rattle.access_point.specs.Log.{Logs, log_of, taken_next};
+ghost use Rattle.access_point.specs.Log.{TakesUnlessFull, log_of, taken_next};
 
 use crate::dispatch::{Addressed, Deliver};
 use crate::frame_log::FrameLog;
@@ -100,7 +100,7 @@ impl Deliver<LoggedNetwork, ()> for KeepFrames {
 
     ghost may_stop = { true };
 
-    ghost delivers = { λ _ e n _. Logs e n.old n.new };
+    ghost delivers = { λ _ e n _. TakesUnlessFull e n.old n.new };
 
     #[inline]
     fn deliver(
