@@ -8,7 +8,7 @@ ghost use Rattle.network.specs.Network.{step, table_of, age_units, announced_at}
 ghost use Rattle.network.specs.NetworkView.{new_network, carried_out, MayFollow, TakesEvent, EndsClock};
 ghost use Rattle.network.specs.Sizes.{IsWithinSizes};
 ghost use Rattle.network.specs.Sound.{IsSoundNetwork};
-ghost use Rattle.network.specs.Replies.{no_reply, Replied, Served, outcome, reply_of, after_outcome};
+ghost use Rattle.network.specs.Replies.{no_reply, serves, Replied, Served, outcome, reply_of, after_outcome};
 ghost use Rattle.roster.specs.Roster.{AreWaitedFor};
 ghost use Rattle.network.specs.ReceivedEvents.{event_received};
 ghost use Rattle.events.specs.declared.event.Event.{Event as AnyEvent};
@@ -231,8 +231,8 @@ impl Network {
         self.frames_fit();
         let mut reply = self.no_reply();
         mem::swap(&mut reply.spare, spare);
-        let polled = self.reply(&mut reply, event)?;
-        self.finish(&mut reply, polled)?;
+        self.reply(&mut reply, event)?;
+        self.finish(&mut reply)?;
         mem::swap(&mut reply.spare, spare);
         // No unit is left in it. With that gone, nothing else is dropped, and what is sent moves out once.
         drop(reply.keeping);
@@ -263,21 +263,16 @@ impl Network {
         }
     }
 
-    /// Fills in what it does about an event, which can be carried out, and answers whose poll is to be served besides,
-    /// if one is. It changes nothing.
-    pub(crate) fn reply(
-        &self,
-        reply: &mut Reply,
-        event: &ReceivedEvent<'_>,
-    ) -> Result<Option<MacAddr>, NoMemory>
+    /// Fills in what it does about an event, which can be carried out. It changes nothing.
+    pub(crate) fn reply(&self, reply: &mut Reply, event: &ReceivedEvent<'_>) -> Result<(), NoMemory>
         requires nothing { reply.old ≡ no_reply self.now.network.sequence }
         requires sequence { reply.old.sequence < 4096 }
         requires ticks { event_received event.now ≡ events.Tick → self.now.network.clock < 4294967295 }
-        ensures follows { IfOk result (λ polled.
-            MayFollow self.now (outcome polled reply.new)) }
-        ensures step { IfOk result (λ polled. step self.now.setting self.now.network (event_received event.now)
-            ≡ after_outcome self.now.setting (outcome polled reply.new) self.now.network) }
-        ensures alone { IfOk result (λ polled. IfSome polled (λ _. reply.new ≡ no_reply self.now.network.sequence)) }
+        ensures follows { OnOk result (MayFollow self.now (outcome reply.new)) }
+        ensures step { OnOk result (step self.now.setting self.now.network (event_received event.now)
+            ≡ after_outcome self.now.setting (outcome reply.new) self.now.network) }
+        ensures alone { OnOk result (
+            IfSome reply.new.served (λ from. reply.new ≡ serves from self.now.network.sequence)) }
     {
         // what it keeps to stays so
         stays_sound();
@@ -285,38 +280,28 @@ impl Network {
         let _ = &self.roster;
         match event {
             ReceivedEvent::Air(frame) => self.answer(reply, frame),
-            ReceivedEvent::Wire(frame) => {
-                self.answer_wired(reply, frame)?;
-                Ok(None)
-            }
-            ReceivedEvent::Tick => {
-                self.tick(reply)?;
-                Ok(None)
-            }
+            ReceivedEvent::Wire(frame) => self.answer_wired(reply, frame),
+            ReceivedEvent::Tick => self.tick(reply),
         }
     }
 
     /// Does what a reply to an event says, or serves a poll, and leaves in the reply what is sent. After `NoMemory`
     /// nothing of the network has changed.
     #[inline(always)]
-    pub(crate) fn finish(
-        &mut self,
-        reply: &mut Reply,
-        polled: Option<MacAddr>,
-    ) -> Result<(), NoMemory>
-        requires follows { MayFollow self.old (outcome polled reply.old) }
+    pub(crate) fn finish(&mut self, reply: &mut Reply) -> Result<(), NoMemory>
+        requires follows { MayFollow self.old (outcome reply.old) }
         requires countable { self.old.events < 2 ^ 62 }
-        requires alone { IfSome polled (λ _. reply.old ≡ no_reply self.old.network.sequence) }
-        ensures after { OnOk result (self.new ≡ carried_out (outcome polled reply.old) self.old) }
+        requires alone { IfSome reply.old.served (λ from. reply.old ≡ serves from self.old.network.sequence) }
+        ensures after { OnOk result (self.new ≡ carried_out (outcome reply.old) self.old) }
         ensures air { OnOk result
-            (reply.new.frames ≡ (reply_of self.old.setting (outcome polled reply.old) self.old.network).frames) }
+            (reply.new.frames ≡ (reply_of self.old.setting (outcome reply.old) self.old.network).frames) }
         ensures wire { OnOk result
-            (reply.new.wired ≡ (reply_of self.old.setting (outcome polled reply.old) self.old.network).wired) }
+            (reply.new.wired ≡ (reply_of self.old.setting (outcome reply.old) self.old.network).wired) }
         ensures few { OnOk result
             ((room : ℕ) → 1 ≤ room → length reply.old.frames ≤ room → length reply.new.frames ≤ room) }
         ensures err { OnErr result (self.new ≡ self.old) }
     {
-        match polled {
+        match reply.served {
             None => self.carry_out(reply),
             Some(from) => self.serve_poll(&mut reply.frames, from),
         }
