@@ -1,4 +1,3 @@
 pub mod Takes
-pub mod Audiences
 pub mod FrameLog
 pub mod Log

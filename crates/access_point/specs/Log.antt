@@ -20,8 +20,8 @@ abbrev pub taken_next : Setting → List Event → Event → List Event
 taken_next s es e = if nat_lt (length es) s.network.max_events then e ∷ [] else []
 
 -- a network took an event, unless its history would be full, whatever it took before
-abbrev pub Logs : Event → LoggedNetwork → LoggedNetwork → Type 0
-Logs e n next = (s : Setting) (es : List Event) → n ≡ log_of s es → next ≡ log_of s (es ++ taken_next s es e)
+abbrev pub TakesUnlessFull : Event → LoggedNetwork → LoggedNetwork → Type 0
+TakesUnlessFull e n next = (s : Setting) (es : List Event) → n ≡ log_of s es → next ≡ log_of s (es ++ taken_next s es e)
 
 -- a network with all frames that it sent, of which those that were handed on come before those that wait
 abbrev pub sent_after : List (List ℕ) → SendingNetwork → LoggedNetwork

@@ -1,20 +1,20 @@
 //! Each line to the networks that hear it.
 
-ghost use Rattle.std.specs.Prelude.{◌≡◌, ℕ, List, Bool, true, OnOk, OnErr, map};
+ghost use Rattle.std.specs.Prelude.{◌≡◌, ◌<◌, ◌≤◌, ℕ, List, [], Bool, true, false, OnOk, OnErr, length, map};
+ghost use Rattle.std.specs.Prelude.{slice_index_or};
 ghost use Rattle.std.specs.List.{AllByRecursion};
 ghost use Rattle.events.specs.LentEvents.{event_of, line_of};
 ghost use Rattle.events.specs.Lines.{event_for, event_of_line};
 ghost use Rattle.events.specs.declared.event.Event.{Event};
 ghost use Rattle.events.specs.declared.line.Line.{Line};
-ghost use Rattle.network.specs.ReadEvents.{event_read};
-ghost use Rattle.access_point.specs.Audiences.{IsAudience};
+ghost use Rattle.network.specs.ReceivedEvents.{event_received};
+ghost use Rattle.events.specs.Audiences.{IsAudience, is_in};
 ghost use Rattle.access_point.specs.Takes.{Change, Takes, TakesIf, change, dispatch};
 
-use crate::audience::Audience;
 use association::ReceivedFrame;
-use events::{LentEvent, LentLine};
+use events::{Audience, LentEvent, LentLine};
 use mac_frame::{MacAddr, NoMemory};
-use network::{Network, ReadEvent, Spare};
+use network::{Network, ReceivedEvent, Spare};
 
 /// What stands for a network in an access point.
 pub trait Addressed {
@@ -54,14 +54,14 @@ pub trait Deliver<N: Addressed, O> {
     fn deliver(
         &self,
         network: &mut N,
-        event: &ReadEvent<'_>,
+        event: &ReceivedEvent<'_>,
         spare: &mut Spare,
         out: &mut O,
     ) -> Result<(), NoMemory>
         requires may { may_take network.old }
         requires ready { is_ready out.old }
         ensures delivered { OnOk result
-            (delivers self.now (event_read event.now) (change network.old network.new) (change out.old out.new)) }
+            (delivers self.now (event_received event.now) (change network.old network.new) (change out.old out.new)) }
         ensures ready { OnOk result (is_ready out.new) }
         ensures address { N.bssid network.new ≡ N.bssid network.old }
         ensures stops { OnErr result (may_stop ≡ true) };
@@ -89,7 +89,7 @@ pub(crate) fn take_line<N: Addressed, O, D: Deliver<N, O>>(
     let audience = Audience::of(line);
     let lent = line.event();
     let event = read_for(&audience, lent);
-    let (first, end) = audience.places(bssids);
+    let (first, end) = places(&audience, bssids);
     for place in first..end {
         take_at(
             how,
@@ -105,16 +105,38 @@ pub(crate) fn take_line<N: Addressed, O, D: Deliver<N, O>>(
     Ok(())
 }
 
+/// Two places between which all networks of an audience stand, of networks with these addresses: one before which none
+/// stands, and one from which on none does. Those with an address are not looked for: that takes longer than to ask each
+/// of few.
+#[inline(always)]
+fn places(audience: &Audience, bssids: &[MacAddr]) -> (usize, usize)
+    ensures order { result.0 ≤ result.1 }
+    ensures few { result.1 ≤ length bssids.now }
+    ensures before { (place : ℕ) → place < result.0
+        → is_in audience.now place (slice_index_or bssids.now place []) ≡ false }
+    ensures after { (place : ℕ) → result.1 ≤ place → place < length bssids.now
+        → is_in audience.now place (slice_index_or bssids.now place []) ≡ false }
+{
+    match audience {
+        Audience::Nobody => (0, 0),
+        Audience::All | Audience::Addressed(_) => (0, bssids.len()),
+        Audience::At(named) => {
+            let first = (*named).min(bssids.len());
+            (first, named.saturating_add(1).min(bssids.len()))
+        }
+    }
+}
+
 /// An event for the networks that hear it: what is the same for each is read once, where more than one may hear it.
 #[inline(always)]
-fn read_for<'a>(audience: &Audience, event: LentEvent<'a>) -> ReadEvent<'a>
-    ensures { event_read result ≡ event_of event.entry }
+fn read_for<'a>(audience: &Audience, event: LentEvent<'a>) -> ReceivedEvent<'a>
+    ensures { event_received result ≡ event_of event.entry }
 {
     match (audience, event) {
         (Audience::Addressed(_), LentEvent::Air(octets)) => {
-            ReadEvent::Air(ReceivedFrame::for_one(octets))
+            ReceivedEvent::Air(ReceivedFrame::for_one(octets))
         }
-        (_, event) => ReadEvent::for_all(event),
+        (_, event) => ReceivedEvent::for_all(event),
     }
 }
 
@@ -126,14 +148,14 @@ fn take_at<N: Addressed, O, D: Deliver<N, O>>(
     place: usize,
     bssid: MacAddr,
     network: &mut N,
-    event: &ReadEvent<'_>,
+    event: &ReceivedEvent<'_>,
     spare: &mut Spare,
     out: &mut O,
 ) -> Result<(), NoMemory>
     requires may { D.may_take network.old }
     requires ready { D.is_ready out.old }
     ensures taken { OnOk result ((said : Line) → IsAudience audience.now said
-        → event_read event.now ≡ event_of_line said
+        → event_received event.now ≡ event_of_line said
         → TakesIf (D.delivers how.now) (event_for place bssid said)
         (change network.old network.new) (change out.old out.new)) }
     ensures ready { OnOk result (D.is_ready out.new) }

@@ -4,22 +4,18 @@
 //! An [`AccessPoint`] is the networks of a configuration in order of place. [`AccessPoint::take`] finds once which of
 //! them hear a line, and has each of these take it, in order of place; what becomes of that and of what they send, a
 //! [`Deliver`] says, so that one keeps it and another writes it at once. It promises that a network that doesn't hear
-//! the line is as it was ([`events::LentLine::event_for`] says who hears), and that each of the others did as `Deliver`
-//! says, one after the other, whatever the rest of them are.
-//!
-//! An [`Audience`] is to whom a line is an event, for who gives lines to networks in another way.
+//! the line is as it was ([`events::Audience`] says who hears), and that each of the others did as `Deliver` says, one
+//! after the other, whatever the rest of them are.
 //!
 //! What is done with the frames is left to the crates above, and so are histories, a radio and threads.
 #![tactic(auto)]
 
-mod audience;
 mod dispatch;
 mod frame_log;
 mod logged_network;
 mod networks;
 mod sending_network;
 
-pub use audience::Audience;
 pub use dispatch::{Addressed, Deliver};
 pub use frame_log::FrameLog;
 pub use logged_network::{KeepFrames, LoggedNetwork};

@@ -3,15 +3,15 @@
 ghost use Rattle.std.specs.Prelude.{◌≡◌, ◌++◌, List, [], true, OnOk, option_to_list};
 ghost use Rattle.ap_config.specs.declared.setting.Setting.{Setting};
 ghost use Rattle.events.specs.declared.event.Event.{Event};
-ghost use Rattle.network.specs.ReadEvents.{event_read};
-ghost use Rattle.access_point.specs.Log.{Logs, log_of, taken_next};
+ghost use Rattle.network.specs.ReceivedEvents.{event_received};
+ghost use Rattle.access_point.specs.Log.{TakesUnlessFull, log_of, taken_next};
 
 use crate::dispatch::{Addressed, Deliver};
 use crate::frame_log::FrameLog;
 use ap_config::{Setting, checked_numbers};
 use mac_frame::{MacAddr, NoMemory};
 use network::{
-    Network, NetworkRefusal, Open, ReadEvent, Sent, Spare, one_step, reachable, steps_append,
+    Network, NetworkRefusal, Open, ReceivedEvent, Sent, Spare, one_step, reachable, steps_append,
 };
 use std::alloc::Global;
 
@@ -51,9 +51,9 @@ impl LoggedNetwork {
     /// Takes an event, unless it took as many as its history might have, and keeps the frames that it sends, which are
     /// built in spare memory.
     #[inline(always)]
-    pub fn take(&mut self, event: &ReadEvent<'_>, spare: &mut Spare) -> Result<(), NoMemory>
+    pub fn take(&mut self, event: &ReceivedEvent<'_>, spare: &mut Spare) -> Result<(), NoMemory>
         ensures logs { (s : Setting) (es : List Event) → self.old ≡ log_of s es
-            → OnOk result (self.new ≡ log_of s (es ++ taken_next s es (event_read event.now))) }
+            → OnOk result (self.new ≡ log_of s (es ++ taken_next s es (event_received event.now))) }
         ensures setting { self.new.network.setting ≡ self.old.network.setting }
     {
         // no history is so long that the network's clock or its number of events could end
@@ -64,7 +64,7 @@ impl LoggedNetwork {
         if self.network.events() >= u64::from(self.network.setting().network.max_events) {
             return Ok(());
         }
-        match self.network.take_read_in(event, spare) {
+        match self.network.take_received(event, spare) {
             Ok(sent) => self.keep(sent, spare),
             Err(NetworkRefusal::NoMemory) => Err(NoMemory),
             // its clock counts more beacon intervals than it may take events
@@ -100,13 +100,13 @@ impl Deliver<LoggedNetwork, ()> for KeepFrames {
 
     ghost may_stop = { true };
 
-    ghost delivers = { λ _ e n _. Logs e n.old n.new };
+    ghost delivers = { λ _ e n _. TakesUnlessFull e n.old n.new };
 
     #[inline]
     fn deliver(
         &self,
         network: &mut LoggedNetwork,
-        event: &ReadEvent<'_>,
+        event: &ReceivedEvent<'_>,
         spare: &mut Spare,
         _out: &mut (),
     ) -> Result<(), NoMemory> {

@@ -3,14 +3,16 @@
 ghost use Rattle.std.specs.Prelude.{◌≡◌, ◌++◌, List, [], ℕ, IfOk, OnOk, option_to_list};
 ghost use Rattle.ap_config.specs.declared.setting.Setting.{Setting};
 ghost use Rattle.events.specs.declared.event.Event.{Event};
-ghost use Rattle.network.specs.ReadEvents.{event_read};
+ghost use Rattle.network.specs.ReceivedEvents.{event_received};
 ghost use Rattle.access_point.specs.Log.{log_of, sent_after, taken_next};
 
 use crate::frame_log::FrameLog;
 use crate::logged_network::LoggedNetwork;
 use ap_config::checked_numbers;
 use mac_frame::{NoMemory, Octets};
-use network::{Network, NetworkRefusal, ReadEvent, Sent, Spare, one_step, reachable, steps_append};
+use network::{
+    Network, NetworkRefusal, ReceivedEvent, Sent, Spare, one_step, reachable, steps_append,
+};
 use std::alloc::Global;
 use std::collections::VecDeque;
 
@@ -63,9 +65,9 @@ impl SendingNetwork {
     /// Takes an event, unless it took as many as its history might have. The frames that it sends on the air wait; the
     /// first of all that it sends is built in spare memory. `NoMemory` where memory ran out.
     #[inline(always)]
-    pub fn take(&mut self, event: &ReadEvent<'_>, spare: &mut Spare) -> Result<(), NoMemory>
+    pub fn take(&mut self, event: &ReceivedEvent<'_>, spare: &mut Spare) -> Result<(), NoMemory>
         ensures logs { (s : Setting) (es : List Event) (gone : List (List ℕ)) → sent_after gone self.old ≡ log_of s es
-            → OnOk result (sent_after gone self.new ≡ log_of s (es ++ taken_next s es (event_read event.now))) }
+            → OnOk result (sent_after gone self.new ≡ log_of s (es ++ taken_next s es (event_received event.now))) }
         ensures setting { self.new.network.setting ≡ self.old.network.setting }
     {
         // no history is so long that the network's clock or its number of events could end
@@ -76,7 +78,7 @@ impl SendingNetwork {
         if self.network.events() >= u64::from(self.network.setting().network.max_events) {
             return Ok(());
         }
-        match self.network.take_read_in(event, spare) {
+        match self.network.take_received(event, spare) {
             Ok(sent) => self.keep(sent),
             Err(NetworkRefusal::NoMemory) => Err(NoMemory),
             // its clock counts more beacon intervals than it may take events

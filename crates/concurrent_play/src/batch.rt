@@ -4,16 +4,15 @@ ghost use Rattle.std.specs.Prelude.{◌≡◌, ◌<◌, ◌≤◌, ◌+◌, ◌^
 ghost use Rattle.std.specs.Prelude.{if◌then◌else◌};
 ghost use Rattle.events.specs.LentEvents.{event_of, line_of};
 ghost use Rattle.events.specs.Lines.{event_for, event_of_line};
-ghost use Rattle.network.specs.ReadEvents.{event_read};
+ghost use Rattle.network.specs.ReceivedEvents.{event_received};
 ghost use Rattle.concurrent_play.specs.Lines.{StandFrom, lines_of};
 
 use crate::name::PlayName;
 use crate::source::Source;
-use access_point::Audience;
-use events::LentLine;
+use events::{Audience, LentLine};
 use line_log::LineLog;
 use mac_frame::{MacAddr, NoMemory};
-use network::ReadEvent;
+use network::ReceivedEvent;
 use std::alloc::Global;
 use std::marker::{Model, PhantomData};
 
@@ -22,23 +21,23 @@ use std::marker::{Model, PhantomData};
 pub(crate) struct ReadLine<'a> {
     line: LentLine<'a>,
     audience: Audience,
-    event: ReadEvent<'a>,
+    event: ReceivedEvent<'a>,
 }
 
 impl<'a> Model for ReadLine<'a> {
     ghost use Rattle.std.specs.Prelude.{◌≡◌};
-    ghost use Rattle.access_point.specs.Audiences.{IsAudience};
+    ghost use Rattle.events.specs.Audiences.{IsAudience};
     ghost use Rattle.events.specs.LentEvents.{line_of};
     ghost use Rattle.events.specs.Lines.{event_of_line};
     ghost use Rattle.events.specs.declared.line.Line.{Line};
-    ghost use Rattle.network.specs.ReadEvents.{event_read};
+    ghost use Rattle.network.specs.ReceivedEvents.{event_received};
 
     ghost Value = { Line };
 
     ghost view = { λ r. line_of r.line };
 
     ghost invariant = { λ r.
-        (event_read r.event ≡ event_of_line (line_of r.line)) × IsAudience r.audience (line_of r.line) };
+        (event_received r.event ≡ event_of_line (line_of r.line)) × IsAudience r.audience (line_of r.line) };
 }
 
 impl<'a> ReadLine<'a> {
@@ -49,14 +48,14 @@ impl<'a> ReadLine<'a> {
         ReadLine {
             line,
             audience: Audience::of(line),
-            event: ReadEvent::for_all(line.event()),
+            event: ReceivedEvent::for_all(line.event()),
         }
     }
 
     /// The event that it is to each network that hears it.
     #[inline(always)]
-    pub(crate) fn event(&self) -> &ReadEvent<'a>
-        ensures { event_read result.now ≡ event_of_line self.now }
+    pub(crate) fn event(&self) -> &ReceivedEvent<'a>
+        ensures { event_received result.now ≡ event_of_line self.now }
     {
         &self.event
     }

@@ -1,4 +1,5 @@
 pub mod Lists
 pub mod Items
+pub mod Audiences
 pub mod Lines
 pub mod LentEvents

@@ -4,7 +4,8 @@ ghost use Rattle.std.specs.Prelude.{◌≡◌, option_map};
 ghost use Rattle.events.specs.LentEvents.{event_of, line_of};
 ghost use Rattle.events.specs.Lines.{event_for, event_of_line};
 
-use crate::event::{Event, LentEvent, hears};
+use crate::audience::Audience;
+use crate::event::{Event, LentEvent};
 use mac_frame::{MacAddr, Octets};
 
 /// One thing that happened to the networks of a radio. Which of them it concerns, each network says of itself.
@@ -83,17 +84,15 @@ impl<'a> LentLine<'a> {
     }
 
     /// The event that it is to the network with this place in the configuration, from 0, and this BSSID; `None` where
-    /// that network doesn't hear it: a string on the air is heard by its Address 1 ([`hears`]), a frame on the wire by
-    /// the place that it names, and a beacon interval by every network (*profile*).
+    /// that network doesn't hear it: it is none of the line's [`Audience`] (*profile*).
     #[inline]
     pub fn event_for(self, place: usize, bssid: MacAddr) -> Option<LentEvent<'a>>
         ensures { option_map event_of result ≡ event_for place bssid (line_of self.entry) }
     {
-        let is_heard = match self {
-            LentLine::Air(octets) => hears(bssid, octets),
-            LentLine::Wire { place: named, .. } => named == place,
-            LentLine::Tick => true,
-        };
-        if is_heard { Some(self.event()) } else { None }
+        if Audience::of(self).has(place, bssid) {
+            Some(self.event())
+        } else {
+            None
+        }
     }
 }

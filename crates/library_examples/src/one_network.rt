@@ -12,7 +12,7 @@ ghost use Rattle.library_examples.specs.Settings.{setting};
 use ap_config::NetConfig;
 use events::{Event, LentEvent, Section};
 use mac_frame::{List, NoMemory, Octets};
-use network::{Bss, Frames, Network, NetworkRefusal, Refusal, Spare, one_step};
+use network::{Bss, Frames, Network, NetworkRefusal, ReceivedEvent, Refusal, Spare, one_step};
 use std::alloc::Global;
 
 /// What a network alone makes of events, on a channel and with a beacon interval in time units: what it keeps of them,
@@ -78,7 +78,8 @@ pub fn answer(
     ensures air { OnOk result (out.new ≡ out.old ++ flat_map (λ frame. frame)
         (step network.old.setting network.old.network (events.Air heard.now)).air) }
 {
-    let sent = network.take_lent_in(LentEvent::Air(heard), spare)?;
+    let event = ReceivedEvent::for_one(LentEvent::Air(heard));
+    let sent = network.take_received(&event, spare)?;
     append_all(out, &sent.air)?;
     spare.keep(sent);
     Ok(())

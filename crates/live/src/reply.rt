@@ -4,7 +4,7 @@ ghost use Rattle.std.specs.Prelude.{◌<◌, ◌^◌, false};
 ghost use Rattle.std.specs.List.{AllByRecursion};
 ghost use Rattle.trace.specs.Buffers.{CanWrite, watch};
 ghost use Rattle.events.specs.LentEvents.{line_of};
-ghost use Rattle.network.specs.ReadEvents.{event_read};
+ghost use Rattle.network.specs.ReceivedEvents.{event_received};
 ghost use Rattle.access_point.specs.Takes.{change};
 ghost use Rattle.live.specs.Output.{HasReplied, HaveReplied, through};
 
@@ -13,7 +13,7 @@ use crate::output::{put_refusal, put_sent};
 use access_point::{AccessPoint, Deliver};
 use events::LentLine;
 use mac_frame::NoMemory;
-use network::{Network, ReadEvent, Spare};
+use network::{Network, ReceivedEvent, Spare};
 use trace::{Buffered, Sink};
 
 /// Puts what each network replies to the line or record of a number. A network that refuses it doesn't keep the next
@@ -38,7 +38,7 @@ impl<W: Sink> Deliver<Network, Buffered<'_, W>> for Replying {
     fn deliver(
         &self,
         network: &mut Network,
-        event: &ReadEvent<'_>,
+        event: &ReceivedEvent<'_>,
         spare: &mut Spare,
         out: &mut Buffered<'_, W>,
     ) -> Result<(), NoMemory> {
@@ -72,18 +72,18 @@ pub fn reply_all<W: Sink>(
 fn reply<W: Sink>(
     face: Face,
     network: &mut Network,
-    event: &ReadEvent<'_>,
+    event: &ReceivedEvent<'_>,
     number: u64,
     spare: &mut Spare,
     out: &mut Buffered<'_, W>,
 )
     requires countable { network.old.events < 2 ^ 62 }
     requires can_write { CanWrite W.failed out.old }
-    ensures { HasReplied (through face (watch W.taken W.failed) out.old out.new) number (event_read event.now)
+    ensures { HasReplied (through face (watch W.taken W.failed) out.old out.new) number (event_received event.now)
         (change network.old network.new) }
 {
     let bssid = network.setting().network.bssid;
-    match network.take_read_in(event, spare) {
+    match network.take_received(event, spare) {
         Ok(sent) => {
             put_sent(face, out, bssid, &sent);
             spare.keep(sent);

@@ -165,8 +165,8 @@ poll-refused s from aid n not = rw not (sym (nothing-replied n))
 
 -- such a reply can be carried out
 pub poll-fits : (s : Setting) (us : List DataUnit) (sequence : ℕ) (n : Network) → IsFitting s (serving s us (no_reply sequence)) n
-poll-fits s [] sequence n = record { change = tt; keeping = tt }
-poll-fits s (u ∷ us) sequence n = record { change = tt; keeping = tt }
+poll-fits s [] sequence n = record { alone = refl; change = tt; keeping = tt }
+poll-fits s (u ∷ us) sequence n = record { alone = refl; change = tt; keeping = tt }
 
 -- ---- units that leave with a change
 

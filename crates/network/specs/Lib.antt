@@ -6,6 +6,6 @@ pub mod Section
 pub mod Sound
 pub mod Replies
 pub mod NetworkView
-pub mod ReadEvents
+pub mod ReceivedEvents
 pub mod BssView
 pub mod Samples

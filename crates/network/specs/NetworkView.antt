@@ -1,5 +1,5 @@
 -- What contracts see of a network that runs without its history (profile).
-use Rattle.std.specs.Prelude.{ℕ, ◌≡◌, ◌+◌, ◌*◌, ◌<◌, ◌≤◌, ◌^◌, List, [], ◌++◌, None}
+use Rattle.std.specs.Prelude.{ℕ, ◌≡◌, ◌+◌, ◌*◌, ◌<◌, ◌≤◌, ◌^◌, List, [], ◌++◌, None, option_to_list}
 use Rattle.ap_config.specs.Configuration.{network_fault}
 use Rattle.ap_config.specs.declared.setting.Setting.{Setting}
 use Rattle.network.specs.Network.{Network, empty_network, step}
@@ -7,6 +7,9 @@ use Rattle.network.specs.Replies.{Outcome, reply_of, before_outcome, after_outco
 use Rattle.roster.specs.Roster.{RosterState}
 use Rattle.network.specs.Sound.{IsSoundNetwork}
 use Rattle.events.specs.declared.event.Event.{Event}
+use Rattle.events.specs.declared.event.Event.TheVariants as events
+use Rattle.network.specs.Sizes.{AreAtMost, most_on_air, most_on_wire}
+use Rattle.network.specs.declared.network.Sent.{Sent}
 use Rattle.network.specs.declared.reply.Reply.{Reply}
 use Rattle.stations.specs.declared.table.Change.TheVariants as changes
 
@@ -31,6 +34,18 @@ new_network s = record { setting = s; events = 0; network = empty_network }
 -- one that took an event more
 abbrev pub took_event : Event → NetworkState → NetworkState
 took_event e n = record n { events = n.events + 1; network = unsent (step n.setting n.network e) }
+
+-- what an event makes of a network, and what the network sends for it: one step of the definition, in frames that fit
+pub record TakesEvent (e : Event) (old new : NetworkState) (sent : Sent) : Type 0 where
+  pub after : new ≡ took_event e old
+  pub air : sent.air ≡ (step old.setting old.network e).air
+  pub wire : option_to_list sent.wire ≡ (step old.setting old.network e).wire
+  pub air_fits : AreAtMost most_on_air sent.air
+  pub wire_fits : AreAtMost most_on_wire (option_to_list sent.wire)
+
+-- a beacon interval begins where as many began as are counted
+abbrev pub EndsClock : Event → NetworkState → Type 0
+EndsClock e n = (e ≡ events.Tick) × (n.network.clock ≡ 4294967295)
 
 -- one that took an event with this outcome
 abbrev pub carried_out : Outcome → NetworkState → NetworkState

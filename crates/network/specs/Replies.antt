@@ -28,8 +28,13 @@ no_reply sequence = record {
   lost = 0;
   unread = 0;
   clock = 0;
+  served = None;
   spare = tt;
 }
+
+-- one that serves the poll of a station, and does nothing else
+abbrev pub serves : List ℕ → ℕ → Reply
+serves from sequence = record (no_reply sequence) { served = Some from }
 
 -- the network after a reply, effect by effect
 abbrev pub after_reply : Reply → Network → Network
@@ -44,8 +49,9 @@ after_reply r n = record {
   wire = n.wire ++ option_to_list r.wired;
 }
 
--- the reply can be carried out
+-- the reply can be carried out as it stands: it serves no poll
 pub record IsFitting (s : Setting) (r : Reply) (n : Network) : Type 0 where
+  pub alone : r.served ≡ None
   pub change : IsAllowed s.network.max_stations r.change n.stations
   pub keeping : IsWithin s.network.quota r.change r.keeping.leaving n.stations n.kept r.keeping.arriving
 
@@ -70,9 +76,13 @@ pub data Outcome : Type 0 where
   Served : (from : List ℕ) → Outcome
 
 -- the outcome, by the station whose poll is served, if one is, and by the reply where none is
-abbrev pub outcome : Option (List ℕ) → Reply → Outcome
-outcome None r = Replied r
-outcome (Some from) r = Served from
+abbrev pub outcome_by : Option (List ℕ) → Reply → Outcome
+outcome_by None r = Replied r
+outcome_by (Some from) r = Served from
+
+-- the outcome of a reply
+abbrev pub outcome : Reply → Outcome
+outcome r = outcome_by r.served r
 
 -- the reply of an outcome: that to a poll sends the first unit that is kept for the station
 abbrev pub reply_of : Setting → Outcome → Network → Reply
@@ -107,7 +117,7 @@ IsAwake (leavings.All (One addr)) table = is_dozing addr table ≡ false
 IsAwake (leavings.All Group) table = ⊥
 
 -- a reply to which the delivery of a unit can be added: it sets the mode of one station at most, units leave for one
--- that is active then, and no unit comes, is lost or goes on the wire
+-- that is active then, no unit comes, is lost or goes on the wire, and no poll is served
 pub record IsModeReply (r : Reply) (n : Network) : Type 0 where
   pub change : IsModeAlone r.change
   pub awake : IsAwake r.keeping.leaving (changed r.change n.stations)
@@ -115,3 +125,4 @@ pub record IsModeReply (r : Reply) (n : Network) : Type 0 where
   pub sequence : r.sequence < 4096
   pub lost : r.lost ≡ 0
   pub wired : r.wired ≡ None
+  pub alone : r.served ≡ None

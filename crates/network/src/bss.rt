@@ -10,7 +10,7 @@ ghost use Rattle.network.specs.declared.bss.Refusal.TheVariants as refusals;
 
 use crate::laws::reachable;
 use crate::network::Network;
-use crate::read_event::ReadEvent;
+use crate::received_event::ReceivedEvent;
 use ap_config::{NetConfig, Setting, checked_numbers};
 use events::{Counts, Event, Section, StationRow};
 use mac_frame::{List, NoMemory, Octets};
@@ -236,13 +236,12 @@ impl Bss {
         }
         self.network.look_up_due(matches!(event, Event::Tick));
         let mut reply = self.network.no_reply();
-        let polled = self
-            .network
-            .reply(&mut reply, &ReadEvent::for_one(event.lend()))?;
+        self.network
+            .reply(&mut reply, &ReceivedEvent::for_one(event.lend()))?;
         self.history.reserve(1)?;
         reply.frames.reserve_in(&mut self.waiting)?;
         self.wired.reserve(1)?;
-        self.network.finish(&mut reply, polled)?;
+        self.network.finish(&mut reply)?;
         // All that may be refused is done.
         let number = self.history.len() as u32;
         self.history.push_reserved(event);

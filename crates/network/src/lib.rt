@@ -17,7 +17,7 @@ mod bss;
 mod laws;
 mod network;
 mod opening;
-mod read_event;
+mod received_event;
 mod reply;
 mod shown;
 
@@ -25,5 +25,5 @@ pub use bss::{Bss, Refusal};
 pub use laws::{frame_sizes, nothing_ages, one_step, reachable, sent_frames, steps_append};
 pub use network::{Network, NetworkRefusal, Sent};
 pub use opening::{Open, open_networks};
-pub use read_event::ReadEvent;
+pub use received_event::ReceivedEvent;
 pub use reply::{Frames, Spare};

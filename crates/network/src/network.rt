@@ -1,17 +1,16 @@
 //! A network as it runs, without its history.
 
 ghost use Rattle.std.specs.Prelude.{◌≡◌, ◌+◌, ◌*◌, ◌<◌, ◌≤◌, ◌^◌, ◌&&◌, nat_lt, ℕ, true, ◌↔◌, None, Some, Err, IfSome};
-ghost use Rattle.std.specs.Prelude.{IfOk, OnOk, OnErr, [], length, slice_get, option_to_list};
+ghost use Rattle.std.specs.Prelude.{IfOk, OnOk, OnErr, [], length, slice_get};
 ghost use Rattle.ap_config.specs.Configuration.{setting_fault, network_fault};
 ghost use Rattle.beacon.specs.ProbeResponse.{response_elements};
 ghost use Rattle.network.specs.Network.{step, table_of, age_units, announced_at};
-ghost use Rattle.network.specs.NetworkView.{new_network, took_event, carried_out, MayFollow};
-ghost use Rattle.network.specs.Sizes.{AreAtMost, IsWithinSizes, most_on_air, most_on_wire};
+ghost use Rattle.network.specs.NetworkView.{new_network, carried_out, MayFollow, TakesEvent, EndsClock};
+ghost use Rattle.network.specs.Sizes.{IsWithinSizes};
 ghost use Rattle.network.specs.Sound.{IsSoundNetwork};
-ghost use Rattle.network.specs.Replies.{no_reply, Replied, Served, outcome, reply_of, after_outcome};
+ghost use Rattle.network.specs.Replies.{no_reply, serves, Replied, Served, outcome, reply_of, after_outcome};
 ghost use Rattle.roster.specs.Roster.{AreWaitedFor};
-ghost use Rattle.events.specs.LentEvents.{event_of};
-ghost use Rattle.network.specs.ReadEvents.{event_read};
+ghost use Rattle.network.specs.ReceivedEvents.{event_received};
 ghost use Rattle.events.specs.declared.event.Event.{Event as AnyEvent};
 ghost use Rattle.events.specs.declared.event.Event.TheVariants as events;
 ghost use Rattle.network.specs.declared.network.NetworkRefusal.TheVariants as refusals;
@@ -20,12 +19,12 @@ ghost use Rattle.powersave.specs.declared.unit.Whom.TheVariants as whoms;
 
 use crate::announced_setting::AnnouncedSetting;
 use crate::laws::{frame_sizes, stays_sound};
-use crate::read_event::ReadEvent;
+use crate::received_event::ReceivedEvent;
 use crate::reply::{Frames, Reply, SEQUENCE_NUMBERS, Spare};
 use crate::shown::row_of;
 use ap_config::{Setting, checked_numbers};
 use beacon::ResponseElements;
-use events::{Event, LentEvent, StationRow};
+use events::{Event, StationRow};
 use mac_frame::{MacAddr, NoMemory, Octets};
 use powersave::{Keep, Whom};
 use roster::{Keeping, Roster, kept_counts};
@@ -202,80 +201,29 @@ impl Network {
     /// the network doesn't hear and a wired frame that can't be read count as unread (*profile*).
     pub fn take(&mut self, event: &Event) -> Result<Sent, NetworkRefusal>
         requires countable { self.old.events < 2 ^ 62 }
-        ensures after { OnOk result (self.new ≡ took_event event.now self.old) }
-        ensures air { IfOk result (λ sent. sent.air ≡ (step self.old.setting self.old.network event.now).air) }
-        ensures wire { IfOk result (λ sent.
-            option_to_list sent.wire ≡ (step self.old.setting self.old.network event.now).wire) }
-        ensures air_fits { IfOk result (λ sent. AreAtMost most_on_air sent.air) }
-        ensures wire_fits { IfOk result (λ sent. AreAtMost most_on_wire (option_to_list sent.wire)) }
-        ensures clock { (result ≡ Err NetworkRefusal.Clock)
-            ↔ ((event.now ≡ events.Tick) × (self.old.network.clock ≡ 4294967295)) }
+        ensures ok { IfOk result (λ sent. TakesEvent event.now self.old self.new sent) }
+        ensures clock { (result ≡ Err NetworkRefusal.Clock) ↔ EndsClock event.now self.old }
         ensures err { OnErr result (self.new ≡ self.old) }
     {
-        self.take_lent(event.lend())
+        let event = ReceivedEvent::for_one(event.lend());
+        self.take_received(&event, &mut Spare::new(self.alloc))
     }
 
-    /// Takes an event whose octets are lent, where it took fewer than 2^62 before, and hands out what it sends for it.
-    /// `Clock` and `NoMemory` come as from [`Network::take`], and after either nothing has changed (*profile*).
-    pub fn take_lent(&mut self, event: LentEvent<'_>) -> Result<Sent, NetworkRefusal>
-        requires countable { self.old.events < 2 ^ 62 }
-        ensures after { OnOk result (self.new ≡ took_event (event_of event.entry) self.old) }
-        ensures air { IfOk result (λ sent.
-            sent.air ≡ (step self.old.setting self.old.network (event_of event.entry)).air) }
-        ensures wire { IfOk result (λ sent.
-            option_to_list sent.wire ≡ (step self.old.setting self.old.network (event_of event.entry)).wire) }
-        ensures air_fits { IfOk result (λ sent. AreAtMost most_on_air sent.air) }
-        ensures wire_fits { IfOk result (λ sent. AreAtMost most_on_wire (option_to_list sent.wire)) }
-        ensures clock { (result ≡ Err NetworkRefusal.Clock)
-            ↔ ((event_of event.entry ≡ events.Tick) × (self.old.network.clock ≡ 4294967295)) }
-        ensures err { OnErr result (self.new ≡ self.old) }
-    {
-        self.take_lent_in(event, &mut Spare::new(self.alloc))
-    }
-
-    /// Takes an event as [`Network::take_lent`] does, and builds the first of its frames in spare memory, if there is
-    /// any; the frame of a poll takes memory of its own. The spare memory is gone after `NoMemory`, and stays after
+    /// Takes an event as [`Network::take`] does, whose octets are lent, and of which may have been read before what is the
+    /// same for each network that it comes to. The first of the frames that it sends is built in spare memory, if there
+    /// is any; the frame of a poll takes memory of its own. The spare memory is gone after `NoMemory`, and stays after
     /// `Clock` (*profile*).
-    pub fn take_lent_in(
+    pub fn take_received(
         &mut self,
-        event: LentEvent<'_>,
+        event: &ReceivedEvent<'_>,
         spare: &mut Spare,
     ) -> Result<Sent, NetworkRefusal>
         requires countable { self.old.events < 2 ^ 62 }
-        ensures after { OnOk result (self.new ≡ took_event (event_of event.entry) self.old) }
-        ensures air { IfOk result (λ sent.
-            sent.air ≡ (step self.old.setting self.old.network (event_of event.entry)).air) }
-        ensures wire { IfOk result (λ sent.
-            option_to_list sent.wire ≡ (step self.old.setting self.old.network (event_of event.entry)).wire) }
-        ensures air_fits { IfOk result (λ sent. AreAtMost most_on_air sent.air) }
-        ensures wire_fits { IfOk result (λ sent. AreAtMost most_on_wire (option_to_list sent.wire)) }
-        ensures clock { (result ≡ Err NetworkRefusal.Clock)
-            ↔ ((event_of event.entry ≡ events.Tick) × (self.old.network.clock ≡ 4294967295)) }
+        ensures ok { IfOk result (λ sent. TakesEvent (event_received event.now) self.old self.new sent) }
+        ensures clock { (result ≡ Err NetworkRefusal.Clock) ↔ EndsClock (event_received event.now) self.old }
         ensures err { OnErr result (self.new ≡ self.old) }
     {
-        self.take_read_in(&ReadEvent::for_one(event), spare)
-    }
-
-    /// Takes an event as [`Network::take_lent_in`] does, of which was read before what is the same for each network that
-    /// it comes to. `Clock` and `NoMemory` come as from there, and after either nothing has changed (*profile*).
-    pub fn take_read_in(
-        &mut self,
-        event: &ReadEvent<'_>,
-        spare: &mut Spare,
-    ) -> Result<Sent, NetworkRefusal>
-        requires countable { self.old.events < 2 ^ 62 }
-        ensures after { OnOk result (self.new ≡ took_event (event_read event.now) self.old) }
-        ensures air { IfOk result (λ sent.
-            sent.air ≡ (step self.old.setting self.old.network (event_read event.now)).air) }
-        ensures wire { IfOk result (λ sent.
-            option_to_list sent.wire ≡ (step self.old.setting self.old.network (event_read event.now)).wire) }
-        ensures air_fits { IfOk result (λ sent. AreAtMost most_on_air sent.air) }
-        ensures wire_fits { IfOk result (λ sent. AreAtMost most_on_wire (option_to_list sent.wire)) }
-        ensures clock { (result ≡ Err NetworkRefusal.Clock)
-            ↔ ((event_read event.now ≡ events.Tick) × (self.old.network.clock ≡ 4294967295)) }
-        ensures err { OnErr result (self.new ≡ self.old) }
-    {
-        let begins = matches!(event, ReadEvent::Tick);
+        let begins = matches!(event, ReceivedEvent::Tick);
         if begins && self.clock == u32::MAX {
             return Err(NetworkRefusal::Clock);
         }
@@ -283,8 +231,8 @@ impl Network {
         self.frames_fit();
         let mut reply = self.no_reply();
         mem::swap(&mut reply.spare, spare);
-        let polled = self.reply(&mut reply, event)?;
-        self.finish(&mut reply, polled)?;
+        self.reply(&mut reply, event)?;
+        self.finish(&mut reply)?;
         mem::swap(&mut reply.spare, spare);
         // No unit is left in it. With that gone, nothing else is dropped, and what is sent moves out once.
         drop(reply.keeping);
@@ -305,8 +253,8 @@ impl Network {
         let _ = self.setting.get().network.bssid.octets();
     }
 
-    /// Where units age, looks up whose may be too old before a beacon interval begins, so that the reply to it, and what
-    /// carries it out, find those alone whose are.
+    /// Where units age, looks up before a beacon interval begins which stations may have a unit that is too old, so that
+    /// the reply to it, and what carries it out, look at these stations alone.
     pub(crate) fn look_up_due(&mut self, begins: bool)
         ensures { self.new ≡ self.old }
     {
@@ -315,60 +263,45 @@ impl Network {
         }
     }
 
-    /// Fills in what it does about an event, which can be carried out, and answers whose poll is to be served besides,
-    /// if one is. It changes nothing.
-    pub(crate) fn reply(
-        &self,
-        reply: &mut Reply,
-        event: &ReadEvent<'_>,
-    ) -> Result<Option<MacAddr>, NoMemory>
+    /// Fills in what it does about an event, which can be carried out. It changes nothing.
+    pub(crate) fn reply(&self, reply: &mut Reply, event: &ReceivedEvent<'_>) -> Result<(), NoMemory>
         requires nothing { reply.old ≡ no_reply self.now.network.sequence }
         requires sequence { reply.old.sequence < 4096 }
-        requires ticks { event_read event.now ≡ events.Tick → self.now.network.clock < 4294967295 }
-        ensures follows { IfOk result (λ polled.
-            MayFollow self.now (outcome polled reply.new)) }
-        ensures step { IfOk result (λ polled. step self.now.setting self.now.network (event_read event.now)
-            ≡ after_outcome self.now.setting (outcome polled reply.new) self.now.network) }
-        ensures alone { IfOk result (λ polled. IfSome polled (λ _. reply.new ≡ no_reply self.now.network.sequence)) }
+        requires ticks { event_received event.now ≡ events.Tick → self.now.network.clock < 4294967295 }
+        ensures follows { OnOk result (MayFollow self.now (outcome reply.new)) }
+        ensures step { OnOk result (step self.now.setting self.now.network (event_received event.now)
+            ≡ after_outcome self.now.setting (outcome reply.new) self.now.network) }
+        ensures alone { OnOk result (
+            IfSome reply.new.served (λ from. reply.new ≡ serves from self.now.network.sequence)) }
     {
         // what it keeps to stays so
         stays_sound();
         // The prover opens what the network keeps, which bounds its counts, where a field is read.
         let _ = &self.roster;
         match event {
-            ReadEvent::Air(frame) => self.answer(reply, frame),
-            ReadEvent::Wire(frame) => {
-                self.answer_wired(reply, frame)?;
-                Ok(None)
-            }
-            ReadEvent::Tick => {
-                self.tick(reply)?;
-                Ok(None)
-            }
+            ReceivedEvent::Air(frame) => self.answer(reply, frame),
+            ReceivedEvent::Wire(frame) => self.answer_wired(reply, frame),
+            ReceivedEvent::Tick => self.tick(reply),
         }
     }
 
     /// Does what a reply to an event says, or serves a poll, and leaves in the reply what is sent. After `NoMemory`
     /// nothing of the network has changed.
     #[inline(always)]
-    pub(crate) fn finish(
-        &mut self,
-        reply: &mut Reply,
-        polled: Option<MacAddr>,
-    ) -> Result<(), NoMemory>
-        requires follows { MayFollow self.old (outcome polled reply.old) }
+    pub(crate) fn finish(&mut self, reply: &mut Reply) -> Result<(), NoMemory>
+        requires follows { MayFollow self.old (outcome reply.old) }
         requires countable { self.old.events < 2 ^ 62 }
-        requires alone { IfSome polled (λ _. reply.old ≡ no_reply self.old.network.sequence) }
-        ensures after { OnOk result (self.new ≡ carried_out (outcome polled reply.old) self.old) }
+        requires alone { IfSome reply.old.served (λ from. reply.old ≡ serves from self.old.network.sequence) }
+        ensures after { OnOk result (self.new ≡ carried_out (outcome reply.old) self.old) }
         ensures air { OnOk result
-            (reply.new.frames ≡ (reply_of self.old.setting (outcome polled reply.old) self.old.network).frames) }
+            (reply.new.frames ≡ (reply_of self.old.setting (outcome reply.old) self.old.network).frames) }
         ensures wire { OnOk result
-            (reply.new.wired ≡ (reply_of self.old.setting (outcome polled reply.old) self.old.network).wired) }
+            (reply.new.wired ≡ (reply_of self.old.setting (outcome reply.old) self.old.network).wired) }
         ensures few { OnOk result
             ((room : ℕ) → 1 ≤ room → length reply.old.frames ≤ room → length reply.new.frames ≤ room) }
         ensures err { OnErr result (self.new ≡ self.old) }
     {
-        match polled {
+        match reply.served {
             None => self.carry_out(reply),
             Some(from) => self.serve_poll(&mut reply.frames, from),
         }

@@ -42,6 +42,8 @@ pub struct Reply {
     pub unread: u32,
     /// How many beacon intervals begin.
     pub clock: u32,
+    /// Whose poll is served, if one is: the unit that was kept first for this station is sent. Nothing else is done then.
+    pub served: Option<MacAddr>,
     /// The memory in which its first frame is built.
     pub spare: Spare,
 }
@@ -60,6 +62,7 @@ impl Reply {
             lost: 0,
             unread: 0,
             clock: 0,
+            served: None,
             spare: Spare::new(alloc),
         }
     }

@@ -14,7 +14,7 @@ use Rattle.events.specs.declared.event.Event.{Event}
 use Rattle.events.specs.declared.line.Line.{Line}
 use Rattle.network.specs.Section.{sections_of, sections_of_lines}
 use Rattle.trace.specs.Report.{report_text}
-use Rattle.access_point.specs.Log.{Logs, log_of}
+use Rattle.access_point.specs.Log.{TakesUnlessFull, log_of}
 use Rattle.access_point.specs.Takes.{Takes, TakesIf, change, dispatch}
 use Rattle.log_report.specs.Log.{logs_of, logs_of_lines, log_text}
 use Rattle.access_point.specs.declared.logged_network.LoggedNetwork.{LoggedNetwork}
@@ -38,11 +38,11 @@ logs-fresh c logs fresh =
 -- after one more: each network, by its place, took what it hears of the line
 taken-map : {O : Type 0} (f g : ℕ → LoggedNetwork) (line : Line)
     → ((place : ℕ) (m : LoggedNetwork) (old new : O)
-    → TakesIf (λ e n _. Logs e n.old n.new) (event_for place (f place).network.setting.network.bssid line) (change (f place) m)
+    → TakesIf (λ e n _. TakesUnlessFull e n.old n.new) (event_for place (f place).network.setting.network.bssid line) (change (f place) m)
     (change old new)
     → m ≡ g place)
     → (count first : ℕ) (next : List LoggedNetwork) (old new : O)
-    → Takes (dispatch (λ n. n.network.setting.network.bssid) (λ e n _. Logs e n.old n.new) line first)
+    → Takes (dispatch (λ n. n.network.setting.network.bssid) (λ e n _. TakesUnlessFull e n.old n.new) line first)
     (map f (range_with_len first count)) next (change old new)
     → next ≡ map g (range_with_len first count)
 taken-map f g line each zero first next old new h = h.0
@@ -52,7 +52,7 @@ taken-map f g line each (suc count) first (m ∷ ms) old new h =
 
 taken-if : {O : Type 0} (place : ℕ) (s : Setting) (es : List Event) (line : Line) (m : LoggedNetwork) (old new : O)
     → (event : Option Event) → event_for place s.network.bssid line ≡ event
-    → TakesIf (λ e n _. Logs e n.old n.new) event (change (log_of s es) m) (change old new)
+    → TakesIf (λ e n _. TakesUnlessFull e n.old n.new) event (change (log_of s es) m) (change old new)
     → m ≡ log_of s (es ++ taken_of place s.network es line)
 taken-if place s es line m old new None is h =
     h.0 ∙ ap (log_of s) (taken-none place s.network es line is)
@@ -62,7 +62,7 @@ taken-if place s es line m old new (Some e) is h =
 
 pub logs-line : {O : Type 0} (c : RadioConfig) (said : List Line) (line : Line) (old new : List LoggedNetwork) (a b : O)
     → old ≡ logs_of_lines c said
-    → Takes (dispatch (λ n. n.network.setting.network.bssid) (λ e n _. Logs e n.old n.new) line 0) old new (change a b)
+    → Takes (dispatch (λ n. n.network.setting.network.bssid) (λ e n _. TakesUnlessFull e n.old n.new) line 0) old new (change a b)
     → new ≡ logs_of_lines c (said ++ line ∷ [])
 logs-line c said line old new a b was takes =
     taken-map
@@ -76,7 +76,7 @@ logs-line c said line old new a b was takes =
     (length c.networks) 0 new a b
     (subst
     (λ (ns : List LoggedNetwork).
-    Takes (dispatch (λ n. n.network.setting.network.bssid) (λ e n _. Logs e n.old n.new) line 0) ns new (change a b))
+    Takes (dispatch (λ n. n.network.setting.network.bssid) (λ e n _. TakesUnlessFull e n.old n.new) line 0) ns new (change a b))
     was
     takes)
 

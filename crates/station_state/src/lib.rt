@@ -13,7 +13,7 @@ mod state;
 pub use class::{Class, INVALID_CLASS_2_FRAME, INVALID_CLASS_3_FRAME, Notice, fault};
 pub use state::StationState;
 
-/// The state that the network keeps of a station (11.3.1), and what moves it. A refused request moves nothing:
+/// The state that the network keeps of a station (11.3.1), and which request moves it. A refused request moves nothing:
 ///
 /// ```text
 ///                 authentication                   (re)association
@@ -28,9 +28,25 @@ pub use state::StationState;
 ///        └───────────────────────────── deauthentication ───────────────────────────────┘
 /// ```
 ///
-/// Here 1 and 0 are the Power Management of a Data or Null frame. An authentication leaves a station that is
-/// authenticated as it is. Whether one dozes, its identifier and its listen interval are kept by the network.
-/// `docs/station_states.svg` is the same picture.
+/// Here 1 and 0 are the Power Management of a Data or Null frame. What goes out to the station for a request, by its
+/// state; a dash is nothing:
+///
+/// ```text
+///   request             Unknown                       Authenticated                 Associated
+///   ─────────────────── ───────────────────────────── ───────────────────────────── ─────────────────────────────
+///   probe request       probe response                probe response                probe response
+///   authentication      authentication, its status    authentication, its status    authentication, its status
+///   (re)association     deauthentication, reason 6    (re)association response      (re)association response
+///   disassociation      deauthentication, reason 6    -                             -
+///   deauthentication    -                             -                             -
+///   Data, Null          deauthentication, reason 7    disassociation, reason 7      what was kept for it, on waking
+///   PS-Poll             deauthentication, reason 7    disassociation, reason 7      the first unit kept, if it dozes
+/// ```
+///
+/// A notice with reason 6 or 7 moves nothing: [`fault`] is this part of the table (11.3.3). Which probe requests and polls
+/// are answered, with which status the others, and where the unit of a Data frame goes, is said where a network answers
+/// them. An authentication leaves a station that is authenticated as it is. Whether one dozes, its identifier and its
+/// listen interval are kept by the network ([`StationState`]). `docs/station_states.svg` is the picture without answers.
 #[derive(Clone, Copy, Debug, PartialEq, Eq)]
 pub enum Standing {
     /// State 1: not authenticated.

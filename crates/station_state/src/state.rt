@@ -1,7 +1,7 @@
 //! The state of a station that a network knows.
 
 /// The state of a known station (IEEE Std 802.11-2016, 11.3.1) with what goes with it. A station in State 1 is not
-/// known, and has none.
+/// known, and has none. [`crate::Standing`] draws which request leads from which state to which.
 #[derive(Clone, Copy, Debug, PartialEq, Eq)]
 pub enum StationState {
     /// State 2: authenticated, not associated.

@@ -109,21 +109,10 @@ fn take(alloc: Global, radio: &mut Radio, place: usize, event: &Event) -> Result
     if place >= radio.networks() {
         return Ok(());
     }
-    match radio.take(place, copy_of(alloc, event)?) {
+    match radio.take(place, event.lend().copy(alloc)?) {
         Ok(_) => Ok(()),
         Err(Refusal::HistoryFull) => Ok(()),
         Err(Refusal::NoMemory) => Err(NoMemory),
-    }
-}
-
-/// A second event like this.
-fn copy_of(alloc: Global, event: &Event) -> Result<Event, NoMemory>
-    ensures { IfOk result (λ copy. copy ≡ event.now) }
-{
-    match event {
-        Event::Air(frame) => Ok(Event::Air(frame.copy(alloc)?)),
-        Event::Wire(frame) => Ok(Event::Wire(frame.copy(alloc)?)),
-        Event::Tick => Ok(Event::Tick),
     }
 }
 

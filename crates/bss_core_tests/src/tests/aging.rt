@@ -1,7 +1,7 @@
 //! A network where units age.
 
 use ap_config::{NetConfig, Setting};
-use events::LentEvent;
+use events::Event;
 use fixtures::{lab, octets};
 use mac_frame::Octets;
 use network::{Network, Sent};
@@ -40,11 +40,11 @@ fn spelt(alloc: Global, text: &str, others: &[(usize, u8)]) -> Result<Octets, Fa
 }
 
 /// What a network, which took few events, sends for one.
-fn take(network: &mut Network, event: LentEvent<'_>) -> Result<Sent, Fail> {
+fn take(network: &mut Network, event: &Event) -> Result<Sent, Fail> {
     if network.events() > 1000 {
         return Err(Fail::new("too many events"));
     }
-    Ok(network.take_lent(event)?)
+    Ok(network.take(event)?)
 }
 
 /// Whether a network answers on the air where it hears octets of a station.
@@ -55,14 +55,14 @@ fn hear(
     others: &[(usize, u8)],
 ) -> Result<bool, Fail> {
     let frame = spelt(alloc, text, others)?;
-    let sent = take(network, LentEvent::Air(frame.as_slice()))?;
+    let sent = take(network, &Event::Air(frame))?;
     Ok(sent.air.parts().0.is_some())
 }
 
 /// A unit comes for a station.
 fn give(alloc: Global, network: &mut Network, station: u8) -> Result<(), Fail> {
     let frame = spelt(alloc, UNIT, &[(5, station)])?;
-    take(network, LentEvent::Wire(frame.as_slice()))?;
+    take(network, &Event::Wire(frame))?;
     Ok(())
 }
 
@@ -105,7 +105,7 @@ type Told = (Option<u8>, u32, u64);
 
 /// A beacon interval begins: what its beacon tells.
 fn tick(network: &mut Network) -> Result<Told, Fail> {
-    let sent = take(network, LentEvent::Tick)?;
+    let sent = take(network, &Event::Tick)?;
     let shown = match sent.air.parts().0 {
         Some(beacon) => beacon.as_slice().last().copied(),
         None => None,

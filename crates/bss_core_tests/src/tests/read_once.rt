@@ -6,7 +6,7 @@ ghost use Rattle.ap_config.specs.Configuration.{network_fault};
 use ap_config::{NetConfig, Setting};
 use events::LentEvent;
 use fixtures::{PROBE_REQUEST, guest, lab, octets};
-use network::{Network, ReadEvent, Spare};
+use network::{Network, ReceivedEvent, Spare};
 use std::alloc::Global;
 use std::test::Fail;
 
@@ -14,7 +14,7 @@ use std::test::Fail;
 fn is_answered(
     alloc: Global,
     network: NetConfig,
-    event: &ReadEvent<'_>,
+    event: &ReceivedEvent<'_>,
     text: &str,
 ) -> Result<bool, Fail>
     requires { network_fault network ≡ None }
@@ -25,7 +25,7 @@ fn is_answered(
         network,
     };
     let mut network = Network::new(alloc, setting);
-    let sent = network.take_read_in(event, &mut Spare::new(alloc))?;
+    let sent = network.take_received(event, &mut Spare::new(alloc))?;
     let (first, others) = sent.air.parts();
     let expected = octets(alloc, text)?;
     Ok(others.is_empty() && first.is_some_and(|frame| frame.as_slice() == expected.as_slice()))
@@ -34,7 +34,7 @@ fn is_answered(
 /// Whether `lab` and `guest` answer a probe request that was read once for both.
 fn answers(alloc: Global) -> Result<[bool; 2], Fail> {
     let probe = octets(alloc, PROBE_REQUEST)?;
-    let event = ReadEvent::for_all(LentEvent::Air(probe.as_slice()));
+    let event = ReceivedEvent::for_all(LentEvent::Air(probe.as_slice()));
     let by_lab = is_answered(alloc, lab::config(alloc, 3)?, &event, lab::PROBE_RESPONSE)?;
     let by_guest = is_answered(
         alloc,

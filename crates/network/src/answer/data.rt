@@ -127,6 +127,7 @@ impl Network {
             reply.new.keeping.leaving self.now.network.stations self.now.network.kept reply.new.keeping.arriving) }
         ensures change { reply.new.change ≡ reply.old.change }
         ensures wired { reply.new.wired ≡ reply.old.wired }
+        ensures served { reply.new.served ≡ reply.old.served }
         ensures lost { reply.new.lost ≤ 1 }
     {
         if self.setting().network.relay {
@@ -151,6 +152,7 @@ impl Network {
             ≡ after_reply reply.new self.now.network) }
         ensures change { reply.new.change ≡ reply.old.change }
         ensures keeping { reply.new.keeping ≡ reply.old.keeping }
+        ensures served { reply.new.served ≡ reply.old.served }
     {
         let mut frame = reply.spare.blank(self.alloc());
         if to_wire(&mut frame, to, source, body)? {

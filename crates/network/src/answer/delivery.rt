@@ -38,6 +38,7 @@ impl Network {
             reply.new.keeping.leaving self.now.network.stations self.now.network.kept reply.new.keeping.arriving) }
         ensures change { reply.new.change ≡ reply.old.change }
         ensures wired { reply.new.wired ≡ reply.old.wired }
+        ensures served { reply.new.served ≡ reply.old.served }
         ensures lost { reply.new.lost ≤ 1 }
     {
         // units that leave are none of the group's, and identifiers stay
@@ -109,6 +110,7 @@ impl Network {
             reply.new.keeping.leaving self.now.network.stations self.now.network.kept reply.new.keeping.arriving) }
         ensures change { reply.new.change ≡ reply.old.change }
         ensures wired { reply.new.wired ≡ reply.old.wired }
+        ensures served { reply.new.served ≡ reply.old.served }
         ensures lost { reply.new.lost ≤ 1 }
     {
         let quota = self.setting().network.quota as usize;

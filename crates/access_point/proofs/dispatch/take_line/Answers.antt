@@ -4,9 +4,9 @@ use Rattle.std.proofs.lemmas.List.{get_or-map, length-map}
 use Rattle.events.specs.LentEvents.{line_of}
 use Rattle.events.specs.Lines.{event_for, event_of_line}
 use Rattle.events.specs.declared.line.Line.{Line}
-use Rattle.access_point.specs.Audiences.{IsAudience, is_in}
+use Rattle.events.specs.Audiences.{IsAudience, is_in}
 use Rattle.access_point.specs.Takes.{TakesIf, change}
-use Rattle.access_point.specs.declared.audience.Audience.{Audience}
+use Rattle.events.specs.declared.audience.Audience.{Audience}
 use Rattle.access_point.proofs.TakeSteps.{TakesSoFar, addresses-kept, as-before, takes-all, takes-next, takes-none, takes-skip}
 use Rattle.access_point.proofs.dispatch.take_line.Goals as goal
 

@@ -1,6 +1,6 @@
 use Rattle.std.proofs.Common.{ap}
 use Rattle.std.specs.Prelude.{option_to_list}
-use Rattle.network.specs.ReadEvents.{event_read}
+use Rattle.network.specs.ReceivedEvents.{event_received}
 use Rattle.live.specs.Written.{written_reply}
 use Rattle.live_rules.specs.Moments.{Sends, Refuses}
 use Rattle.live.proofs.ReplySteps.{sends-may, refuses-may}
@@ -12,9 +12,9 @@ returns-in-Ok g c =
     let sent = c.in-Ok.sent in record {
       reply = Sends sent.air (option_to_list sent.wire);
       may =
-          sends-may c.args.network.now (event_read c.args.event.now) c.take_read_in.result sent c.in-Ok.is c.in-Ok.ensures.air
-          c.in-Ok.ensures.wire c.take_read_in.ensures.clock;
-      after = c.in-Ok.ensures.after;
+          sends-may c.args.network.now (event_received c.args.event.now) c.take_received.result sent c.in-Ok.is c.in-Ok.ensures.ok.air
+          c.in-Ok.ensures.ok.wire c.take_received.ensures.clock;
+      after = c.in-Ok.ensures.ok.after;
       puts =
           Puts-same
           (ap
@@ -28,8 +28,8 @@ returns-in-Err g c =
     let why = c.in-Err.why in record {
       reply = Refuses why;
       may =
-          refuses-may c.args.network.now (event_read c.args.event.now) c.take_read_in.result why c.in-Err.is
-          c.take_read_in.ensures.clock;
+          refuses-may c.args.network.now (event_received c.args.event.now) c.take_received.result why c.in-Err.is
+          c.take_received.ensures.clock;
       after = c.in-Err.ensures.err;
       puts =
           Puts-same

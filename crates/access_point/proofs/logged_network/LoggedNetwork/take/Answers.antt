@@ -1,6 +1,6 @@
 use Rattle.std.proofs.Common.{◌<◌, length, ap, arith}
 use Rattle.std.specs.Prelude.{option_to_list}
-use Rattle.network.specs.ReadEvents.{event_read}
+use Rattle.network.specs.ReceivedEvents.{event_received}
 use Rattle.ap_config.specs.declared.setting.Setting.{Setting}
 use Rattle.access_point.specs.declared.logged_network.LoggedNetwork.{LoggedNetwork}
 use Rattle.access_point.proofs.LogSteps.{log-kept, on_ok}
@@ -20,6 +20,6 @@ returns-in-Ok-clause-logs c s es h =
       ap (λ (n : LoggedNetwork). n.network.events) h,
     ) in
     on_ok c.keep.result
-    (log-kept (record { next = c.one_step.ensures.next; appends = c.steps_append.ensures }) s es (event_read c.args.event.now) c.args.self.now c.keep.new.self c.take_read_in.new.self sent.air (option_to_list sent.wire)
-    h room c.in-Ok.ensures.after c.in-Ok.ensures.air c.in-Ok.ensures.wire)
+    (log-kept (record { next = c.one_step.ensures.next; appends = c.steps_append.ensures }) s es (event_received c.args.event.now) c.args.self.now c.keep.new.self c.take_received.new.self sent.air (option_to_list sent.wire)
+    h room c.in-Ok.ensures.ok.after c.in-Ok.ensures.ok.air c.in-Ok.ensures.ok.wire)
     c.keep.ensures.kept

@@ -18,7 +18,7 @@ returns-in-Ok-clause-made c before left h =
     let place : ℕ = c.args.place in
     let not_full : length (view_at r place).history ≢ (network_at r.config place).max_events = λ full. (let wrong = c.in-Ok.ensures.full.1 full in cc) in
     let next : RadioState = after_steps r.config (before ++ Take place c.args.event.now ∷ []) in
-    let taken : c.take.new.self ≡ took place c.args.event.now r = c.in-Ok.ensures.after ∙ ap (λ (e : Event). took place e r) c.in_ok-copy_of.ensures in
+    let taken : c.take.new.self ≡ took place c.args.event.now r = c.in-Ok.ensures.after ∙ ap (λ (e : Event). took place e r) (c.in_ok-copy.ensures ∙ c.lend.ensures) in
     subst (λ (v : RadioView). IsAt next v left) (sym taken)
     (is_at-took (record { append = c.own_frames.ensures.append; same = c.own_frames.ensures.same; other = c.own_frames.ensures.other; sent = c.sent_frames.ensures }) r before left place c.args.event.now c.networks.ensures.sound (omega (arith, c.networks.ensures.count)) not_full h)
 

@@ -12,7 +12,7 @@ use Rattle.network.proofs.Histories.{history-sound, history-push, sent_by-outcom
 use Rattle.network.proofs.SentFrames.{air-push}
 use Rattle.network.proofs.bss.Bss.take.Goals as goal
 
--- the network is the one that its history made, also once it has looked up whose units may be too old
+-- the network is the one that its history made, also once it has looked up which stations may have too old units
 kept : (es : List Event) (m n : NetworkState) (wired : List (List ℕ)) → n ≡ m → IsAfterHistory es m wired → IsAfterHistory es n wired
 kept es m n wired same h = subst (λ (k : NetworkState). IsAfterHistory es k wired) (sym same) h
 
@@ -37,7 +37,7 @@ invariant_of-self-2 c =
     let n : NetworkState = c.look_up_due.new.self in
     let known = kept c.self.inside.history.items c.self.inside.network n c.self.inside.wired.items c.look_up_due.ensures c.self.invariant.0 in
     let es : List Event = c.self.inside.history.items in
-    let o : Outcome = outcome c.in_ok-polled.polled c.reply.new.reply in
+    let o : Outcome = outcome c.reply.new.reply in
     let r : Reply = reply_of n.setting o n.network in
     let network = c.in_ok-finish.ensures.after in
     let len : c.len.result ≡ length es = c.len.ensures ∙ c.self.inside.history.ok.0 in
@@ -47,7 +47,7 @@ invariant_of-self-2 c =
     let wire : c.put_last.new.wired.items ≡ c.self.inside.wired.items ++ option_to_list r.wired =
     c.put_last.ensures ∙ ap (λ (w : List (List ℕ)). w ++ option_to_list c.finish.new.reply.wired) c.in_ok-reserve-2.ensures.items
     ∙ ap (λ (f : Option (List ℕ)). c.self.inside.wired.items ++ option_to_list f) c.in_ok-finish.ensures.wire in
-    (rw (items, network, wire) (history-push es n c.self.inside.wired.items c.args.event o known room (ap (step n.setting n.network) (sym (c.for_one.ensures ∙ c.lend.ensures)) ∙ c.in_ok-polled.ensures.step)), λ h. absurd cc)
+    (rw (items, network, wire) (history-push es n c.self.inside.wired.items c.args.event o known room (ap (step n.setting n.network) (sym (c.for_one.ensures ∙ c.lend.ensures)) ∙ c.in_ok-reply.ensures.step)), λ h. absurd cc)
 
 pub returns-clause-waiting : goal.returns-clause-waiting
 returns-clause-waiting c =
@@ -55,9 +55,9 @@ returns-clause-waiting c =
     let n : NetworkState = c.look_up_due.new.self in
     let known = kept c.self.inside.history.items c.self.inside.network n c.self.inside.wired.items c.look_up_due.ensures c.self.invariant.0 in
     let es : List Event = c.self.inside.history.items in
-    let o : Outcome = outcome c.in_ok-polled.polled c.reply.new.reply in
+    let o : Outcome = outcome c.reply.new.reply in
     let r : Reply = reply_of n.setting o n.network in
-    let by : sent_by n.setting es c.args.event ≡ r.frames = sent_by-outcome es n c.self.inside.wired.items c.args.event o known (ap (step n.setting n.network) (sym (c.for_one.ensures ∙ c.lend.ensures)) ∙ c.in_ok-polled.ensures.step) in
+    let by : sent_by n.setting es c.args.event ≡ r.frames = sent_by-outcome es n c.self.inside.wired.items c.args.event o known (ap (step n.setting n.network) (sym (c.for_one.ensures ∙ c.lend.ensures)) ∙ c.in_ok-reply.ensures.step) in
     let before : c.self.inside.waiting.items ≡ s.waiting = ap (λ (st : BssView). st.waiting) c.self.view_is in
     c.append_to.ensures ∙ ap (λ (w : List (List ℕ)). w ++ c.finish.new.reply.frames) (c.reserve_in.ensures.items ∙ before)
     ∙ ap (λ (f : List (List ℕ)). s.waiting ++ f) c.in_ok-finish.ensures.air ∙ ap (λ (f : List (List ℕ)). s.waiting ++ f) (sym by)
@@ -82,7 +82,7 @@ returns-clause-wire c =
     let items : c.push_reserved.new.self.items ≡ es ++ c.args.event ∷ [] = c.push_reserved.ensures.items ∙ ap (λ (h : List Event). h ++ c.args.event ∷ []) c.reserve.ensures.items in
     let same : c.finish.new.self.setting ≡ s = ap (λ (k : NetworkState). k.setting) c.in_ok-finish.ensures.after in
     ap (λ (t : Setting). (alone t c.push_reserved.new.self.items).wire) same ∙ ap (λ (h : List Event). (alone s h).wire) items
-    ∙ wire-push es n c.self.inside.wired.items c.args.event (outcome c.in_ok-polled.polled c.reply.new.reply) known (ap (step n.setting n.network) (sym (c.for_one.ensures ∙ c.lend.ensures)) ∙ c.in_ok-polled.ensures.step)
+    ∙ wire-push es n c.self.inside.wired.items c.args.event (outcome c.reply.new.reply) known (ap (step n.setting n.network) (sym (c.for_one.ensures ∙ c.lend.ensures)) ∙ c.in_ok-reply.ensures.step)
     ∙ ap (λ (k : NetworkState). (alone k.setting es).wire ++ wired_by k.setting es c.args.event) c.look_up_due.ensures
     ∙ ap (λ (st : BssView). (network_of st).wire ++ wired_by st.setting st.history c.args.event) c.self.view_is
 

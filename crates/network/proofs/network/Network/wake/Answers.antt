@@ -28,6 +28,7 @@ returns-clause-mode c =
       sequence = c.send_kept.ensures.sequence;
       lost = ap (λ (r : Reply). r.lost) c.send_kept.ensures.same ∙ ap (λ (r : Reply). r.lost) c.change_state.ensures ∙ ap (λ (r : Reply). r.lost) none;
       wired = ap (λ (r : Reply). r.wired) c.send_kept.ensures.same ∙ ap (λ (r : Reply). r.wired) c.change_state.ensures ∙ ap (λ (r : Reply). r.wired) none;
+      alone = ap (λ (r : Reply). r.served) c.send_kept.ensures.same ∙ ap (λ (r : Reply). r.served) c.change_state.ensures ∙ ap (λ (r : Reply). r.served) none;
     }
 
 pub returns-clause-answer : goal.returns-clause-answer

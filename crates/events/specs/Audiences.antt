@@ -3,8 +3,8 @@ use Rattle.std.specs.Prelude.{◌≡◌, ◌==◌, ℕ, Bool, true, false, List,
 use Rattle.std.specs.Str.{bytes_eq}
 use Rattle.events.specs.Lines.{event_for, event_of_line}
 use Rattle.events.specs.declared.line.Line.{Line}
-use Rattle.access_point.specs.declared.audience.Audience.{Audience}
-use Rattle.access_point.specs.declared.audience.Audience.TheVariants as audience
+use Rattle.events.specs.declared.audience.Audience.{Audience}
+use Rattle.events.specs.declared.audience.Audience.TheVariants as audience
 
 -- whether the network with this place and this BSSID is one of them
 abbrev pub is_in : Audience → ℕ → List ℕ → Bool

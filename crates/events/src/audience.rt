@@ -1,10 +1,10 @@
 //! Which networks hear a line.
 
-ghost use Rattle.std.specs.Prelude.{◌≡◌, ◌<◌, ◌≤◌, [], false, length, slice_index_or, ℕ};
+ghost use Rattle.std.specs.Prelude.{◌≡◌};
 ghost use Rattle.events.specs.LentEvents.{line_of};
-ghost use Rattle.access_point.specs.Audiences.{IsAudience, is_in};
+ghost use Rattle.events.specs.Audiences.{IsAudience, is_in};
 
-use events::LentLine;
+use crate::line::LentLine;
 use mac_frame::{MacAddr, addressed};
 
 /// The networks to which a line is an event, read from it once for all of them.
@@ -21,7 +21,8 @@ pub enum Audience {
 }
 
 impl Audience {
-    /// To which networks a line is an event: to those to which [`LentLine::event_for`] gives one. It takes no memory.
+    /// To which networks a line is an event: a string on the air by its Address 1, a frame on the wire by the place that
+    /// it names, and a beacon interval to all (*profile*). It takes no memory.
     #[inline(always)]
     pub fn of(line: LentLine<'_>) -> Audience
         ensures { IsAudience result (line_of line.entry) }
@@ -34,27 +35,6 @@ impl Audience {
             },
             LentLine::Wire { place, .. } => Audience::At(place),
             LentLine::Tick => Audience::All,
-        }
-    }
-
-    /// Two places between which all of them stand, of networks with these addresses: one before which none stands, and
-    /// one from which on none does. Those with an address are not looked for: that takes longer than to ask each of few.
-    #[inline(always)]
-    pub(crate) fn places(&self, bssids: &[MacAddr]) -> (usize, usize)
-        ensures order { result.0 ≤ result.1 }
-        ensures few { result.1 ≤ length bssids.now }
-        ensures before { (place : ℕ) → place < result.0
-            → is_in self.now place (slice_index_or bssids.now place []) ≡ false }
-        ensures after { (place : ℕ) → result.1 ≤ place → place < length bssids.now
-            → is_in self.now place (slice_index_or bssids.now place []) ≡ false }
-    {
-        match self {
-            Audience::Nobody => (0, 0),
-            Audience::All | Audience::Addressed(_) => (0, bssids.len()),
-            Audience::At(named) => {
-                let first = (*named).min(bssids.len());
-                (first, named.saturating_add(1).min(bssids.len()))
-            }
         }
     }
 
