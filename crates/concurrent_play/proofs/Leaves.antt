@@ -1,5 +1,5 @@
 -- How frames leave the networks of a play, by the air queue.
-use Rattle.std.proofs.Common.{◌≡◌, ◌≢◌, ℕ, zero, suc, ◌+◌, ◌<◌, List, [], ◌∷◌, ◌++◌, length, map, get_or, Some, inl, inr, refl, sym, ap, subst, ◌∙◌, arith, append_assoc}
+use Rattle.std.proofs.Common.{◌≡◌, ◌≢◌, Bool, ℕ, zero, suc, ◌+◌, ◌<◌, List, [], ◌∷◌, ◌++◌, length, map, get_or, Some, inl, inr, refl, sym, ap, subst, ◌∙◌, arith, append_assoc}
 use Rattle.std.specs.Prelude.{slice_set}
 use Rattle.std.specs.FinMap as finite
 use Rattle.std.specs.List.{AllByRecursion, AllZip, range_with_len}
@@ -19,7 +19,10 @@ use Rattle.events.specs.Items.{items_of}
 use Rattle.events.specs.declared.air_item.AirItem.{AirItem}
 use Rattle.events.specs.declared.line.Line.{Line}
 use Rattle.network.specs.Network.{alone}
-use Rattle.concurrent_play.specs.Leaving.{HaveLeft, HavePushed, IsAllPushedAt, AreSentFrom}
+use Rattle.concurrent_play.specs.Kept.{IsLeft, IsAllPushedAt, AreSentFrom}
+use Rattle.concurrent_play.specs.Leaving.{HaveLeft, HavePushed}
+use Rattle.concurrent_play.specs.declared.kept.PlayedNetwork.{PlayedNetwork}
+use Rattle.concurrent_play.specs.declared.outlet.Left.{Left}
 use Rattle.concurrent_play.proofs.Chosen.{items_of-append}
 
 -- ---- one network
@@ -141,19 +144,19 @@ all-pushed count taken_in logs passes long placed each have =
 
 -- ---- networks with their passes
 
-pub sent-push : (config : RadioConfig) (sources : List (List Line)) (from : ℕ) (ns : List SendingNetwork)
-    (ps : List NetPassView) (n : SendingNetwork) (p : NetPassView)
-    → AreSentFrom config sources from ns (map (λ pass. pass.pushed) ps)
-    → IsAllPushedAt config sources (from + length ps) p.pushed n
-    → AreSentFrom config sources from (ns ++ n ∷ []) (map (λ pass. pass.pushed) (ps ++ p ∷ []))
-sent-push config sources from [] [] n p all one =
-    (subst (λ place. IsAllPushedAt config sources place p.pushed n) (omega arith) one, tt)
-sent-push config sources from [] (q ∷ qs) n p all one = absurd all
-sent-push config sources from (m ∷ ms) [] n p all one = absurd all
-sent-push config sources from (m ∷ ms) (q ∷ qs) n p all one = (
+pub sent-push : (config : RadioConfig) (sources : List (List Line)) (keeps : Bool) (from : ℕ) (ns : List PlayedNetwork)
+    (ps : List NetPassView) (n : PlayedNetwork) (p : NetPassView)
+    → AreSentFrom config sources keeps from ns (map (λ pass. pass.pushed) ps)
+    → IsAllPushedAt config sources keeps (from + length ps) p.pushed n
+    → AreSentFrom config sources keeps from (ns ++ n ∷ []) (map (λ pass. pass.pushed) (ps ++ p ∷ []))
+sent-push config sources keeps from [] [] n p all one =
+    (subst (λ place. IsAllPushedAt config sources keeps place p.pushed n) (omega arith) one, tt)
+sent-push config sources keeps from [] (q ∷ qs) n p all one = absurd all
+sent-push config sources keeps from (m ∷ ms) [] n p all one = absurd all
+sent-push config sources keeps from (m ∷ ms) (q ∷ qs) n p all one = (
   all.0,
-  sent-push config sources (from + 1) ms qs n p all.1
-      (subst (λ place. IsAllPushedAt config sources place p.pushed n) (omega arith) one),
+  sent-push config sources keeps (from + 1) ms qs n p all.1
+      (subst (λ place. IsAllPushedAt config sources keeps place p.pushed n) (omega arith) one),
 )
 
 pub named-push : (queue : QueueName) (ps : List NetPassView) (p : NetPassView)

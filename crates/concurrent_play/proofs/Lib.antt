@@ -1,5 +1,5 @@
 pub mod Hearing
-pub mod Sources
+pub mod FirstLines
 pub mod Steps
 pub mod Seats
 pub mod Chosen

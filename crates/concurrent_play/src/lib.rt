@@ -11,7 +11,8 @@
 //! handed on enough does, and who finds the queue full does until none of its own wait.
 //!
 //! [`play_logged`] promises that once all lines are given each network, with the frames that it sent, is such a one, alone
-//! with its events: a [`LoggedNetwork`]. [`as_played`] says it as `play` of `workers` does. Which thread is served when,
+//! with its events: a [`LoggedNetwork`]. [`play_finished`] keeps besides who gave each event, and what left in its order,
+//! and hands out the sections; it asks a [`Gate`] before each line. [`as_played`] ties the two. Which thread is served when,
 //! that a thread gets on, and time are promised by nothing here. Where the lines come from, and what a network's log says,
 //! is left to the crates above.
 //!
@@ -19,6 +20,9 @@
 #![tactic(auto)]
 
 mod batch;
+mod ending;
+mod gate;
+mod kept;
 mod laws;
 mod name;
 mod networks;
@@ -27,8 +31,10 @@ mod playing;
 mod queued;
 mod seat;
 mod source;
+mod sources;
 mod spares;
 mod threads;
 
+pub use gate::Gate;
 pub use laws::as_played;
-pub use playing::play_logged;
+pub use playing::{play_finished, play_logged};
