@@ -1,11 +1,12 @@
 -- How frames leave the networks of a play, by the air queue.
 use Rattle.std.proofs.Common.{◌≡◌, ◌≢◌, Bool, ℕ, zero, suc, ◌+◌, ◌<◌, List, [], ◌∷◌, ◌++◌, length, map, get_or, Some, inl, inr, refl, sym, ap, subst, ◌∙◌, arith, append_assoc}
-use Rattle.std.specs.Prelude.{slice_set}
+use Rattle.std.specs.Prelude.{filter, slice_set, ◌==◌}
 use Rattle.std.specs.FinMap as finite
 use Rattle.std.specs.List.{AllByRecursion, AllZip, range_with_len}
 use Rattle.std.proofs.Math.ListN.{length-set}
 use Rattle.std.proofs.lemmas.Bool.{cases_eq, eq-eqb, ne_eqb}
 use Rattle.std.proofs.lemmas.List.{append-nil, map-append, get_or-set_same, get_or-set_other}
+use Rattle.std.proofs.lemmas.List.Elements.{filter-append}
 use Rattle.std.proofs.lemmas.List.FromFn.{map-range_with_len_more}
 use Rattle.access_point.specs.Log.{log_of, sent_after}
 use Rattle.access_point.specs.declared.logged_network.LoggedNetwork.{LoggedNetwork}
@@ -19,11 +20,9 @@ use Rattle.events.specs.Items.{items_of}
 use Rattle.events.specs.declared.air_item.AirItem.{AirItem}
 use Rattle.events.specs.declared.line.Line.{Line}
 use Rattle.network.specs.Network.{alone}
-use Rattle.concurrent_play.specs.Kept.{IsLeft, IsAllPushedAt, AreSentFrom}
+use Rattle.concurrent_play.specs.Kept.{IsAllPushedAt, AreSentFrom}
 use Rattle.concurrent_play.specs.Leaving.{HaveLeft, HavePushed}
 use Rattle.concurrent_play.specs.declared.kept.PlayedNetwork.{PlayedNetwork}
-use Rattle.concurrent_play.specs.declared.outlet.Left.{Left}
-use Rattle.concurrent_play.proofs.Chosen.{items_of-append}
 
 -- ---- one network
 
@@ -59,6 +58,12 @@ waits-still n m pushed same waits network wire is =
     λ k. record { network = network k; air = is k ++ waits k; wire = wire k }
 
 -- ---- what left
+
+items_of-append : (place : ℕ) (xs ys : List AirItem) → items_of place (xs ++ ys) ≡ items_of place xs ++ items_of place ys
+items_of-append place xs ys =
+    ap (map (λ (item : AirItem). item.octets)) (filter-append (λ (item : AirItem). item.place == place) xs ys)
+    ∙ map-append (λ (item : AirItem). item.octets) (filter (λ (item : AirItem). item.place == place) xs)
+    (filter (λ (item : AirItem). item.place == place) ys)
 
 items-of-one : (place : ℕ) (item : AirItem) → item.place ≡ place → items_of place (item ∷ []) ≡ item.octets ∷ []
 items-of-one place item is = rw (eq-eqb item.place place is) refl

@@ -12,9 +12,9 @@
 //!
 //! [`play_logged`] promises that once all lines are given each network, with the frames that it sent, is such a one, alone
 //! with its events: a [`LoggedNetwork`]. [`play_finished`] keeps besides who gave each event, and what left in its order,
-//! and hands out the sections; it asks a [`Gate`] before each line. [`as_played`] ties the two. Which thread is served when,
-//! that a thread gets on, and time are promised by nothing here. Where the lines come from, and what a network's log says,
-//! is left to the crates above.
+//! and hands out the sections; it asks a [`Gate`] before each line. What both promise is said by one definition. Which
+//! thread is served when, that a thread gets on, and time are promised by nothing here. Where the lines come from, and what
+//! a network's log says, is left to the crates above.
 //!
 //! [`LoggedNetwork`]: access_point::LoggedNetwork
 #![tactic(auto)]
@@ -23,7 +23,6 @@ mod batch;
 mod ending;
 mod gate;
 mod kept;
-mod laws;
 mod name;
 mod networks;
 mod outlet;
@@ -36,5 +35,4 @@ mod spares;
 mod threads;
 
 pub use gate::Gate;
-pub use laws::as_played;
 pub use playing::{play_finished, play_logged};

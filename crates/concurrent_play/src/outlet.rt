@@ -1,10 +1,10 @@
 //! By what frames leave the air queue while sources give their lines.
 
-ghost use Rattle.std.specs.Prelude.{◌≡◌, ◌<◌, ◌++◌, ◌∷◌, [], All, List, IfOk, OnOk, map, length, true, vec_len};
+ghost use Rattle.std.specs.Prelude.{◌≡◌, ◌<◌, ◌++◌, ◌∷◌, [], List, IfOk, OnOk, map, length, vec_len};
 ghost use Rattle.air_queue.specs.Passes.{AllThere, fresh_radio};
 ghost use Rattle.events.specs.declared.air_item.AirItem.{AirItem};
 ghost use Rattle.concurrent_play.specs.Kept.{IsLeft};
-ghost use Rattle.concurrent_play.specs.Leaving.{HaveLeft, HavePushed};
+ghost use Rattle.concurrent_play.specs.Leaving.{HavePushed};
 
 use crate::name::PlayName;
 use crate::spares::Spares;
@@ -32,7 +32,7 @@ impl Left {
     fn new(alloc: Global, networks: usize, keeps: bool) -> Result<Left, NoMemory>
         ensures count { IfOk result (λ left. vec_len left.logs ≡ networks) }
         ensures keeps { IfOk result (λ left. left.keeps ≡ keeps) }
-        ensures none { IfOk result (IsLeft networks keeps []) }
+        ensures none { IfOk result (λ left. IsLeft networks keeps [] left.logs.items left.items.items) }
     {
         let mut logs = Vec::with_capacity(alloc, networks)?;
         for _ in 0..networks {
@@ -51,8 +51,10 @@ impl Left {
         requires { item.place < vec_len self.old.logs }
         ensures count { vec_len self.new.logs ≡ vec_len self.old.logs }
         ensures keeps { self.new.keeps ≡ self.old.keeps }
-        ensures kept { (before : List AirItem) → IsLeft (vec_len self.old.logs) self.old.keeps before self.old
-            → OnOk result (IsLeft (vec_len self.old.logs) self.old.keeps (before ++ item ∷ []) self.new) }
+        ensures kept { (before : List AirItem)
+            → IsLeft (vec_len self.old.logs) self.old.keeps before self.old.logs.items self.old.items.items
+            → OnOk result (IsLeft (vec_len self.old.logs) self.old.keeps (before ++ item ∷ [])
+            self.new.logs.items self.new.items.items) }
     {
         let AirItem { place, octets } = item;
         self.logs[place].push(octets.as_slice())?;
@@ -91,7 +93,8 @@ impl<N: PlayName> Model for Outlet<N> {
         × (o.pass.taken_in ≡ finite.empty)
         × (vec_len o.left.logs ≡ length N.config.networks)
         × (o.left.keeps ≡ N.keeps)
-        × (o.failed ≡ false → IsLeft (length N.config.networks) N.keeps o.pass.left o.left) };
+        × (o.failed ≡ false
+        → IsLeft (length N.config.networks) N.keeps o.pass.left o.left.logs.items o.left.items.items) };
 }
 
 impl<N: PlayName> Outlet<N> {
@@ -166,9 +169,8 @@ impl<N: PlayName> Outlet<N> {
         requires nets { AllThere N.queue (length N.config.networks) nets.items }
         ensures count { IfOk result (λ left. vec_len left.logs ≡ length N.config.networks) }
         ensures pushed { IfOk result (λ left. left.logs.items ≡ map (λ pass. pass.pushed) nets.items) }
-        ensures left { IfOk result (λ left. N.keeps ≡ true → HaveLeft left.items.items left.logs.items) }
-        ensures placed { IfOk result (λ left. N.keeps ≡ true
-            → All (λ item. item.place < length N.config.networks) left.items.items) }
+        ensures left { IfOk result (λ left. (items : List AirItem)
+            × IsLeft (length N.config.networks) N.keeps items left.logs.items left.items.items) }
     {
         if self.failed {
             return Err(NoMemory);
@@ -192,12 +194,11 @@ fn empty<R: Wait>(
     mut left: Left,
 ) -> Result<Left, NoMemory>
     requires count { queue.networks ≡ vec_len left.logs }
-    requires left { IsLeft queue.networks left.keeps queue.left left }
+    requires left { IsLeft queue.networks left.keeps queue.left left.logs.items left.items.items }
     ensures count { IfOk result (λ all. vec_len all.logs ≡ vec_len left.logs) }
     ensures pushed { IfOk result (λ all. HavePushed queue.taken_in all.logs.items) }
-    ensures left { IfOk result (λ all. left.keeps ≡ true → HaveLeft all.items.items all.logs.items) }
-    ensures placed { IfOk result (λ all. left.keeps ≡ true
-        → All (λ item. item.place < queue.networks) all.items.items) }
+    ensures left { IfOk result (λ all. (items : List AirItem)
+        × IsLeft queue.networks left.keeps items all.logs.items all.items.items) }
 {
     for _ in rt.forever() {
         let Some(item) = queue.pop(rt) else {

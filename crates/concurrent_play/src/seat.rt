@@ -54,9 +54,8 @@ pub(crate) struct Seat<N: PlayName> {
 
 impl<N: PlayName> Model for Seat<N> {
     ghost use Rattle.std.specs.Prelude.{◌≡◌, ◌<◌, false, length, vec_len};
-    ghost use Rattle.concurrent_play.specs.Lines.{first_lines};
     ghost use Rattle.access_point.specs.Log.{sent_after};
-    ghost use Rattle.concurrent_play.specs.Kept.{IsKeptAt};
+    ghost use Rattle.concurrent_play.specs.Kept.{IsKeptAt, heard_up_to};
 
     ghost Value = { Unit {0} };
 
@@ -68,7 +67,7 @@ impl<N: PlayName> Model for Seat<N> {
         × (vec_len s.next ≡ length N.sources)
         × (s.keeps ≡ N.keeps)
         × (s.failed ≡ false
-        → IsKeptAt N.config (first_lines s.next.items N.sources) N.sources N.keeps s.pass.place
+        → IsKeptAt N.config N.sources N.keeps s.pass.place (heard_up_to N.config s.pass.place N.sources s.next.items)
         (sent_after s.pass.pushed s.network) s.given.items) };
 }
 

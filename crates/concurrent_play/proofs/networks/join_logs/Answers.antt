@@ -4,7 +4,7 @@ use Rattle.std.proofs.lemmas.Grind.{common_steps}
 use Rattle.std.proofs.lemmas.List.{append-nil, map-append}
 use Rattle.std.proofs.Common.{append_assoc}
 use Rattle.access_point.specs.declared.logged_network.LoggedNetwork.{LoggedNetwork}
-use Rattle.concurrent_play.specs.Kept.{AreKeptFrom, AreSentFrom, IsKeptAt}
+use Rattle.concurrent_play.specs.Kept.{AreKeptFrom, AreSentFrom, IsWholeAt}
 use Rattle.concurrent_play.specs.declared.kept.PlayedLog.{PlayedLog}
 use Rattle.concurrent_play.specs.declared.kept.PlayedNetwork.{PlayedNetwork}
 use Rattle.concurrent_play.proofs.Seats.{kept-pushed}
@@ -31,8 +31,8 @@ loop-played-preserved g c =
     let more : vec_len c.push.new.self ≡ vec_len c.loop-played.logs + 1 = c.in_ok-push.ensures.len in
     let items : c.push.new.self.items ≡ logs ++ one ∷ [] = c.in_ok-push.ensures.items in
     let here : vec_len c.loop-played.logs ≡ 0 + length logs = omega (arith, c.loop-played.logs.ok.0) in
-    let kept : IsKeptAt config sources sources keeps (vec_len c.loop-played.logs) log played.given.items =
-    subst (λ (l : LoggedNetwork). IsKeptAt config sources sources keeps (vec_len c.loop-played.logs) l played.given.items)
+    let kept : IsWholeAt config sources keeps (vec_len c.loop-played.logs) log played.given.items =
+    subst (λ (l : LoggedNetwork). IsWholeAt config sources keeps (vec_len c.loop-played.logs) l played.given.items)
     (sym c.in_ok-log.ensures) all.0.sent in
     let air : log.air ≡ c.in-Some.left =
     ap (λ (l : LoggedNetwork). l.air) c.in_ok-log.ensures
@@ -42,7 +42,7 @@ loop-played-preserved g c =
     record {
       each = subst (AreKeptFrom config sources keeps 0) (sym items)
           (kept-pushed config sources keeps 0 logs one i.each
-          (subst (λ (place : ℕ). IsKeptAt config sources sources keeps place log played.given.items) here kept));
+          (subst (λ (place : ℕ). IsWholeAt config sources keeps place log played.given.items) here kept));
       rest = subst (λ (place : ℕ). AreSentFrom config sources keeps place networks left) (sym more) all.1;
       count = omega (arith, count, fewer, more);
       air =

@@ -11,4 +11,4 @@ invariant-loop g l =
     × (l.queue.networks ≡ l.fn.queue.networks)
     × (vec_len l.left.logs ≡ vec_len l.fn.left.logs)
     × (l.left.keeps ≡ l.fn.left.keeps)
-    × IsLeft l.queue.networks l.left.keeps l.queue.left l.left
+    × IsLeft l.queue.networks l.left.keeps l.queue.left l.left.logs.items l.left.items.items

@@ -1,4 +1,4 @@
-use Rattle.concurrent_play.proofs.Chosen.{logged-play}
+use Rattle.concurrent_play.proofs.Ended.{logged-play}
 use Rattle.concurrent_play.proofs.playing.logs_named.Goals as goal
 
 pub returns-clause-played : goal.returns-clause-played

@@ -1,4 +1,4 @@
-use Rattle.std.proofs.Common.{◌≡◌, Bool, true, false, inl, inr, refl, sym, ap, ◌∙◌}
+use Rattle.std.proofs.Common.{◌≡◌, true, false, inl, inr, refl, sym, ap, ◌∙◌}
 use Rattle.access_point.specs.declared.logged_network.LoggedNetwork.{LoggedNetwork}
 use Rattle.concurrent_play.proofs.Steps.{given-when}
 use Rattle.concurrent_play.proofs.seat.take_by.Goals as goal

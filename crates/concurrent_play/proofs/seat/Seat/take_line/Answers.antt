@@ -30,7 +30,7 @@ invariant_of-self g c =
       c.self.invariant.3,
       λ fine.
           takes-next config sources keeps seat.next.items seat.pass.place batch.source batch.first c.args.place line
-          batch.lines.items old new seat.given.items c.take_by.new.given.items long batch.known batch.stand within
+          batch.lines.items old new seat.given.items c.take_by.new.given.items inside batch.known batch.stand within
           (get_or_default seat.next.items batch.source 0 c.index.result.now inside ∙ sym c.index.ensures ∙ c.if-index-number.false)
           (c.index-line.ensures ∙ get_or_default batch.lines.items c.args.place line Tick within)
           (c.self.invariant.4 fine)
