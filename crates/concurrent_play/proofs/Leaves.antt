@@ -1,11 +1,12 @@
 -- How frames leave the networks of a play, by the air queue.
-use Rattle.std.proofs.Common.{◌≡◌, ◌≢◌, ℕ, zero, suc, ◌+◌, ◌<◌, List, [], ◌∷◌, ◌++◌, length, map, get_or, Some, inl, inr, refl, sym, ap, subst, ◌∙◌, arith, append_assoc}
-use Rattle.std.specs.Prelude.{slice_set}
+use Rattle.std.proofs.Common.{◌≡◌, ◌≢◌, Bool, ℕ, zero, suc, ◌+◌, ◌<◌, List, [], ◌∷◌, ◌++◌, length, map, get_or, Some, inl, inr, refl, sym, ap, subst, ◌∙◌, arith, append_assoc}
+use Rattle.std.specs.Prelude.{filter, slice_set, ◌==◌}
 use Rattle.std.specs.FinMap as finite
 use Rattle.std.specs.List.{AllByRecursion, AllZip, range_with_len}
 use Rattle.std.proofs.Math.ListN.{length-set}
 use Rattle.std.proofs.lemmas.Bool.{cases_eq, eq-eqb, ne_eqb}
 use Rattle.std.proofs.lemmas.List.{append-nil, map-append, get_or-set_same, get_or-set_other}
+use Rattle.std.proofs.lemmas.List.Elements.{filter-append}
 use Rattle.std.proofs.lemmas.List.FromFn.{map-range_with_len_more}
 use Rattle.access_point.specs.Log.{log_of, sent_after}
 use Rattle.access_point.specs.declared.logged_network.LoggedNetwork.{LoggedNetwork}
@@ -19,8 +20,9 @@ use Rattle.events.specs.Items.{items_of}
 use Rattle.events.specs.declared.air_item.AirItem.{AirItem}
 use Rattle.events.specs.declared.line.Line.{Line}
 use Rattle.network.specs.Network.{alone}
-use Rattle.concurrent_play.specs.Leaving.{HaveLeft, HavePushed, IsAllPushedAt, AreSentFrom}
-use Rattle.concurrent_play.proofs.Chosen.{items_of-append}
+use Rattle.concurrent_play.specs.Kept.{IsAllPushedAt, AreSentFrom}
+use Rattle.concurrent_play.specs.Leaving.{HaveLeft, HavePushed}
+use Rattle.concurrent_play.specs.declared.kept.PlayedNetwork.{PlayedNetwork}
 
 -- ---- one network
 
@@ -56,6 +58,12 @@ waits-still n m pushed same waits network wire is =
     λ k. record { network = network k; air = is k ++ waits k; wire = wire k }
 
 -- ---- what left
+
+items_of-append : (place : ℕ) (xs ys : List AirItem) → items_of place (xs ++ ys) ≡ items_of place xs ++ items_of place ys
+items_of-append place xs ys =
+    ap (map (λ (item : AirItem). item.octets)) (filter-append (λ (item : AirItem). item.place == place) xs ys)
+    ∙ map-append (λ (item : AirItem). item.octets) (filter (λ (item : AirItem). item.place == place) xs)
+    (filter (λ (item : AirItem). item.place == place) ys)
 
 items-of-one : (place : ℕ) (item : AirItem) → item.place ≡ place → items_of place (item ∷ []) ≡ item.octets ∷ []
 items-of-one place item is = rw (eq-eqb item.place place is) refl
@@ -141,19 +149,19 @@ all-pushed count taken_in logs passes long placed each have =
 
 -- ---- networks with their passes
 
-pub sent-push : (config : RadioConfig) (sources : List (List Line)) (from : ℕ) (ns : List SendingNetwork)
-    (ps : List NetPassView) (n : SendingNetwork) (p : NetPassView)
-    → AreSentFrom config sources from ns (map (λ pass. pass.pushed) ps)
-    → IsAllPushedAt config sources (from + length ps) p.pushed n
-    → AreSentFrom config sources from (ns ++ n ∷ []) (map (λ pass. pass.pushed) (ps ++ p ∷ []))
-sent-push config sources from [] [] n p all one =
-    (subst (λ place. IsAllPushedAt config sources place p.pushed n) (omega arith) one, tt)
-sent-push config sources from [] (q ∷ qs) n p all one = absurd all
-sent-push config sources from (m ∷ ms) [] n p all one = absurd all
-sent-push config sources from (m ∷ ms) (q ∷ qs) n p all one = (
+pub sent-push : (config : RadioConfig) (sources : List (List Line)) (keeps : Bool) (from : ℕ) (ns : List PlayedNetwork)
+    (ps : List NetPassView) (n : PlayedNetwork) (p : NetPassView)
+    → AreSentFrom config sources keeps from ns (map (λ pass. pass.pushed) ps)
+    → IsAllPushedAt config sources keeps (from + length ps) p.pushed n
+    → AreSentFrom config sources keeps from (ns ++ n ∷ []) (map (λ pass. pass.pushed) (ps ++ p ∷ []))
+sent-push config sources keeps from [] [] n p all one =
+    (subst (λ place. IsAllPushedAt config sources keeps place p.pushed n) (omega arith) one, tt)
+sent-push config sources keeps from [] (q ∷ qs) n p all one = absurd all
+sent-push config sources keeps from (m ∷ ms) [] n p all one = absurd all
+sent-push config sources keeps from (m ∷ ms) (q ∷ qs) n p all one = (
   all.0,
-  sent-push config sources (from + 1) ms qs n p all.1
-      (subst (λ place. IsAllPushedAt config sources place p.pushed n) (omega arith) one),
+  sent-push config sources keeps (from + 1) ms qs n p all.1
+      (subst (λ place. IsAllPushedAt config sources keeps place p.pushed n) (omega arith) one),
 )
 
 pub named-push : (queue : QueueName) (ps : List NetPassView) (p : NetPassView)

@@ -1,6 +1,5 @@
 pub mod Hearing
-pub mod Sources
 pub mod Steps
 pub mod Seats
-pub mod Chosen
+pub mod Ended
 pub mod Leaves

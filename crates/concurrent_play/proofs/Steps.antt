@@ -1,202 +1,209 @@
 -- A network takes one line more of a source.
-use Rattle.std.proofs.Common.{◌≡◌, ◌≢◌, ℕ, ◌+◌, ◌<◌, ◌≤◌, Bool, true, false, List, [], ◌∷◌, ◌++◌, length, inl, inr, refl, sym, ap, ◌∙◌, subst, arith, append_assoc}
-use Rattle.std.specs.Prelude.{All, if◌then◌else◌, ◌==◌}
+use Rattle.std.proofs.Common.{◌≡◌, ◌≢◌, ◌⊎◌, ℕ, ◌+◌, ◌<◌, ◌≤◌, Bool, true, List, [], ◌∷◌, ◌++◌, length, map, inl, inr, refl, sym, ap, ◌∙◌, arith, append_assoc}
+use Rattle.std.specs.Prelude.{if◌then◌else◌, ◌==◌}
 use Rattle.std.proofs.lemmas.Bool.{cases_eq, cases_lt, eq-eqb, ne_eqb, lt-ltb, le-ltb}
-use Rattle.std.proofs.lemmas.Grind.{flat_map-append}
-use Rattle.std.proofs.lemmas.List.{append-nil, length_push}
-use Rattle.std.proofs.lemmas.List.Elements.{All-append, All-nil, All-cons}
+use Rattle.std.proofs.lemmas.List.{append-nil, length-map, length_push, map-append}
+use Rattle.std.proofs.lemmas.List.Elements.{All-append, All-nil, All-cons, filter-append}
 use Rattle.access_point.specs.Log.{log_of}
 use Rattle.access_point.specs.declared.logged_network.LoggedNetwork.{LoggedNetwork}
 use Rattle.ap_config.specs.Places.{network_at, setting_at}
+use Rattle.ap_config.specs.declared.config.NetConfig.{NetConfig}
 use Rattle.ap_config.specs.declared.config.RadioConfig.{RadioConfig}
-use Rattle.events.specs.Lines.{event_of_line, heard_of, heard, taken_of}
+use Rattle.events.specs.Lines.{event_of_line, heard_of, taken_of}
 use Rattle.events.specs.declared.event.Event.{Event}
 use Rattle.events.specs.declared.line.Line.{Line}
-use Rattle.play_result.specs.Played.{heard_from}
-use Rattle.play_result.specs.Givers.{dealt}
-use Rattle.concurrent_play.specs.Lines.{lines_of}
-use Rattle.concurrent_play.specs.Plays.{IsTaken, IsLogAt}
+use Rattle.concurrent_play.specs.Kept.{IsKeptAt, IsTaken, event_given, given_by}
+use Rattle.concurrent_play.specs.Lines.{line_at, lines_of}
+use Rattle.concurrent_play.specs.declared.kept.Given.{Given}
 use Rattle.concurrent_play.proofs.Hearing.{heard-one}
-use Rattle.concurrent_play.proofs.Sources.{AddsLine}
 
--- ---- what is dealt of one event more
+-- ---- what one source gave, of one event more
 
-push-if : {A : Type 0} (b : Bool) (y x : A) (ys : List A) → (if b then y ∷ (ys ++ x ∷ []) else ys ++ x ∷ []) ≡ (if b then y ∷ ys else ys) ++ x ∷ []
-push-if true y x ys = refl
-push-if false y x ys = refl
+given-here : (i : ℕ) (by : List Given) (b : Given) → b.source ≡ i → given_by i (by ++ b ∷ []) ≡ given_by i by ++ b ∷ []
+given-here i by b is =
+    filter-append (λ (g : Given). g.source == i) by (b ∷ []) ∙ ap (λ (gs : List Given). given_by i by ++ gs) one
+  where
+    one : given_by i (b ∷ []) ≡ b ∷ []
+    one = rw (eq-eqb b.source i is) refl
 
-pub dealt-here : {A : Type 0} (givers : List ℕ) (items : List A) (item : A) (i : ℕ) → length givers ≡ length items
-    → dealt (givers ++ i ∷ []) (items ++ item ∷ []) i ≡ dealt givers items i ++ item ∷ []
-dealt-here [] [] item i long = rw (eq-eqb i i refl) refl
-dealt-here [] (y ∷ ys) item i long = absurd (omega (arith, long))
-dealt-here (g ∷ gs) [] item i long = absurd (omega (arith, long))
-dealt-here (g ∷ gs) (y ∷ ys) item i long =
-    ap (λ l. if g == i then y ∷ l else l) (dealt-here gs ys item i (omega (arith, long)))
-    ∙ push-if (g == i) y item (dealt gs ys i)
+given-others : (i : ℕ) (by : List Given) (b : Given) → b.source ≢ i → given_by i (by ++ b ∷ []) ≡ given_by i by
+given-others i by b ne =
+    filter-append (λ (g : Given). g.source == i) by (b ∷ []) ∙ ap (λ (gs : List Given). given_by i by ++ gs) none
+    ∙ append-nil (given_by i by)
+  where
+    none : given_by i (b ∷ []) ≡ []
+    none = rw (ne_eqb b.source i ne) refl
 
-pub dealt-others : {A : Type 0} (givers : List ℕ) (items : List A) (item : A) (i j : ℕ) → i ≢ j
-    → length givers ≡ length items → dealt (givers ++ i ∷ []) (items ++ item ∷ []) j ≡ dealt givers items j
-dealt-others [] [] item i j ne long = rw (ne_eqb i j ne) refl
-dealt-others [] (y ∷ ys) item i j ne long = absurd (omega (arith, long))
-dealt-others (g ∷ gs) [] item i j ne long = absurd (omega (arith, long))
-dealt-others (g ∷ gs) (y ∷ ys) item i j ne long =
-    ap (λ l. if g == j then y ∷ l else l) (dealt-others gs ys item i j ne (omega (arith, long)))
+-- ---- what is taken of it
 
--- ---- what is heard of one line more
-
-heard-here : (config : RadioConfig) (place i : ℕ) (line : Line) (old new : List (List Line)) → AddsLine i line old new
-    → heard_from config place new i
-    ≡ heard_from config place old i ++ heard_of place (network_at config place).bssid line
-heard-here config place i line old new adds =
-    let hears = heard_of place (network_at config place).bssid in
-    ap (heard place (network_at config place).bssid) adds.here
-    ∙ flat_map-append hears (lines_of old i) (line ∷ [])
-    ∙ ap (λ (es : List Event). heard_from config place old i ++ es) (append-nil (hears line))
-
-heard-others : (config : RadioConfig) (place i j : ℕ) (line : Line) (old new : List (List Line)) → AddsLine i line old new
-    → j ≢ i → heard_from config place new j ≡ heard_from config place old j
-heard-others config place i j line old new adds ne =
-    ap (heard place (network_at config place).bssid) (adds.others j ne)
-
--- ---- one line more is taken
-
--- nothing of it, since it is not heard or the history is full
-stays : (config : RadioConfig) (old new : List (List Line)) (place : ℕ) (n m : LoggedNetwork)
-    → (log : IsLogAt config old place n) → length new ≡ length old
-    → m ≡ log_of (setting_at config place) (log.history ++ [])
-    → ((j : ℕ)
-    → IsTaken (network_at config place).max_events log.history (dealt log.givers log.history j) (heard_from config place old j)
-    → IsTaken (network_at config place).max_events log.history (dealt log.givers log.history j) (heard_from config place new j))
-    → IsLogAt config new place m
-stays config old new place n m log count is each = record {
-  history = log.history;
-  givers = log.givers;
-  alone = is ∙ ap (log_of (setting_at config place)) (append-nil log.history);
-  bounded = log.bounded;
-  long = log.long;
-  known = subst (λ (k : ℕ). All (λ giver. giver < k) log.givers) (sym count) log.known;
-  each = λ j. each j (log.each j);
-}
-
-taken-same : (limit : ℕ) (history given : List Event) (old new : List Event) → new ≡ old
-    → IsTaken limit history given old → IsTaken limit history given new
-taken-same limit history given old new same h = subst (λ (es : List Event). IsTaken limit history given es) (sym same) h
-
--- a network that is full takes none of what is heard more
-taken-full : (limit : ℕ) (history given old new more : List Event) → limit ≤ length history → new ≡ old ++ more
-    → IsTaken limit history given old → IsTaken limit history given new
-taken-full limit history given old new more full is h = record {
+-- what is heard more is nothing, or the network is full
+taken-more : (limit count : ℕ) (given old new more : List Event) → new ≡ old ++ more
+    → (more ≡ []) ⊎ (limit ≤ count) → IsTaken limit count given old → IsTaken limit count given new
+taken-more limit count given old new more is either h = record {
   first = (
     h.first.0 ++ more,
     sym (append_assoc given h.first.0 more)
         ∙ ap (λ (es : List Event). es ++ more) h.first.1
         ∙ sym is,
   );
-  whole = λ less. absurd (omega (arith, less, full));
+  whole = λ less. elim either [
+    | inl none ↦ h.whole less ∙ sym (append-nil old) ∙ ap (λ (es : List Event). old ++ es) (sym none) ∙ sym is
+    | inr full ↦ absurd (omega (arith, less, full))
+  ];
 }
 
-taken-all : (limit : ℕ) (history given heard : List Event) → given ≡ heard → IsTaken limit history given heard
-taken-all limit history given heard is = record {
+taken-all : (limit count : ℕ) (given heard : List Event) → given ≡ heard → IsTaken limit count given heard
+taken-all limit count given heard is = record {
   first = ([], append-nil given ∙ is);
   whole = λ less. is;
 }
 
--- its event
-takes : (config : RadioConfig) (place i : ℕ) (line : Line) (old new : List (List Line)) (n m : LoggedNetwork) (e : Event)
-    → AddsLine i line old new → (log : IsLogAt config old place n)
-    → length log.history < (network_at config place).max_events
-    → heard_of place (network_at config place).bssid line ≡ e ∷ []
-    → m ≡ log_of (setting_at config place) (log.history ++ e ∷ [])
-    → IsLogAt config new place m
-takes config place i line old new n m e adds log room some is =
-    let long : length (log.history ++ e ∷ []) ≡ length log.history + 1 = length_push log.history e in
-    let there : i < length new = omega (arith, adds.there, adds.count) in
-    record {
-      history = log.history ++ e ∷ [];
-      givers = log.givers ++ i ∷ [];
-      alone = is;
-      bounded = omega (arith, long, room);
-      long = length_push log.givers i ∙ ap (λ (k : ℕ). k + 1) log.long ∙ sym long;
-      known = All-append (λ giver. giver < length new) log.givers (i ∷ [])
-          (subst (λ (k : ℕ). All (λ giver. giver < k) log.givers) (sym adds.count) log.known)
-          (All-cons (λ giver. giver < length new) i [] there (All-nil (λ (giver : ℕ). giver < length new)));
-      each = λ j.
-          elim (cases_eq j i) [
-            | inl same ↦
-                taken-all (network_at config place).max_events (log.history ++ e ∷ []) (dealt (log.givers ++ i ∷ []) (log.history ++ e ∷ []) j) (heard_from config place new j)
-                (ap (dealt (log.givers ++ i ∷ []) (log.history ++ e ∷ [])) same
-                ∙ dealt-here log.givers log.history e i log.long
-                ∙ ap (λ (es : List Event). es ++ e ∷ []) ((log.each i).whole room)
-                ∙ ap (λ (es : List Event). heard_from config place old i ++ es) (sym some)
-                ∙ sym (heard-here config place i line old new adds)
-                ∙ ap (heard_from config place new) (sym same))
-            | inr other ↦
-                taken-all (network_at config place).max_events (log.history ++ e ∷ []) (dealt (log.givers ++ i ∷ []) (log.history ++ e ∷ []) j) (heard_from config place new j)
-                (dealt-others log.givers log.history e i j (λ same. other (sym same)) log.long
-                ∙ (log.each j).whole room
-                ∙ sym (heard-others config place i j line old new adds other))
-          ];
-    }
-
-pub log-more : (config : RadioConfig) (place i : ℕ) (line : Line) (old new : List (List Line)) (n m : LoggedNetwork)
-    → AddsLine i line old new → (log : IsLogAt config old place n)
-    → m ≡ log_of (setting_at config place) (log.history ++ taken_of place (network_at config place) log.history line)
-    → IsLogAt config new place m
-log-more config place i line old new n m adds log is =
-    let limit : ℕ = (network_at config place).max_events in
-    let hears : List Event = heard_of place (network_at config place).bssid line in
-    let after : List Event → LoggedNetwork = λ (es : List Event). log_of (setting_at config place) (log.history ++ es) in
-    elim (cases_lt (length log.history) limit) [
+-- of a line its event is taken, or nothing: it isn't heard, or the network is full
+pub taken-cases : (place : ℕ) (network : NetConfig) (es : List Event) (line : Line)
+    → ((taken_of place network es line ≡ [])
+    × ((heard_of place network.bssid line ≡ []) ⊎ (network.max_events ≤ length es)))
+    ⊎ ((taken_of place network es line ≡ event_of_line line ∷ [])
+    × (heard_of place network.bssid line ≡ event_of_line line ∷ []) × (length es < network.max_events))
+taken-cases place network es line =
+    let hears : List Event = heard_of place network.bssid line in
+    elim (cases_lt (length es) network.max_events) [
       | inl room ↦
-          let took : taken_of place (network_at config place) log.history line ≡ hears =
-          ap (λ (b : Bool). if b then hears else []) (lt-ltb (length log.history) limit room) in
-          elim (heard-one place (network_at config place).bssid line) [
-            | inl none ↦
-                stays config old new place n m log adds.count (is ∙ ap after (took ∙ none))
-                (λ j h.
-                taken-same limit log.history (dealt log.givers log.history j) (heard_from config place old j) (heard_from config place new j)
-                (elim (cases_eq j i) [
-                  | inl same ↦
-                      ap (heard_from config place new) same
-                      ∙ heard-here config place i line old new adds
-                      ∙ ap (λ (es : List Event). heard_from config place old i ++ es) none
-                      ∙ append-nil (heard_from config place old i)
-                      ∙ ap (heard_from config place old) (sym same)
-                  | inr other ↦ heard-others config place i j line old new adds other
-                ])
-                h)
-            | inr some ↦ takes config place i line old new n m (event_of_line line) adds log room some (is ∙ ap after (took ∙ some))
+          let took : taken_of place network es line ≡ hears =
+          ap (λ (b : Bool). if b then hears else []) (lt-ltb (length es) network.max_events room) in
+          elim (heard-one place network.bssid line) [
+            | inl none ↦ inl (took ∙ none, inl none)
+            | inr some ↦ inr (took ∙ some, some, room)
           ]
       | inr full ↦
-          let took : taken_of place (network_at config place) log.history line ≡ [] =
-          ap (λ (b : Bool). if b then hears else []) (le-ltb (length log.history) limit full) in
-          stays config old new place n m log adds.count (is ∙ ap after took)
-          (λ j h.
-          elim (cases_eq j i) [
-            | inl same ↦
-                taken-full limit log.history (dealt log.givers log.history j) (heard_from config place old j) (heard_from config place new j) hears full
-                (ap (heard_from config place new) same
-                ∙ heard-here config place i line old new adds
-                ∙ ap (λ (k : ℕ). heard_from config place old k ++ hears) (sym same))
-                h
-            | inr other ↦
-                taken-same limit log.history (dealt log.givers log.history j) (heard_from config place old j) (heard_from config place new j)
-                (heard-others config place i j line old new adds other) h
-          ])
+          inl (ap (λ (b : Bool). if b then hears else []) (le-ltb (length es) network.max_events full), inr full)
     ]
 
 -- ---- a network that took no event
 
-pub log-none : (config : RadioConfig) (sources : List (List Line)) (place : ℕ) (n : LoggedNetwork)
-    → ((i : ℕ) → lines_of sources i ≡ []) → n ≡ log_of (setting_at config place) []
-    → IsLogAt config sources place n
-log-none config sources place n none is = record {
-  history = [];
-  givers = [];
+pub kept-none : (config : RadioConfig) (sources : List (List Line)) (keeps : Bool) (place : ℕ) (hears : ℕ → List Event)
+    (n : LoggedNetwork) (given : List Given) → ((i : ℕ) → hears i ≡ []) → n ≡ log_of (setting_at config place) []
+    → given ≡ [] → IsKeptAt config sources keeps place hears n given
+kept-none config sources keeps place hears n given none is nobody = record {
+  by = [];
   alone = is;
-  bounded = omega arith;
-  long = refl;
-  known = All-nil (λ (giver : ℕ). giver < length sources);
-  each = λ i. taken-all (network_at config place).max_events [] [] (heard_from config place sources i)
-      (sym (ap (heard place (network_at config place).bssid) (none i)));
+  given_at = record {
+    bounded = omega arith;
+    known = All-nil (λ (g : Given). g.source < length sources);
+    each = λ i. taken-all (network_at config place).max_events 0 [] (hears i) (sym (none i));
+  };
+  told = λ _. nobody;
 }
+
+-- ---- one line more
+
+-- of one source a line more is given, of which this is heard
+pub record HearsMore (i : ℕ) (more : List Event) (old new : ℕ → List Event) : Type 0 where
+  pub here : (j : ℕ) → j ≡ i → new j ≡ old j ++ more
+  pub others : (j : ℕ) → j ≢ i → new j ≡ old j
+
+pub kept-more : (config : RadioConfig) (place i k : ℕ) (line : Line) (sources : List (List Line)) (keeps : Bool)
+    (old new : ℕ → List Event) (n m : LoggedNetwork) (given after : List Given)
+    → HearsMore i (heard_of place (network_at config place).bssid line) old new → i < length sources
+    → line ≡ line_at (lines_of sources i) k → (kept : IsKeptAt config sources keeps place old n given)
+    → m
+    ≡ log_of (setting_at config place)
+    (map (event_given sources) kept.by
+    ++ taken_of place (network_at config place) (map (event_given sources) kept.by) line)
+    → (keeps ≡ true → after
+    ≡ given
+    ++ map (λ _. record { source = i; line = k })
+    (taken_of place (network_at config place) (map (event_given sources) kept.by) line))
+    → IsKeptAt config sources keeps place new m after
+kept-more config place i k line sources keeps old new n m given after adds there is kept takes tells =
+    let network : NetConfig = network_at config place in
+    let limit : ℕ = network.max_events in
+    let count : ℕ = length kept.by in
+    let b : Given = record { source = i; line = k } in
+    let event : Given → Event = event_given sources in
+    let history : List Event = map event kept.by in
+    let hears : List Event = heard_of place network.bssid line in
+    let long : length history ≡ count = length-map kept.by event in
+    elim (taken-cases place network history line) [
+      | inl none ↦
+          let quiet : (hears ≡ []) ⊎ (limit ≤ count) = elim none.1 [
+            | inl unheard ↦ inl unheard
+            | inr full ↦ inr (omega (arith, full, long))
+          ] in
+          record {
+            by = kept.by;
+            alone = takes
+                ∙ ap (λ (es : List Event). log_of (setting_at config place) (history ++ es)) none.0
+                ∙ ap (log_of (setting_at config place)) (append-nil history);
+            given_at = record {
+              bounded = kept.given_at.bounded;
+              known = kept.given_at.known;
+              each = λ j. elim (cases_eq j i) [
+                | inl same ↦
+                    taken-more limit count (map event (given_by j kept.by)) (old j) (new j) hears (adds.here j same) quiet
+                    (kept.given_at.each j)
+                | inr other ↦
+                    taken-more limit count (map event (given_by j kept.by)) (old j) (new j) []
+                    (adds.others j other ∙ sym (append-nil (old j))) (inl refl) (kept.given_at.each j)
+              ];
+            };
+            told = λ keep. tells keep
+                ∙ ap (λ (es : List Event). given ++ map (λ _. b) es) none.0
+                ∙ append-nil given
+                ∙ kept.told keep;
+          }
+      | inr some ↦
+          let one : event_of_line line ∷ [] ≡ event b ∷ [] = ap (λ (l : Line). event_of_line l ∷ []) is in
+          let room : count < limit = omega (arith, some.2, long) in
+          let more : length (kept.by ++ b ∷ []) ≡ count + 1 = length_push kept.by b in
+          let whole = λ (j : ℕ). (kept.given_at.each j).whole room in
+          record {
+            by = kept.by ++ b ∷ [];
+            alone = takes
+                ∙ ap (λ (es : List Event). log_of (setting_at config place) (history ++ es)) (some.0 ∙ one)
+                ∙ ap (log_of (setting_at config place)) (sym (map-append event kept.by (b ∷ [])));
+            given_at = record {
+              bounded = omega (arith, more, room);
+              known = All-append (λ g. g.source < length sources) kept.by (b ∷ []) kept.given_at.known
+                  (All-cons (λ g. g.source < length sources) b [] there (All-nil (λ (g : Given). g.source < length sources)));
+              each = λ j.
+                  taken-all limit (length (kept.by ++ b ∷ [])) (map event (given_by j (kept.by ++ b ∷ []))) (new j)
+                  (elim (cases_eq j i) [
+                    | inl same ↦
+                        ap (map event) (given-here j kept.by b (sym same))
+                        ∙ map-append event (given_by j kept.by) (b ∷ [])
+                        ∙ (λ x. whole j x ++ sym (some.1 ∙ one) x)
+                        ∙ sym (adds.here j same)
+                    | inr other ↦
+                        ap (map event) (given-others j kept.by b (λ same. other (sym same)))
+                        ∙ whole j
+                        ∙ sym (adds.others j other)
+                  ]);
+            };
+            told = λ keep. tells keep
+                ∙ ap (λ (es : List Event). given ++ map (λ _. b) es) some.0
+                ∙ ap (λ (gs : List Given). gs ++ b ∷ []) (kept.told keep);
+          }
+    ]
+
+-- who gave an event is told of just where the network took an event more
+pub given-when : (place : ℕ) (network : NetConfig) (es : List Event) (line : Line) (by : Given) (before after : ℕ)
+    (given now : List Given) → before ≡ length es → after ≡ length (es ++ taken_of place network es line)
+    → (((before < after) × (now ≡ given ++ by ∷ [])) ⊎ ((after ≤ before) × (now ≡ given)))
+    → now ≡ given ++ map (λ _. by) (taken_of place network es line)
+given-when place network es line by before after given now was is told =
+    elim (taken-cases place network es line) [
+      | inl none ↦
+          let same : after ≡ length es =
+          is ∙ ap (λ (ts : List Event). length (es ++ ts)) none.0 ∙ ap length (append-nil es) in
+          elim told [
+            | inl took ↦ let less = took.0 in absurd (omega (arith, was, same, less))
+            | inr not ↦ not.1 ∙ sym (append-nil given) ∙ ap (λ (ts : List Event). given ++ map (λ _. by) ts) (sym none.0)
+          ]
+      | inr some ↦
+          let more : after ≡ length es + 1 =
+          is ∙ ap (λ (ts : List Event). length (es ++ ts)) some.0 ∙ length_push es (event_of_line line) in
+          elim told [
+            | inl took ↦ took.1 ∙ ap (λ (ts : List Event). given ++ map (λ _. by) ts) (sym some.0)
+            | inr not ↦ let few = not.0 in absurd (omega (arith, was, more, few))
+          ]
+    ]

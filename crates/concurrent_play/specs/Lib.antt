@@ -1,4 +1,5 @@
 pub mod Lines
+pub mod Sources
 pub mod Plays
-pub mod Ends
 pub mod Leaving
+pub mod Kept

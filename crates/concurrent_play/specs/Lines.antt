@@ -1,5 +1,5 @@
 -- Lines of sources (profile).
-use Rattle.std.specs.Prelude.{ℕ, ◌≡◌, ◌<◌, ◌≤◌, ◌+◌, List, [], ◌∷◌, length, take, slice_index_or}
+use Rattle.std.specs.Prelude.{ℕ, ◌≡◌, ◌<◌, ◌≤◌, ◌+◌, List, [], length, slice_index_or}
 use Rattle.events.specs.declared.line.Line.{Line}
 use Rattle.events.specs.declared.line.Line.TheVariants as line
 
@@ -10,12 +10,6 @@ line_at lines n = slice_index_or lines n line.Tick
 -- the lines of the source of this number: none where there is no such source
 abbrev pub lines_of : List (List Line) → ℕ → List Line
 lines_of sources i = slice_index_or sources i []
-
--- of each source its first lines, as many as stand at its place
-abbrev pub first_lines : List ℕ → List (List Line) → List (List Line)
-first_lines [] sources = []
-first_lines (n ∷ ns) [] = []
-first_lines (n ∷ ns) (lines ∷ sources) = take n lines ∷ first_lines ns sources
 
 -- these lines stand, in order, among a source's lines, the first of them at this number
 pub record StandFrom (lines : List Line) (first : ℕ) (some : List Line) : Type 0 where

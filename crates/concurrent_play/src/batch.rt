@@ -6,11 +6,12 @@ ghost use Rattle.events.specs.LentEvents.{event_of, line_of};
 ghost use Rattle.events.specs.Lines.{event_for, event_of_line};
 ghost use Rattle.network.specs.ReceivedEvents.{event_received};
 ghost use Rattle.concurrent_play.specs.Lines.{StandFrom, lines_of};
+ghost use Rattle.concurrent_play.specs.Sources.{lists_of};
 
 use crate::name::PlayName;
 use crate::source::Source;
+use crate::sources::Sources;
 use events::{Audience, LentLine};
-use line_log::LineLog;
 use mac_frame::{MacAddr, NoMemory};
 use network::ReceivedEvent;
 use std::alloc::Global;
@@ -93,9 +94,9 @@ impl<'a, N: PlayName> Batch<'a, N> {
         end: usize,
     ) -> Result<Batch<'a, N>, NoMemory>
         requires order { first ≤ end }
-        requires within { end ≤ length source.now.lines.now }
+        requires within { end ≤ length (lines_of N.sources source.now.number) }
     {
-        let lines = read_lines(alloc, source.lines, first, end)?;
+        let lines = read_lines(alloc, source.all, source.number, first, end)?;
         Ok(Batch {
             source: source.number,
             first,
@@ -105,21 +106,22 @@ impl<'a, N: PlayName> Batch<'a, N> {
     }
 }
 
-/// Lines from a number on, below another.
+/// Lines of a source from a number on, below another.
 fn read_lines<'a>(
     alloc: Global,
-    lines: &'a LineLog,
+    all: Sources<'a>,
+    source: usize,
     first: usize,
     end: usize,
 ) -> Result<Vec<ReadLine<'a>>, NoMemory>
     requires order { first ≤ end }
-    requires within { end ≤ length lines.now }
-    ensures stand { IfOk result (λ read. StandFrom lines.now first read.items) }
+    requires within { end ≤ length (lines_of (lists_of all) source) }
+    ensures stand { IfOk result (λ read. StandFrom (lines_of (lists_of all.entry) source) first read.items) }
     ensures count { IfOk result (λ read. first + vec_len read ≡ end) }
 {
     let mut read = Vec::with_capacity(alloc, end - first)?;
     for number in first..end {
-        read.push(ReadLine::of(lines.get(number)))?;
+        read.push(ReadLine::of(all.line(source, number)))?;
     }
     Ok(read)
 }

@@ -11,15 +11,18 @@
 //! handed on enough does, and who finds the queue full does until none of its own wait.
 //!
 //! [`play_logged`] promises that once all lines are given each network, with the frames that it sent, is such a one, alone
-//! with its events: a [`LoggedNetwork`]. [`as_played`] says it as `play` of `workers` does. Which thread is served when,
-//! that a thread gets on, and time are promised by nothing here. Where the lines come from, and what a network's log says,
-//! is left to the crates above.
+//! with its events: a [`LoggedNetwork`]. [`play_finished`] keeps besides who gave each event, and what left in its order,
+//! and hands out the sections; it asks a [`Gate`] before each line. What both promise is said by one definition. Which
+//! thread is served when, that a thread gets on, and time are promised by nothing here. Where the lines come from, and what
+//! a network's log says, is left to the crates above.
 //!
 //! [`LoggedNetwork`]: access_point::LoggedNetwork
 #![tactic(auto)]
 
 mod batch;
-mod laws;
+mod ending;
+mod gate;
+mod kept;
 mod name;
 mod networks;
 mod outlet;
@@ -27,8 +30,9 @@ mod playing;
 mod queued;
 mod seat;
 mod source;
+mod sources;
 mod spares;
 mod threads;
 
-pub use laws::as_played;
-pub use playing::play_logged;
+pub use gate::Gate;
+pub use playing::{play_finished, play_logged};

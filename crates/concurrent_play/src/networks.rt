@@ -4,19 +4,21 @@ ghost use Rattle.std.specs.Prelude.{◌≡◌, ◌<◌, None, IfOk, IfErr, lengt
 ghost use Rattle.air_queue.specs.Passes.{AllThere, fresh_passes, fresh_radio};
 ghost use Rattle.ap_config.specs.Configuration.{fault_of};
 ghost use Rattle.play_result.specs.Faults.{IsPlayFault};
-ghost use Rattle.concurrent_play.specs.Plays.{IsLoggedPlay};
-ghost use Rattle.concurrent_play.specs.Leaving.{AreSentFrom};
+ghost use Rattle.concurrent_play.specs.Kept.{AreKeptFrom, AreSentFrom, IsEnd};
+ghost use Rattle.concurrent_play.specs.Sources.{lists_of};
 
 use crate::batch::Batch;
+use crate::kept::{PlayedLog, PlayedNetwork};
 use crate::name::PlayName;
 use crate::outlet::Outlet;
 use crate::queued::Queued;
 use crate::seat::{Handing, Seat};
+use crate::sources::Sources;
 use crate::spares::Spares;
-use access_point::{FrameLog, LoggedNetwork, SendingNetwork};
+use access_point::{FrameLog, LoggedNetwork};
 use air_queue::{AirQueue, NetPass};
 use ap_config::{RadioConfig, checked_networks};
-use line_log::LineLog;
+use events::AirItem;
 use mac_frame::NoMemory;
 use network::open_networks;
 use play_result::PlayFault;
@@ -57,6 +59,7 @@ impl<N: PlayName> Networks<N> {
         config: RadioConfig,
         queued: Queued,
         sources: usize,
+        keeps: bool,
     ) -> Result<Networks<N>, NoMemory>
         requires config { config ≡ N.config }
         requires sound { fault_of config ≡ None }
@@ -64,13 +67,14 @@ impl<N: PlayName> Networks<N> {
         requires nets { queued.nets.items ≡ fresh_passes N.queue (length config.networks) }
         requires radio { queued.radio ≡ fresh_radio N.queue (length config.networks) queued.radio.spare }
         requires sources { sources ≡ length N.sources }
+        requires keeps { keeps ≡ N.keeps }
     {
         let capacity = config.queue;
         let networks = config.networks.as_slice().len();
         let Queued { queue, nets, radio } = queued;
-        let outlet = Mutex::new(Outlet::new(alloc, radio, networks)?);
+        let outlet = Mutex::new(Outlet::new(alloc, radio, networks, keeps)?);
         Ok(Networks {
-            seats: seat_networks(alloc, config, nets, sources)?,
+            seats: seat_networks(alloc, config, nets, sources, keeps)?,
             queue,
             outlet,
             capacity,
@@ -190,16 +194,17 @@ impl<N: PlayName> Networks<N> {
         unreachable!()
     }
 
-    /// The networks with the frames that they sent, where each was given all lines of these sources. All frames leave.
+    /// The networks with the frames that they sent, where each was given all lines of these sources, and all frames in
+    /// the order in which they left, where the play keeps it. All frames leave.
     pub(crate) fn into_logs<R: Wait>(
         self,
         rt: &R,
         alloc: Global,
-        sources: &[LineLog],
-    ) -> Result<Vec<LoggedNetwork>, PlayFault>
-        requires { sources.now ≡ N.sources }
+        sources: Sources<'_>,
+    ) -> Result<(Vec<PlayedLog>, Vec<AirItem>), PlayFault>
+        requires { lists_of sources ≡ N.sources }
         ensures err { IfErr result IsPlayFault }
-        ensures logs { IfOk result (λ logs. IsLoggedPlay N.config N.sources logs.items) }
+        ensures end { IfOk result (λ r. IsEnd N.config N.sources N.keeps r.0.items r.1.items) }
     {
         let Networks {
             seats,
@@ -209,8 +214,9 @@ impl<N: PlayName> Networks<N> {
             enough: _,
         } = self;
         let (networks, nets) = unseat(alloc, seats, sources)?;
-        let left = outlet.into_inner().end(rt, queue, nets)?;
-        Ok(join_logs::<N>(alloc, networks, left)?)
+        let left = outlet.into_inner().end(rt, alloc, queue, nets)?;
+        let logs = join_logs::<N>(alloc, networks, left.logs)?;
+        Ok((logs, left.items))
     }
 }
 
@@ -243,14 +249,14 @@ fn enough_of(capacity: u16, sources: usize) -> u32 {
 fn unseat<N: PlayName>(
     alloc: Global,
     seats: Vec<Mutex<Seat<N>>>,
-    sources: &[LineLog],
-) -> Result<(Vec<SendingNetwork>, Vec<NetPass>), PlayFault>
-    requires sources { sources.now ≡ N.sources }
+    sources: Sources<'_>,
+) -> Result<(Vec<PlayedNetwork>, Vec<NetPass>), PlayFault>
+    requires sources { lists_of sources ≡ N.sources }
     requires count { vec_len seats ≡ length N.config.networks }
     ensures err { IfErr result IsPlayFault }
     ensures passes { IfOk result (λ r. AllThere N.queue (length N.config.networks) r.1.items) }
     ensures sent { IfOk result (λ r.
-        AreSentFrom N.config N.sources 0 r.0.items (map (λ pass. pass.pushed) r.1.items)) }
+        AreSentFrom N.config N.sources N.keeps 0 r.0.items (map (λ pass. pass.pushed) r.1.items)) }
 {
     let mut networks = Vec::with_capacity(alloc, seats.len())?;
     let mut nets = Vec::with_capacity(alloc, seats.len())?;
@@ -263,19 +269,23 @@ fn unseat<N: PlayName>(
     Ok((networks, nets))
 }
 
-/// The networks with the frames of them that left, after which come those that wait.
+/// The networks with the frames of them that left, of which none waits.
 fn join_logs<N: PlayName>(
     alloc: Global,
-    networks: Vec<SendingNetwork>,
+    networks: Vec<PlayedNetwork>,
     left: Vec<FrameLog>,
-) -> Result<Vec<LoggedNetwork>, NoMemory>
+) -> Result<Vec<PlayedLog>, NoMemory>
     requires count { vec_len left ≡ length N.config.networks }
-    requires sent { AreSentFrom N.config N.sources 0 networks.items left.items }
-    ensures { IfOk result (λ logs. IsLoggedPlay N.config N.sources logs.items) }
+    requires sent { AreSentFrom N.config N.sources N.keeps 0 networks.items left.items }
+    ensures count { IfOk result (λ logs. length logs.items ≡ length N.config.networks) }
+    ensures each { IfOk result (λ logs. AreKeptFrom N.config N.sources N.keeps 0 logs.items) }
+    ensures air { IfOk result (λ logs. map (λ n. n.log.air) logs.items ≡ left.items) }
 {
     let mut logs = Vec::with_capacity(alloc, networks.len())?;
-    for (network, left) in networks.into_iter().zip(left) {
-        logs.push(network.into_log(left)?)?;
+    for (played, left) in networks.into_iter().zip(left) {
+        let PlayedNetwork { network, given } = played;
+        let log = network.into_log(left)?;
+        logs.push(PlayedLog { log, given })?;
     }
     Ok(logs)
 }
@@ -286,11 +296,13 @@ fn seat_networks<N: PlayName>(
     config: RadioConfig,
     nets: Vec<NetPass>,
     sources: usize,
+    keeps: bool,
 ) -> Result<Vec<Mutex<Seat<N>>>, NoMemory>
     requires config { config ≡ N.config }
     requires sound { fault_of config ≡ None }
     requires nets { nets.items ≡ fresh_passes N.queue (length config.networks) }
     requires sources { sources ≡ length N.sources }
+    requires keeps { keeps ≡ N.keeps }
     ensures { IfOk result (λ seats. vec_len seats ≡ length N.config.networks) }
 {
     checked_networks();
@@ -303,7 +315,7 @@ fn seat_networks<N: PlayName>(
     let networks = open_networks::<LoggedNetwork>(alloc, channel, interval, networks)?;
     let mut seats = Vec::with_capacity(alloc, networks.len())?;
     for (network, pass) in networks.into_iter().zip(nets) {
-        seats.push(Mutex::new(Seat::new(alloc, network, pass, sources)?))?;
+        seats.push(Mutex::new(Seat::new(alloc, network, pass, sources, keeps)?))?;
     }
     Ok(seats)
 }

@@ -1,27 +1,79 @@
 //! By what frames leave the air queue while sources give their lines.
 
-ghost use Rattle.std.specs.Prelude.{◌≡◌, IfOk, map, length, vec_len};
+ghost use Rattle.std.specs.Prelude.{◌≡◌, ◌<◌, ◌++◌, ◌∷◌, [], List, IfOk, OnOk, map, length, vec_len};
 ghost use Rattle.air_queue.specs.Passes.{AllThere, fresh_radio};
-ghost use Rattle.concurrent_play.specs.Leaving.{HaveLeft, HavePushed};
+ghost use Rattle.events.specs.declared.air_item.AirItem.{AirItem};
+ghost use Rattle.concurrent_play.specs.Kept.{IsLeft};
+ghost use Rattle.concurrent_play.specs.Leaving.{HavePushed};
 
 use crate::name::PlayName;
 use crate::spares::Spares;
 use access_point::FrameLog;
 use air_queue::{AirQueue, ClosedQueue, NetPass, PopPass, RadioPass};
 use events::AirItem;
-use mac_frame::{NoMemory, Octets};
+use mac_frame::NoMemory;
 use std::alloc::Global;
 use std::marker::{Model, PhantomData};
 use std::sync::Wait;
 
-/// The radio's pass of the play N, and for each network the frames of it that left, as they stand under one lock. Unless
-/// memory ran out, these are all that left.
+/// What left.
+#[derive(Drop)]
+pub(crate) struct Left {
+    /// For each network, in order of place, the frames of it that left.
+    pub(crate) logs: Vec<FrameLog>,
+    /// Whether the frames are kept in their order, too.
+    keeps: bool,
+    /// All frames, the first of them first, where they are kept so.
+    pub(crate) items: Vec<AirItem>,
+}
+
+impl Left {
+    /// Nothing, of this number of networks.
+    fn new(alloc: Global, networks: usize, keeps: bool) -> Result<Left, NoMemory>
+        ensures count { IfOk result (λ left. vec_len left.logs ≡ networks) }
+        ensures keeps { IfOk result (λ left. left.keeps ≡ keeps) }
+        ensures none { IfOk result (λ left. IsLeft networks keeps [] left.logs.items left.items.items) }
+    {
+        let mut logs = Vec::with_capacity(alloc, networks)?;
+        for _ in 0..networks {
+            logs.push_reserved(FrameLog::new(alloc));
+        }
+        Ok(Left {
+            logs,
+            keeps,
+            items: Vec::new(alloc),
+        })
+    }
+
+    /// Keeps a frame that left after those before. Its memory is spare then, where the frames are not kept in their order.
+    #[inline(always)]
+    fn keep(&mut self, item: AirItem, spares: &mut Spares) -> Result<(), NoMemory>
+        requires { item.place < vec_len self.old.logs }
+        ensures count { vec_len self.new.logs ≡ vec_len self.old.logs }
+        ensures keeps { self.new.keeps ≡ self.old.keeps }
+        ensures kept { (before : List AirItem)
+            → IsLeft (vec_len self.old.logs) self.old.keeps before self.old.logs.items self.old.items.items
+            → OnOk result (IsLeft (vec_len self.old.logs) self.old.keeps (before ++ item ∷ [])
+            self.new.logs.items self.new.items.items) }
+    {
+        let AirItem { place, octets } = item;
+        self.logs[place].push(octets.as_slice())?;
+        if self.keeps {
+            self.items.push(AirItem { place, octets })?;
+        } else {
+            spares.keep(octets);
+        }
+        Ok(())
+    }
+}
+
+/// The radio's pass of the play N, and what left by it, as they stand under one lock. Unless memory ran out, this is all
+/// that left.
 #[derive(Drop)]
 pub(crate) struct Outlet<N: PlayName> {
     pass: PopPass,
-    /// For each network, in order of place, the frames of it that left.
-    logs: Vec<FrameLog>,
-    /// Memory ran out as a frame left, which is in no log.
+    left: Left,
+    /// Memory ran out as a frame left, which is not kept.
     failed: bool,
     of: PhantomData<N>,
 }
@@ -29,7 +81,7 @@ pub(crate) struct Outlet<N: PlayName> {
 impl<N: PlayName> Model for Outlet<N> {
     ghost use Rattle.std.specs.Prelude.{◌≡◌, false, length, vec_len};
     ghost use Rattle.std.specs.FinMap as finite;
-    ghost use Rattle.concurrent_play.specs.Leaving.{HaveLeft};
+    ghost use Rattle.concurrent_play.specs.Kept.{IsLeft};
 
     ghost Value = { Unit {0} };
 
@@ -39,33 +91,33 @@ impl<N: PlayName> Model for Outlet<N> {
         (o.pass.name ≡ N.queue)
         × (o.pass.networks ≡ length N.config.networks)
         × (o.pass.taken_in ≡ finite.empty)
-        × (vec_len o.logs ≡ length N.config.networks)
-        × (o.failed ≡ false → HaveLeft o.pass.left o.logs.items) };
+        × (vec_len o.left.logs ≡ length N.config.networks)
+        × (o.left.keeps ≡ N.keeps)
+        × (o.failed ≡ false
+        → IsLeft (length N.config.networks) N.keeps o.pass.left o.left.logs.items o.left.items.items) };
 }
 
 impl<N: PlayName> Outlet<N> {
-    /// That of a queue by which nothing left, for this number of networks.
+    /// That of a queue by which nothing left, for this number of networks. It keeps the frames in their order or not.
     pub(crate) fn new(
         alloc: Global,
         pass: RadioPass,
         networks: usize,
+        keeps: bool,
     ) -> Result<Outlet<N>, NoMemory>
         requires networks { networks ≡ length N.config.networks }
+        requires keeps { keeps ≡ N.keeps }
         requires pass { pass ≡ fresh_radio N.queue networks pass.spare }
     {
-        let mut logs = Vec::with_capacity(alloc, networks)?;
-        for _ in 0..networks {
-            logs.push_reserved(FrameLog::new(alloc));
-        }
         Ok(Outlet {
             pass: pass.into_pop_pass(),
-            logs,
+            left: Left::new(alloc, networks, keeps)?,
             failed: false,
             of: PhantomData,
         })
     }
 
-    /// Lets frames leave, at most this many, whose memory is spare then. `NoMemory` where memory ran out.
+    /// Lets frames leave, at most this many, and keeps them. `NoMemory` where memory ran out.
     pub(crate) fn leave<R: Wait>(
         &mut self,
         rt: &R,
@@ -76,24 +128,28 @@ impl<N: PlayName> Outlet<N> {
         requires { queue.now.name ≡ N.queue }
     {
         for _ in 0..most {
-            match self.leave_first(rt, queue)? {
-                Some(frame) => spares.keep(frame),
-                None => break,
+            if !self.leave_first(rt, queue, spares)? {
+                break;
             }
         }
         Ok(())
     }
 
-    /// Lets the first frame of the queue leave, if there is one.
+    /// Lets the first frame of the queue leave, if there is one. Whether there was one.
     #[inline(always)]
-    fn leave_first<R: Wait>(&mut self, rt: &R, queue: &AirQueue) -> Result<Option<Octets>, NoMemory>
+    fn leave_first<R: Wait>(
+        &mut self,
+        rt: &R,
+        queue: &AirQueue,
+        spares: &mut Spares,
+    ) -> Result<bool, NoMemory>
         requires { queue.now.name ≡ N.queue }
     {
-        let Some(AirItem { place, octets }) = queue.pop_item(rt, &mut self.pass) else {
-            return Ok(None);
+        let Some(item) = queue.pop_item(rt, &mut self.pass) else {
+            return Ok(false);
         };
-        match self.logs[place].push(octets.as_slice()) {
-            Ok(()) => Ok(Some(octets)),
+        match self.left.keep(item, spares) {
+            Ok(()) => Ok(true),
             Err(e) => {
                 self.failed = true;
                 Err(e)
@@ -101,48 +157,54 @@ impl<N: PlayName> Outlet<N> {
         }
     }
 
-    /// For each network, in order of place, all frames that it pushed, once all passes to the queue are back.
+    /// All that left, which is for each network what it pushed, once all passes to the queue are back.
     pub(crate) fn end<R: Wait>(
         self,
         rt: &R,
+        alloc: Global,
         queue: AirQueue,
         nets: Vec<NetPass>,
-    ) -> Result<Vec<FrameLog>, NoMemory>
+    ) -> Result<Left, NoMemory>
         requires queue { queue.name ≡ N.queue }
         requires nets { AllThere N.queue (length N.config.networks) nets.items }
-        ensures count { IfOk result (λ logs. vec_len logs ≡ length N.config.networks) }
-        ensures pushed { IfOk result (λ logs. logs.items ≡ map (λ pass. pass.pushed) nets.items) }
+        ensures count { IfOk result (λ left. vec_len left.logs ≡ length N.config.networks) }
+        ensures pushed { IfOk result (λ left. left.logs.items ≡ map (λ pass. pass.pushed) nets.items) }
+        ensures left { IfOk result (λ left. (items : List AirItem)
+            × IsLeft (length N.config.networks) N.keeps items left.logs.items left.items.items) }
     {
         if self.failed {
             return Err(NoMemory);
         }
         let Outlet {
             pass,
-            logs,
+            left,
             failed: _,
             of: _,
         } = self;
-        let logs = empty(rt, queue.close(pass, nets), logs)?;
-        Ok(logs)
+        let left = empty(rt, Spares::new(alloc), queue.close(pass, nets), left)?;
+        Ok(left)
     }
 }
 
-/// Lets all frames leave that a queue holds, to which nobody pushes: for each network, in order of place, what was pushed.
+/// Lets all frames leave that a queue holds, to which nobody pushes: what left of each network is what was pushed.
 fn empty<R: Wait>(
     rt: &R,
+    mut spares: Spares,
     mut queue: ClosedQueue,
-    mut logs: Vec<FrameLog>,
-) -> Result<Vec<FrameLog>, NoMemory>
-    requires count { queue.networks ≡ vec_len logs }
-    requires left { HaveLeft queue.left logs.items }
-    ensures count { IfOk result (λ all. vec_len all ≡ vec_len logs) }
-    ensures pushed { IfOk result (λ all. HavePushed queue.taken_in all.items) }
+    mut left: Left,
+) -> Result<Left, NoMemory>
+    requires count { queue.networks ≡ vec_len left.logs }
+    requires left { IsLeft queue.networks left.keeps queue.left left.logs.items left.items.items }
+    ensures count { IfOk result (λ all. vec_len all.logs ≡ vec_len left.logs) }
+    ensures pushed { IfOk result (λ all. HavePushed queue.taken_in all.logs.items) }
+    ensures left { IfOk result (λ all. (items : List AirItem)
+        × IsLeft queue.networks left.keeps items all.logs.items all.items.items) }
 {
     for _ in rt.forever() {
-        let Some(AirItem { place, octets }) = queue.pop(rt) else {
-            return Ok(logs);
+        let Some(item) = queue.pop(rt) else {
+            return Ok(left);
         };
-        logs[place].push(octets.as_slice())?;
+        left.keep(item, &mut spares)?;
     }
     unreachable!()
 }

@@ -1,21 +1,24 @@
 //! What stands under a network's lock.
 
-ghost use Rattle.std.specs.Prelude.{◌≡◌, ◌<◌, ◌++◌, List, [], ℕ, OnOk, IfOk, IfErr, length, vec_len, slice_index_or, true};
+ghost use Rattle.std.specs.Prelude.{◌≡◌, ◌<◌, ◌++◌, List, [], ℕ, OnOk, IfOk, IfErr, length, map, vec_len, slice_index_or, true};
 ghost use Rattle.ap_config.specs.Places.{setting_at};
 ghost use Rattle.ap_config.specs.declared.setting.Setting.{Setting};
 ghost use Rattle.events.specs.Lines.{taken_of};
 ghost use Rattle.events.specs.declared.event.Event.{Event};
 ghost use Rattle.access_point.specs.Log.{log_of, sent_after};
 ghost use Rattle.play_result.specs.Faults.{IsPlayFault};
-ghost use Rattle.concurrent_play.specs.Leaving.{IsAllPushedAt};
+ghost use Rattle.concurrent_play.specs.Kept.{IsAllPushedAt};
+ghost use Rattle.concurrent_play.specs.Lines.{lines_of};
+ghost use Rattle.concurrent_play.specs.Sources.{lists_of};
 
 use crate::batch::{Batch, ReadLine};
+use crate::kept::{Given, PlayedNetwork};
 use crate::name::PlayName;
+use crate::sources::Sources;
 use crate::spares::Spares;
 use access_point::{LoggedNetwork, SendingNetwork};
 use air_queue::{AirQueue, NetPass};
 use events::AirItem;
-use line_log::LineLog;
 use mac_frame::NoMemory;
 use play_result::{FinishFault, PlayFault};
 use std::alloc::Global;
@@ -37,6 +40,10 @@ pub(crate) struct Handing {
 #[derive(Drop)]
 pub(crate) struct Seat<N: PlayName> {
     network: SendingNetwork,
+    /// Whether it is kept who gave each event.
+    keeps: bool,
+    /// Who gave each event that the network took, where that is kept.
+    given: Vec<Given>,
     pass: NetPass,
     /// For each source the number of the next line that it gives to this network.
     next: Vec<usize>,
@@ -47,8 +54,8 @@ pub(crate) struct Seat<N: PlayName> {
 
 impl<N: PlayName> Model for Seat<N> {
     ghost use Rattle.std.specs.Prelude.{◌≡◌, ◌<◌, false, length, vec_len};
-    ghost use Rattle.concurrent_play.specs.Lines.{first_lines};
-    ghost use Rattle.concurrent_play.specs.Leaving.{IsSentAt};
+    ghost use Rattle.access_point.specs.Log.{sent_after};
+    ghost use Rattle.concurrent_play.specs.Kept.{IsKeptAt, heard_up_to};
 
     ghost Value = { Unit {0} };
 
@@ -58,8 +65,10 @@ impl<N: PlayName> Model for Seat<N> {
         (s.pass.name ≡ N.queue)
         × (s.pass.place < length N.config.networks)
         × (vec_len s.next ≡ length N.sources)
+        × (s.keeps ≡ N.keeps)
         × (s.failed ≡ false
-        → IsSentAt N.config (first_lines s.next.items N.sources) s.pass.place s.pass.pushed s.network) };
+        → IsKeptAt N.config N.sources N.keeps s.pass.place (heard_up_to N.config s.pass.place N.sources s.next.items)
+        (sent_after s.pass.pushed s.network) s.given.items) };
 }
 
 impl<N: PlayName> Seat<N> {
@@ -69,16 +78,20 @@ impl<N: PlayName> Seat<N> {
         network: LoggedNetwork,
         pass: NetPass,
         sources: usize,
+        keeps: bool,
     ) -> Result<Seat<N>, NoMemory>
         requires named { pass.name ≡ N.queue }
         requires place { pass.place < length N.config.networks }
         requires pushed { pass.pushed ≡ [] }
         requires network { network ≡ log_of (setting_at N.config pass.place) [] }
         requires sources { sources ≡ length N.sources }
+        requires keeps { keeps ≡ N.keeps }
     {
         let next = vec![in alloc; 0; sources]?;
         Ok(Seat {
             network: SendingNetwork::of(alloc, network),
+            keeps,
+            given: Vec::new(alloc),
             pass,
             next,
             failed: false,
@@ -126,7 +139,20 @@ impl<N: PlayName> Seat<N> {
             return Ok(());
         }
         let line = &batch.lines[place];
-        match take_heard(&mut self.network, self.pass.place(), line, spares) {
+        let by = Given {
+            source,
+            line: number,
+        };
+        let at = self.pass.place();
+        match take_by(
+            &mut self.network,
+            &mut self.given,
+            self.keeps,
+            at,
+            line,
+            by,
+            spares,
+        ) {
             Ok(()) => {
                 self.next[source] = number + 1;
                 Ok(())
@@ -184,12 +210,12 @@ impl<N: PlayName> Seat<N> {
     pub(crate) fn into_parts(
         self,
         place: usize,
-        sources: &[LineLog],
-    ) -> Result<(SendingNetwork, NetPass), PlayFault>
-        requires { sources.now ≡ N.sources }
+        sources: Sources<'_>,
+    ) -> Result<(PlayedNetwork, NetPass), PlayFault>
+        requires { lists_of sources ≡ N.sources }
         ensures err { IfErr result IsPlayFault }
         ensures pass { IfOk result (λ r. (r.1.name ≡ N.queue) × (r.1.place ≡ place)) }
-        ensures sent { IfOk result (λ r. IsAllPushedAt N.config N.sources place r.1.pushed r.0) }
+        ensures sent { IfOk result (λ r. IsAllPushedAt N.config N.sources N.keeps place r.1.pushed r.0) }
     {
         if self.failed {
             return Err(PlayFault::NoMemory);
@@ -202,13 +228,42 @@ impl<N: PlayName> Seat<N> {
         }
         let Seat {
             network,
+            keeps: _,
+            given,
             pass,
             next: _,
             failed: _,
             of: _,
         } = self;
-        Ok((network, pass))
+        Ok((PlayedNetwork { network, given }, pass))
     }
+}
+
+/// Has the network at a place take a line, if it hears it, and keeps by whom the line was given, where that is kept and the
+/// network took an event. `NoMemory` where memory ran out.
+#[inline(always)]
+fn take_by(
+    network: &mut SendingNetwork,
+    given: &mut Vec<Given>,
+    keeps: bool,
+    place: usize,
+    line: &ReadLine<'_>,
+    by: Given,
+    spares: &mut Spares,
+) -> Result<(), NoMemory>
+    ensures taken { (s : Setting) (es : List Event) (gone : List (List ℕ)) → sent_after gone network.old ≡ log_of s es
+        → OnOk result (sent_after gone network.new ≡ log_of s (es ++ taken_of place s.network es line.now)) }
+    ensures given { (s : Setting) (es : List Event) (gone : List (List ℕ)) → sent_after gone network.old ≡ log_of s es
+        → keeps ≡ true
+        → OnOk result (given.new.items ≡ given.old.items ++ map (λ _. by) (taken_of place s.network es line.now)) }
+{
+    let before = network.network.events();
+    take_heard(network, place, line, spares)?;
+    let took = network.network.events() > before;
+    if keeps && took {
+        given.push(by)?;
+    }
+    Ok(())
 }
 
 /// Has the network at a place take a line, if it hears it. Where it sent a frame, memory for the next is made ready.
@@ -234,13 +289,13 @@ fn take_heard(
 }
 
 /// Whether the next line of each source is past its last.
-fn are_ends(next: &[usize], sources: &[LineLog]) -> bool
-    requires { length next.now ≡ length sources.now }
-    ensures { result ≡ true → (i : ℕ) → i < length sources.now
-        → slice_index_or next.now i 0 ≡ length (slice_index_or sources.now i []) }
+fn are_ends(next: &[usize], sources: Sources<'_>) -> bool
+    requires { length next.now ≡ length (lists_of sources) }
+    ensures { result ≡ true → (i : ℕ) → i < length (lists_of sources.entry)
+        → slice_index_or next.now i 0 ≡ length (lines_of (lists_of sources.entry) i) }
 {
     for source in 0..sources.len() {
-        if next[source] != sources[source].len() {
+        if next[source] != sources.lines(source) {
             return false;
         }
     }

@@ -2,12 +2,14 @@
 
 ghost use Rattle.std.specs.Prelude.{◌≡◌, IfErr};
 ghost use Rattle.play_result.specs.Faults.{IsPlayFault};
+ghost use Rattle.concurrent_play.specs.Sources.{lists_of};
 
 use crate::batch::Batch;
+use crate::gate::Gate;
 use crate::name::PlayName;
 use crate::networks::{Networks, Relief};
 use crate::source::{Source, sources_of};
-use line_log::LineLog;
+use crate::sources::Sources;
 use mac_frame::NoMemory;
 use play_result::PlayFault;
 use std::alloc::Global;
@@ -15,45 +17,55 @@ use std::sync::Wait;
 use std::thread;
 use std::thread::{JoinHandle, Scope, Threads};
 
-/// How many lines of a source are given together at most.
-const MOST_LINES: usize = 1024;
-
 /// Runs a thread for each source, which gives its lines to the networks, and waits for all of them.
-pub(crate) fn run_sources<N: PlayName + Send + Sync, R: Threads + Wait + Sync>(
+pub(crate) fn run_sources<N: PlayName + Send + Sync, G: Gate + Sync, R: Threads + Wait + Sync>(
     rt: &R,
     alloc: Global,
     networks: &Networks<N>,
-    lines: &[LineLog],
+    all: Sources<'_>,
+    gate: &G,
+    together: usize,
 ) -> Result<(), PlayFault>
-    requires { lines.now ≡ N.sources }
+    requires { lists_of all ≡ N.sources }
     ensures { IfErr result IsPlayFault }
 {
-    let sources = sources_of::<N>(alloc, lines)?;
+    let sources = sources_of::<N>(alloc, all)?;
     thread::scope(
         thread::scope_env(),
         rt,
         move |scope| -> Result<(), PlayFault>
             ensures { IfErr result IsPlayFault }
         {
-            let threads = start_sources(rt, alloc, scope, networks, sources)?;
+            let threads = start_sources(rt, alloc, scope, networks, sources, gate, together)?;
             join_sources(rt, threads)
         },
     )
 }
 
 /// Starts a thread for each source, in order.
-fn start_sources<'s, 'e: 's, 'a: 'e, N: PlayName + Send + Sync, R: Threads + Wait + Sync>(
+fn start_sources<
+    's,
+    'e: 's,
+    'a: 'e,
+    N: PlayName + Send + Sync,
+    G: Gate + Sync,
+    R: Threads + Wait + Sync,
+>(
     rt: &'e R,
     alloc: Global,
     scope: &Scope<'s, &'e ()>,
     networks: &'e Networks<N>,
     sources: Vec<Source<'a, N>>,
+    gate: &'e G,
+    together: usize,
 ) -> Result<Vec<JoinHandle<Result<(), NoMemory>>>, PlayFault>
     ensures { IfErr result IsPlayFault }
 {
     let mut threads = Vec::with_capacity(alloc, sources.len())?;
     for source in sources {
-        threads.push(scope.spawn(move || play_source(rt, alloc, networks, source))?)?;
+        threads.push(scope.spawn(move || {
+            play_source(rt, alloc, networks, source, gate, together)
+        })?)?;
     }
     Ok(threads)
 }
@@ -71,20 +83,29 @@ fn join_sources<R: Threads>(
     Ok(())
 }
 
-/// Gives the lines of a source to the networks, some of them at a time.
-fn play_source<N: PlayName, R: Wait>(
+/// Gives the lines of a source to the networks, this many of them at a time, each time when the gate lets it.
+fn play_source<N: PlayName, G: Gate, R: Wait>(
     rt: &R,
     alloc: Global,
     networks: &Networks<N>,
     source: Source<'_, N>,
+    gate: &G,
+    together: usize,
 ) -> Result<(), NoMemory> {
     let mut relief = Relief::new(alloc);
+    let number = u32::try_from(source.number).unwrap_or(u32::MAX);
     let mut first = 0;
-    while first < source.lines.len() {
-        let end = first.saturating_add(MOST_LINES).min(source.lines.len());
+    while first < source.len() {
+        gate.before(number, number_of(first));
+        let end = first.saturating_add(together.max(1)).min(source.len());
         let batch = Batch::read(alloc, &source, first, end)?;
         networks.give(rt, alloc, &batch, &mut relief)?;
         first = end;
     }
     Ok(())
+}
+
+/// The number of a line at a place, from 1, as the gate is told it.
+fn number_of(line: usize) -> u32 {
+    u32::try_from(line).unwrap_or(u32::MAX).saturating_add(1)
 }

@@ -6,10 +6,10 @@
 //! them, those of `workers_tests`.
 #![tactic(auto)]
 
-mod access_point;
 mod one_network;
 mod radio;
+mod threads;
 
-pub use access_point::run_two;
 pub use one_network::{answer, take_all};
 pub use radio::{sections, serve};
+pub use threads::run_two;

@@ -28,7 +28,7 @@ use Rattle.text_io.specs.declared.read_fault.ReadFault.TheVariants as reads
 use Rattle.text_io.specs.declared.report_fault.ReportFault.{ReportFault}
 use Rattle.text_io.specs.declared.report_fault.ReportFault.TheVariants as reports
 use Rattle.play_result.specs.Faults.{callers_fit}
-use Rattle.concurrent_play.specs.Ends.{logs_of}
+use Rattle.concurrent_play.specs.Plays.{logs_of, IsLoggedPlay}
 use Rattle.play_result.specs.Played.{IsPlayOf}
 use Rattle.play_result.specs.declared.finish_fault.FinishFault.{FinishFault}
 use Rattle.play_result.specs.declared.finish_fault.FinishFault.TheVariants.{Uncovered}
@@ -208,6 +208,6 @@ report-logged c sources end logs one play are =
 -- what was played, and what its report says
 pub played_as : (c : RadioConfig) (sources : List (List Line)) (logs : List LoggedNetwork)
     → ((s : Setting) (es : List Event) → log_text (log_of s es) ≡ section_text (section_of s es))
-    → ((end : Finished) × IsPlayOf c sources end × (logs ≡ logs_of c end.sections))
+    → IsLoggedPlay c sources logs
     → (end : Finished) × IsPlayOf c sources end × (flat_map log_text logs ≡ report_text end.sections)
 played_as c sources logs one (end, play, are) = (end, play, report-logged c sources end logs one play are)

@@ -10,7 +10,7 @@ ghost use Rattle.play_result.specs.Faults.{callers_fit};
 use crate::fault::PlayTextFault;
 use crate::reading::read_traces;
 use ap_config::RadioConfig;
-use concurrent_play::{as_played, play_logged};
+use concurrent_play::play_logged;
 use line_log::LineLog;
 use log_report::as_sections;
 use mac_frame::Octets;
@@ -98,7 +98,6 @@ fn report_sources<R: Threads + Wait + Sync, W: Sink>(
         → EndsPlay result text traces (W.taken out.old) (W.taken out.new) }
     ensures failures { W.failed out.new ≡ W.failed out.old + failures_of play_ending result }
 {
-    as_played();
     as_sections();
     let logs = play_logged(rt, alloc, config, sources.as_slice())?;
     write_by_threads(rt, alloc, logs.as_slice(), out)?;

@@ -14,7 +14,7 @@ ghost use Rattle.thread_laws.specs.Steps.{AreGivenBy, steps_of};
 /// (*profile*). No frame is queued after them.
 ///
 /// The conditions of `ended` are what `Ap::finish` and `play` of `workers` ensure where they end well. Those of `played`
-/// are what `play` ensures; by `as_played` of `concurrent_play` what `play_logged` answers are the networks of such an end.
+/// are what `play` ensures; what `play_logged` of `concurrent_play` answers are the networks of such an end.
 pub fn as_steps()
     ensures ended { (config : RadioConfig) (end : Finished) → fault_of config ≡ None
         → length end.sections ≡ length config.networks → AreSections config end.sections

@@ -7,8 +7,4 @@ pub mod Endings
 pub mod Dealing
 pub mod Attributing
 pub mod Fullness
-pub mod Answering
-pub mod HeardLines
-pub mod EventsTaken
-pub mod Drains
 pub mod Moving

@@ -6,6 +6,3 @@ pub mod Copies
 pub mod Ending
 pub mod Receipts
 pub mod Attributions
-pub mod Playing
-pub mod Answers
-pub mod Draining

@@ -9,17 +9,15 @@ ghost use Rattle.events.specs.Lines.{event_of_line};
 ghost use Rattle.events.specs.declared.event.Event.{Event};
 ghost use Rattle.events.specs.declared.line.Line.TheVariants as line;
 ghost use Rattle.events.specs.declared.air_item.AirItem.{AirItem};
-ghost use Rattle.workers.specs.Answers.{AddsAnswers};
 ghost use Rattle.workers.specs.Copies.{copies_at, AreCopies, HaveNetworks, AreOf, AreOffered};
 ghost use Rattle.workers.specs.Giving.{AreHeard, AddsEntries, entry_of};
 ghost use Rattle.workers.specs.Seats.{IsNetworkOf};
 
-use crate::answers::{Answer, NumberedEvent};
 use crate::caller::{Caller, Entry};
 use crate::copies::Copies;
 use crate::name::ApName;
 use crate::outcome::Outcome;
-use crate::seat::{Handing, Seat};
+use crate::seat::Seat;
 use crate::transmitter::Transmitter;
 use air_queue::AirQueue;
 use ap_config::MAX_NETWORKS;
@@ -219,27 +217,6 @@ impl<N: ApName> Ap<N> {
         outcome
     }
 
-    /// Offers the network at a place what it heard, under one lock, keeps what it made of it, for which there is room,
-    /// and hands its frames on. `NoMemory` where memory ran out.
-    pub(crate) fn take_each<R: Wait>(
-        &self,
-        rt: &R,
-        place: usize,
-        heard: Vec<NumberedEvent>,
-        answers: &mut Vec<Answer>,
-    ) -> Result<Handing, NoMemory>
-        requires place { place < length N.config.networks }
-        requires room { vec_len answers.old + vec_len heard ≤ vec_capacity answers.old }
-        ensures { OnOk result (AddsAnswers place heard.items answers.old.items answers.new.items) }
-    {
-        let mut seat = self.sit(rt, place);
-        let took = seat.take_each(place, heard, answers);
-        let handing = seat.hand_all(rt, &self.queue);
-        self.tell(place, handing.waits);
-        took?;
-        Ok(handing)
-    }
-
     /// Hands frames of the network at a place to the air queue, the first that waits first, until none waits or the
     /// queue is full, and answers how many went there (*profile*). It takes no memory. It may wait for other threads.
     pub fn pump<R: Wait>(&self, rt: &R, place: usize) -> u32
@@ -248,17 +225,10 @@ impl<N: ApName> Ap<N> {
         if !self.may_wait(place) {
             return 0;
         }
-        self.hand(rt, place).count
-    }
-
-    /// Hands frames of the network at a place to the air queue, until none waits or the queue is full.
-    pub(crate) fn hand<R: Wait>(&self, rt: &R, place: usize) -> Handing
-        requires { place < length N.config.networks }
-    {
         let mut seat = self.sit(rt, place);
         let handing = seat.hand_all(rt, &self.queue);
         self.tell(place, handing.waits);
-        handing
+        handing.count
     }
 
     /// The network at a place, under its lock. Who holds it does so for one event, so it is tried some times before a

@@ -4,15 +4,12 @@ ghost use Rattle.std.specs.Prelude.{◌≡◌, ◌++◌, IfOk, OnOk, vec_len, le
 ghost use Rattle.events.specs.Lists.{IsPrefix};
 ghost use Rattle.events.specs.Items.{items_of};
 ghost use Rattle.network.specs.BssView.{section_with};
-ghost use Rattle.workers.specs.Answers.{entries_of_all};
 ghost use Rattle.workers.specs.Attributions.{histories, limits};
 ghost use Rattle.play_result.specs.Sections.{AreSections, HaveLeft, ArePlaced};
 ghost use Rattle.workers.specs.Ending.{AreSeated, AreSent, AreEnded, items_at};
 ghost use Rattle.play_result.specs.Givers.{AreGivers, histories_of};
 ghost use Rattle.workers.specs.Receipts.{AreReceipts, AreFullLast, limits_of};
 
-use crate::accounts::givers_of_sources;
-use crate::answers::Answered;
 use crate::ap::Ap;
 use crate::caller::Caller;
 use crate::name::ApName;
@@ -80,54 +77,6 @@ impl<N: ApName> Ap<N> {
     }
 }
 
-/// What sources that were played end with: the networks, in order of place, the frames that left, and for each network
-/// the number of the source that gave each event of its history.
-pub(crate) struct Drained {
-    pub(crate) networks: Vec<Bss>,
-    pub(crate) left: Vec<AirItem>,
-    pub(crate) givers: List<List<usize>>,
-}
-
-impl<N: ApName> Ap<N> {
-    /// Ends the access point as [`Ap::finish`] does, but for the sections: what the sources were answered is tested
-    /// against the histories, and all frames that are queued leave.
-    pub(crate) fn drain<R: Wait>(
-        self,
-        rt: &R,
-        sources: &[Answered<'_>],
-        transmitter: Transmitter<N>,
-    ) -> Result<Drained, FinishFault>
-        ensures count { IfOk result (λ end. length end.networks.items ≡ length N.config.networks) }
-        ensures sent { IfOk result (λ end. AreSent N.config end.left.items end.networks.items) }
-        ensures placed { IfOk result (λ end. ArePlaced N.config end.left.items) }
-        ensures receipts { IfOk result (λ end.
-            AreReceipts (entries_of_all sources.now) (histories end.networks.items) end.givers) }
-        ensures givers { IfOk result (λ end.
-            AreGivers (length sources.now) (histories end.networks.items) end.givers) }
-        ensures full { IfOk result (λ end.
-            AreFullLast (limits end.networks.items) (histories end.networks.items) (entries_of_all sources.now)) }
-    {
-        let Ap {
-            alloc,
-            bssids: _,
-            seats,
-            queue,
-            waiting: _,
-        } = self;
-        let Transmitter { pass: radio, of: _ } = transmitter;
-        let (networks, nets) = unseat(alloc, seats)?;
-        let givers = givers_of_sources(alloc, networks.as_slice(), sources)?;
-        let Ok(left) = queue.take_in(rt, radio, nets) else {
-            return Err(FinishFault::NoMemory);
-        };
-        Ok(Drained {
-            networks,
-            left: left.items.into_vec(),
-            givers,
-        })
-    }
-}
-
 /// The networks and their passes, in order of place.
 fn unseat<N: ApName>(
     alloc: Global,
@@ -150,7 +99,7 @@ fn unseat<N: ApName>(
 }
 
 /// The section of each network, in order of place. The frames that wait leave after those that left.
-pub(crate) fn end_networks<N: ApName>(
+fn end_networks<N: ApName>(
     alloc: Global,
     networks: Vec<Bss>,
     left: &mut Vec<AirItem>,

@@ -15,30 +15,24 @@
 //! access point it is, [`ApName`] says, for proofs alone.
 #![tactic(auto)]
 
-mod accounts;
-mod answers;
 mod ap;
 mod attribution;
 mod caller;
 mod copies;
 mod finish;
-mod gate;
-mod lines;
 mod name;
 mod outcome;
-mod outlet;
 mod parts;
 mod playing;
 mod receipts;
 mod seat;
-mod sources;
 mod start;
 mod transmitter;
 
 pub use ap::Ap;
 pub use caller::{Caller, Entry};
+pub use concurrent_play::Gate;
 pub use events::Line;
-pub use gate::Gate;
 pub use name::ApName;
 pub use outcome::Outcome;
 pub use parts::Parts;

@@ -37,7 +37,7 @@ pub(crate) fn givers_of(
 }
 
 /// Before any receipt.
-pub(crate) fn open(alloc: Global, networks: &[Bss]) -> Result<Vec<Attribution>, NoMemory>
+fn open(alloc: Global, networks: &[Bss]) -> Result<Vec<Attribution>, NoMemory>
     ensures { IfOk result (λ attributions.
         attributions.items ≡ map (λ n. fresh_attribution (length n.history)) networks.now) }
 {
@@ -117,10 +117,7 @@ pub(crate) fn read_receipt(
 }
 
 /// Who gave each event of each network, if a receipt tells of each.
-pub(crate) fn cover(
-    alloc: Global,
-    attributions: Vec<Attribution>,
-) -> Result<List<List<usize>>, FinishFault>
+fn cover(alloc: Global, attributions: Vec<Attribution>) -> Result<List<List<usize>>, FinishFault>
     ensures { IfOk result (λ givers. map (map Some) givers ≡ map (λ a. a.givers) attributions.items) }
 {
     let mut givers = Vec::with_capacity(alloc, attributions.len())?;
@@ -182,7 +179,7 @@ fn check_entry(networks: &[Bss], entry: &Entry, full: &mut [bool]) -> Result<(),
 }
 
 /// Whether a network has taken as many events as it may.
-pub(crate) fn is_full(network: &Bss) -> bool
+fn is_full(network: &Bss) -> bool
     ensures { result ≡ (length network.now.history == network.now.setting.network.max_events) }
 {
     network.history().len() == network.config().max_events as usize

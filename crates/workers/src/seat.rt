@@ -1,19 +1,15 @@
 //! What stands under a network's lock (*profile*).
 
-ghost use Rattle.std.specs.Prelude.{◌≡◌, ◌+◌, ◌≤◌, ◌++◌, ◌∷◌, [], false, length, take, IfOk, OnOk};
-ghost use Rattle.std.specs.Prelude.{vec_len, vec_capacity};
+ghost use Rattle.std.specs.Prelude.{◌≡◌, ◌+◌, ◌≤◌, ◌++◌, ◌∷◌, [], false, length, OnOk, IfErr};
 ghost use Rattle.std.specs.Fn.{FnOnceTakesAt, FnOnceReturnsAt};
 ghost use Rattle.air_queue.specs.Passes.{NetPassView};
 ghost use Rattle.network.specs.BssView.{BssView};
-ghost use Rattle.workers.specs.Answers.{TakesEach, made_of};
 ghost use Rattle.workers.specs.Seats.{IsSeated, IsNetworkOf, AnswersEvent, HandsFrame};
 
-use crate::answers::{Answer, Made, NumberedEvent};
 use crate::name::ApName;
 use crate::outcome::Outcome;
 use air_queue::{AirQueue, NetPass};
 use events::{AirItem, Event, Handed};
-use mac_frame::NoMemory;
 use network::Bss;
 use std::marker::{Model, PhantomData};
 use std::sync::Wait;
@@ -110,41 +106,6 @@ impl<N: ApName> Seat<N> {
         Handing {
             count: u32::MAX,
             waits: true,
-        }
-    }
-
-    /// Offers the network events, one after the other, and keeps what it made of each, for which there is room.
-    /// `NoMemory` where memory ran out at one of them, after which none was offered.
-    pub(crate) fn take_each(
-        &mut self,
-        place: usize,
-        heard: Vec<NumberedEvent>,
-        answers: &mut Vec<Answer>,
-    ) -> Result<(), NoMemory>
-        requires room { vec_len answers.old + vec_len heard ≤ vec_capacity answers.old }
-        ensures { OnOk result (TakesEach place heard.items self.old.network self.new.network
-            answers.old.items answers.new.items) }
-    {
-        let _ = &self.bss;
-        for NumberedEvent { line, event } in heard {
-            let made = self.make(event)?;
-            answers.push_reserved(Answer { line, place, made });
-        }
-        Ok(())
-    }
-
-    /// What the network makes of an event, unless memory runs out.
-    fn make(&mut self, event: Event) -> Result<Made, NoMemory>
-        ensures made { IfOk result (λ made.
-            made ≡ made_of self.old.network.setting.network.max_events (length self.old.network.history)) }
-        ensures history { OnOk result (self.new.network.history
-            ≡ take self.old.network.setting.network.max_events (self.old.network.history ++ event ∷ [])) }
-        ensures setting { self.new.network.setting ≡ self.old.network.setting }
-    {
-        match self.take(event) {
-            Outcome::Took(number) => Ok(Made::Took(number)),
-            Outcome::Full => Ok(Made::Full),
-            Outcome::NoMemory | Outcome::NotHeard => Err(NoMemory),
         }
     }
 

@@ -1,8 +1,8 @@
 use Rattle.std.proofs.Common.{◌≡◌, ◌+◌, ◌++◌, ◌∷◌, [], ℕ, List, length, map, sym, ap, subst, ◌∙◌, arith, vec_len}
 use Rattle.std.specs.List.{AllByRecursion, range_with_len}
-use Rattle.access_point.specs.declared.sending_network.SendingNetwork.{SendingNetwork}
 use Rattle.air_queue.specs.Passes.{NetPassView}
-use Rattle.concurrent_play.specs.Leaving.{AreSentFrom, IsAllPushedAt}
+use Rattle.concurrent_play.specs.Kept.{AreSentFrom, IsAllPushedAt}
+use Rattle.concurrent_play.specs.declared.kept.PlayedNetwork.{PlayedNetwork}
 use Rattle.concurrent_play.proofs.Leaves.{sent-push, named-push, placed-push}
 use Rattle.concurrent_play.proofs.networks.unseat.Goals as goal
 
@@ -12,7 +12,8 @@ loop-seat-preserved g c =
     let config = g.N.PlayName.config in
     let sources = g.N.PlayName.sources in
     let queue = g.N.PlayName.queue in
-    let n : SendingNetwork = c.in_ok-network.network in
+    let keeps = g.N.PlayName.keeps in
+    let n : PlayedNetwork = c.in_ok-network.network in
     let p : NetPassView = c.in_ok-network.pass in
     let networks : c.push.new.self.items ≡ c.loop-seat.networks.items ++ n ∷ [] = c.in_ok-push.ensures.items in
     let nets : c.push-in-loop-seat.new.self.items ≡ c.loop-seat.nets.items ++ p ∷ [] = c.in_ok-push-2.ensures.items in
@@ -23,10 +24,10 @@ loop-seat-preserved g c =
     let next = c.in-Some.ensures.steps.1 in
     record {
       sent = subst
-          (λ (x : List SendingNetwork × List NetPassView). AreSentFrom config sources 0 x.0 (map (λ pass. pass.pushed) x.1))
+          (λ (x : List PlayedNetwork × List NetPassView). AreSentFrom config sources keeps 0 x.0 (map (λ pass. pass.pushed) x.1))
           (λ k. (sym networks k, sym nets k))
-          (sent-push config sources 0 c.loop-seat.networks.items c.loop-seat.nets.items n p i.sent
-          (subst (λ (k : ℕ). IsAllPushedAt config sources k p.pushed n) here c.in_ok-network.ensures.sent));
+          (sent-push config sources keeps 0 c.loop-seat.networks.items c.loop-seat.nets.items n p i.sent
+          (subst (λ (k : ℕ). IsAllPushedAt config sources keeps k p.pushed n) here c.in_ok-network.ensures.sent));
       named = subst (λ (ps : List NetPassView). AllByRecursion (λ pass. pass.name ≡ queue) ps) (sym nets)
           (named-push queue c.loop-seat.nets.items p i.named c.in_ok-network.ensures.pass.0);
       placed = ap (map (λ (pass : NetPassView). pass.place)) nets

@@ -24,7 +24,7 @@ returns-in_err-write_by_threads-clause-ends g c text traces able =
     let p = err_from_is_err_and c.from_residual-in_err-write_by_threads.result c.from_residual-in_err-write_by_threads.ensures.1 in
     let sources : List (List Line) = c.args.sources.items in
     let logged : IsLoggedPlay c.args.config sources c.in_ok-logs.logs.items = subst (λ (ss : List (List Line)). IsLoggedPlay c.args.config ss c.in_ok-logs.logs.items) c.as_slice.ensures.value c.in_ok-logs.ensures.played in
-    let (end, play, report) = played_as c.args.config sources c.in_ok-logs.logs.items c.as_sections.ensures.one (c.as_played.ensures c.args.config sources c.in_ok-logs.logs.items logged) in
+    let (end, play, report) = played_as c.args.config sources c.in_ok-logs.logs.items c.as_sections.ensures.one logged in
     rw (p.1, p.2)
     (report_plays c.in_err-write_by_threads.field-0.0 c.args.config text traces sources end _ _ _ able play report
     (rw c.as_slice-2.ensures.value at c.in_err-write_by_threads.ensures.ends))
@@ -33,6 +33,6 @@ pub returns-clause-ends : goal.returns-clause-ends
 returns-clause-ends g c text traces able =
     let sources : List (List Line) = c.args.sources.items in
     let logged : IsLoggedPlay c.args.config sources c.in_ok-logs.logs.items = subst (λ (ss : List (List Line)). IsLoggedPlay c.args.config ss c.in_ok-logs.logs.items) c.as_slice.ensures.value c.in_ok-logs.ensures.played in
-    let (end, play, report) = played_as c.args.config sources c.in_ok-logs.logs.items c.as_sections.ensures.one (c.as_played.ensures c.args.config sources c.in_ok-logs.logs.items logged) in
+    let (end, play, report) = played_as c.args.config sources c.in_ok-logs.logs.items c.as_sections.ensures.one logged in
     whole_plays c.args.config text traces sources end _ _ _ able play report
     (rw c.as_slice-2.ensures.value at c.in_ok-write_by_threads.ensures.ends)

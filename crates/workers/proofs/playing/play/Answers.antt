@@ -1,31 +1,42 @@
-use Rattle.std.proofs.Common.{List, map, refl, subst}
+use Rattle.std.proofs.Common.{◌≡◌, ℕ, List, Result, Ok, Err, length, map, sym, subst, ◌∙◌, vec_len}
 use Rattle.std.specs.Prelude.{IfOk}
-use Rattle.std.proofs.lemmas.Result.{err_from_is_err_and}
-use Rattle.ap_config.specs.declared.config.RadioConfig.{RadioConfig}
+use Rattle.std.proofs.lemmas.List.{length-map}
 use Rattle.events.specs.declared.line.Line.{Line}
-use Rattle.play_result.specs.Sections.{AreSections}
-use Rattle.play_result.specs.Played.{ArePlayed}
+use Rattle.play_result.specs.Givers.{AreGivers, histories_of}
+use Rattle.play_result.specs.Played.{IsPlayOf}
 use Rattle.play_result.specs.declared.finished.Finished.{Finished}
-use Rattle.workers.proofs.Answering.{config-fault, later_is_memory, opened_is_memory}
+use Rattle.play_result.specs.declared.play_fault.PlayFault.{PlayFault}
 use Rattle.workers.proofs.playing.play.Goals as goal
 
-pub returns-in_err-parts-clause-config : goal.returns-in_err-parts-clause-config
-returns-in_err-parts-clause-config g c =
-    let p = err_from_is_err_and c.from_residual.result c.from_residual.ensures.1 in
-    config-fault c.args.config c.in_err-parts.field-0.0 _ c.from_residual.result p.0 refl p.1 p.2 c.in_err-parts.ensures.fault
+-- what follows from a fact of an end follows where there is one
+follows : {P Q : Finished → Type 0} (result : Result Finished PlayFault) → ((end : Finished) → P end → Q end)
+    → IfOk result P → IfOk result Q
+follows (Ok end) from is = from end is
+follows (Err fault) from is = tt
+
+pub returns-clause-networks : goal.returns-clause-networks
+returns-clause-networks g c = follows c.play_finished.result (λ end h. h.networks) c.play_finished.ensures.played
 
 pub returns-clause-sections : goal.returns-clause-sections
-returns-clause-sections g c =
-    subst (λ (config : RadioConfig). IfOk c.play_of.result (λ (end : Finished). AreSections config end.sections)) c.in_ok-parts.ensures.opened.0 c.play_of.ensures.sections
+returns-clause-sections g c = follows c.play_finished.result (λ end h. h.sections) c.play_finished.ensures.played
+
+pub returns-clause-air : goal.returns-clause-air
+returns-clause-air g c = follows c.play_finished.result (λ end h. h.air) c.play_finished.ensures.played
+
+pub returns-clause-nothing_else : goal.returns-clause-nothing_else
+returns-clause-nothing_else g c =
+    follows c.play_finished.result (λ end h. h.nothing_else) c.play_finished.ensures.played
+
+pub returns-clause-givers : goal.returns-clause-givers
+returns-clause-givers g c =
+    let count : length (map (λ s. s.items) c.as_slice.result.now) ≡ vec_len c.args.sources =
+    length-map c.as_slice.result.now (λ s. s.items) ∙ (λ k. length (c.as_slice.ensures.value k)) ∙ sym c.args.sources.ok.0 in
+    follows c.play_finished.result
+    (λ end h. subst (λ (n : ℕ). AreGivers n (histories_of end.sections) end.givers) count h.givers)
+    c.play_finished.ensures.played
 
 pub returns-clause-played : goal.returns-clause-played
 returns-clause-played g c =
-    subst (λ (x : RadioConfig × List (List Line)). IfOk c.play_of.result (λ (end : Finished). ArePlayed x.0 x.1 end.sections end.givers)) (λ k. (c.in_ok-parts.ensures.opened.0 k, map (λ s. s.items) (c.as_slice.ensures.value k))) c.play_of.ensures.played
-
-pub returns-in_err-parts-clause-memory : goal.returns-in_err-parts-clause-memory
-returns-in_err-parts-clause-memory g c =
-    let p = err_from_is_err_and c.from_residual.result c.from_residual.ensures.1 in
-    opened_is_memory c.from_residual.result c.in_err-parts.field-0.0 p.0 p.1 p.2
-
-pub returns-clause-memory : goal.returns-clause-memory
-returns-clause-memory g c = later_is_memory c.play_of.result c.play_of.ensures.err
+    follows c.play_finished.result (λ end h. h.played)
+    (subst (λ (lists : List (List Line)). IfOk c.play_finished.result (IsPlayOf c.args.config lists))
+    (λ k. map (λ s. s.items) (c.as_slice.ensures.value k)) c.play_finished.ensures.played)

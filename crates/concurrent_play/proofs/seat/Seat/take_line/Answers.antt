@@ -1,4 +1,4 @@
-use Rattle.std.proofs.Common.{◌≡◌, ◌<◌, ℕ, List, ◌++◌, length, sym, subst, ◌∙◌, arith}
+use Rattle.std.proofs.Common.{◌≡◌, ◌<◌, ◌+◌, ℕ, true, List, ◌++◌, length, map, sym, subst, ◌∙◌, arith}
 use Rattle.std.proofs.lemmas.List.{get_or_default}
 use Rattle.access_point.specs.Log.{log_of, sent_after}
 use Rattle.ap_config.specs.declared.setting.Setting.{Setting}
@@ -16,7 +16,8 @@ invariant_of-self g c =
     let seat = c.self.inside in
     let pushed = seat.pass.pushed in
     let old = sent_after pushed seat.network in
-    let new = sent_after pushed c.take_heard.new.network in
+    let keeps = g.N.PlayName.keeps in
+    let new = sent_after pushed c.take_by.new.network in
     let line = c.index-line.result.now in
     let count = c.self.invariant.2 in
     let known = batch.known in
@@ -26,15 +27,23 @@ invariant_of-self g c =
       c.self.invariant.0,
       c.self.invariant.1,
       c.self.invariant.2,
+      c.self.invariant.3,
       λ fine.
-          takes-next config sources seat.next.items seat.pass.place batch.source batch.first c.args.place line
-          batch.lines.items old new long batch.known batch.stand within
+          takes-next config sources keeps seat.next.items seat.pass.place batch.source batch.first c.args.place line
+          batch.lines.items old new seat.given.items c.take_by.new.given.items inside batch.known batch.stand within
           (get_or_default seat.next.items batch.source 0 c.index.result.now inside ∙ sym c.index.ensures ∙ c.if-index-number.false)
           (c.index-line.ensures ∙ get_or_default batch.lines.items c.args.place line Tick within)
-          (c.self.invariant.3 fine)
+          (c.self.invariant.4 fine)
           (subst
           (λ (p : ℕ).
           (s : Setting) (es : List Event) → old ≡ log_of s es
           → new ≡ log_of s (es ++ taken_of p s.network es line))
-          c.place.ensures (λ s es was. c.in-Ok.ensures s es pushed was)),
+          c.place-at.ensures (λ s es was. c.in-Ok.ensures.taken s es pushed was))
+          (subst
+          (λ (p : ℕ).
+          (s : Setting) (es : List Event) → old ≡ log_of s es → keeps ≡ true
+          → c.take_by.new.given.items
+          ≡ seat.given.items ++ map (λ _. record { source = batch.source; line = batch.first + c.args.place }) (taken_of p s.network es line))
+          c.place-at.ensures
+          (λ s es was keep. c.in-Ok.ensures.given s es pushed was (c.self.invariant.3 ∙ keep))),
     )
