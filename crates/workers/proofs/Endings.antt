@@ -1,22 +1,28 @@
 -- The end of an access point, network by network.
-use Rattle.std.proofs.Common.{◌≡◌, ℕ, zero, suc, ◌+◌, ◌<◌, ◌≤◌, List, [], ◌∷◌, ◌++◌, length, map, drop, get_or, Some, refl, sym, ap, ◌∙◌, subst, arith, append_assoc}
-use Rattle.std.specs.Prelude.{slice_get}
+use Rattle.std.proofs.Common.{◌≡◌, ℕ, zero, suc, ◌+◌, ◌<◌, ◌≤◌, List, [], ◌∷◌, ◌++◌, length, map, drop, get_or, Some, refl, sym, ap, ◌∙◌, subst, arith}
+use Rattle.std.specs.Prelude.{All, slice_get}
 use Rattle.std.specs.List.{AllByRecursion, AllZip, enumerate_from, range_with_len}
-use Rattle.std.proofs.lemmas.List.{length-map, length_push, map-append}
+use Rattle.std.proofs.lemmas.List.{append-nil, length-map, map-append}
+use Rattle.std.proofs.lemmas.List.Elements.{All-append, All-nil}
 use Rattle.std.proofs.lemmas.List.FromFn.{length-range_with_len, map-range_with_len_more}
 use Rattle.std.proofs.lemmas.Slice.Zip.{AllZip-long}
 use Rattle.air_queue.specs.Passes.{QueueName, NetPassView}
 use Rattle.ap_config.specs.Places.{setting_at}
 use Rattle.events.specs.Items.{items_of}
-use Rattle.network.specs.BssView.{section_with, BssView, network_of}
+use Rattle.network.specs.BssView.{section_with, BssView}
 use Rattle.network.specs.Section.{section_of}
+use Rattle.play_result.specs.Givers.{histories_of}
+use Rattle.play_result.specs.Sections.{IsSectionAt}
 use Rattle.ap_config.specs.declared.config.RadioConfig.{RadioConfig}
+use Rattle.events.specs.declared.event.Event.{Event}
 use Rattle.events.specs.declared.section.Section.{Section}
 use Rattle.ap_config.specs.declared.setting.Setting.{Setting}
 use Rattle.events.specs.declared.air_item.AirItem.{AirItem}
-use Rattle.workers.specs.Ending.{AreSeated, IsSent, AreSent, IsEnded, AreEnded, items_at}
+use Rattle.workers.specs.Attributions.{histories, limits}
+use Rattle.workers.specs.Ending.{AreSeated, IsSent, AreSent, items_at, sections_from, waiting_from}
+use Rattle.workers.specs.Receipts.{limits_of}
 use Rattle.workers.specs.Seats.{IsSeated}
-use Rattle.workers.proofs.Frames.{items_of-here, items_of-other}
+use Rattle.workers.proofs.Frames.{items_of-append, items_of-items_at, items_of-elsewhere, placed-at}
 
 -- ---- seats, in order of place
 
@@ -77,99 +83,63 @@ all-sent config queue left bs ps seats whole =
     let count : length ps ≡ length config.networks = sym (length-map ps (λ (p : NetPassView). p.place)) ∙ ap length seats.there.placed ∙ length-range_with_len 0 (length config.networks) in
     sent-from config queue left 0 bs ps seats.seated (seats.there.placed ∙ ap (range_with_len 0) (sym count)) whole
 
--- ---- one network more ends
-
--- its section, once its waiting frames left
-pub ended : (config : RadioConfig) (left : List AirItem) (place : ℕ) (b : BssView) → IsSent config left place b → IsEnded config (left ++ items_at place b.waiting) place (section_with (items_of place (left ++ items_at place b.waiting)) b)
-ended config left place b h =
-    let air : items_of place (left ++ items_at place b.waiting) ≡ (network_of b).air = items_of-here place left b.waiting ∙ h.sent in
-    record {
-      section_at = record {
-        alone = ap (λ fs. section_with fs b) air ∙ ap (λ s. section_of s b.history) h.setting;
-        bounded = subst (λ (s : Setting). length b.history ≤ s.network.max_events) h.setting h.bounded;
-      };
-      air = refl;
-    }
-
--- the frames of one network change nothing for the others
-pub sent-later : (config : RadioConfig) (left : List AirItem) (frames : List (List ℕ)) (place from : ℕ) (bs : List BssView) → place < from → AllByRecursion (λ n. IsSent config left n.0 n.1) (enumerate_from from bs) → AllByRecursion (λ n. IsSent config (left ++ items_at place frames) n.0 n.1) (enumerate_from from bs)
-sent-later config left frames place from [] before all = tt
-sent-later config left frames place from (b ∷ bs) before all = (
-  record {
-    setting = all.0.setting;
-    bounded = all.0.bounded;
-    placed = all.0.placed;
-    sent =
-        ap (λ fs. fs ++ b.waiting) (items_of-other from place left frames (λ e. absurd (omega (arith, e, before))))
-        ∙ all.0.sent;
-  },
-  sent-later config left frames place (from + 1) bs (omega (arith, before)) all.1,
-)
-
-pub ended-before : (config : RadioConfig) (left : List AirItem) (frames : List (List ℕ)) (place from : ℕ) (sections : List Section) → from + length sections ≤ place → AllByRecursion (λ n. IsEnded config left n.0 n.1) (enumerate_from from sections) → AllByRecursion (λ n. IsEnded config (left ++ items_at place frames) n.0 n.1) (enumerate_from from sections)
-ended-before config left frames place from [] past all = tt
-ended-before config left frames place from (s ∷ ss) past all = (
-  record {
-    section_at = all.0.section_at;
-    air = items_of-other from place left frames (λ e. absurd (omega (arith, e, past))) ∙ all.0.air;
-  },
-  ended-before config left frames place (from + 1) ss (omega (arith, past)) all.1,
-)
-
-pub ended-push : (config : RadioConfig) (left : List AirItem) (from : ℕ) (sections : List Section) (section : Section) → AllByRecursion (λ n. IsEnded config left n.0 n.1) (enumerate_from from sections) → IsEnded config left (from + length sections) section → AllByRecursion (λ n. IsEnded config left n.0 n.1) (enumerate_from from (sections ++ section ∷ []))
-ended-push config left from [] section all one = (subst (λ place. IsEnded config left place section) (omega arith) one, tt)
-ended-push config left from (s ∷ ss) section all one = (
-  all.0,
-  ended-push config left (from + 1) ss section all.1 (subst (λ place. IsEnded config left place section) (omega arith) one),
-)
-
--- the loop's step: the network at the next place ends
-ended-new : (config : RadioConfig) (left : List AirItem) (sections : List Section) (b : BssView) (rest : List BssView) → AreEnded config left sections → AllByRecursion (λ n. IsSent config left n.0 n.1) (enumerate_from (length sections) (b ∷ rest)) → AreEnded config (left ++ items_at (length sections) b.waiting) (sections ++ section_with (items_of (length sections) (left ++ items_at (length sections) b.waiting)) b ∷ [])
-ended-new config left sections b rest done coming =
-    let here : 0 + length sections ≤ length sections = omega arith in
-    let at : length sections ≡ 0 + length sections = omega arith in
-    let one = ended config left (length sections) b coming.0 in
-    ended-push config (left ++ items_at (length sections) b.waiting) 0 sections (section_with (items_of (length sections) (left ++ items_at (length sections) b.waiting)) b)
-    (ended-before config left b.waiting (length sections) 0 sections here done)
-    (subst (λ place. IsEnded config (left ++ items_at (length sections) b.waiting) place (section_with (items_of (length sections) (left ++ items_at (length sections) b.waiting)) b)) at one)
-
-pub ended-step : (config : RadioConfig) (left left' : List AirItem) (sections sections' : List Section) (section : Section) (place : ℕ) (b : BssView) (rest : List BssView) → place ≡ length sections → left' ≡ left ++ items_at place b.waiting → section ≡ section_with (items_of place left') b → sections' ≡ sections ++ section ∷ [] → AreEnded config left sections → AllByRecursion (λ n. IsSent config left n.0 n.1) (enumerate_from (length sections) (b ∷ rest)) → AreEnded config left' sections'
-ended-step config left left' sections sections' section place b rest at more is pushed done coming =
-    let now : left' ≡ left ++ items_at (length sections) b.waiting = more ∙ ap (λ p. left ++ items_at p b.waiting) at in
-    let same : section ≡ section_with (items_of (length sections) (left ++ items_at (length sections) b.waiting)) b = is ∙ (λ i. section_with (items_of (at i) (now i)) b) in
-    let all : sections' ≡ sections ++ section_with (items_of (length sections) (left ++ items_at (length sections) b.waiting)) b ∷ [] = pushed ∙ ap (λ (s : Section). sections ++ s ∷ []) same in
-    subst (λ (x : List AirItem × List Section). AreEnded config x.0 x.1) (λ i. (sym now i, sym all i)) (ended-new config left sections b rest done coming)
-
-pub sent-step : (config : RadioConfig) (left left' : List AirItem) (sections sections' : List Section) (section : Section) (place : ℕ) (b : BssView) (rest : List BssView) → place ≡ length sections → left' ≡ left ++ items_at place b.waiting → sections' ≡ sections ++ section ∷ [] → AllByRecursion (λ n. IsSent config left n.0 n.1) (enumerate_from (length sections) (b ∷ rest)) → AllByRecursion (λ n. IsSent config left' n.0 n.1) (enumerate_from (length sections') rest)
-sent-step config left left' sections sections' section place b rest at more pushed coming =
-    let now : left' ≡ left ++ items_at (length sections) b.waiting = more ∙ ap (λ p. left ++ items_at p b.waiting) at in
-    let count : length sections' ≡ length sections + 1 = ap length pushed ∙ length_push sections section in
-    let past : length sections < length sections + 1 = omega arith in
-    subst (λ (x : List AirItem × ℕ). AllByRecursion (λ (n : ℕ × BssView). IsSent config x.0 n.0 n.1) (enumerate_from x.1 rest)) (λ i. (sym now i, sym count i))
-    (sent-later config left b.waiting (length sections) (length sections + 1) rest past coming.1)
-
--- what sections keep of their networks
-pub ended-map : {A : Type 0} (f : Section → A) (g : BssView → A) (sections sections' : List Section) (section : Section) (b : BssView) (rest coming : List BssView) {all : List A} → f section ≡ g b → sections' ≡ sections ++ section ∷ [] → coming ≡ b ∷ rest → map f sections ++ map g coming ≡ all → map f sections' ++ map g rest ≡ all
-ended-map f g sections sections' section b rest coming same pushed next kept =
-    ap (λ (ss : List Section). map f ss ++ map g rest) pushed
-    ∙ ap (λ ks. ks ++ map g rest) (map-append f sections (section ∷ []))
-    ∙ append_assoc (map f sections) (f section ∷ []) (map g rest)
-    ∙ ap (λ a. map f sections ++ a ∷ map g rest) same
-    ∙ ap (λ (bs : List BssView). map f sections ++ map g bs) (sym next) ∙ kept
-
 -- ---- all networks ended
 
-ended-from : (config : RadioConfig) (left : List AirItem) (from : ℕ) (sections : List Section) (k : ℕ) (section : Section) → AllByRecursion (λ n. IsEnded config left n.0 n.1) (enumerate_from from sections) → slice_get sections k ≡ Some section → IsEnded config left (from + k) section
-ended-from config left from [] k section all at = absurd (cc)
-ended-from config left from (s ∷ ss) zero section all at =
-    let same : s ≡ section = cc in
-    let here : from ≡ from + 0 = omega arith in
-    subst (λ (x : ℕ × Section). IsEnded config left x.0 x.1) (λ i. (here i, same i)) all.0
-ended-from config left from (s ∷ ss) (suc k) section all at =
-    let next : from + 1 + k ≡ from + suc k = omega arith in
-    subst (λ place. IsEnded config left place section) next (ended-from config left (from + 1) ss k section all.1 at)
+-- of a network before these no frame waits
+waits-before : (place from : ℕ) (bs : List BssView) → place < from → items_of place (waiting_from from bs) ≡ []
+waits-before place from [] before = refl
+waits-before place from (b ∷ bs) before =
+    let later : place < from + 1 = omega (arith, before) in
+    items_of-append place (items_at from b.waiting) (waiting_from (from + 1) bs)
+    ∙ (λ k. items_of-elsewhere place from b.waiting (λ e. absurd (omega (arith, e, before))) k ++ waits-before place (from + 1) bs later k)
 
-pub ended-at : (config : RadioConfig) (left : List AirItem) (sections : List Section) (place : ℕ) (section : Section) → AreEnded config left sections → slice_get sections place ≡ Some section → IsEnded config left place section
-ended-at config left sections place section all at =
+-- the section at a place, and its frames: those that left, and then those that wait
+ended-from : (config : RadioConfig) (left : List AirItem) (from k : ℕ) (bs : List BssView) (section : Section) → AllByRecursion (λ n. IsSent config left n.0 n.1) (enumerate_from from bs) → slice_get (sections_from left from bs) k ≡ Some section → IsSectionAt config (from + k) section × (items_of (from + k) left ++ items_of (from + k) (waiting_from from bs) ≡ section.air)
+ended-from config left from k [] section all at = absurd (cc)
+ended-from config left from zero (b ∷ bs) section all at =
+    let same : section_with (items_of from left ++ b.waiting) b ≡ section = cc in
+    let next : from < from + 1 = omega arith in
+    let air : items_of from (items_at from b.waiting ++ waiting_from (from + 1) bs) ≡ b.waiting =
+    items_of-append from (items_at from b.waiting) (waiting_from (from + 1) bs)
+    ∙ (λ k. items_of-items_at from b.waiting k ++ waits-before from (from + 1) bs next k) ∙ append-nil b.waiting in
+    subst (λ (x : ℕ × Section). IsSectionAt config x.0 x.1 × (items_of x.0 left ++ items_of x.0 (waiting_from from (b ∷ bs)) ≡ x.1.air))
+    (λ i. ((let here : from ≡ from + 0 = omega arith in here) i, same i)) (
+      record {
+        alone = ap (λ fs. section_with fs b) all.0.sent ∙ ap (λ s. section_of s b.history) all.0.setting;
+        bounded = subst (λ (s : Setting). length b.history ≤ s.network.max_events) all.0.setting all.0.bounded;
+      },
+      ap (λ fs. items_of from left ++ fs) air,
+    )
+ended-from config left from (suc k) (b ∷ bs) section all at =
+    let next : from + 1 + k ≡ from + suc k = omega arith in
+    let rest = subst (λ (p : ℕ). IsSectionAt config p section × (items_of p left ++ items_of p (waiting_from (from + 1) bs) ≡ section.air)) next (ended-from config left (from + 1) k bs section all.1 at) in (
+      rest.0,
+      ap (λ fs. items_of (from + suc k) left ++ fs)
+          (items_of-append (from + suc k) (items_at from b.waiting) (waiting_from (from + 1) bs)
+          ∙ ap (λ fs. fs ++ items_of (from + suc k) (waiting_from (from + 1) bs)) (items_of-elsewhere (from + suc k) from b.waiting (λ e. absurd (omega (arith, e)))))
+          ∙ rest.1,
+    )
+
+pub ended-at : (config : RadioConfig) (left : List AirItem) (bs : List BssView) (place : ℕ) (section : Section) → AreSent config left bs → slice_get (sections_from left 0 bs) place ≡ Some section → IsSectionAt config place section × (items_of place (left ++ waiting_from 0 bs) ≡ section.air)
+ended-at config left bs place section all at =
     let here : 0 + place ≡ place = omega arith in
-    subst (λ k. IsEnded config left k section) here (ended-from config left 0 sections place section all at)
+    let end = subst (λ (p : ℕ). IsSectionAt config p section × (items_of p left ++ items_of p (waiting_from 0 bs) ≡ section.air)) here (ended-from config left 0 place bs section all at) in
+    (end.0, items_of-append place left (waiting_from 0 bs) ∙ end.1)
+
+pub placed-from : (config : RadioConfig) (left : List AirItem) (from : ℕ) (bs : List BssView) → AllByRecursion (λ n. IsSent config left n.0 n.1) (enumerate_from from bs) → All (λ item. item.place < length config.networks) (waiting_from from bs)
+placed-from config left from [] all = All-nil (λ (item : AirItem). item.place < length config.networks)
+placed-from config left from (b ∷ bs) all =
+    All-append (λ (item : AirItem). item.place < length config.networks) (items_at from b.waiting) (waiting_from (from + 1) bs) (placed-at (length config.networks) from b.waiting all.0.placed) (placed-from config left (from + 1) bs all.1)
+
+-- what sections keep of their networks
+pub histories-from : (left : List AirItem) (from : ℕ) (bs : List BssView) → histories_of (sections_from left from bs) ≡ histories bs
+histories-from left from [] = refl
+histories-from left from (b ∷ bs) = ap (λ (hs : List (List Event)). b.history ∷ hs) (histories-from left (from + 1) bs)
+
+pub limits-from : (left : List AirItem) (from : ℕ) (bs : List BssView) → limits_of (sections_from left from bs) ≡ limits bs
+limits-from left from [] = refl
+limits-from left from (b ∷ bs) = ap (λ (ls : List ℕ). b.setting.network.max_events ∷ ls) (limits-from left (from + 1) bs)
+
+pub count-from : (left : List AirItem) (from : ℕ) (bs : List BssView) → length (sections_from left from bs) ≡ length bs
+count-from left from [] = refl
+count-from left from (b ∷ bs) = ap suc (count-from left (from + 1) bs)

@@ -7,4 +7,3 @@ pub mod Endings
 pub mod Dealing
 pub mod Attributing
 pub mod Fullness
-pub mod Moving

@@ -1,10 +1,10 @@
 -- Which networks are offered an event, and the entries that it leaves.
-use Rattle.std.proofs.Common.{◌≡◌, ◌≢◌, replicate, ℕ, suc, ◌+◌, ◌<◌, ◌≤◌, List, [], ◌∷◌, ◌++◌, length, map, get_or, set, take, inl, inr, Bool, true, false, Option, Some, None, refl, sym, ap, ◌∙◌, subst, arith, append_assoc}
+use Rattle.std.proofs.Common.{◌≡◌, ◌≢◌, ℕ, suc, ◌+◌, ◌<◌, ◌≤◌, List, [], ◌∷◌, ◌++◌, length, map, get_or, set, take, inl, inr, Bool, true, false, Option, Some, None, refl, sym, ap, ◌∙◌, subst, arith, append_assoc}
 use Rattle.std.specs.Prelude.{◌==◌, if◌then◌else◌, IfSome, nat_lt, option_to_list}
 use Rattle.std.specs.List.{flat_map, enumerate_from, range_with_len}
 use Rattle.std.proofs.Math.ListN.{get_or-eq_default}
 use Rattle.std.proofs.lemmas.Bool.{lt-ltb, ltb-true, ltb-false, le-ltb, cases_lt, cases_eq}
-use Rattle.std.proofs.lemmas.List.{append-nil, get_or-replicate, length-replicate, get_or-set_other, get_or-set_same, take_more, take_more_set, length-take-le}
+use Rattle.std.proofs.lemmas.List.{append-nil, get_or-set_other, get_or-set_same, take_more_set, length-take-le}
 use Rattle.std.proofs.lemmas.List.FromFn.{get_or-map-range_with_len, length-map-range_with_len}
 use Rattle.std.proofs.lemmas.Option.{slice_get-get_or}
 use Rattle.mac_frame.specs.Hearing.{is_heard}
@@ -138,81 +138,42 @@ same-default xs i d e within =
 -- The places below this one were offered their copies, and the others not yet.
 pub record Offered (initial copies : List (Option Copies)) (outcomes : List Outcome) (before entries : List Entry) (place : ℕ) : Type 0 where
   pub rest : (k : ℕ) → place ≤ k → get_or copies k None ≡ get_or initial k None
-  pub unheard : (k : ℕ) → place ≤ k → get_or outcomes k NotHeard ≡ NotHeard
   pub heard : (k : ℕ) → k < place → IsOffered (get_or initial k None) (get_or outcomes k NotHeard)
   pub kept : (e : Event) → AreOf e initial → entries ≡ before ++ entries_of e (take place outcomes)
 
-pub none-offered : (initial : List (Option Copies)) (outcomes : List Outcome) (before : List Entry) → outcomes ≡ replicate most_networks NotHeard → Offered initial initial outcomes before before 0
-none-offered initial outcomes before is = record {
+pub none-offered : (initial : List (Option Copies)) (outcomes : List Outcome) (before : List Entry) → Offered initial initial outcomes before before 0
+none-offered initial outcomes before = record {
   rest = λ k le. refl;
-  unheard = λ k le. ap (λ os. get_or os k NotHeard) is ∙ unheard-at k;
   heard = λ k lt. absurd (omega (arith, lt));
   kept = λ e all. sym (append-nil before);
 }
-  where
-    unheard-at : (k : ℕ) → get_or (replicate most_networks NotHeard) k NotHeard ≡ NotHeard
-    unheard-at k =
-        elim (cases_lt k most_networks) [
-          | inl lt ↦ get_or-replicate most_networks k NotHeard NotHeard lt
-          | inr le ↦
-              let past : length (replicate most_networks NotHeard) ≤ k = omega (arith, length-replicate most_networks NotHeard, le) in
-              get_or-eq_default (replicate most_networks NotHeard) NotHeard past
-        ]
 
-rest-next : (copies copies' initial : List (Option Copies)) (place : ℕ) → copies' ≡ set copies place None → ((k : ℕ) → place ≤ k → get_or copies k None ≡ get_or initial k None) → (k : ℕ) → place + 1 ≤ k → get_or copies' k None ≡ get_or initial k None
-rest-next copies copies' initial place is rest k le =
-    let ne : k ≢ place = omega (arith, le) in
-    let later : place ≤ k = omega (arith, le) in
-    ap (λ cs. get_or cs k None) is ∙ get_or-set_other copies place k None None ne ∙ rest k later
-
-kept-next : (e : Event) (outcomes outcomes' : List Outcome) (before entries entries' : List Entry) (place : ℕ) (o : Outcome) → place < length outcomes → take (place + 1) outcomes' ≡ take place outcomes ++ o ∷ [] → entries' ≡ entries ++ entry_of e place o → entries ≡ before ++ entries_of e (take place outcomes) → entries' ≡ before ++ entries_of e (take (place + 1) outcomes')
-kept-next e outcomes outcomes' before entries entries' place o within more new old =
-    let count : length (take place outcomes) ≡ place = length-take-le place outcomes (omega (arith, within)) in
-    new ∙ ap (λ es. es ++ entry_of e place o) old
-    ∙ append_assoc before (entries_of e (take place outcomes)) (entry_of e place o)
-    ∙ ap (λ p. before ++ (entries_of e (take place outcomes) ++ entry_of e p o)) (sym count)
-    ∙ ap (λ es. before ++ es) (sym (entries_of-push e (take place outcomes) o))
-    ∙ ap (λ os. before ++ entries_of e os) (sym more)
-
--- the network at this place was offered its copies
-pub offered-some : (initial copies copies' : List (Option Copies)) (outcomes outcomes' : List Outcome) (before entries entries' : List Entry) (place : ℕ) (pair : Copies) (o : Outcome) → place < length outcomes → get_or copies place None ≡ Some pair → copies' ≡ set copies place None → outcomes' ≡ set outcomes place o → o ≢ NotHeard → entries' ≡ entries ++ entry_of pair.kept place o → Offered initial copies outcomes before entries place → Offered initial copies' outcomes' before entries' (place + 1)
-offered-some initial copies copies' outcomes outcomes' before entries entries' place pair o within some taken answered not new h =
-    let here : get_or initial place None ≡ Some pair = sym (h.rest place (omega arith)) ∙ some in
+-- this place was offered its copies, if there are any
+pub offered-more : (initial copies copies' : List (Option Copies)) (outcomes outcomes' : List Outcome) (before entries entries' : List Entry) (place : ℕ) (mine : Option Copies) (o : Outcome) → place < length outcomes → get_or copies place None ≡ mine → copies' ≡ set copies place None → outcomes' ≡ set outcomes place o → IsOffered mine o → ((e : Event) → IfSome mine (λ pair. pair.kept ≡ e) → entries' ≡ entries ++ entry_of e place o) → Offered initial copies outcomes before entries place → Offered initial copies' outcomes' before entries' (place + 1)
+offered-more initial copies copies' outcomes outcomes' before entries entries' place mine o within own taken answered hears new h =
+    let here : get_or initial place None ≡ mine = sym (h.rest place (omega arith)) ∙ own in
     let at : get_or outcomes' place NotHeard ≡ o = ap (λ os. get_or os place NotHeard) answered ∙ get_or-set_same outcomes place o NotHeard within in
     record {
-      rest = rest-next copies copies' initial place taken h.rest;
-      unheard = λ k le. (
+      rest = λ k le. (
           let ne : k ≢ place = omega (arith, le) in
           let later : place ≤ k = omega (arith, le) in
-          ap (λ os. get_or os k NotHeard) answered ∙ get_or-set_other outcomes place k o NotHeard ne ∙ h.unheard k later
+          ap (λ cs. get_or cs k None) taken ∙ get_or-set_other copies place k None None ne ∙ h.rest k later
           );
       heard = λ k lt. elim (cases_eq k place) [
         | inl e ↦
             subst (λ n. IsOffered (get_or initial n None) (get_or outcomes' n NotHeard)) (sym e)
-            ((λ none. absurd (not (sym at ∙ none))), λ none. (let wrong : Some pair ≡ None = sym here ∙ none in cc))
+            (subst (λ (x : Option Copies × Outcome). IsOffered x.0 x.1) (λ i. (sym here i, sym at i)) hears)
         | inr ne ↦
             let lower : k < place = omega (arith, lt, ne) in
             subst (IsOffered (get_or initial k None)) (sym (ap (λ os. get_or os k NotHeard) answered ∙ get_or-set_other outcomes place k o NotHeard ne)) (h.heard k lower)
       ];
       kept = λ e all. (
-          let mine : pair.kept ≡ e = subst (λ (c : Option Copies). IfSome c (λ p. p.kept ≡ e)) here (all place) in
-          kept-next e outcomes outcomes' before entries entries' place o within (ap (take (place + 1)) answered ∙ take_more_set outcomes place o within) (new ∙ ap (λ x. entries ++ entry_of x place o) mine) (h.kept e all)
+          let count : length (take place outcomes) ≡ place = length-take-le place outcomes (omega (arith, within)) in
+          new e (subst (λ (c : Option Copies). IfSome c (λ p. p.kept ≡ e)) here (all place))
+          ∙ ap (λ es. es ++ entry_of e place o) (h.kept e all)
+          ∙ append_assoc before (entries_of e (take place outcomes)) (entry_of e place o)
+          ∙ ap (λ p. before ++ (entries_of e (take place outcomes) ++ entry_of e p o)) (sym count)
+          ∙ ap (λ es. before ++ es) (sym (entries_of-push e (take place outcomes) o))
+          ∙ ap (λ os. before ++ entries_of e os) (sym (ap (take (place + 1)) answered ∙ take_more_set outcomes place o within))
           );
-    }
-
--- there was no network that hears it at this place
-pub offered-none : (initial copies copies' : List (Option Copies)) (outcomes outcomes' : List Outcome) (before entries entries' : List Entry) (place : ℕ) → place < length outcomes → get_or copies place None ≡ None → copies' ≡ set copies place None → outcomes' ≡ outcomes → entries' ≡ entries → Offered initial copies outcomes before entries place → Offered initial copies' outcomes' before entries' (place + 1)
-offered-none initial copies copies' outcomes outcomes' before entries entries' place within none taken answered new h =
-    let here : get_or initial place None ≡ None = sym (h.rest place (omega arith)) ∙ none in
-    let quiet : get_or outcomes place NotHeard ≡ NotHeard = h.unheard place (omega arith) in
-    record {
-      rest = rest-next copies copies' initial place taken h.rest;
-      unheard = λ k le. (let later : place ≤ k = omega (arith, le) in ap (λ os. get_or os k NotHeard) answered ∙ h.unheard k later);
-      heard = λ k lt. subst (λ os. IsOffered (get_or initial k None) (get_or os k NotHeard)) (sym answered) (elim (cases_eq k place) [
-        | inl e ↦
-            subst (λ n. IsOffered (get_or initial n None) (get_or outcomes n NotHeard)) (sym e)
-            ((λ _. here), λ _. quiet)
-        | inr ne ↦ (let lower : k < place = omega (arith, lt, ne) in h.heard k lower)
-      ]);
-      kept = λ e all. kept-next e outcomes outcomes' before entries entries' place NotHeard within (ap (take (place + 1)) answered ∙ take_more outcomes place NotHeard within ∙ ap (λ (o : Outcome). take place outcomes ++ o ∷ []) quiet) (new ∙ sym (append-nil entries)) (h.kept e all);
     }

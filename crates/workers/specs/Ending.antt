@@ -1,14 +1,13 @@
 -- How an access point ends (profile).
-use Rattle.std.specs.Prelude.{ℕ, ◌<◌, ◌≤◌, ◌≡◌, ◌++◌, List, length, map}
+use Rattle.std.specs.Prelude.{ℕ, ◌+◌, ◌<◌, ◌≤◌, ◌≡◌, ◌++◌, List, [], ◌∷◌, length, map}
 use Rattle.std.specs.List.{AllByRecursion, AllZip, enumerate_from}
 use Rattle.air_queue.specs.Passes.{QueueName, NetPassView, AllThere}
 use Rattle.ap_config.specs.Places.{setting_at}
 use Rattle.events.specs.Items.{items_of}
-use Rattle.network.specs.BssView.{BssView, network_of}
+use Rattle.network.specs.BssView.{BssView, network_of, section_with}
 use Rattle.ap_config.specs.declared.config.RadioConfig.{RadioConfig}
 use Rattle.events.specs.declared.section.Section.{Section}
 use Rattle.events.specs.declared.air_item.AirItem.{AirItem}
-use Rattle.play_result.specs.Sections.{IsSectionAt}
 use Rattle.workers.specs.Seats.{IsSeated}
 
 -- the frames of the network at a place
@@ -33,10 +32,13 @@ pub record IsSent (config : RadioConfig) (left : List AirItem) (place : ℕ) (ne
 abbrev pub AreSent : RadioConfig → List AirItem → List BssView → Type 0
 AreSent config left networks = AllByRecursion (λ n. IsSent config left n.0 n.1) (enumerate_from 0 networks)
 
--- the section of the network at a place, all of whose frames left
-pub record IsEnded (config : RadioConfig) (left : List AirItem) (place : ℕ) (section : Section) : Type 0 where
-  pub section_at : IsSectionAt config place section
-  pub air : items_of place left ≡ section.air
+-- the section of each network, from a place on, where these frames left, and those that wait leave last
+abbrev pub sections_from : List AirItem → ℕ → List BssView → List Section
+sections_from left place [] = []
+sections_from left place (b ∷ bs) =
+    section_with (items_of place left ++ b.waiting) b ∷ sections_from left (place + 1) bs
 
-abbrev pub AreEnded : RadioConfig → List AirItem → List Section → Type 0
-AreEnded config left sections = AllByRecursion (λ n. IsEnded config left n.0 n.1) (enumerate_from 0 sections)
+-- the frames that wait of each
+abbrev pub waiting_from : ℕ → List BssView → List AirItem
+waiting_from place [] = []
+waiting_from place (b ∷ bs) = items_at place b.waiting ++ waiting_from (place + 1) bs

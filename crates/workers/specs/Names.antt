@@ -1,14 +1,7 @@
 -- Which access point it is (profile).
-use Rattle.std.specs.Prelude.{ℕ, ◌≡◌, []}
+use Rattle.std.specs.Prelude.{ℕ, ◌≡◌}
 use Rattle.air_queue.specs.Passes.{QueueName}
 use Rattle.ap_config.specs.declared.config.RadioConfig.{RadioConfig}
-
--- what names no access point
-abbrev pub no_config : RadioConfig
-no_config = record { channel = 0; interval = 0; queue = 0; networks = [] }
-
-abbrev pub no_queue : QueueName
-no_queue = record { words = 0; slots = 0; views_name = 0; atom = 0; block = 0; offset = 0; slot_names = [] }
 
 -- the parts of an access point: its configuration, the name of its air queue, and how many callers it is to have
 pub record PartsView : Type 0 where

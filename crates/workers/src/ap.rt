@@ -1,6 +1,6 @@
 //! An access point whose networks run at the same time (*profile*).
 
-ghost use Rattle.std.specs.Prelude.{◌≡◌, ◌≢◌, ◌+◌, ◌<◌, ◌≤◌, ◌++◌, ◌∷◌, [], length, map, IfOk, OnOk, OnErr, MatchBool};
+ghost use Rattle.std.specs.Prelude.{◌≡◌, ◌≢◌, ◌+◌, ◌<◌, ◌≤◌, ◌++◌, ◌∷◌, [], length, map, IfOk, IfSome, OnOk, OnErr, MatchBool};
 ghost use Rattle.std.specs.Prelude.{vec_len, vec_capacity};
 ghost use Rattle.std.specs.Fn.{FnOnceTakesAt, FnOnceReturnsAt};
 ghost use Rattle.network.specs.BssView.{BssView};
@@ -9,7 +9,7 @@ ghost use Rattle.events.specs.Lines.{event_of_line};
 ghost use Rattle.events.specs.declared.event.Event.{Event};
 ghost use Rattle.events.specs.declared.line.Line.TheVariants as line;
 ghost use Rattle.events.specs.declared.air_item.AirItem.{AirItem};
-ghost use Rattle.workers.specs.Copies.{copies_at, AreCopies, HaveNetworks, AreOf, AreOffered};
+ghost use Rattle.workers.specs.Copies.{copies_at, AreCopies, HaveNetworks, AreOf, AreOffered, IsOffered};
 ghost use Rattle.workers.specs.Giving.{AreHeard, AddsEntries, entry_of};
 ghost use Rattle.workers.specs.Seats.{IsNetworkOf};
 
@@ -176,29 +176,31 @@ impl<N: ApName> Ap<N> {
     {
         let mut outcomes = [Outcome::NotHeard; MAX_NETWORKS];
         for place in 0..MAX_NETWORKS {
-            if let Some(copies) = copies[place].take() {
-                outcomes[place] = self.offer(rt, entries, place, copies);
-            }
+            let copies = copies[place].take();
+            outcomes[place] = self.offer(rt, entries, place, copies);
         }
         outcomes
     }
 
-    /// Offers the event to the network at a place, and keeps the entry, for which there is room.
+    /// Offers the event to the network at a place, if there are copies for it, and keeps the entry, for which there is room.
     fn offer<R: Wait>(
         &self,
         rt: &R,
         entries: &mut Vec<Entry>,
         place: usize,
-        copies: Copies,
+        copies: Option<Copies>,
     ) -> Outcome
-        requires place { place < length N.config.networks }
+        requires place { IfSome copies (λ _. place < length N.config.networks) }
         requires room { vec_len entries.old < vec_capacity entries.old }
-        ensures heard { result ≢ Outcome.NotHeard }
-        ensures entries { entries.new.items ≡ entries.old.items ++ entry_of copies.kept place result }
+        ensures heard { IsOffered copies result }
+        ensures entries { (event : Event) → IfSome copies (λ pair. pair.kept ≡ event)
+            → entries.new.items ≡ entries.old.items ++ entry_of event place result }
         ensures len { vec_len entries.new ≤ vec_len entries.old + 1 }
         ensures capacity { vec_capacity entries.new ≡ vec_capacity entries.old }
     {
-        let Copies { offered, kept } = copies;
+        let Some(Copies { offered, kept }) = copies else {
+            return Outcome::NotHeard;
+        };
         let outcome = self.take(rt, place, offered);
         if let Some(entry) = Entry::of(place, outcome, kept) {
             entries.push_reserved(entry);

@@ -4,9 +4,8 @@ ghost use Rattle.std.specs.Prelude.{◌≡◌, ◌++◌, IfOk, OnOk, vec_len, le
 ghost use Rattle.events.specs.Lists.{IsPrefix};
 ghost use Rattle.events.specs.Items.{items_of};
 ghost use Rattle.network.specs.BssView.{section_with};
-ghost use Rattle.workers.specs.Attributions.{histories, limits};
 ghost use Rattle.play_result.specs.Sections.{AreSections, HaveLeft, ArePlaced};
-ghost use Rattle.workers.specs.Ending.{AreSeated, AreSent, AreEnded, items_at};
+ghost use Rattle.workers.specs.Ending.{AreSeated, items_at, sections_from, waiting_from};
 ghost use Rattle.play_result.specs.Givers.{AreGivers, histories_of};
 ghost use Rattle.workers.specs.Receipts.{AreReceipts, AreFullLast, limits_of};
 
@@ -67,8 +66,9 @@ impl<N: ApName> Ap<N> {
         let Ok(left) = queue.take_in(rt, radio, nets) else {
             return Err(FinishFault::NoMemory);
         };
+        let (sections, mut waited) = end_networks(alloc, networks, left.items.as_slice())?;
         let mut left = left.items.into_vec();
-        let sections = end_networks::<N>(alloc, networks, &mut left)?;
+        left.append(&mut waited)?;
         Ok(Finished {
             sections: List::from_vec(sections),
             left: List::from_vec(left),
@@ -98,26 +98,22 @@ fn unseat<N: ApName>(
     Ok((networks, nets))
 }
 
-/// The section of each network, in order of place. The frames that wait leave after those that left.
-fn end_networks<N: ApName>(
+/// The section of each network, in order of place, and the frames that wait, which leave after these that left.
+fn end_networks(
     alloc: Global,
     networks: Vec<Bss>,
-    left: &mut Vec<AirItem>,
-) -> Result<Vec<Section>, NoMemory>
-    requires { AreSent N.config left.old.items networks.items }
-    ensures ended { IfOk result (λ sections. AreEnded N.config left.new.items sections.items) }
-    ensures count { IfOk result (λ sections. vec_len sections ≡ vec_len networks) }
-    ensures histories { IfOk result (λ sections. histories_of sections.items ≡ histories networks.items) }
-    ensures limits { IfOk result (λ sections. limits_of sections.items ≡ limits networks.items) }
-    ensures placed { OnOk result (ArePlaced N.config left.old.items → ArePlaced N.config left.new.items) }
-    ensures begins { OnOk result (IsPrefix left.old.items left.new.items) }
+    left: &[AirItem],
+) -> Result<(Vec<Section>, Vec<AirItem>), NoMemory>
+    ensures sections { IfOk result (λ r. r.0.items ≡ sections_from left.now 0 networks.items) }
+    ensures waited { IfOk result (λ r. r.1.items ≡ waiting_from 0 networks.items) }
 {
     let mut sections = Vec::with_capacity(alloc, networks.len())?;
+    let mut waited = Vec::new(alloc);
     for network in networks {
         let place = sections.len();
-        sections.push(end_network(alloc, place, network, left)?)?;
+        sections.push(end_network(alloc, place, network, left, &mut waited)?)?;
     }
-    Ok(sections)
+    Ok((sections, waited))
 }
 
 /// The section of the network at a place, whose frames that wait leave last.
@@ -125,15 +121,18 @@ fn end_network(
     alloc: Global,
     place: usize,
     mut network: Bss,
-    left: &mut Vec<AirItem>,
+    left: &[AirItem],
+    waited: &mut Vec<AirItem>,
 ) -> Result<Section, NoMemory>
-    ensures left { OnOk result (left.new.items ≡ left.old.items ++ items_at place network.waiting) }
-    ensures section { IfOk result (λ section. section ≡ section_with (items_of place left.new.items) network) }
+    ensures waited { OnOk result (waited.new.items ≡ waited.old.items ++ items_at place network.waiting) }
+    ensures section { IfOk result (λ section.
+        section ≡ section_with (items_of place left.now ++ network.waiting) network) }
 {
+    let mut air = frames_of(alloc, place, left)?;
     while let Some(octets) = network.take_front() {
-        left.push(AirItem { place, octets })?;
+        air.push(octets.copy(alloc)?)?;
+        waited.push(AirItem { place, octets })?;
     }
-    let air = frames_of(alloc, place, left.as_slice())?;
     network.into_section(List::from_vec(air))
 }
 

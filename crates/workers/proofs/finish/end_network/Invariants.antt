@@ -5,8 +5,9 @@ use Rattle.workers.proofs.finish.end_network.Given as goal
 abbrev pub invariant-loop-octets : goal.invariant-loop-octets
 invariant-loop-octets l = record {
   moved :
-      l.left.items ++ items_at l.place l.network.waiting
-      ≡ l.initial.left.items ++ items_at l.place l.initial.network.waiting;
+      l.waited.items ++ items_at l.place l.network.waiting
+      ≡ l.initial.waited.items ++ items_at l.place l.initial.network.waiting;
+  air : l.air.items ++ l.network.waiting ≡ l.initial.air.items ++ l.initial.network.waiting;
   setting : l.network.setting ≡ l.initial.network.setting;
   history : l.network.history ≡ l.initial.network.history;
 }
