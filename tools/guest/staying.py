@@ -189,11 +189,12 @@ class Stays(Part):
 
     def reload_without_change(self) -> str:
         """Also what isn't seen by stations may change."""
-        identifiers = self.identifiers()
+        identifiers, repeated = self.identifiers(), self.repeated()
         missing = self.count_missing(self.reload, 10, MOST_MISSING)
         if self.identifiers() != identifiers:
             raise Failed("identifiers changed")
-        return f"{missing} pings missing, 0 of {len(self.flows)} stations joined"
+        return (f"{missing} pings missing, 0 of {len(self.flows)} stations joined, {self.repeated() - repeated} frames "
+                "dropped by stations as repeated")
 
     def reload_with_change(self) -> str:
         """The third network gets another name, and then its own again."""
@@ -349,7 +350,7 @@ class Stays(Part):
         return f"{stay} of {len(there)} stations were known at once, {again.told().count(' joins ')} joined again"
 
     def kill_and_leave(self) -> None:
-        """All are killed, the script last, so that nothing is taken back."""
+        """All are killed, the script first, so that nothing is taken back."""
         pids = [self.start.process.pid, process_of(COMPILED), process_of(self.start.program)]
         for process in pids:
             with suppress(ProcessLookupError):
@@ -386,7 +387,6 @@ class Stays(Part):
         if any(name.startswith(f"{self.cases.phy}.state") for name in os.listdir("/run/waltigon")):
             raise Failed("a state is left")
         return ", ".join(told)
-
 
     def beside_hostapd(self) -> str:
         """What twenty stations make of it, in one network; nothing is wanted of it."""

@@ -18,6 +18,10 @@ ORIGIN = re.compile(r"# (?:frame (?P<frame>\d+)(?: of (?P<capture>.+))?|(?P<made
                     r"(?P<seconds>-?\d+\.\d+) s\r?")
 
 
+# The remarks of a record around what the access point didn't send.
+RESTORED, RESTORED_TO = "# restored: ", "# restored: up to here"
+
+
 class TextError(Exception):
     """A text that isn't what it is said to be."""
 
@@ -104,6 +108,21 @@ def read_trace(text):
         line = line.removesuffix("\r").rstrip(" ")
         if line and not line.startswith("#"):
             found.append(trace_line(number, line))
+    return found
+
+
+def read_restored(text):
+    """The numbers of the lines by which a new program of an access point came to know stations that had joined before, as
+    its record marks them: nobody sent these lines, and what was answered to them wasn't sent."""
+    lines = text.split("\n")
+    if SEPARATOR in lines:
+        lines = lines[lines.index(SEPARATOR) + 1:]
+    found, is_restored = set(), False
+    for number, line in enumerate(lines, 1):
+        if line.startswith(RESTORED):
+            is_restored = not line.startswith(RESTORED_TO)
+        elif is_restored:
+            found.add(number)
     return found
 
 

@@ -356,6 +356,139 @@ class KilledBefore(OnMachine):
                 Changes("phy9", self.folder)
 
 
+class HandedOn(OnMachine):
+    """What a start leaves as it is set up, where it was asked to, and the next one goes on with."""
+
+    WORDS = replace(OnMachine.WANTED, country="DE")
+
+    def setUp(self):
+        super().setUp()
+        self.phys, self.addresses, self.up, self.joins, self.found_country = {}, {}, set(), True, "00"
+        for name, value in (("radio", lambda one: self.phys.get(one.name)), ("is_up", lambda one: one.name in self.up),
+                            ("exists", lambda one: one.name in self.phys or one.name == "nowire1"),
+                            ("address", lambda one: self.addresses.get(one.name))):
+            self.patch(Interface, name, property(value))
+        self.patch(machine, "country", lambda: self.found_country)
+        self.patch(machine, "radios", lambda: ["phy9"])
+        self.patch(machine, "interfaces", lambda: [Interface(name) for name in (*self.phys, "nowire1")])
+        self.patch(checks, "check_abilities", lambda *_: None)
+        self.patch(checks, "read_phy", lambda text: text)
+
+    def patch(self, where, name, value):
+        """Puts something in place until the test ends."""
+        patch = mock.patch.object(where, name, value)
+        patch.start()
+        self.addCleanup(patch.stop)
+
+    def run_command(self, *words):
+        """The machine is as the commands leave it."""
+        match words:
+            case ("iw", "reg", "set", country):
+                self.found_country = country
+            case ("iw", "phy", phy, "interface", "add", name, *more):
+                self.phys[name], self.addresses[name] = phy, more[-1]
+            case ("iw", "dev", name, "del"):
+                del self.phys[name]
+                self.up.discard(name)
+            case ("ip", "link", "set", name, "up"):
+                self.up.add(name)
+            case ("ip", "link", "set", name, "down"):
+                self.up.remove(name)
+            case ("ethtool", "-K", _, "gro", on):
+                self.joins = on == "on"
+        said = super().run_command(*words)
+        return said if self.joins else said.replace("generic-receive-offload: on", "generic-receive-offload: off")
+
+    def start(self, wanted, settings, wires=OnMachine.WIRES, hands_on=False):
+        """A start sets all up and ends; what was done until its end and at its end, and what was told."""
+        made = Changes("phy9", self.folder)
+        self.made = made
+        with contextlib.redirect_stderr(io.StringIO()) as told, ExitStack() as stack:
+            stack.callback(made.close)
+            checks.check_radio(wanted, settings, made, stack)
+            setting_up.SettingUp(wanted, made, stack).follow(Plan(settings, wires, "text"))
+            done, self.commands = self.commands, []
+            if hands_on:
+                made.hand_on(checks.as_set_up(settings))
+        ended, self.commands = self.commands, []
+        return done, ended, told.getvalue()
+
+    def hand_on(self):
+        """A start leaves all as it is set up."""
+        self.made.close()
+        done, ended, _ = self.start(self.WORDS, self.SETTINGS, hands_on=True)
+        self.assertEqual((done[0], done[-len(self.RADIO):]), ("iw reg set DE", self.RADIO))
+        self.assertEqual(ended, [])
+
+    def test_goes_on(self):
+        """Nothing of the radio is set up anew, and all is taken back in the end, in reverse order."""
+        self.hand_on()
+        done, ended, told = self.start(self.WORDS, self.SETTINGS)
+        self.assertEqual(done, ["iw phy phy9 info", "ethtool -k nowire1", "ethtool -i nowire1"])
+        self.assertEqual(ended, [
+            "iw dev mon0n2 del", "iw dev mon0n1 del", "iw dev mon0 del", "ip link set nowire1 down",
+            "ethtool -K nowire1 gro on", "iw reg set 00"])
+        self.assertIn("going on with what the start before for phy9 has left: mon0, mon0n1, mon0n2", told)
+        self.assertEqual(os.listdir(self.folder), ["phy9.lock"])
+
+    def test_goes_on_twice(self):
+        """Each start may leave all for the next."""
+        self.hand_on()
+        done, ended, _ = self.start(self.WORDS, self.SETTINGS, hands_on=True)
+        self.assertEqual((done[0], ended), ("iw phy phy9 info", []))
+        self.assertEqual(self.start(self.WORDS, self.SETTINGS)[1][0], "iw dev mon0n2 del")
+
+    def test_what_is_wanted_no_more_is_taken_back(self):
+        """A wire that is given no more."""
+        self.hand_on()
+        done, ended, _ = self.start(self.WORDS, self.SETTINGS, wires=())
+        self.assertEqual(done[1:], ["ip link set nowire1 down", "ethtool -K nowire1 gro on"])
+        self.assertEqual(ended, ["iw dev mon0n2 del", "iw dev mon0n1 del", "iw dev mon0 del", "iw reg set 00"])
+
+    def test_another_radio_than_it_would_be(self):
+        """Where anything of it would be set up in another way, all is taken back, and set up anew."""
+        one = self.SETTINGS.networks[:1]
+        for wanted, settings, change in (
+                (self.WORDS, replace(self.SETTINGS, channel=11), lambda: None),
+                (self.WORDS, replace(self.SETTINGS, networks=one), lambda: None),
+                (self.WORDS, replace(self.SETTINGS, networks=one + (Network(STRANGER, b"\x82"),)), lambda: None),
+                (replace(self.WORDS, monitor="mon1"), self.SETTINGS, lambda: None),
+                (self.WANTED, self.SETTINGS, lambda: None),
+                (self.WORDS, self.SETTINGS, lambda: self.addresses.update(mon0n1="02:00:00:00:01:09")),
+                (self.WORDS, self.SETTINGS, lambda: self.up.remove("mon0n2")),
+                (self.WORDS, self.SETTINGS, lambda: setattr(self, "found_country", "US")),
+                (self.WORDS, self.SETTINGS, lambda: self.write("2 2437\n")),
+                (self.WORDS, self.SETTINGS, lambda: self.write("")),
+                (self.WORDS, self.SETTINGS, lambda: os.unlink(os.path.join(self.folder, "phy9.stay")))):
+            self.setUp()
+            self.hand_on()
+            change()
+            done, ended, told = self.start(wanted, settings)
+            self.assertIn("iw dev mon0 del", done)
+            self.assertIn(f"iw phy phy9 interface add {wanted.monitor} type monitor flags control", done)
+            self.assertIn(f"iw dev {wanted.monitor} del", ended)
+            self.assertNotIn("going on with", told)
+            self.assertEqual(os.listdir(self.folder), ["phy9.lock"])
+
+    def write(self, text):
+        """Another one has written so how the radio is set up."""
+        with open(os.path.join(self.folder, "phy9.stay"), "w", encoding="utf-8") as file:
+            file.write(text)
+
+    def test_fault_before_it_is_set_up(self):
+        """What was handed on is taken back where the next start ends before it goes on with it."""
+        self.hand_on()
+        made = Changes("phy9", self.folder)
+        with contextlib.redirect_stderr(io.StringIO()), ExitStack() as stack:
+            stack.callback(made.close)
+            checks.check_radio(self.WORDS, self.SETTINGS, made, stack)
+            self.commands.clear()
+        self.assertEqual(self.commands[-6:], [
+            "iw reg set 00", "iw dev mon0n2 del", "iw dev mon0n1 del", "iw dev mon0 del", "ip link set nowire1 down",
+            "ethtool -K nowire1 gro on"])
+        self.assertFalse(os.path.exists(made.path))
+
+
 class Opened(str):
     """A socket of a wire, by its name; it is known whether it was closed."""
 
@@ -1037,6 +1170,28 @@ class Running(WithFiles):
                                                "ended with status 0; taking down what was set up\n$")
         self.assertEqual(len(self.followed), 1)
         self.assertEqual([name for name in os.listdir(self.folder) if name.startswith("phy0.")], ["phy0.lock"])
+
+    def test_ends_for_the_next_start(self):
+        """Where PHY.stay is there what it set up is left, with the state of stations; the next start takes that file away."""
+        def later():
+            self.write("phy0.stay", "")
+            self.end()
+        self.run_bridge(later)
+        self.assertIn("; all stays as it is set up, for the next start\n", self.told.getvalue())
+        self.assertEqual(self.read("phy0.stay"), "1 2437\n")
+        left = ["phy0.lock", "phy0.state.0", "phy0.state.1", "phy0.stay"]
+        self.assertEqual(sorted(name for name in os.listdir(self.folder) if name.startswith("phy0.")), left)
+        self.run_bridge(self.end)
+        self.assertEqual([name for name in os.listdir(self.folder) if name.startswith("phy0.")], ["phy0.lock"])
+
+    def test_ends_by_a_fault(self):
+        """Then all is taken down, whoever asks for what."""
+        self.write("phy0.stay", "")
+        with self.assertRaisesRegex(Fault, "it broke"):
+            self.run_bridge(lambda: self.write("phy0.stay", ""), does="[ $request != open ] || { sleep 1; break; }",
+                            after="echo 'fault it broke'; exit 1")
+        self.assertEqual(self.read("phy0.stay"), "")
+        self.assertNotIn("phy0.state.0", os.listdir(self.folder))
 
     def test_reload(self):
         """By SIGHUP another bridge is started, stations of what is another network now are told to join again, and what

@@ -250,10 +250,34 @@ class Examples(ToolTest):
         self.assertEqual(different, SILENT)
         self.assertGreater(same, 10)
 
-    def there_and_back(self, folder, text):
-        """The trace of the captures of an example."""
+    def test_what_a_new_program_was_told_is_left_out(self):
+        """Nobody sent it, nor what was answered to it."""
+        text, lines = input_of(THREE)
+        config, _, trace = text.partition("\n---\n")
+        before, behind = trace.split("\n")[:6], trace.split("\n")[6:]
+        told = ["# restored: of the lines from here on the answers were not sent", *before, "# restored: up to here", *behind]
+        marked = self.path("input")
+        with open(marked, "w", encoding="utf-8") as file:
+            file.write(f"{config}\n---\n" + "\n".join(told))
+        count = len(read_trace("\n".join(before)))
+        wanted = [line for line in lines[count:] if not is_left_out(line)]
+        self.assertGreater(count, 2)
+        self.assertEqual(essence(self.there_and_back(THREE, text, marked)), essence(wanted))
+        folder = self.path(os.path.basename(THREE))
+        sent = [len(list(read_air(f"{place}/air.pcapng"))) for place in (folder, self.captured(THREE, "whole"))]
+        self.assertLess(sent[0], sent[1] - count)
+
+    def captured(self, folder, name):
+        """The captures of an example, in a folder of this name."""
+        out = self.path(name)
+        self.assertEqual(tool("capture-from-run", os.path.join(folder, "input"), os.path.join(folder, "stdout"), "--out",
+                              out)[0], 0)
+        return out
+
+    def there_and_back(self, folder, text, path=None):
+        """The trace of the captures of an example, or of the text at this path with its report."""
         out = self.path(os.path.basename(folder))
-        status, _, stderr = tool("capture-from-run", os.path.join(folder, "input"), os.path.join(folder, "stdout"),
+        status, _, stderr = tool("capture-from-run", path or os.path.join(folder, "input"), os.path.join(folder, "stdout"),
                                  "--out", out)
         self.assertEqual((status, stderr), (0, ""), folder)
         bssids = [network["bssid"] for network in tomllib.loads(text.split("\n---\n")[0])["network"]]

@@ -840,21 +840,8 @@ fn tell_not_used(reason: NotUsed) {
     );
 }
 
-/// Units that were kept are lost with the program that kept them.
 fn tell_of_units(state: &State) {
-    for OfNetwork { bssid, units, waiting, .. } in &state.networks {
-        match units {
-            Some(0) => {}
-            Some(units) => {
-                log::write_event(Level::Notice, format_args!("{units} units that {bssid} kept for stations are lost"));
-            }
-            None if *waiting > 0 => log::write_event(
-                Level::Notice,
-                format_args!("the units that {bssid} kept for {waiting} stations are lost"),
-            ),
-            None => {}
-        }
-    }
+    state.networks.iter().filter_map(OfNetwork::lost_units).for_each(|text| log::write_event(Level::Notice, text));
 }
 
 impl<P: Port> Running<P> {
@@ -1837,13 +1824,16 @@ done
         };
         assert_eq!((outcome, answers(&first)), (Ok(()), vec![0xb0, 0x10]));
         for _ in 0..2 {
-            let mut status = String::new();
+            let (mut status, mut tables) = (String::new(), 0);
             // What is asked for while the program is told of the station is done afterwards.
             let slow = program.replace("b0) echo", "b0) sleep 0.6; echo");
             let (outcome, stage) = run_with(Face::Text, &slow, with_state, |stage| {
                 stage.requests.write_all(b"tables\n").unwrap();
                 wait_until(|| !stage.sent.lock().unwrap().is_empty());
-                wait_until(|| fs::read_to_string(stage.folder.join("record")).unwrap().matches("# I").count() == 2);
+                wait_until(|| {
+                    tables = fs::read_to_string(stage.folder.join("record")).unwrap().matches("# I").count();
+                    tables == 2
+                });
                 status = ask(stage, "status");
                 end(stage);
             });
@@ -1854,7 +1844,7 @@ done
             let lines = stage.record();
             assert_eq!(lines[0], format!("# {RESTORED_FROM}"));
             assert_eq!((&lines[1..4], &lines[4]), (&wanted[..], &format!("# {RESTORED_TO}")));
-            assert!(lines[5..].contains(&"# I".to_owned()), "{lines:?}");
+            assert_eq!(tables, 2, "{lines:?}");
         }
         for number in [0, 1] {
             fs::remove_file(format!("{state}.{number}")).unwrap();
@@ -1886,6 +1876,24 @@ done
         for number in [0, 1] {
             fs::remove_file(format!("{state}.{number}")).unwrap();
         }
+    }
+
+    /// The newer one of two whole states is used, and the next bridge writes over the older one first.
+    #[test]
+    fn the_newer_state_stays_until_another_is_whole() {
+        let state = format!("{}/two-{}", std::env::temp_dir().display(), std::process::id());
+        let text = |written, is_last| State { setting: setting(100), written, is_last, networks: Vec::new() }.text();
+        for newer in [0, 1] {
+            fs::write(format!("{state}.{newer}"), text(9 * SECOND, true)).unwrap();
+            fs::write(format!("{state}.{}", 1 - newer), text(8 * SECOND, false)).unwrap();
+            let mut keeping = Keeping::new(files_of(&state));
+            let found = left_state(&mut keeping, &setting(100), 10 * SECOND).unwrap();
+            assert_eq!((found.written, found.is_last), (9 * SECOND, true));
+            assert!(left_state(&mut keeping, &setting(101), 10 * SECOND).is_none());
+            keeping.write(b"begun and not whole", 1, 10 * SECOND);
+            assert_eq!(left_state(&mut keeping, &setting(100), 10 * SECOND), Some(found));
+        }
+        [0, 1].iter().for_each(|number| fs::remove_file(format!("{state}.{number}")).unwrap());
     }
 
     /// While one client writes newlines and never reads, another one is answered and beacons go.

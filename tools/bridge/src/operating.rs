@@ -265,6 +265,7 @@ fn sentence(station: Address, bssid: Address, news: News) -> (Level, String) {
 #[cfg(test)]
 mod tests {
     use super::*;
+    use crate::own_frames::association_request;
     use crate::samples::{network, OTHER, OURS, STATION, STRANGER};
 
     /// A frame of a network, with a sequence number.
@@ -307,6 +308,33 @@ mod tests {
         operating.said(&departure(OURS, STATION), 8 * SECOND);
         assert_eq!(behind_beacon(&mut operating, 8, 30 * SECOND), []);
         assert_eq!(operating.roster().station(&(1, STATION)), None);
+    }
+
+    /// Who stays is known without a word. Whoever doesn't is told to join again, and the program that those have left whom
+    /// it knows.
+    #[test]
+    fn who_is_restored_is_known_and_others_are_told() {
+        let request = association_request(&network(OURS), STATION);
+        let kept = Kept { address: STATION, aid: 4, listen: 1, dozes: false, has_dozed: false, request };
+        let mut operating = Operating::new(&[network(OTHER), network(OURS)], None);
+        let restored = Restored {
+            stay: vec![((1, STATION), kept.clone())],
+            again: vec![(0, STRANGER)],
+            leave: vec![(0, STRANGER), (1, STRANGER)],
+            swallowed: 5,
+        };
+        let frame = deauthentication(OTHER, STRANGER, LEAVING, 2048);
+        let wanted = [
+            Errand::Say(departure(OTHER, STRANGER)),
+            Errand::Say(departure(OURS, STRANGER)),
+            Errand::Send { place: 0, frame, retries: 3 },
+        ];
+        assert_eq!(operating.restore(&restored, 0), wanted);
+        assert_eq!((operating.kept(0), operating.kept(1)), (vec![], vec![kept]));
+        assert_eq!(operating.roster().take_news(), []);
+        // Who is told to join again isn't left for the next bridge.
+        operating.dismiss(&[1]);
+        assert_eq!(operating.kept(1), []);
     }
 
     #[test]

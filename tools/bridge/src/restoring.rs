@@ -150,6 +150,17 @@ impl OfNetwork {
         ascends && addresses.len() == self.stations.len()
     }
 
+    /// What is told of units that the network kept: they are lost with the program that kept them.
+    pub fn lost_units(&self) -> Option<String> {
+        let OfNetwork { bssid, units, waiting, .. } = self;
+        match units {
+            Some(0) => None,
+            Some(units) => Some(format!("{units} units that {bssid} kept for stations are lost")),
+            None if *waiting > 0 => Some(format!("the units that {bssid} kept for {waiting} stations are lost")),
+            None => None,
+        }
+    }
+
     /// Whether a network is still this one to its stations.
     fn is(&self, network: &Network) -> bool {
         (self.bssid, &self.ssid, &self.rates) == (network.bssid, &network.ssid, &network.rates)
@@ -517,7 +528,7 @@ mod tests {
     #[test]
     fn a_state_that_says_what_can_t_be_is_damaged() {
         let good = sample();
-        let mut wrong: Vec<State> = (0..7).map(|_| good.clone()).collect();
+        let mut wrong: Vec<State> = (0..8).map(|_| good.clone()).collect();
         wrong[0].networks[0].stations.swap(0, 1);
         wrong[1].networks[0].stations[1].aid = 2;
         wrong[2].networks[0].stations[1].aid = 2008;
@@ -525,6 +536,7 @@ mod tests {
         wrong[4].networks[0].stations[0].listen = 8;
         wrong[5].networks[0].stations[0].address = STRANGER;
         wrong[6].networks[0].stations[0].request[0] = 0xb0;
+        wrong[7].networks[1].stations = good.networks[0].stations.clone();
         for (number, state) in wrong.iter().enumerate() {
             assert_eq!(State::read(&state.text()), None, "{number}");
         }
@@ -554,6 +566,19 @@ mod tests {
             (Setting { interval: 99, ..setting() }, NotUsed::OtherConfiguration),
         ] {
             assert_eq!(choose(&[old.text()], &setting, 80 * SECOND), Err(reason));
+        }
+    }
+
+    #[test]
+    fn units_that_were_kept_are_told_as_lost() {
+        for (units, waiting, told) in [
+            (Some(0), 2, None),
+            (Some(3), 2, Some("3 units that 02:00:00:00:01:01 kept for stations are lost")),
+            (None, 2, Some("the units that 02:00:00:00:01:01 kept for 2 stations are lost")),
+            (None, 0, None),
+        ] {
+            let network = OfNetwork { units, waiting, ..of_network(&network(OURS), Vec::new()) };
+            assert_eq!(network.lost_units().as_deref(), told);
         }
     }
 
@@ -677,13 +702,27 @@ mod tests {
     }
 
     /// What comes of a network's stations with this model.
-    fn restore(state: &State, ours: &Network, mut model: Model) -> Restored {
-        let mut restoring = Restoring::of(state, std::slice::from_ref(ours)).unwrap();
-        model.max_stations = ours.max_stations.into();
+    fn restore(state: &State, ours: &Network, model: Model) -> Restored {
+        restore_all(state, std::slice::from_ref(ours), vec![model])
+    }
+
+    /// What comes of all networks' stations, each with its model.
+    fn restore_all(state: &State, networks: &[Network], mut models: Vec<Model>) -> Restored {
+        let mut restoring = Restoring::of(state, networks).unwrap();
+        for (network, model) in networks.iter().zip(&mut models) {
+            model.max_stations = network.max_stations.into();
+        }
         while let Some(event) = restoring.next() {
-            assert!(!restoring.is_done());
-            let answers = model.take(ours.bssid, &event);
-            answers.iter().for_each(|answer| restoring.take(answer));
+            for (network, model) in networks.iter().zip(&mut models) {
+                let is_heard = match &event {
+                    ToSay::Frame(octets) => Frame::of(octets).unwrap().receiver() == network.bssid,
+                    ToSay::Tables => true,
+                };
+                if is_heard {
+                    assert!(!restoring.is_done());
+                    model.take(network.bssid, &event).iter().for_each(|answer| restoring.take(answer));
+                }
+            }
         }
         assert!(restoring.is_done());
         restoring.restored()
@@ -765,6 +804,53 @@ mod tests {
         let restored = restore(&state(vec![of_network(&ours, stations.clone())]), &ours, Model::default());
         assert_eq!(restored.stay.len(), 2);
         assert_eq!((restored.again, restored.leave), (members(&stations[2..]), vec![]));
+    }
+
+    /// Also where nobody else is to be said.
+    #[test]
+    fn who_alone_has_an_identifier_above_the_new_most_joins_again() {
+        let ours = Network { max_stations: 3, ..network(OURS) };
+        let stations = vec![kept(&ours, 4, 4)];
+        let state = state(vec![of_network(&ours, stations.clone())]);
+        assert!(!Restoring::of(&state, std::slice::from_ref(&ours)).unwrap().is_empty());
+        let restored = restore(&state, &ours, Model::default());
+        assert_eq!(restored, Restored { again: members(&stations), ..Restored::default() });
+    }
+
+    /// A station may be known to both; a row of a table is of the network whose table it is.
+    #[test]
+    fn each_network_has_its_own_stations_again() {
+        let networks = [network(OURS), network(OTHER)];
+        let of = |network: &Network, aids: [u16; 2]| {
+            of_network(network, aids.map(|aid| kept(network, 9 - aid as u8, aid)).into())
+        };
+        let state = state(vec![of(&networks[1], [1, 4]), of(&networks[0], [2, 4])]);
+        let restored = restore_all(&state, &networks, vec![Model::default(), Model::default()]);
+        let stay: Vec<_> = restored.stay.iter().map(|((place, _), kept)| (*place, kept.aid)).collect();
+        assert_eq!(stay, [(0, 2), (0, 4), (1, 1), (1, 4)]);
+        assert_eq!((restored.again, restored.leave), (vec![], vec![]));
+        let mut other = Model::default();
+        other.stations.insert(STATION, None);
+        let address = |place: usize, number: usize| state.networks[place].stations[number].address;
+        let refuses = Model { refuses: vec![address(0, 1)], ..Model::default() };
+        let restored = restore_all(&state, &networks, vec![other, refuses]);
+        let stay: Vec<_> = restored.stay.iter().map(|((place, _), kept)| (*place, kept.aid)).collect();
+        assert_eq!((stay, restored.again), (vec![(0, 2), (0, 4), (1, 1)], vec![(1, address(0, 1))]));
+        assert_eq!(restored.leave, [(0, STATION), (1, address(0, 1))]);
+    }
+
+    /// The tables of all networks have to come.
+    #[test]
+    fn it_is_done_once_the_last_table_came() {
+        let networks = [network(OURS), network(OTHER)];
+        let state = state(vec![of_network(&networks[0], vec![kept(&networks[0], 1, 1)])]);
+        let mut restoring = Restoring::of(&state, &networks).unwrap();
+        said_of(&mut restoring);
+        let lines = [format!("network {OURS} ssid 6c"), "end".into(), format!("network {OTHER} ssid 6c"), "end".into()];
+        for (line, is_done) in lines.into_iter().zip([false, false, false, true]) {
+            restoring.take(&Answer::Told(line.clone()));
+            assert_eq!(restoring.is_done(), is_done, "{line}");
+        }
     }
 
     /// Networks with drawn stations, with and without gaps, up to full ones.

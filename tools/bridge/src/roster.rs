@@ -654,7 +654,11 @@ mod tests {
         roster.said(&frame([0x20, 0], OURS, STATION, &[1, 0, 9, 0, 0, 0, 0, 0, 0, 0]), 0);
         roster.answered(0, &frame([0x30, 0], STATION, OURS, &[1, 0, 0, 0, 1, 0xc0]), 0);
         let again = frame([0x20, 0], OURS, STATION, &[1, 0, 9, 0, 0, 0, 0, 0, 0, 0]);
-        assert_eq!(roster.kept(0), [Kept { listen: 9, request: again, ..plain }]);
+        assert_eq!(roster.kept(0), [Kept { listen: 9, request: again, ..plain.clone() }]);
+        // Of two requests before an answer the later one counts, whose listen interval the program has too.
+        roster.said(&frame([0, 0], OURS, STATION, &[1, 0, 3, 0]), 0);
+        associated(&mut roster, STATION, 0, 1);
+        assert_eq!(roster.kept(0), [plain]);
         roster.said(&frame([0xa0, 0], OURS, STATION, &[8, 0]), 0);
         assert_eq!(roster.kept(0), []);
         assert!(roster.kept(1).is_empty());
@@ -666,6 +670,27 @@ mod tests {
         assert_eq!(roster.kept(0).len(), 1);
         roster.forget(FIRST, Forgotten::Kicked, SECOND);
         assert_eq!(roster.kept(0), []);
+    }
+
+    /// A state is written anew where one joins or leaves, and says stations in the order of their identifiers.
+    #[test]
+    fn who_is_kept_stands_in_the_order_of_identifiers_and_each_change_counts() {
+        let mut roster = roster();
+        let stations = [9, 3, 7, 1, 5].map(|number| (number, Address::of([2, 0xaa, 0, 0, 1, 3 * number % 10])));
+        for (count, (aid, station)) in stations.iter().enumerate() {
+            authenticated(&mut roster, *station, 0);
+            associated(&mut roster, *station, 0, *aid);
+            assert_eq!(roster.changes(), count as u64 + 1);
+        }
+        let identifiers: Vec<u16> = roster.kept(0).iter().map(|kept| kept.aid).collect();
+        assert_eq!(identifiers, [1, 3, 5, 7, 9]);
+        roster.said(&frame([0xa0, 0], OURS, stations[0].1, &[8, 0]), 0);
+        assert_eq!((roster.changes(), roster.kept(0).len()), (6, 4));
+        roster.said(&departure(OURS, stations[1].1), 0);
+        assert_eq!((roster.changes(), roster.kept(0).len()), (7, 3));
+        // One that authenticates again is associated no more.
+        authenticated(&mut roster, stations[2].1, 0);
+        assert_eq!((roster.changes(), roster.kept(0).len()), (8, 2));
     }
 
     #[test]

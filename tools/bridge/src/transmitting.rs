@@ -819,6 +819,22 @@ mod tests {
         assert_eq!((sent[0].rate, sent[0].frame.clone()), (108, unit(OURS, STATION, 9)));
     }
 
+    /// Of one that joined before the bridge began the rates are those of its request.
+    #[test]
+    fn a_station_that_is_restored_is_sent_to_at_its_fastest_rate_soon() {
+        let mut driver = driver([1, 1]);
+        let elements = [&[0; 4][..], &[1, 8], &RATES[..8], &[50, 4], &RATES[8..]].concat();
+        let request = Unit { control: [0, 0], body: elements, ..Unit::default() }.octets();
+        driver.air.restore(0, Frame::of(&request).unwrap());
+        for number in 0..8 {
+            driver.send(0, unit(OURS, STATION, number));
+            let sent = driver.flush();
+            driver.told(0, &sent[0], 0, true);
+        }
+        driver.send(0, unit(OURS, STATION, 9));
+        assert_eq!(driver.flush()[0].rate, 108);
+    }
+
     #[test]
     fn one_that_was_refused_or_never_asked_is_sent_to_at_the_lowest_basic_rate() {
         let mut driver = driver([1, 1]);

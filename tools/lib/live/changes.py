@@ -5,6 +5,7 @@ import json
 import os
 import shutil
 import subprocess
+from contextlib import suppress
 from dataclasses import astuple, dataclass
 
 import called
@@ -69,13 +70,19 @@ def reload_network_manager() -> None:
 
 class Changes:
     """The changes for one radio, as the file PHY.made lists them: each before it is made, and until it is taken back.
-    So the next start finds all that one left that was killed. PHY.lock is locked as long as one runs."""
+    So the next start finds all that one left that was killed. PHY.lock is locked as long as one runs.
+
+    Where the file PHY.stay is there when a start ends, nothing is taken back: the next start goes on with it. The one that
+    ends writes into that file how the radio is set up, and the next one takes the file away."""
 
     def __init__(self, phy: str, folder: str = "") -> None:
         folder = folder or RUN
         self.phy = phy
         self.path = os.path.join(folder, f"{phy}.made")
         self.made: list[Change] = []
+        self.stay_path = os.path.join(folder, f"{phy}.stay")
+        self.hands_on = False
+        self.handed: list[Change] = []  # made by the start before, and not taken over yet
         try:
             os.makedirs(folder, exist_ok=True)
             self.lock = open(os.path.join(folder, f"{phy}.lock"), "a", encoding="ascii")
@@ -88,9 +95,64 @@ class Changes:
             raise Fault(f"{phy}: another {called.fellow('live')} serves this radio") from None
         try:
             self.left = self.read()
+            self.handed_on = self.take_away_stay()
         except Fault:
             self.close()
             raise
+
+    def take_away_stay(self) -> str:
+        """Takes the file PHY.stay away: what the start before has written into it, or nothing."""
+        with suppress(FileNotFoundError):
+            with open(self.stay_path, encoding="utf-8") as file:
+                text = file.read()
+            os.unlink(self.stay_path)
+            return text
+        return ""
+
+    def is_to_stay(self) -> bool:
+        """Whether the next start is to go on with what this one set up."""
+        return os.path.exists(self.stay_path)
+
+    def hand_on(self, text: str) -> None:
+        """From now on nothing is taken back: the next start goes on with it, where the radio is to be set up as this text
+        says."""
+        with open(f"{self.stay_path}.new", "w", encoding="utf-8") as file:
+            file.write(text)
+        os.replace(f"{self.stay_path}.new", self.stay_path)
+        self.hands_on = True
+
+    def go_on(self) -> None:
+        """Goes on with what the start before has handed on."""
+        names = ", ".join(self.left_interfaces())
+        tell(f"going on with what the start before for {self.phy} has left: {names}")
+        self.made, self.handed, self.left = self.left, list(self.left), []
+
+    def handed_interfaces(self) -> list[str]:
+        """The interfaces of the radio that the start before has handed on."""
+        return [change.name for change in self.handed if change.kind == INTERFACE]
+
+    def take_over_country(self) -> Change | None:
+        """That the country was set, where the start before has handed that on: from now on it is this start's."""
+        found = next((change for change in self.handed if change.kind == COUNTRY), None)
+        if found is not None:
+            self.handed.remove(found)
+        return found
+
+    def take_over(self, names: set[str]) -> list[Change]:
+        """The changes to what has these names that the start before has handed on: from now on they are this start's, in
+        the order in which they were made."""
+        found = [change for change in self.handed if change.name in names]
+        self.handed = [change for change in self.handed if change.name not in names]
+        return found
+
+    def take_back_rest(self) -> None:
+        """Takes back what was handed on and isn't taken over."""
+        for change in reversed(self.handed):
+            if change.is_left(self.phy):
+                self.take_back(change)
+            else:
+                self.forget(change)
+        self.handed = []
 
     def close(self) -> None:
         """Lets another have the radio."""
@@ -123,7 +185,9 @@ class Changes:
         self.write()
 
     def take_back(self, change: Change) -> None:
-        """Takes one back."""
+        """Takes one back, but where the next start goes on with it."""
+        if self.hands_on:
+            return
         change.take_back()
         self.forget(change)
 

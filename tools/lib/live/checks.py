@@ -25,6 +25,7 @@ MOST_WEIGHT = 16
 MOST_NAME = 15
 COUNTRY_SECONDS = 3.0
 LOCAL = "127.0.0.1"
+SET_UP = 1  # the number of the way in which `setting_up` sets up a radio; another way has another number
 WRONG_WORDS = 2
 # Of a checkout of the source; an installation has none.
 MAKEFILE = os.path.join(os.path.dirname(os.path.realpath(__file__)), "..", "..", "..", "Makefile")
@@ -242,14 +243,38 @@ def check_radio(wanted: Wanted, settings: Settings, made: Changes, stack: ExitSt
         raise Fault(f"{wanted.phy}: there is no such radio; there are: {' '.join(machine.radios()) or 'none'}")
     check_names(wanted, len(settings.networks))
     check_left(wanted, made.left_interfaces())
-    made.take_back_left()
+    if is_handed_on(wanted, settings, made):
+        made.go_on()
+        stack.callback(made.take_back_rest)
+    else:
+        made.take_back_left()
+    handed = made.handed_interfaces()
     for interface in machine.interfaces():
-        if interface.radio == wanted.phy and interface.is_up:
+        if interface.radio == wanted.phy and interface.is_up and interface.name not in handed:
             raise Fault(f"{wanted.phy} has the interface {interface.name}, which is up: keep NetworkManager from it by "
                         f"`nmcli device set {interface.name} managed no` where that runs, and then `ip link set "
                         f"{interface.name} down`")
     set_country(wanted.country, made, stack)
     check_abilities(wanted.phy, read_phy(machine.run("iw", "phy", wanted.phy, "info")), settings)
+
+
+def as_set_up(settings: Settings) -> str:
+    """How the radio is set up for these settings, in so far as its interfaces don't tell it themselves: a start that goes on
+    with them compares this."""
+    return f"{SET_UP} {settings.frequency}\n"
+
+
+def is_handed_on(wanted: Wanted, settings: Settings, made: Changes) -> bool:
+    """Whether the start before has handed on just the interfaces that these settings take, each as it would be made."""
+    names = {wanted.network_interface(place): network.bssid for place, network in enumerate(settings.networks)}
+    left = {change.name for change in made.left if change.kind == changes.INTERFACE}
+    if made.handed_on != as_set_up(settings) or left != {wanted.monitor, *names}:
+        return False
+    if any(change.kind == changes.COUNTRY for change in made.left) and wanted.country != machine.country():
+        return False
+    found = [Interface(name) for name in left]
+    return (all(interface.radio == wanted.phy and interface.is_up for interface in found)
+            and all(Interface(name).address == address_text(bssid) for name, bssid in names.items()))
 
 
 def check_names(wanted: Wanted, networks: int) -> None:
@@ -272,6 +297,10 @@ def check_left(wanted: Wanted, own: list[str]) -> None:
 def set_country(country: str | None, made: Changes, stack: ExitStack) -> None:
     """Sets the country whose rules of the air hold, until the end."""
     if country is None:
+        return
+    handed = made.take_over_country()
+    if handed is not None:
+        stack.callback(made.take_back, handed)
         return
     before = machine.country()
     if country == before:

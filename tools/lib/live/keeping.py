@@ -13,7 +13,8 @@ MODE = 0o600
 
 
 class StateFiles:
-    """Those of a radio. They go in the end; what a start has left that was killed is used by the next one."""
+    """Those of a radio. They go in the end, but where the next start goes on with all that this one set up. What a start has
+    left that was killed is used by the next one too."""
 
     def __init__(self, phy: str, stack: ExitStack) -> None:
         self.paths = [os.path.join(changes.RUN, f"{phy}.state.{number}") for number in range(FILES)]
@@ -26,8 +27,12 @@ class StateFiles:
             except OSError as fault:
                 raise Fault(f"{path}: {fault.strerror}") from None
 
+    def leave(self) -> None:
+        """They stay in the end, for the next start."""
+        self.paths.clear()
+
     def close(self) -> None:
-        """Takes them away."""
+        """Takes them away, but where they stay."""
         for descriptor in self.descriptors:
             os.close(descriptor)
         for path in self.paths:

@@ -72,6 +72,11 @@ class Interface:
         return read_file(self.folder, "ifindex")
 
     @property
+    def address(self) -> str | None:
+        """Its address of 48 bits, as text."""
+        return read_file(self.folder, "address")
+
+    @property
     def is_ethernet(self) -> bool:
         """Whether its frames are those of Ethernet."""
         return read_file(self.folder, "type") == str(ETHERNET)

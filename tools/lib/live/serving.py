@@ -10,7 +10,7 @@ from contextlib import ExitStack
 from live import asking
 from live.bridge import STATE, TABLES, Bridge, Signals, words_of
 from live.changes import Changes
-from live.checks import Plan, Wanted, check, check_again, check_rights, missing_wires
+from live.checks import Plan, Wanted, as_set_up, check, check_again, check_rights, missing_wires
 from live.faults import Fault
 from live.keeping import StateFiles, changed_networks
 from live.packets import open_radio
@@ -37,7 +37,7 @@ class AccessPoint:
         check_rights()
         self.service = Service()
         self.signals = Signals(stack)
-        made = Changes(wanted.phy)
+        self.made = made = Changes(wanted.phy)
         stack.callback(made.close)
         self.stamp = stamp_of(wanted.config)  # of the configuration, when it was read
         self.plan = check(wanted, made, stack)
@@ -90,7 +90,11 @@ class AccessPoint:
                 self.serve()
         finally:
             self.service.stopping()
-            self.bridge.end()
+            stays = self.signals.is_ending and self.made.is_to_stay()
+            self.bridge.end("all stays as it is set up, for the next start" if stays else "taking down what was set up")
+        if stays:
+            self.made.hand_on(as_set_up(self.plan.settings))
+            self.state.leave()
 
     def open(self) -> None:
         """Sets up what the plan takes, and lets frames go. What a bridge before has left of stations, and the sockets that

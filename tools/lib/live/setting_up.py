@@ -72,11 +72,28 @@ class SettingUp:
         for part in wanted:
             if part not in self.parts and not (isinstance(part, WirePart) and part.interface in missing):
                 self.begin(part)
+        self.made.take_back_rest()
 
     def begin(self, part: Part) -> None:
-        """Sets one part up, with a stack of its own."""
+        """Sets one part up, with a stack of its own. An interface of the radio that the start before has handed on is set up
+        already."""
         self.stack = self.parts[part] = ExitStack()
-        self.set_up(part)
+        handed = self.made.take_over(self.names_of(part))
+        for change in handed:
+            self.stack.callback(self.made.take_back, change)
+        if not any(change.kind == changes.INTERFACE for change in handed):
+            self.set_up(part)
+
+    def names_of(self, part: Part) -> set[str]:
+        """The names of what is changed for a part."""
+        match part:
+            case WirePart(name):
+                other = Interface(name).other_end if self.made.handed else None
+                return {name} if other is None else {name, other.name}
+            case RadioPart():
+                return {self.wanted.monitor, UNMANAGED.format(self.wanted.monitor)}
+            case NetworkPart(name):
+                return {name}
 
     def has_wire(self, interface: Interface) -> bool:
         """Whether this very interface was set up as a wire."""
