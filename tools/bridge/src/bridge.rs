@@ -1,4 +1,6 @@
 //! The bridge while it runs: one thread that waits for what comes first, and does it.
+mod staying;
+
 use std::collections::BTreeMap;
 use std::ops::Range;
 use std::thread::sleep;
@@ -18,7 +20,7 @@ use crate::poller::{Poller, Ready, Token};
 use crate::program::{Feeder, Program};
 use crate::radiotap::reception;
 use crate::receiving::{judge_wired, Air, Judged, LeftOut};
-use crate::restoring::{self, NotUsed, OfNetwork, Restored, Restoring, Setting, State};
+use crate::restoring::{Restoring, Setting};
 use crate::sending::{Network, Sender, BEACON};
 use crate::silence;
 use crate::sockets::{Batch, OfSocket, Packet, Port, AT_A_TIME};
@@ -29,10 +31,6 @@ use crate::waiting::{Source, Waiter, Waiting};
 
 const TO_BEACON: Nanos = SECOND;
 const TO_READY: Nanos = 20 * SECOND;
-/// Marks in the record around the events by which a new program comes to know stations: what it answers to these was
-/// swallowed.
-const RESTORED_FROM: &str = "restored: of the lines from here on the answers were not sent";
-const RESTORED_TO: &str = "restored: up to here";
 const TO_END: Nanos = 20 * SECOND;
 /// After how many frames on the air the ones are read that the radio shows as acknowledged, where no frame waits for them.
 const UNREAD_ACKNOWLEDGED: u64 = AT_A_TIME as u64;
@@ -357,73 +355,6 @@ impl<P: OfSocket> Bridge<P> {
             _ => {}
         }
         Ok(())
-    }
-
-    /// The interfaces are there. Where an earlier bridge has left stations, the program is told of these first.
-    fn restore(&mut self, sender: Sender<P>) -> Result<(), Fault> {
-        let state = match &mut self.keeping {
-            Some(keeping) => left_state(keeping, &self.manner.setting, self.time),
-            None => None,
-        };
-        let restoring = state.and_then(|state| restoring_of(&state, sender.networks()));
-        match restoring {
-            Some(restoring) => {
-                self.feeder.remark(RESTORED_FROM);
-                self.restoring = Some((restoring, sender));
-                self.phase = Phase::Restoring(self.time + TO_READY);
-                Ok(())
-            }
-            None => self.begin(sender),
-        }
-    }
-
-    /// Says to the program what is to be restored, as far as it has read what was said before; answers how much was said.
-    fn say_restored(&mut self) -> usize {
-        let mut said = 0;
-        if let Some((restoring, _)) = &mut self.restoring {
-            let room = self.feeder.room();
-            while said < room {
-                match restoring.next() {
-                    Some(event) => self.feeder.say(event.event()),
-                    None => break,
-                }
-                said += 1;
-            }
-        }
-        said
-    }
-
-    /// Frames go once the program has answered all that was restored.
-    fn end_restoring(&mut self) -> Result<(), Fault> {
-        let (restoring, sender) = match self.restoring.take() {
-            Some(found) if found.0.is_done() => found,
-            unfinished => {
-                self.restoring = unfinished;
-                return Ok(());
-            }
-        };
-        self.feeder.remark(RESTORED_TO);
-        let restored = restoring.restored();
-        self.time = now();
-        self.begin(sender)?;
-        if let Some(running) = &mut self.running {
-            running.restore(&restored, self.time);
-        }
-        let deferred = std::mem::take(&mut self.deferred);
-        deferred.into_iter().try_for_each(|request| self.take_request(request))
-    }
-
-    /// Leaves for the next bridge what it has to know of stations, where it is time, or at the end.
-    fn keep(&mut self, is_last: bool) {
-        let (keeping, running) = match (&mut self.keeping, &mut self.running) {
-            (Some(keeping), Some(running)) => (keeping, running),
-            _ => return,
-        };
-        let changes = running.operating.changes();
-        if is_last || keeping.is_due(changes, self.time) {
-            let written = now();
-            keeping.write(&running.state(&self.manner.setting, written, is_last).text(), changes, written);
-        }
     }
 
     /// The interfaces are there: frames go, and the first beacon interval begins.
@@ -802,48 +733,6 @@ impl<P: OfSocket> Bridge<P> {
     }
 }
 
-/// What an earlier bridge has left; where it isn't used, that is told.
-fn left_state(keeping: &mut Keeping, setting: &Setting, now: Nanos) -> Option<State> {
-    let chosen = match keeping.left() {
-        Ok(texts) => restoring::choose(&texts, setting, now),
-        Err(_) => Err(NotUsed::Damaged),
-    };
-    match chosen {
-        Ok(Some((place, state))) => {
-            keeping.begin_with(1 - place);
-            tell_of_units(&state);
-            Some(state)
-        }
-        Ok(None) => None,
-        Err(reason) => {
-            tell_not_used(reason);
-            None
-        }
-    }
-}
-
-/// What is to be said to the program, where it is something.
-fn restoring_of(state: &State, networks: &[Network]) -> Option<Restoring> {
-    match Restoring::of(state, networks) {
-        Ok(restoring) => Some(restoring).filter(|restoring| !restoring.is_empty()),
-        Err(reason) => {
-            tell_not_used(reason);
-            None
-        }
-    }
-}
-
-fn tell_not_used(reason: NotUsed) {
-    log::write_event(
-        Level::Warning,
-        format_args!("the state of stations that was left isn't used, since {reason}: they join again"),
-    );
-}
-
-fn tell_of_units(state: &State) {
-    state.networks.iter().filter_map(OfNetwork::lost_units).for_each(|text| log::write_event(Level::Notice, text));
-}
-
 impl<P: Port> Running<P> {
     fn new(sender: Sender<P>, networks: Vec<Network>, manner: &Manner) -> Running<P> {
         let start = now();
@@ -922,43 +811,6 @@ impl<P: Port> Running<P> {
     fn wire_of(&self, place: usize) -> Result<String, Fault> {
         let wire = self.networks.get(place).and_then(|network| network.wire.clone());
         wire.ok_or_else(|| Fault::new("tools/live handed over the wire of no network"))
-    }
-
-    /// The program knows stations that joined before.
-    fn restore(&mut self, restored: &Restored, time: Nanos) {
-        for ((place, _), kept) in &restored.stay {
-            if let Some(request) = Frame::of(&kept.request) {
-                self.sender.restore(*place, request);
-            }
-        }
-        for (place, network) in self.networks.iter().enumerate() {
-            let stay = restored.stay.iter().filter(|((of, _), _)| *of == place).count();
-            let again = restored.again.iter().filter(|(of, _)| *of == place).count();
-            if stay + again > 0 {
-                let bssid = network.bssid;
-                log::write_event(
-                    Level::Notice,
-                    format_args!("{stay} stations of {bssid} stay; {again} are told to join again"),
-                );
-            }
-        }
-        let errands = self.operating.restore(restored, time);
-        self.run(errands, time);
-    }
-
-    /// What a new program has to know of stations.
-    fn state(&mut self, setting: &Setting, written: Nanos, is_last: bool) -> State {
-        let tables = self.tables.last().filter(|_| is_last && self.tables.are_new(written));
-        let of_network = |(place, network): (usize, &Network)| OfNetwork {
-            bssid: network.bssid,
-            ssid: network.ssid.clone(),
-            rates: network.rates.clone(),
-            units: tables.and_then(|tables| tables.get(place)).and_then(|table| table.count("kept")),
-            waiting: self.operating.told_of(place),
-            stations: self.operating.kept(place),
-        };
-        let networks = self.networks.iter().enumerate().map(of_network).collect();
-        State { setting: setting.clone(), written, is_last, networks }
     }
 
     /// A beacon came of the program. Behind the last one that is due stations are looked at that are silent.

@@ -1,8 +1,10 @@
+use super::staying::{left_state, RESTORED_FROM, RESTORED_TO};
 use super::*;
 use crate::faces::Face;
 use crate::own_frames::{deauthentication, departure, INACTIVITY};
 use crate::program::Record;
 use crate::radiotap::sending_header;
+use crate::restoring::State;
 use crate::samples::{data, network, radiotap, Unit, OTHER, OURS, STATION};
 use crate::sockets::hand;
 use libc::sock_filter;
