@@ -2,9 +2,9 @@
 mod reading;
 mod staying;
 mod telling;
+mod timing;
 
 use std::collections::BTreeMap;
-use std::ops::Range;
 use std::thread::sleep;
 use std::time::Duration;
 
@@ -23,7 +23,6 @@ use crate::program::{Feeder, Program};
 use crate::receiving::{Air, LeftOut};
 use crate::restoring::{Restoring, Setting};
 use crate::sending::{Network, Sender, BEACON};
-use crate::silence;
 use crate::sockets::{Batch, OfSocket, Port, AT_A_TIME};
 use crate::status::Faults;
 use crate::tables::{Asker, Tables};
@@ -40,13 +39,6 @@ const IN_A_ROW: usize = 4;
 
 /// So long before a beacon interval begins frames gather no more: a sleep may end some 50 µs late.
 const BEFORE_TICK: Nanos = MILLISECOND / 5;
-/// How long what is to be sent waits at most for a beacon that is due.
-const TO_BEACON_ANSWER: Nanos = 2 * MILLISECOND;
-/// So long before a beacon interval begins stations are asked no more whether they are there: those that are asked at a
-/// time are on the air for 16 ms where nobody acknowledges. Where intervals are short it is half of one.
-const BEFORE_BEACON: Nanos = 20 * MILLISECOND;
-/// How long stations aren't asked for want of a beacon that is due.
-const TO_ALL_BEACONS: Nanos = 50 * MILLISECOND;
 /// How often `tools/live` is told at most that the program answers.
 const ALIVE_EVERY: Nanos = SECOND;
 
@@ -791,37 +783,6 @@ impl<P: Port> Running<P> {
         self.ended.get(&place).map_or(false, |ended| ended.since.is_some())
     }
 
-    /// A beacon came of the program. Behind the last one that is due stations are looked at that are silent.
-    fn take_beacon(&mut self) {
-        self.is_answered = true;
-        self.beacons_awaited = self.beacons_awaited.saturating_sub(1);
-        if self.beacons_awaited == 0 {
-            self.look_due = 0;
-        }
-    }
-
-    /// When stations are looked at next that are silent, if it isn't soon before a beacon then.
-    fn next_look(&self) -> Nanos {
-        match self.beacons_awaited {
-            0 => self.look_due,
-            _ => self.look_due.max(self.said_tick + TO_ALL_BEACONS),
-        }
-    }
-
-    /// Whether at this time no beacon is due, nor soon after.
-    fn is_before_beacon(&self, time: Nanos) -> bool {
-        time + BEFORE_BEACON.min(self.ticks.length() / 2) <= self.ticks.due()
-    }
-
-    /// Does what is to be done of stations that are silent, where it is time.
-    fn look(&mut self, time: Nanos) {
-        if time >= self.next_look() && self.is_before_beacon(time) {
-            self.look_due = time + silence::EVERY;
-            let errands = self.operating.look(time);
-            self.run(errands, time);
-        }
-    }
-
     /// Sends and says what the bridge has to by itself.
     fn run(&mut self, errands: Vec<Errand>, time: Nanos) {
         for errand in errands {
@@ -865,47 +826,6 @@ impl<P: Port> Running<P> {
                 feeder.say(Event::Wire(self.networks[place].bssid, &waiter.octets))
             }
         }
-    }
-
-    /// Since when a beacon is due that the program hasn't answered yet.
-    fn beacon_due_since(&self, time: Nanos) -> Option<Nanos> {
-        match self.is_answered {
-            false => Some(self.said_tick),
-            true => Some(self.ticks.due()).filter(|due| *due <= time),
-        }
-    }
-
-    /// From when on what waits may be sent, and until when, before one looks for a beacon again, which goes before it.
-    /// A beacon that is due is waited for, but a program that doesn't answer holds nothing up for long.
-    fn sends_while(&self, time: Nanos) -> Range<Nanos> {
-        match self.beacon_due_since(time).map(|since| since + TO_BEACON_ANSWER) {
-            Some(until) => until..time.max(until) + TO_BEACON_ANSWER,
-            None => time..self.ticks.due(),
-        }
-    }
-
-    /// When what waits is sent next, where something has room.
-    fn sends_next(&self, time: Nanos) -> Option<Nanos> {
-        self.sender.has_room().then(|| self.sends_while(time).start.max(time))
-    }
-
-    /// Sends what waits in this time, and answers which interfaces got or lost their room by it.
-    fn flush(&mut self, time: Nanos, while_it_is: Range<Nanos>) -> Vec<(Token, std::os::unix::io::RawFd, bool)> {
-        if while_it_is.contains(&time) {
-            self.sender.flush(time, while_it_is.end);
-        }
-        let mut changed = Vec::new();
-        for token in std::iter::once(Token::Monitor).chain((0..self.networks.len()).map(Token::Wire)) {
-            let gate = match token {
-                Token::Wire(place) => self.sender.wire(place),
-                _ => Some(self.sender.monitor()),
-            };
-            if let Some(gate) = gate.filter(|gate| !gate.is_settled()) {
-                gate.set_waited_for(gate.is_blocked());
-                changed.push((token, gate.port.descriptor(), gate.is_blocked()));
-            }
-        }
-        changed
     }
 }
 
