@@ -11,6 +11,7 @@ from typing import NamedTuple
 from frames import (ASSOCIATION_REQUEST, ASSOCIATION_RESPONSE, AUTHENTICATION, BEACON, BEACON_FIXED_LEN, DATA,
                     DEAUTHENTICATION, DISASSOCIATION, PROBE_REQUEST, PROBE_RESPONSE, REASSOCIATION_REQUEST,
                     REASSOCIATION_RESPONSE, TIM, Frame, elements, first_of, is_group, number, tim_bits)
+from progress import Progress
 from reading import MODE, POLL, Unit, hears, request_of, unit_from_wire, wired_form
 from texts import Options, options_of
 
@@ -128,7 +129,8 @@ class Story:
             kind = {MODE: DATA_FRAMES, POLL: POLLS}.get(request.kind, REQUESTS) if request else UNREAD
             self.heard.append(Heard(line.number, kind, line.octets[10:16]))
             self.answer(request) if request else self.count_unread(line.octets[10:16])
-        self.note_states()
+            if request:
+                self.note_state(request.station)
 
     def mark(self, what, whom=None, text="", letter="", sender=None):
         """Remembers what this line brought about."""
@@ -310,15 +312,15 @@ class Story:
         self.wires.append((self.line, octets))
         self.mark("wired", sender=unit.source)
 
-    def note_states(self):
-        """Ends the spans of states that have changed, and begins new ones."""
-        now = {station: (link.state(), link.aid) for station, link in self.links.items()}
-        for station, (state, aid, begins) in list(self.open.items()):
-            if now.get(station) != (state, aid):
-                self.spans.append(Span(station, state, begins, self.line, aid))
-                del self.open[station]
-        for station, (state, aid) in now.items():
-            self.open.setdefault(station, (state, aid, self.line))
+    def note_state(self, station):
+        """Where a request has changed the state of its station, ends the span of that and begins a new one."""
+        link, before = self.links.get(station), self.open.get(station)
+        now = (link.state(), link.aid) if link else None
+        if before and before[:2] != now:
+            state, aid, begins = self.open.pop(station)
+            self.spans.append(Span(station, state, begins, self.line, aid))
+        if now:
+            self.open.setdefault(station, (*now, self.line))
 
     def end(self):
         """Compares what came of it with the section."""
@@ -347,50 +349,53 @@ def told_of(aids, group):
     return ", ".join(names + ["group"] * group)
 
 
-def stories(sections, lines, config):
+def stories(sections, lines, config, progress=None):
     """The stories of all networks of a report, whose configuration may not be known (None). Mismatch where one can't be
     told, or the configuration is of other networks."""
+    progress = progress or Progress(0)
     if config is None:
-        return [told(section, lines) for section in sections]
+        return [told(section, lines, progress) for section in sections]
     options = options_of(config)
     if [section.bssid for section in sections] != list(options):
         raise Mismatch("the networks of the report aren't those of the configuration")
-    return [told(section, lines, options[section.bssid]) for section in sections]
+    return [told(section, lines, progress, options[section.bssid]) for section in sections]
 
 
-def told(section, lines, options=None):
+def told(section, lines, progress, options=None):
     """The story of a network. Where its options aren't known, they are those by which the report can be explained: the
     first of `CHOICES`, and a quota. Mismatch where there are none."""
     if options is not None:
-        return follow(Story(section, options), lines)
+        return follow(Story(section, options), lines, progress)
     faults = []
     for relay, aging in CHOICES:
         try:
-            return told_with_a_quota(section, lines, relay, aging)
+            return told_with_a_quota(section, lines, progress, relay, aging)
         except Mismatch as fault:
             faults.append(fault)
     raise faults[0]
 
 
-def told_with_a_quota(section, lines, relay, aging):
+def told_with_a_quota(section, lines, progress, relay, aging):
     """The story of a network with some quota. It is found by trying less and less than would have been kept without
     end, where units were lost."""
     quota = None
     while True:
         story = Story(section, Options(quota, relay, aging))
         try:
-            return follow(story, lines)
+            return follow(story, lines, progress)
         except Mismatch:
             quota = (story.most_kept if quota is None else quota) - 1
             if section.lost == 0 or quota < 0:
                 raise
 
 
-def follow(story, lines):
+def follow(story, lines, progress):
     """Goes through the lines, and compares what came of them."""
+    progress.restart()
     try:
         for line in lines:
             story.take(line)
+            progress.step()
         return story.end()
     except Mismatch as fault:
         raise Mismatch(f"network {story.section.bssid.hex(':')}: {fault}") from None

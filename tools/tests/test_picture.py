@@ -500,6 +500,25 @@ class Overviews(PictureTest):
         self.assertEqual(columns[0], 0)
 
     @needs_program
+    def test_run_that_is_too_long_for_strips(self):
+        """It has the overview alone, of all lines, and the tool says so before it draws; a part of it has strips."""
+        text = long_run.config().split("[[network]]")
+        text = f"{text[0]}[[network]]{text[1]}---\n" + "T\n" * 50_001
+        report = run_program(program_input=text)
+        for name, written in (("long.input", text), ("long.report", report)):
+            with open(self.path(name), "w", encoding="ascii") as file:
+                file.write(written)
+        status, stdout, stderr = tool("picture", self.path("long.input"), self.path("long.report"), "--out",
+                                      self.path("x.svg"))
+        self.assertEqual((status, stdout), (0, ""))
+        self.assertRegex(stderr, r"^\S*x.svg: the overview alone, since 50,001 lines are to be shown, .* for 50,000: .*\n$")
+        stretches = self.stretches(Shapes(read_text(self.path("x.svg"))))
+        self.assertEqual(sum(counts["sent"]["beacons"] for found in stretches.values() for counts in found.values()),
+                         50_001)
+        drawn = self.drawn(self.path("long.input"), self.path("long.report"), "--from", "50000")
+        self.assertIn('data-what="quiet"', read_text(drawn))
+
+    @needs_program
     def test_counts_are_those_of_the_run(self):
         """Over all stretches the numbers are those of the trace and the report, and in the last one there are as many
         stations and kept units at a time as the report has in the end, or more."""

@@ -5,8 +5,8 @@ import bisect
 from contextlib import nullcontext
 
 from drawing.colours import DARK, GREEN, GREY, GRID, ORANGE, PALE, PURPLE, RED, STATES, YELLOW
-from drawing.columns import (BEACON_KINDS, BEACONS, CIRCLE_SLOT, CIRCLED, OTHERS, PAD, SLOT, SMALL, Clock, Lane,
-                             columns_of, strips_of)
+from drawing.columns import (BEACON_KINDS, BEACONS, CIRCLE_SLOT, CIRCLED, OTHERS, PAD, SLOT, SMALL, Lane, columns_of,
+                             strips_of)
 from drawing.overview import Overview
 from drawing.svg import Canvas, text_width
 from story import ASSOCIATED, DOZING, GROUP, WIRE
@@ -57,32 +57,37 @@ def roaming_of(lanes):
     """Each time at which a station is associated in two of these networks."""
     found = []
     for station, spans in joined_spans(lanes).items():
-        for number, (place, begins, ends) in enumerate(spans):
-            for other, second_begins, second_ends in spans[number + 1:]:
-                first = max(begins, second_begins)
-                last = min((end for end in (ends, second_ends) if end is not None), default=None)
-                if place != other and (last is None or first < last):
-                    found.append(Roaming(station, (place, other), first, last))
+        here, pairs = [], {}
+        for number, (place, begins, ends) in sorted(enumerate(spans), key=lambda numbered: numbered[1][1]):
+            here = [other for other in here if spans[other][2] is None or spans[other][2] > begins]
+            for other in (other for other in here if spans[other][0] != place):
+                last = min((end for end in (ends, spans[other][2]) if end is not None), default=None)
+                if last is None or begins < last:
+                    pair = min(number, other), max(number, other)
+                    pairs[pair] = Roaming(station, tuple(spans[each][0] for each in pair), begins, last)
+            here.append(number)
+        found += [pairs[pair] for pair in sorted(pairs)]
     return found
 
 
 class Picture:
     """All that is asked for of a run. `chosen` are the stations that are shown, all where it is empty."""
 
-    def __init__(self, stories, lines, origins, interval, chosen=(), most_stations=40):
+    def __init__(self, stories, clock, chosen=(), most_stations=40):
         names = [story.section.name for story in stories]
         self.lanes = [Lane(story, frozenset(chosen), names.count(story.section.name) == 1) for story in stories]
         self.most_stations = most_stations
         self.roaming = roaming_of(self.lanes)
         self.name_roaming()
-        self.clock = Clock(lines, origins, interval)
-        self.lines, self.strips = lines, []
+        self.clock = clock
+        self.lines, self.strips = [], []
         self.canvas, self.y, self.height = None, 0.0, 0.0
 
-    def show(self, lines):
-        """Chooses these lines of the trace alone; states are those that the lines before left."""
+    def show(self, lines, in_strips=True):
+        """Chooses these lines of the trace alone; states are those that the lines before left. Without strips there is an
+        overview alone."""
         self.lines = lines
-        self.strips = strips_of(columns_of(self.lanes, lines, self.clock), BODY)
+        self.strips = strips_of(columns_of(self.lanes, lines, self.clock), BODY) if in_strips else []
 
     def name_roaming(self):
         """Where a station joins a second network, its mark says so."""

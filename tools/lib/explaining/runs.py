@@ -8,12 +8,12 @@ import called
 from explaining import odd_config
 from explaining.check_sequences import FCS_LEN, LEAST_LEN, ends_with_fcs, octets_too_many
 from explaining.config import Config, NetworkTable, number_of
-from explaining.progress import Progress
 from explaining.source import Finding, Source, quoted
 from explaining.toml_scan import NoToml
 from frames import (ASSOCIATION_REQUEST, ASSOCIATION_RESPONSE, AUTHENTICATION, BROADCAST, DATA, DEAUTHENTICATION,
                     DISASSOCIATION, HEADER_LEN, MANAGEMENT, REASSOCIATION_REQUEST, REASSOCIATION_RESPONSE, SSID,
                     Frame, address_text, elements, first_of, is_group, number)
+from progress import Progress
 from reading import hears, unread_kind, wired_unread_kind
 from texts import Line, Section, frames_text, read_report, trace_line
 

@@ -19,6 +19,10 @@ class Progress:
             sys.stderr.write(f"{CLEARED}{text}")
             sys.stderr.flush()
 
+    def restart(self) -> None:
+        """The lines are looked at from the first one on, once more."""
+        self.done = 0
+
     def step(self) -> None:
         """One line more has been looked at."""
         self.done += 1
