@@ -43,4 +43,5 @@ _waltigon() {
     esac
 }
 complete -o filenames -F _waltigon waltigon-capture-from-report waltigon-capture-from-run waltigon-config-from-hostapd \
-    waltigon-explain waltigon-live waltigon-live-demo waltigon-picture waltigon-report-to-json waltigon-trace-from-capture
+    waltigon-explain waltigon-live waltigon-live-demo waltigon-picture waltigon-report-to-json \
+    waltigon-trace-from-capture

@@ -1343,7 +1343,7 @@ class Running(WithFiles):
         """It is told how it is built, which packages that takes, and where to build it for an installation."""
         missing = os.path.join(self.folder, "missing")
         with mock.patch.object(checks.shutil, "which", lambda command: None):
-            with self.assertRaisesRegex(Fault, "install Debian's packages cargo librust-ahash-dev.*`make bridge` builds"):
+            with self.assertRaisesRegex(Fault, "install Debian's packages cargo librust-ahash.*`make bridge` builds"):
                 check_bridge(missing)
         with mock.patch.object(checks.shutil, "which", lambda command: command):
             with self.assertRaisesRegex(Fault, "missing isn't there: `make bridge` builds it"):

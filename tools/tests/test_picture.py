@@ -511,7 +511,7 @@ class Overviews(PictureTest):
         status, stdout, stderr = tool("picture", self.path("long.input"), self.path("long.report"), "--out",
                                       self.path("x.svg"))
         self.assertEqual((status, stdout), (0, ""))
-        self.assertRegex(stderr, r"^\S*x.svg: the overview alone, since 50,001 lines are to be shown, .* for 50,000: .*\n$")
+        self.assertRegex(stderr, r"^\S*x.svg: the overview alone, since 50,001 lines .* room for 50,000: .*\n$")
         stretches = self.stretches(Shapes(read_text(self.path("x.svg"))))
         self.assertEqual(sum(counts["sent"]["beacons"] for found in stretches.values() for counts in found.values()),
                          50_001)

@@ -159,7 +159,8 @@ mod tests {
     use super::*;
     use crate::samples::{network, OTHER, OURS};
 
-    const GOOD: &str = "--name waltigon-live --face octets --phy phy0 --channel 6 --monitor mon0 --interval 100 --idle 60 --socket 5 \
+    const GOOD: &str = "--name waltigon-live \
+                        --face octets --phy phy0 --channel 6 --monitor mon0 --interval 100 --idle 60 --socket 5 \
                         --alive --record 6:r:1 --bounds 2000000 --network 02:00:00:00:01:01/6c6162/8284/64/256/1/wire1 --network \
                         02:00:00:00:01:02/20/16/2007/10000/16 apctl config";
 

@@ -84,8 +84,8 @@ class Picture:
         self.canvas, self.y, self.height = None, 0.0, 0.0
 
     def show(self, lines, in_strips=True):
-        """Chooses these lines of the trace alone; states are those that the lines before left. Without strips there is an
-        overview alone."""
+        """Chooses these lines of the trace alone; states are those that the lines before left. Without strips there is
+        an overview alone."""
         self.lines = lines
         self.strips = strips_of(columns_of(self.lanes, lines, self.clock), BODY) if in_strips else []
 

@@ -111,8 +111,8 @@ def of_other_text(source: Source, number: int, line: str) -> Finding | None:
                        "a configuration stands before the line `---`, or in a file of its own: `run CONFIG TRACE`")
     if HEX_DUMP.match(line):
         return Finding("this is a line of a hex dump, and a trace has one line for each frame", place,
-                       f"{called.fellow('trace-from-capture')} makes a trace of a capture; else write `A` and the frame's "
-                       "digits")
+                       f"{called.fellow('trace-from-capture')} makes a trace of a capture; else write `A` and the "
+                       "frame's digits")
     if re.fullmatch(r"[0-9A-Fa-f ]{8,}", line):
         return Finding("a line begins with its word: `A` for a frame on the air, `W` for one on the wire", place,
                        f"write {quoted('A ' + line)}")

@@ -14,7 +14,8 @@ FORMS = ("check CONFIG, run CONFIG TRACE, play CONFIG TRACE..., live CONFIG and 
          "reads standard input")
 OCTETS = "--octets"
 MOST_TRACES, MOST_FILES = 64, 4
-# How much a file's name has to be like the one that was given, for it to be meant: all of it, and it without its ending.
+# How much a file's name has to be like the one that was given, for it to be meant: all of it, and what stands before its
+# ending.
 LIKE, STEM_LIKE = 0.75, 0.65
 
 
