@@ -13,6 +13,7 @@
 //! wait of its sender to its receiver. A full lane drops the oldest frame of the kind that is worth least.
 //! So who sends more than goes through loses its own frames, and others don't wait behind them. A drop takes the same
 //! time however many frames wait, and each one is counted.
+use std::collections::hash_map::Entry;
 use std::collections::HashMap;
 use std::fmt;
 
@@ -214,14 +215,15 @@ impl Queue {
             None => self.first = Some(place),
         }
         self.last = Some(place);
-        match self.flows.get_mut(&flow) {
-            Some(found) => {
+        match self.flows.entry(flow) {
+            Entry::Occupied(mut found) => {
+                let found = found.get_mut();
                 self.slots[found.last].after_of_flow = Some(place);
                 found.last = place;
                 found.frames += 1;
             }
-            None => {
-                self.flows.insert(flow, OfFlow { first: place, last: place, frames: 1 });
+            Entry::Vacant(room) => {
+                room.insert(OfFlow { first: place, last: place, frames: 1 });
             }
         }
     }
@@ -274,14 +276,16 @@ impl Queue {
             Some(after) => self.slots[after].before = before,
             None => self.last = before,
         }
-        match (self.flows.get_mut(&flow), next) {
-            (Some(found), Some(next)) => {
+        match (self.flows.entry(flow), next) {
+            (Entry::Occupied(mut found), Some(next)) => {
+                let found = found.get_mut();
                 found.first = next;
                 found.frames -= 1;
             }
-            _ => {
-                self.flows.remove(&flow);
+            (Entry::Occupied(found), None) => {
+                found.remove();
             }
+            (Entry::Vacant(_), _) => {}
         }
         self.free.push(place);
         if self.first.is_none() && self.slots.len() > KEPT_SLOTS {
