@@ -24,7 +24,7 @@ use crate::poller::{Poller, Ready, Token};
 use crate::program::{Feeder, Program};
 use crate::receiving::{Air, LeftOut};
 use crate::restoring::{Restoring, Setting};
-use crate::sending::{Network, Sender, BEACON};
+use crate::sending::{Network, Sender};
 use crate::sockets::{Batch, OfSocket, Port, AT_A_TIME};
 use crate::status::Faults;
 use crate::tables::{Asker, Tables};

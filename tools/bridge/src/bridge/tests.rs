@@ -436,7 +436,7 @@ fn a_station_stays_from_one_bridge_to_the_next() {
     let answers = |stage: &Stage| {
         let sent = stage.sent.lock().unwrap();
         let kinds = sent.iter().filter_map(|frame| frame.get(sending_header(2, 0).len()));
-        kinds.filter(|kind| **kind != super::BEACON).copied().collect::<Vec<u8>>()
+        kinds.filter(|kind| **kind != crate::sending::BEACON).copied().collect::<Vec<u8>>()
     };
     assert_eq!((outcome, answers(&first)), (Ok(()), vec![0xb0, 0x10]));
     for _ in 0..2 {
@@ -601,7 +601,7 @@ fn a_wire_that_goes_down_ends_alone() {
     let lines = stage.record();
     assert!(lines.contains(&format!("W 02:00:00:00:01:02 {}", hex::encode(before))), "{lines:?}");
     let ticks = lines.iter().filter(|line| *line == "T").count();
-    let is_beacon = |frame: &&Vec<u8>| frame.get(sending_header(2, 0).len()) == Some(&super::BEACON);
+    let is_beacon = |frame: &&Vec<u8>| frame.get(sending_header(2, 0).len()) == Some(&crate::sending::BEACON);
     assert_eq!(stage.sent.lock().unwrap().iter().filter(is_beacon).count(), 2 * ticks);
     assert!(ticks >= 5, "{ticks}");
     for wanted in [r#""wire":"wire2","wire_down":"#, r#""wire":"wire1","wire_down":null"#, lost] {
