@@ -654,7 +654,7 @@ mod tests {
         roster.said(&frame([0x20, 0], OURS, STATION, &[1, 0, 9, 0, 0, 0, 0, 0, 0, 0]), 0);
         roster.answered(0, &frame([0x30, 0], STATION, OURS, &[1, 0, 0, 0, 1, 0xc0]), 0);
         let again = frame([0x20, 0], OURS, STATION, &[1, 0, 9, 0, 0, 0, 0, 0, 0, 0]);
-        assert_eq!(roster.kept(0), [Kept { listen: 9, request: again, ..plain.clone() }]);
+        assert_eq!(roster.kept(0), [Kept { listen: 9, request: again, ..plain }]);
         // Of two requests before an answer the later one counts, whose listen interval the program has too.
         roster.said(&frame([0, 0], OURS, STATION, &[1, 0, 3, 0]), 0);
         associated(&mut roster, STATION, 0, 1);
