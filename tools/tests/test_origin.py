@@ -250,7 +250,7 @@ class Installed(SmallRepository):
         second = self.commit()
         self.assertNotIn("warning", self.install())
         names = [os.path.relpath(path, self.path("usr")) for path in glob.glob(self.path("usr/*bin/waltigon-*"))]
-        self.assertEqual(len(names), 8)
+        self.assertEqual(len(names), 9)
         for name in names:
             self.assertRegex(self.installed(name, "--version"),
                              rf"\Awaltigon {VERSION}\napctl of commit {first}, proved .*\nwith {TOOLCHAIN}\n"
@@ -281,10 +281,9 @@ class Packed(SmallRepository):
         self.assertEqual(glob.glob(self.path_of("build/*.deb")), [])
 
     def test_what_was_not_built_is_not_packed(self):
-        """A program, one of which is told of what it was built, and a bridge."""
+        """A program, and one of which is told of what it was built."""
         self.refused("build/apctl is not there")
         self.build()
-        self.refused("no bridge is built")
         self.write("build/apctl", "#!/bin/bash\necho other\n")
         self.refused("does not tell of what build/apctl was built")
         os.remove(self.path_of("build/apctl.origin"))
@@ -296,8 +295,9 @@ class EveryTool(unittest.TestCase):
 
     def test_every_tool_tells_its_version(self):
         """`--version` of each, whatever is built."""
-        tools = [path for path in glob.glob(os.path.join(ROOT, "tools", "*")) if os.path.isfile(path)]
-        self.assertGreater(len(tools), 10)
+        paths = [path for folder in ("tools", "tools/dev") for path in glob.glob(os.path.join(ROOT, folder, "*"))]
+        tools = [path for path in paths if os.path.isfile(path) and os.access(path, os.X_OK)]
+        self.assertGreater(len(tools), 13)
         for path in tools:
             done = subprocess.run([path, "--version"], capture_output=True, text=True, check=False)
             self.assertEqual((done.returncode, done.stderr), (0, ""), path)

@@ -231,7 +231,8 @@ def check_wire(interface: Interface) -> None:
         raise Fault(f"{name}: is no interface of Ethernet")
     if interface.users:
         users = ", ".join(interface.users)
-        raise Fault(f"{name}: serves {users}: what this machine sends by it would reach no station")
+        raise Fault(f"{name}: serves {users}: what this machine sends by it would reach no station (docs/LIVE.md, "
+                    "'The wired ports')")
     if interface.addresses:
         raise Fault(f"{name}: has the address {interface.addresses[0]}, so it serves this machine: take its addresses "
                     f"off by `ip link set {name} addrgenmode none` and `ip address flush dev {name}`, or give another")
