@@ -231,7 +231,7 @@ def check_wire(interface: Interface) -> None:
         raise Fault(f"{name}: is no interface of Ethernet")
     if interface.users:
         users = ", ".join(interface.users)
-        raise Fault(f"{name}: serves {users}: what this machine sends by it would reach no station (docs/LIVE.md, "
+        raise Fault(f"{name}: serves {users}: what this machine sends by it would reach no station (docs/OPERATING.md, "
                     "'The wired ports')")
     if interface.addresses:
         raise Fault(f"{name}: has the address {interface.addresses[0]}, so it serves this machine: take its addresses "
