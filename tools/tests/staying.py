@@ -157,16 +157,16 @@ def main():
     plan = Plan(read_settings(config), wires, "octets")
     log = os.open(os.path.join(folder, "log"), os.O_WRONLY | os.O_CREAT | os.O_APPEND, 0o644)
     os.dup2(log, 2)
-    thread = threading.Thread(target=case.run)
+    thread = threading.Thread(target=case.run, daemon=True)
     thread.start()
     with (mock.patch.object(changes, "RUN", os.path.join(folder, "run")), mock.patch.object(serving, "SettingUp", NoRadio),
           mock.patch.object(serving, "check", lambda *_: plan), mock.patch.object(serving, "MOST_MEMORY", confined.MEMORY),
           mock.patch.object(serving, "check_again", lambda *_: Plan(read_settings(config), wires, "octets"))):
         try:
             serving.serve(wanted)
+            thread.join()
         except Fault as fault:
             case.outcome["fault"] = str(fault)
-    thread.join()
     print(json.dumps(case.outcome | {"log": read(folder, "log"), "made": os.listdir(os.path.join(folder, "run"))}))
 
 
