@@ -1145,12 +1145,20 @@ class Running(WithFiles):
         with open(os.path.join(self.folder, name), encoding="utf-8") as file:
             return file.read()
 
-    def end_once_told(self, text):
-        """Ends it once this was told, or after some seconds."""
+    def end_once(self, is_so):
+        """Ends it once something is so, or after some seconds."""
         until = time.monotonic() + 20
-        while text not in self.told.getvalue() and time.monotonic() < until:
+        while not is_so() and time.monotonic() < until:
             time.sleep(0.05)
         self.end()
+
+    def end_once_told(self, text):
+        """Ends it once this was told, or after some seconds."""
+        self.end_once(lambda: text in self.told.getvalue())
+
+    def times_asked(self, request):
+        """How often the bridge was asked for this so far."""
+        return self.read("asked").count(f"{request}\n") if os.path.exists(self.path("asked")) else 0
 
     def end(self):
         """Ends it as a person does."""
@@ -1314,9 +1322,9 @@ class Running(WithFiles):
                 self.run_bridge(self.end, port=9617)
 
     def test_tables_by_the_clock(self):
-        """--tables asks by itself."""
-        self.run_bridge(self.end, 0.1)
-        self.assertGreaterEqual(self.read("asked").count("tables\n"), 2)
+        """--tables asks by itself, again and again."""
+        self.run_bridge(lambda: self.end_once(lambda: self.times_asked("tables") >= 2), 0.1)
+        self.assertGreaterEqual(self.times_asked("tables"), 2)
 
     def test_fault(self):
         """What the bridge can't go on with is this program's fault, whatever comes after it."""
