@@ -1308,7 +1308,7 @@ class Running(WithFiles):
         page = self.write("page", f"#!/bin/sh\necho $* > {self.folder}/page-words\n"
                                   "sleep 60 & trap 'kill $!; exit 0' TERM; wait\n", 0o755)
         with mock.patch.object(serving, "STATUS_PROGRAM", page):
-            self.run_bridge(self.end, port=9617)
+            self.run_bridge(lambda: self.end_once(lambda: os.path.exists(self.path("page-words"))), port=9617)
         self.assertEqual(self.read("page-words"), f"9617 {self.folder}/phy0.sock\n")
         self.assertIn(" --alive ", self.read("words"))
         self.assertIn("--name live --face ", self.read("words"))
