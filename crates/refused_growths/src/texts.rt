@@ -4,7 +4,7 @@ use crate::asked::Asked;
 use crate::outcome::{AGAIN, ANSWER, Flaw, ROOM, grow};
 use events::Section;
 use mac_frame::Octets;
-use replay::{StreamFault, TextFault, report_stream, report_texts, run_stream, run_text};
+use replay::{StreamFault, TextFault, report_texts, run_stream, run_text};
 use replay_play::{PlayTextFault, play_text};
 use std::alloc::Global;
 use std::sync::Wait;
@@ -84,16 +84,6 @@ fn is_refused<R: Threads + Wait + Sync>(
         "sections" => match report_texts(alloc, asked.config, asked.trace, &mut out) {
             Ok(_) => Ok(false),
             Err(TextFault::NoMemory) => Ok(true),
-            Err(_) => Err(ANSWER),
-        },
-        "streamed_sections" => match report_stream(
-            alloc,
-            asked.config,
-            &mut Counted::new(asked.trace),
-            &mut out,
-        ) {
-            Ok(_) => Ok(false),
-            Err(StreamFault::NoMemory) => Ok(true),
             Err(_) => Err(ANSWER),
         },
         _ => match play_text(rt, alloc, asked.config, traces, &mut out) {

@@ -1,25 +1,21 @@
 //! A trace that is read as it comes, and the report of it.
 
-ghost use Rattle.std.specs.Prelude.{◌≡◌, [], None, Ok, IfOk};
+ghost use Rattle.std.specs.Prelude.{◌≡◌, [], None};
 ghost use Rattle.ap_config.specs.Configuration.{fault_of};
 ghost use Rattle.ap_config.specs.declared.config.RadioConfig.{RadioConfig};
-ghost use Rattle.trace.specs.ConfigurationText.{configuration_of};
-ghost use Rattle.trace.specs.Endings.{outcome_of};
 ghost use Rattle.trace.specs.Pieces.{AreTaken, AreTakenSoFar};
 ghost use Rattle.trace.specs.Sinks.{MayFail};
 ghost use Rattle.trace.specs.Streams.{changed};
 ghost use Rattle.log_report.specs.Log.{logs_of_lines};
-ghost use Rattle.replay.specs.Stream.{AreSectionsOf, ReadsToEnd, RunsStream};
+ghost use Rattle.replay.specs.Stream.{ReadsToEnd, RunsStream};
 ghost use Rattle.replay.specs.Stream.{seen, streams};
 
 use crate::fault::StreamFault;
 use crate::logged_networks::LoggedNetworks;
-use crate::radio_replay::Replay;
 use ap_config::RadioConfig;
-use events::Section;
 use log_report::as_sections;
 use std::alloc::Global;
-use trace::{LineReader, Sink, Source, TakeLines, piece_by_piece, read_config, write_report};
+use trace::{LineReader, Sink, Source, TakeLines, piece_by_piece, read_config};
 
 /// How many octets are read at a time.
 const PIECE_LEN: usize = 4096;
@@ -54,50 +50,6 @@ pub fn run_stream<R: Source, W: Sink>(
     let logs = log_stream(alloc, radio, source)?;
     logs.write(alloc, out)?;
     Ok(())
-}
-
-/// Does what [`run_stream`] does, and hands out the sections that it reported. These have the events of each network,
-/// so that it takes more memory.
-pub fn report_stream<R: Source, W: Sink>(
-    alloc: Global,
-    config: &[u8],
-    source: &mut R,
-    out: &mut W,
-) -> Result<Vec<Section>, StreamFault>
-    requires source { MayFail (R.failed source.old) }
-    requires sink { MayFail (W.failed out.old) }
-    ensures runs { RunsStream (outcome_of result) config.now
-        (streams (seen (R.left source.old) (R.failed source.old) (R.reads source.old)) (W.taken out.old) (W.failed out.old))
-        (streams (seen (R.left source.new) (R.failed source.new) (R.reads source.new)) (W.taken out.new)
-        (W.failed out.new)) }
-    ensures sections { IfOk result (λ _. (c : RadioConfig) × (configuration_of config.now ≡ Ok c)
-        × ReadsToEnd (λ sections text. AreSectionsOf c text sections.items) result c
-        (changed (seen (R.left source.old) (R.failed source.old) (R.reads source.old))
-        (seen (R.left source.new) (R.failed source.new) (R.reads source.new)))) }
-{
-    let config = read_config(alloc, config)?;
-    let sections = replay_stream(alloc, config, source)?;
-    write_report(alloc, sections.as_slice(), out)?;
-    Ok(sections)
-}
-
-/// The section of each network, in order of place: each takes what it hears of the lines of a source.
-fn replay_stream<R: Source>(
-    alloc: Global,
-    config: RadioConfig,
-    source: &mut R,
-) -> Result<Vec<Section>, StreamFault>
-    requires config { fault_of config ≡ None }
-    requires source { MayFail (R.failed source.old) }
-    ensures { ReadsToEnd (λ sections text. AreSectionsOf config text sections.items) result config
-        (changed (seen (R.left source.old) (R.failed source.old) (R.reads source.old))
-        (seen (R.left source.new) (R.failed source.new) (R.reads source.new))) }
-{
-    piece_by_piece();
-    let lines = LineReader::new(alloc, &config)?;
-    let mut replay = Replay::new(alloc, config)?;
-    take_whole(lines, &mut replay, source)?;
-    Ok(replay.into_sections()?)
 }
 
 /// The networks without their histories, which took what they hear of the lines of a source.
