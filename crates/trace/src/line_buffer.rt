@@ -1,7 +1,7 @@
 //! The octets of a line, in memory that is kept.
 
 ghost use Rattle.std.specs.Bool.{OnTrue};
-ghost use Rattle.std.specs.Prelude.{◌≡◌, ◌<◌, ◌≤◌, ◌/◌, ◌+◌, ◌++◌, false, not, length, take, drop, Ok, Err, IsErr, MatchOption};
+ghost use Rattle.std.specs.Prelude.{◌≡◌, ◌<◌, ◌≤◌, ◌/◌, ◌+◌, ◌++◌, false, not, length, take, drop, slice_index, ◌∷◌, Ok, Err, IsErr, MatchOption};
 ghost use Rattle.std.specs.List.{prefix_len};
 ghost use Rattle.hex.specs.Hex.{decode_of, is_hex_digit};
 ghost use Rattle.text_io.specs.Endings.{Gives, Refused};
@@ -95,6 +95,11 @@ fn gather<'a>(text: &[u8], memory: &'a mut [u8]) -> Option<&'a [u8]>
     while let [character, others @ ..] = rest {
         if *character == b' ' {
             rest = others;
+        } else if is_pair(rest) && len + 2 <= MAX_DIGITS {
+            memory[len] = rest[0];
+            memory[len + 1] = rest[1];
+            len += 2;
+            rest = text_from(rest, 3);
         } else if rest.len() >= BLOCK && len + BLOCK <= MAX_DIGITS {
             let run = put_run(rest, memory, len);
             len += run;
@@ -136,6 +141,16 @@ fn before_space(block: u8x16) -> usize
         return BLOCK;
     }
     spaces.trailing_zeros() as usize
+}
+
+/// Whether a text begins with two characters that are no spaces and a space.
+#[inline(always)]
+fn is_pair(text: &[u8]) -> bool
+    ensures long { OnTrue result (3 ≤ length text.now) }
+    ensures pair { OnTrue result (digits_of text.now
+        ≡ slice_index text.now 0 ∷ slice_index text.now 1 ∷ digits_of (drop 3 text.now)) }
+{
+    matches!(text, [first, second, b' ', ..] if *first != b' ' && *second != b' ')
 }
 
 /// What stands from a place of a text on.
