@@ -13,27 +13,7 @@ use crate::networks::Networks;
 use crate::partial::{PartialLine, ended_line};
 use live_rules::answers_to_more;
 use std::convert::Infallible;
-use trace::{Buffered, Sink, TakeText, cut_text};
-
-/// Answers the lines that end in a piece.
-pub fn answer_lines<W: Sink>(
-    networks: &mut Networks,
-    partial: &mut PartialLine,
-    piece: &[u8],
-    out: &mut Buffered<'_, W>,
-)
-    requires countable { networks.old.lines + length piece.now < 2 ^ 62 }
-    requires can_write { CanWrite W.failed out.old }
-    ensures answered { AreAnswered (through faces.Lines (watch W.taken W.failed) out.old out.new)
-        networks.old networks.new (asked_in networks.old (lines_in partial.old piece.now)) }
-    ensures partial { partial.new ≡ partial_after partial.old piece.now }
-    ensures lines { networks.new.lines ≤ networks.old.lines + length piece.now }
-{
-    match cut_text(partial, piece, networks, out) {
-        Ok(()) => {}
-        Err(never) => match never {},
-    }
-}
+use trace::{Buffered, Sink, TakeText};
 
 impl<W: Sink> TakeText<Networks, Buffered<'_, W>> for PartialLine {
     type Fault = Infallible;

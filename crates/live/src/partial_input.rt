@@ -8,14 +8,14 @@ ghost use Rattle.live.specs.Output.{AnswersPiece, AreAnswered, through};
 ghost use Rattle.live_rules.specs.Moments.{bssids_at};
 
 use crate::face::Face;
-use crate::lines::{answer_last_line, answer_lines};
+use crate::lines::answer_last_line;
 use crate::networks::Networks;
 use crate::partial::PartialLine;
 use crate::record::PartialRecord;
 use crate::records::{answer_cut_record, answer_records};
 use mac_frame::NoMemory;
 use std::alloc::Global;
-use trace::{Buffered, Sink};
+use trace::{Buffered, Sink, cut_text};
 
 /// The partial line or record at the end of what came in, and so in which face the access point runs.
 #[derive(Drop)]
@@ -52,7 +52,10 @@ impl PartialInput {
         ensures lines { networks.new.lines ≤ networks.old.lines + length piece.now }
     {
         match self {
-            PartialInput::Line(line) => answer_lines(networks, line, piece, out),
+            PartialInput::Line(line) => match cut_text(line, piece, networks, out) {
+                Ok(()) => {}
+                Err(never) => match never {},
+            },
             PartialInput::Record(record) => answer_records(networks, record, piece, out),
         }
     }

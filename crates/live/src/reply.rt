@@ -42,7 +42,14 @@ impl<W: Sink> Deliver<Network, Buffered<'_, W>> for Replying {
         spare: &mut Spare,
         out: &mut Buffered<'_, W>,
     ) -> Result<(), NoMemory> {
-        reply(self.face, network, event, self.number, spare, out);
+        let bssid = network.setting().network.bssid;
+        match network.take_read_in(event, spare) {
+            Ok(sent) => {
+                put_sent(self.face, out, bssid, &sent);
+                spare.keep(sent);
+            }
+            Err(why) => put_refusal(self.face, out, why, bssid, self.number),
+        }
         Ok(())
     }
 }
@@ -64,30 +71,5 @@ pub fn reply_all<W: Sink>(
     match access_point.take(&Replying { face, number }, line, out) {
         Ok(()) => {}
         Err(NoMemory) => {}
-    }
-}
-
-/// Has a network take an event, where it took fewer than 2^62 before, and puts its reply: the frames that it sends, or
-/// that it refuses the line of a number.
-fn reply<W: Sink>(
-    face: Face,
-    network: &mut Network,
-    event: &ReadEvent<'_>,
-    number: u64,
-    spare: &mut Spare,
-    out: &mut Buffered<'_, W>,
-)
-    requires countable { network.old.events < 2 ^ 62 }
-    requires can_write { CanWrite W.failed out.old }
-    ensures { HasReplied (through face (watch W.taken W.failed) out.old out.new) number (event_read event.now)
-        (change network.old network.new) }
-{
-    let bssid = network.setting().network.bssid;
-    match network.take_read_in(event, spare) {
-        Ok(sent) => {
-            put_sent(face, out, bssid, &sent);
-            spare.keep(sent);
-        }
-        Err(why) => put_refusal(face, out, why, bssid, number),
     }
 }

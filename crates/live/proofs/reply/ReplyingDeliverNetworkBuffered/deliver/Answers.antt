@@ -5,10 +5,10 @@ use Rattle.live.specs.Written.{written_reply}
 use Rattle.live_rules.specs.Moments.{Sends, Refuses}
 use Rattle.live.proofs.ReplySteps.{sends-may, refuses-may}
 use Rattle.trace.specs.BufferLaws.{Puts-same}
-use Rattle.live.proofs.reply.reply.Goals as goal
+use Rattle.live.proofs.reply.ReplyingDeliverNetworkBuffered.deliver.Goals as goal
 
-pub returns-in-Ok : goal.returns-in-Ok
-returns-in-Ok g c =
+pub returns-in-Ok-clause-delivered : goal.returns-in-Ok-clause-delivered
+returns-in-Ok-clause-delivered g c =
     let sent = c.in-Ok.sent in record {
       reply = Sends sent.air (option_to_list sent.wire);
       may =
@@ -18,13 +18,13 @@ returns-in-Ok g c =
       puts =
           Puts-same
           (ap
-          (λ s. written_reply c.args.face c.args.number s.network.bssid (Sends sent.air (option_to_list sent.wire)))
+          (λ s. written_reply c.args.self.now.face c.args.self.now.number s.network.bssid (Sends sent.air (option_to_list sent.wire)))
           c.setting.ensures.setting)
-          (c.put_sent.ensures c.args.number);
+          (c.put_sent.ensures c.args.self.now.number);
     }
 
-pub returns-in-Err : goal.returns-in-Err
-returns-in-Err g c =
+pub returns-in-Err-clause-delivered : goal.returns-in-Err-clause-delivered
+returns-in-Err-clause-delivered g c =
     let why = c.in-Err.why in record {
       reply = Refuses why;
       may =
@@ -33,6 +33,6 @@ returns-in-Err g c =
       after = c.in-Err.ensures.err;
       puts =
           Puts-same
-          (ap (λ s. written_reply c.args.face c.args.number s.network.bssid (Refuses why)) c.setting.ensures.setting)
+          (ap (λ s. written_reply c.args.self.now.face c.args.self.now.number s.network.bssid (Refuses why)) c.setting.ensures.setting)
           c.put_refusal.ensures;
     }
