@@ -175,6 +175,9 @@ class Shown(unittest.TestCase):
         self.assertEqual(len(self.browser.value(addresses)), 16 * 100)
         self.assertNotIn(last, self.browser.value(addresses))
         self.assertIn("and 1,907 stations more", self.browser.value(TEXT))
+        for width in (360, 1280, 2560):
+            self.browser.size(width, 900)
+            self.assertEqual(self.browser.value(OVERFLOWS), [], f"{width} pixels")
         self.choose("search", last[6:].upper())
         self.assertEqual(set(self.browser.value(addresses)), {last})
         self.choose("search", "zz")
