@@ -1,6 +1,7 @@
 """How a tool names itself, its fellows, the program and the documents: itself by the name that it was called by, the
 others as `tools/live` and `build/apctl` in a checkout, and as `waltigon-live` and `apctl` where all is installed."""
 import os
+import re
 import sys
 
 TOP = os.path.dirname(os.path.dirname(os.path.dirname(os.path.realpath(__file__))))
@@ -27,6 +28,11 @@ def program() -> str:
     return "apctl" if is_installed() else "build/apctl"
 
 
+def bridge() -> str:
+    """Where the bridge is."""
+    return "the one that is installed" if is_installed() else "build/bridge/release/bridge"
+
+
 def program_comes() -> str:
     """Where the program comes from, for who has none."""
     return "install Waltigon anew" if is_installed() else "`make apctl` builds it"
@@ -35,3 +41,8 @@ def program_comes() -> str:
 def document(file: str) -> str:
     """Where a document is."""
     return os.path.normpath(os.path.join(TOP, DOCUMENTS, file)) if is_installed() else f"docs/{file}"
+
+
+def helped(text: str) -> str:
+    """A text of help in which each document stands with the place where it is."""
+    return re.sub(r"\bdocs/(\w+\.md)", lambda found: document(found[1]), text)

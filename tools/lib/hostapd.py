@@ -107,20 +107,21 @@ REFUSED = (
     rule("max_num_sta", "a network has room for 1 station or more", exactly("0")),
     rule("fragm_threshold", "frames aren't cut here", lambda value: value not in ("-1", "2346", "2347")),
 )
+LIVE = called.fellow("live")
 # What a network does as well without, or says elsewhere.
 LEFT_OUT = (
-    rule("interface", "the radio is named by `--phy` of waltigon-live; `iw dev` shows of which this interface is"),
+    rule("interface", f"the radio is named by `--phy` of {LIVE}; `iw dev` shows of which radio this interface is"),
     rule("bridge", "the wire is named in the file of wires: one end of a veth, whose other end is a port of this "
          f"bridge ({called.document('NETWORKS.md')})"),
     rule("driver", "there is one way to a radio, by its monitor interface"),
-    rule("ctrl_interface.*", "`waltigon-live status` and `kick` ask in its place"),
+    rule("ctrl_interface.*", f"`{LIVE} status` and `kick` ask in its place"),
     rule("logger_.*|dump_file", "the log goes to standard error, or to the journal"),
-    rule("country_code|country3", "the country is told to waltigon-live, as `--country DE`"),
+    rule("country_code|country3", f"the country is told to {LIVE}, as `--country DE`"),
     rule("hw_mode", "all channels are those of 2.4 GHz; the rates were taken from it"),
     rule("auth_algs", "Open System is all that there is"),
     rule("wpa|ieee80211w|ieee8021x|osen|wps_state|macaddr_acl|ignore_broadcast_ssid|dynamic_vlan|wds_sta|mesh|multi_ap|"
          "per_sta_vif|require_ht|require_vht|require_he", "it asks for nothing"),
-    rule("ap_max_inactivity", "waltigon-live has it, as `--idle SECONDS`"),
+    rule("ap_max_inactivity", f"{LIVE} has it, as `--idle SECONDS`"),
     rule("skip_inactivity_poll|disassoc_low_ack|bss_load_.*|bss_transition|rrm_.*|time_.*", "it isn't here"),
     rule("wmm_.*|uapsd_.*|tx_queue_.*|qos_map_set", "QoS isn't here: data goes as best effort"),
     rule("ieee80211n|ieee80211ac|ieee80211ax|ieee80211be|ht_.*|vht_.*|he_.*|obss_interval",

@@ -1,5 +1,6 @@
 """What one network reads of a string of octets, or of a wired frame (docs/PROTOCOL.md, "What is read" and "The
 wire")."""
+from functools import lru_cache
 from typing import NamedTuple, Optional
 
 from frames import (ASSOCIATION_REQUEST, AUTHENTICATION, BROADCAST, CONTROL, DATA, DEAUTHENTICATION, DISASSOCIATION,
@@ -55,22 +56,23 @@ def request_of(bssid, octets):
 def unread_kind(bssid, octets):
     """Why a network that hears a string of octets can't read it, `U1` to `U8`; None where it can."""
     frame = Frame(octets)
-    poll = is_poll(frame)
-    if len(octets) < POLL_LEN or frame.type != CONTROL and len(octets) < HEADER_LEN:
+    kind, poll = frame.type, is_poll(frame)
+    if len(octets) < POLL_LEN or kind != CONTROL and len(octets) < HEADER_LEN:
         return "U1"
     if octets[0] & 3:
         return "U2"
     if not poll and not is_kind(frame):
         return "U3"
-    if octets[1] & 0xC4 or not poll and frame.sequence_control & 0xF:
+    if octets[1] & 0xC4 or not poll and octets[22] & 0xF:
         return "U4"
-    if (frame.to_ds, frame.from_ds) != (frame.type == DATA, False):
+    if octets[1] & 3 != (1 if kind == DATA else 0):
         return "U5"
-    if is_group(frame.transmitter) or frame.transmitter == bssid or not is_addressed(bssid, frame):
+    transmitter = frame.transmitter
+    if is_group(transmitter) or transmitter == bssid or not is_addressed(bssid, frame):
         return "U6"
-    if not poll and len(frame.body) > MOST_BODY:
+    if not poll and len(octets) > HEADER_LEN + MOST_BODY:
         return "U8"
-    return None if frame.type != MANAGEMENT or management_of(frame) else "U7"
+    return None if kind != MANAGEMENT or fields_of(frame.subtype, frame.body) else "U7"
 
 
 def is_poll(frame):
@@ -87,7 +89,7 @@ def is_kind(frame):
 
 def is_addressed(bssid, frame):
     """Whether Address 1, and Address 3 of a management frame, are the network's, or all of a probe request."""
-    own = {bssid, BROADCAST} if frame.is_management(PROBE_REQUEST) else {bssid}
+    own = (bssid, BROADCAST) if frame.is_management(PROBE_REQUEST) else (bssid,)
     return frame.receiver in own and (frame.type != MANAGEMENT or frame.third in own)
 
 
@@ -99,11 +101,19 @@ def data_of(frame):
 
 def management_of(frame):
     """The request of a management frame, or None where its body hasn't the fields of its kind."""
-    fixed = FIXED_LEN[frame.subtype]
-    listed = elements(frame.body[fixed:]) if frame.subtype in WITH_ELEMENTS else []
-    if len(frame.body) < fixed or listed is None:
+    fields = fields_of(frame.subtype, frame.body)
+    return fields and Request(frame.subtype, frame.transmitter, names=fields[0], listen=fields[1])
+
+
+@lru_cache(maxsize=4096)
+def fields_of(subtype, body):
+    """The SSID and the listen interval in the body of a management frame, or None where it hasn't the fields of its
+    kind. Each network asks for the same bodies, and stations send the same ones again and again."""
+    fixed = FIXED_LEN[subtype]
+    listed = elements(body[fixed:]) if subtype in WITH_ELEMENTS else []
+    if len(body) < fixed or listed is None:
         return None
-    return Request(frame.subtype, frame.transmitter, names=first_of(listed, SSID), listen=number(frame.body[2:4]))
+    return first_of(listed, SSID), number(body[2:4])
 
 
 def wired_unread_kind(octets):

@@ -111,6 +111,13 @@ def read_trace(text):
     return found
 
 
+def lines_in(text):
+    """How many lines of a trace there are, without reading them."""
+    lines = text.split("\n")
+    first = lines.index(SEPARATOR) + 1 if SEPARATOR in lines else 0
+    return sum(line[:1] in ("A", "W", "T") for line in lines[first:])
+
+
 def read_restored(text):
     """The numbers of the lines by which a new program of an access point came to know stations that had joined before, as
     its record marks them: nobody sent these lines, and what was answered to them wasn't sent."""

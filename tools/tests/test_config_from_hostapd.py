@@ -52,7 +52,7 @@ REFUSED = [
 # A line that is left out, and the reason.
 LEFT_OUT = [
     ("driver=nl80211", "monitor interface"), ("bridge=br0", "docs/NETWORKS.md"), ("country_code=DE", "`--country DE`"),
-    ("ctrl_interface=/var/run/hostapd", "`waltigon-live status`"), ("logger_syslog=-1", "standard error"),
+    ("ctrl_interface=/var/run/hostapd", "`tools/live status`"), ("logger_syslog=-1", "standard error"),
     ("auth_algs=1", "Open System"), ("wpa=0", "asks for nothing"), ("macaddr_acl=0", "asks for nothing"),
     ("ignore_broadcast_ssid=0", "asks for nothing"), ("ap_max_inactivity=60", "`--idle SECONDS`"),
     ("wmm_enabled=1", "QoS isn't here"), ("wmm_ac_bk_cwmin=4", "QoS isn't here"), ("ieee80211n=1", "54 Mb/s"),

@@ -146,10 +146,14 @@ class WhatIsInstalled(SmallRepository):
             for words in (["--help"], ["--no-such-word"], FAULTS[COMMANDS[command]]):
                 done = subprocess.run([path, *words], capture_output=True, text=True, check=False, cwd=self.folder)
                 begins = f"usage: {command} " if words[0].startswith("--") and len(words) == 1 else f"{command}: "
-                said = (done.stdout + done.stderr).replace(self.path("usr/lib/waltigon/build/apctl"), "")
+                said = done.stdout + done.stderr
+                for installed in ("apctl", "bridge/release/bridge"):
+                    said = said.replace(self.path(f"usr/lib/waltigon/build/{installed}"), "")
                 self.assertTrue(said.startswith(begins), f"{words}: {said}")
-                for checkouts in ("build/apctl", "tools/live", "tools/explain", "make apctl", "sudo tools"):
+                for checkouts in ("build/apctl", "build/bridge", "make apctl", "tools/"):
                     self.assertNotIn(checkouts, said, f"{command} {words}")
+                for document in re.findall(r"[^\s(]*docs/\w+\.md", said):
+                    self.assertTrue(os.path.exists(document), f"{command} {words}: {document}")
 
     def test_runs_that_documents_name_are_there(self):
         """Each folder of examples/ and tests/ that docs/EXAMPLES.md names is installed, file by file, and what who

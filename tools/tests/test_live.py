@@ -1073,7 +1073,7 @@ class Shown(unittest.TestCase):
         network(1, b"guests", [station(1), station(12, dozes=True, kept=3, octets_to=1_234_567, signal=None),
                                only_known(3)]),
         network(2, b"", counts=None, wire=None, wire_down=65.0),
-        faults=[{"seconds": 3725, "text": "fault memory line 7"}])
+        faults=[{"seconds": 3725, "text": "fault memory line 7 network 02:00:00:00:01:02"}])
 
     def test_columns(self):
         """Networks and their stations, each column below its head."""
@@ -1086,7 +1086,7 @@ class Shown(unittest.TestCase):
             "  02:aa:00:00:00:0c  associated      12  dozes   0:01:42  0.2 s        -       54   5.5  1.23 MB      9 kB     3",
             "  02:aa:00:00:00:03  authenticated    -  -       0:01:42  0.2 s        -        -     -      0 B       0 B     -"])
         self.assertEqual(lines[8], "02:00:00:00:01:02 (no name): 0 stations, wire none, down for 0:01:05")
-        self.assertEqual(lines[10], "1:02:05 ago: fault memory line 7")
+        self.assertEqual(lines[10], "1:02:05 ago: fault memory line 7 network 02:00:00:00:01:02")
 
     def test_watched(self):
         """Each second until Ctrl-C, also while nobody answers."""

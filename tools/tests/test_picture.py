@@ -517,6 +517,10 @@ class Overviews(PictureTest):
                          50_001)
         drawn = self.drawn(self.path("long.input"), self.path("long.report"), "--from", "50000")
         self.assertIn('data-what="quiet"', read_text(drawn))
+        status, _, stderr = tool("picture", self.path("long.input"), self.path("long.input"), "--out",
+                                 self.path("x.svg"))
+        self.assertEqual(status, 1)
+        self.assertRegex(stderr, r"^\S*x.svg: the overview alone, .*\npicture: .*\n$", "it isn't told at once")
 
     @needs_program
     def test_counts_are_those_of_the_run(self):

@@ -85,12 +85,12 @@ def other_text(source: Source) -> Finding | None:
                        "write `channel = 6`, without braces, a line for each key")
     keys = [line.split("=")[0].strip() for line in source.lines if "=" in line and not line.startswith("#")]
     of_hostapd = [key for key in keys if key in HOSTAPD]
-    if len(of_hostapd) >= 2:
+    has_tables = any(line.lstrip().startswith("[") for line in source.lines)
+    if len(of_hostapd) >= 2 or of_hostapd == ["interface"] and not has_tables:
         number = next(number for number, line in enumerate(source.lines, 1) if line.startswith(of_hostapd[0]))
         return Finding("this is a configuration of hostapd, and the program has its own keys, in TOML",
                        source.place(number, 1, len(of_hostapd[0])),
-                       f"{called.fellow('config-from-hostapd')} writes one for it, and says of each line that it left "
-                       "out why")
+                       f"{called.fellow('config-from-hostapd')} writes one for it, and says why it left a line out")
     if "\n" not in source.text.strip() and "\r" in source.text.strip():
         return Finding("lines end with CR alone, and TOML's end with LF", source.at(*first_return(source)),
                        "`tr '\\r' '\\n'` writes such a text anew")
