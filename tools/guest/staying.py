@@ -233,7 +233,7 @@ class Stays(Part):
     def kill(self, executable: str) -> None:
         """Kills what runs this, and waits for the next."""
         before = self.begun()
-        os.kill(process_of(executable), signal.SIGKILL)
+        os.kill(only_process_of(executable), signal.SIGKILL)
         wait_for("the next one", 30, lambda: self.begun() > before, 0.02)
         self.count_generation()
 
@@ -351,7 +351,7 @@ class Stays(Part):
 
     def kill_and_leave(self) -> None:
         """All are killed, the script first, so that nothing is taken back."""
-        pids = [self.start.process.pid, process_of(COMPILED), process_of(self.start.program)]
+        pids = [self.start.process.pid, only_process_of(COMPILED), only_process_of(self.start.program)]
         for process in pids:
             with suppress(ProcessLookupError):
                 os.kill(process, signal.SIGKILL)
@@ -425,6 +425,12 @@ class Stays(Part):
             with open(os.path.join(station.folder, "log"), encoding="utf-8", errors="replace") as file:
                 found += file.read().count("CTRL-EVENT-CONNECTED")
         return found
+
+
+def only_process_of(executable: str) -> int:
+    """The process that runs this file, once it is the only one: after a reload the one before may still be ending."""
+    wait_for(f"{executable} runs once", 10, lambda: len(processes_of(executable)) == 1, 0.02)
+    return process_of(executable)
 
 
 def generation_of(start: Start, number: int) -> Start:
