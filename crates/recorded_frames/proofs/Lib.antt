@@ -1,0 +1,5 @@
+pub mod Rows
+pub mod Linux61Rows
+pub mod Linux612Rows
+pub mod HostapdRows
+pub mod WiresRows
